@@ -1,0 +1,2 @@
+pub mod Callsign
+pub mod AddressBytes

@@ -1,0 +1,10 @@
+//! The packets of the wire: the seven control packets of this profile, and stream packets beside them. It promises
+//! that `decode` takes exactly the bytes that some packet spells, and names the first reason for all others, and that
+//! `write` spells the packet. What a packet does to a peer or a module is left to the crates above.
+#![tactic(auto)]
+
+mod letter;
+mod packet;
+
+pub use letter::ModuleLetter;
+pub use packet::{Control, Packet, Refusal};

@@ -1,0 +1,99 @@
+ghost use Rattle.std.specs.Prelude.{◌≡◌, ℕ, ◌+◌, ◌-◌, ◌^◌, ◌<◌, ◌≤◌, ◌↔◌, ◌⊎◌, min, length, take, [], ◌++◌, List, Option, Some, Contains, IsErr, OnOk, IfOk, OnErr, IfSome};
+ghost use Rattle.m17_devices.specs.Faults.{HasRisen};
+ghost use Rattle.m17_devices.specs.Sink.{AppendsPrefix};
+
+use crate::{Failed, NoMemory, Sink};
+use std::alloc::Global;
+use std::marker::Model;
+
+/// A sink that keeps its bytes in memory, of a fixed room, which can be told to fail. This profile.
+#[derive(Debug, Drop)]
+pub struct BytesSink {
+    bytes: Vec<u8>,
+    room: usize,
+    fails: Vec<u64>,
+    next_call: u64,
+    faults: u64,
+}
+
+impl Model for BytesSink {
+    ghost use Rattle.std.specs.Prelude.{◌≤◌, length, vec_capacity};
+    ghost use Rattle.m17_devices.specs.Memory.{BytesKept};
+
+    ghost Value = { BytesKept };
+
+    ghost view = { λ s. record { written = s.bytes.items; room = s.room; next_call = s.next_call; fails = s.fails.items; faults = s.faults } };
+
+    ghost invariant = { λ s. (length s.bytes.items ≤ s.room) × (s.room ≤ vec_capacity s.bytes) };
+}
+
+impl BytesSink {
+    ghost use Rattle.m17_devices.specs.Memory.{BytesKept};
+
+    /// A sink of this room, with nothing written. `fails` lists the numbers of calls of `write` and `flush`, from 0,
+    /// that are to fail. A write that would pass the room fails too. `NoMemory` where there is no memory for it.
+    pub fn make(alloc: Global, room: usize, fails: Vec<u64>) -> Result<BytesSink, NoMemory>
+        ensures { IfOk result (λ sink. sink ≡ record { written = []; room = room; next_call = 0; fails = fails.items; faults = 0 }) }
+    {
+        match Vec::with_capacity(alloc, room) {
+            Ok(bytes) => Ok(BytesSink {
+                bytes,
+                room,
+                fails,
+                next_call: 0,
+                faults: 0,
+            }),
+            Err(_) => Err(NoMemory),
+        }
+    }
+
+    /// The bytes written.
+    pub fn bytes(&self) -> &[u8]
+        ensures { result.now ≡ self.now.written }
+    {
+        &self.bytes
+    }
+}
+
+impl Sink for BytesSink {
+    ghost faults = { λ s. s.faults };
+
+    ghost written = { λ s. Some s.written };
+
+    fn write(&mut self, bytes: &[u8]) -> Result<(), Failed>
+        ensures ok { OnOk result (IfSome (Some self.old.written) (λ before. Some self.new.written ≡ Some (before ++ bytes.now))) }
+        ensures err { OnErr result (IfSome (Some self.old.written) (λ before. AppendsPrefix before bytes.now (Some self.new.written))) }
+        ensures failed { OnErr result (HasRisen self.old.faults self.new.faults) }
+        ensures counted { self.old.faults ≤ self.new.faults }
+
+        // It fails exactly at the calls that were listed and where the room does not suffice, and then appends nothing.
+        ensures told_to_fail { IsErr result ↔ (Contains self.old.fails self.old.next_call ⊎ (self.old.room < length self.old.written + length bytes.now)) }
+        ensures nothing_appended { OnErr result (self.new.written ≡ self.old.written) }
+    {
+        let call = self.next_call;
+        self.next_call = self.next_call.saturating_add(1);
+        if self.fails.contains(&call) || bytes.len() > self.room - self.bytes.len() {
+            self.faults = self.faults.saturating_add(1);
+            return Err(Failed);
+        }
+        match self.bytes.extend_from_slice(bytes) {
+            Ok(()) => Ok(()),
+            Err(_) => Err(Failed),
+        }
+    }
+
+    fn flush(&mut self) -> Result<(), Failed>
+        ensures same { Some self.new.written ≡ Some self.old.written }
+        ensures failed { OnErr result (HasRisen self.old.faults self.new.faults) }
+        ensures counted { self.old.faults ≤ self.new.faults }
+        ensures told_to_fail { IsErr result ↔ Contains self.old.fails self.old.next_call }
+    {
+        let call = self.next_call;
+        self.next_call = self.next_call.saturating_add(1);
+        if self.fails.contains(&call) {
+            self.faults = self.faults.saturating_add(1);
+            return Err(Failed);
+        }
+        Ok(())
+    }
+}

@@ -1,0 +1,78 @@
+ghost use Rattle.std.specs.Prelude.{◌≡◌, ℕ, ◌+◌, ◌-◌, ◌^◌, ◌≤◌, ◌↔◌, min, length, take, drop, ◌++◌, List, Option, Some, Contains, IsErr, IfOk, OnErr, IfSome};
+ghost use Rattle.m17_devices.specs.Faults.{HasRisen};
+ghost use Rattle.m17_devices.specs.Source.{Takes};
+
+use crate::{Failed, Source};
+use std::marker::Model;
+
+/// Bytes in memory as a source, which can be told to fail. This profile.
+#[derive(Debug, Drop)]
+pub struct BytesSource {
+    bytes: Vec<u8>,
+    place: usize,
+    fails: Vec<u64>,
+    next_call: u64,
+    faults: u64,
+}
+
+impl Model for BytesSource {
+    ghost use Rattle.std.specs.Prelude.{◌≤◌, length, drop};
+    ghost use Rattle.m17_devices.specs.Memory.{BytesLeft};
+
+    ghost Value = { BytesLeft };
+
+    ghost view = { λ s. record { left = drop s.place s.bytes.items; next_call = s.next_call; fails = s.fails.items; faults = s.faults } };
+
+    ghost invariant = { λ s. s.place ≤ length s.bytes.items };
+}
+
+impl BytesSource {
+    ghost use Rattle.m17_devices.specs.Memory.{BytesLeft};
+
+    /// A source of these bytes. `fails` lists the numbers of calls, from 0, that are to fail.
+    pub fn new(bytes: Vec<u8>, fails: Vec<u64>) -> BytesSource
+        ensures { result ≡ record { left = bytes.items; next_call = 0; fails = fails.items; faults = 0 } }
+    {
+        BytesSource {
+            bytes,
+            place: 0,
+            fails,
+            next_call: 0,
+            faults: 0,
+        }
+    }
+}
+
+impl Source for BytesSource {
+    ghost faults = { λ s. s.faults };
+
+    ghost left = { λ s. Some s.left };
+
+    fn read(&mut self, into: &mut [u8]) -> Result<usize, Failed>
+        ensures within { IfOk result (λ n. n ≤ length into.old) }
+        ensures taken { IfOk result (λ n. IfSome (Some self.old.left) (λ bytes. Takes bytes n into.old into.new (Some self.new.left))) }
+        ensures failed { OnErr result (HasRisen self.old.faults self.new.faults) }
+        ensures nothing_taken { OnErr result (Some self.new.left ≡ Some self.old.left) }
+        ensures counted { self.old.faults ≤ self.new.faults }
+
+        // It fails exactly at the calls that were listed, and else fills the buffer as far as it can.
+        ensures told_to_fail { IsErr result ↔ Contains self.old.fails self.old.next_call }
+        ensures fills { IfOk result (λ n. n ≡ min (length into.old) (length self.old.left)) }
+    {
+        let call = self.next_call;
+        self.next_call = self.next_call.saturating_add(1);
+        if self.fails.contains(&call) {
+            self.faults = self.faults.saturating_add(1);
+            return Err(Failed);
+        }
+        let rest = &self.bytes[self.place..];
+        let n = rest.len().min(into.len());
+        into[..n].copy_from_slice(&rest[..n]);
+        self.place += n;
+        Ok(n)
+    }
+
+    fn is_at_hand(&self) -> bool {
+        true
+    }
+}

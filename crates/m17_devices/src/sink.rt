@@ -1,0 +1,27 @@
+ghost use Rattle.std.specs.Prelude.{◌≡◌, ℕ, ◌≤◌, List, ◌++◌, Option, Some, OnOk, OnErr, IfSome};
+ghost use Rattle.m17_devices.specs.Faults.{HasRisen};
+ghost use Rattle.m17_devices.specs.Sink.{AppendsPrefix};
+
+use crate::Failed;
+
+/// Where bytes go. This profile.
+pub trait Sink {
+    /// How often it has failed. It never falls.
+    ghost faults: { Self → ℕ };
+
+    /// The bytes written so far, where the sink tells them.
+    ghost written: { Self → Option (List ℕ) };
+
+    /// Appends all of the bytes. `Failed` where the device failed, and then some prefix of them was appended.
+    fn write(&mut self, bytes: &[u8]) -> Result<(), Failed>
+        ensures ok { OnOk result (IfSome (written self.old) (λ before. written self.new ≡ Some (before ++ bytes.now))) }
+        ensures err { OnErr result (IfSome (written self.old) (λ before. AppendsPrefix before bytes.now (written self.new))) }
+        ensures failed { OnErr result (HasRisen (faults self.old) (faults self.new)) }
+        ensures counted { faults self.old ≤ faults self.new };
+
+    /// Hands on what it holds back of the bytes written. `Failed` where the device failed.
+    fn flush(&mut self) -> Result<(), Failed>
+        ensures same { written self.new ≡ written self.old }
+        ensures failed { OnErr result (HasRisen (faults self.old) (faults self.new)) }
+        ensures counted { faults self.old ≤ faults self.new };
+}

@@ -1,0 +1,12 @@
+//! The floor of a module: who may speak. It states the floor rule once, over the whole list of what happened, and
+//! promises that `Floor::judge`, which keeps one frame and one more for each member, gives that rule's verdict.
+//! Who is a member, and to whom a packet goes, is left to the crates above.
+#![tactic(auto)]
+
+mod act;
+mod floor;
+mod verdict;
+
+pub use act::{Act, ActKind};
+pub use floor::Floor;
+pub use verdict::Verdict;

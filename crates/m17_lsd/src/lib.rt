@@ -1,0 +1,8 @@
+//! Link setup data: who sends to whom, and what. It promises that its 28 bytes and its fields are exact both ways, and
+//! the printed text of TYPE for every value. What the fields may hold in a packet is left to the crates above, which
+//! pass TYPE and META unread.
+#![tactic(auto)]
+
+mod lsd;
+
+pub use lsd::Lsd;

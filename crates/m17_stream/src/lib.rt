@@ -1,0 +1,8 @@
+//! Stream packets: one voice frame each. It promises that `read` takes exactly the bytes that a packet spells and
+//! names the first reason for all others, that `write` spells the packet, and which frame number is ahead of which.
+//! Who may send a packet, and when it is relayed, is left to the crates above.
+#![tactic(auto)]
+
+mod packet;
+
+pub use packet::{StreamPacket, StreamRefusal};
