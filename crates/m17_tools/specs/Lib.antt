@@ -1,1 +1,3 @@
 pub mod Fill
+pub mod Ending
+pub mod Judge

@@ -2,6 +2,8 @@
 //! command, and for each way to end its cause. Which command runs, and the last line of a run, is left to the program.
 #![tactic(auto)]
 
+mod ending;
 mod filling;
 
+pub use ending::{Ending, Reason};
 pub use filling::{Filled, fill};
