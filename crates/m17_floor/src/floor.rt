@@ -3,11 +3,11 @@ ghost use Rattle.m17_devices.specs.declared.member.Member.{Member};
 ghost use Rattle.m17_stream.specs.Stream.{steps_ahead};
 ghost use Rattle.m17_floor.specs.declared.act.Act.{Act};
 ghost use Rattle.m17_floor.specs.declared.act.ActKind.TheVariants.{Packet};
-ghost use Rattle.m17_floor.specs.declared.verdict.Verdict.TheVariants.{Opened, Continued, Busy, NotMember, ListenOnly};
+ghost use Rattle.m17_floor.specs.declared.verdict.Verdict.TheVariants.{NotMember, ListenOnly};
 ghost use Rattle.m17_floor.specs.Acts.{moment_before};
-ghost use Rattle.m17_floor.specs.ByFrames.{frame_holds, by_own_frame, by_frames};
+ghost use Rattle.m17_floor.specs.ByFrames.{by_own_frame, by_frames};
 ghost use Rattle.m17_floor.specs.Floor.{admits};
-ghost use Rattle.m17_floor.specs.StandsFor.{Frame, FloorStandsFor, OwnStandsFor, MaySpeak, HasNoPacket, IsJudged};
+ghost use Rattle.m17_floor.specs.StandsFor.{FloorStandsFor, OwnStandsFor, MaySpeak, HasNoPacket, IsJudged};
 
 use crate::Verdict;
 use m17_devices::Member;
@@ -69,9 +69,7 @@ impl Last {
         ensures none { result ≡ None }
         ensures stands { (places : ℕ) (acts : List Act) (k : Member) → HasNoPacket acts → OwnStandsFor places acts k result }
     {
-        Last {
-            frame: None,
-        }
+        Last { frame: None }
     }
 
     // The verdict on a packet that the floor allows: `admitted`, unless the sender's own frame stands against it.
@@ -85,9 +83,7 @@ impl Last {
                 } else if p.number == own.number {
                     Verdict::Repeat
                 } else if is_late(p.number, own.number) {
-                    Verdict::Late {
-                        last: own.number,
-                    }
+                    Verdict::Late { last: own.number }
                 } else {
                     admitted
                 }
@@ -111,9 +107,7 @@ impl Floor {
         // It stands for every list of acts without a packet.
         ensures stands { (places : ℕ) (acts : List Act) → HasNoPacket acts → FloorStandsFor places acts result }
     {
-        Floor {
-            frame: None,
-        }
+        Floor { frame: None }
     }
 
     // The verdict on a packet, with nothing changed.
@@ -125,9 +119,7 @@ impl Floor {
                 if f.member == sender && f.sid == p.sid {
                     own.verdict(at, p, Verdict::Continued)
                 } else {
-                    Verdict::Busy {
-                        holder: f.member,
-                    }
+                    Verdict::Busy { holder: f.member }
                 }
             }
             _ => own.verdict(at, p, Verdict::Opened),
