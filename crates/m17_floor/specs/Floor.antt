@@ -1,14 +1,14 @@
 -- The floor rule: who holds the floor of a module, and what becomes of a packet. Each definition looks back through
 -- the whole list of acts. This profile; a frame number is late or ahead as in the IP networking of the M17 Protocol
 -- Specification, where a sender counts frames up.
-use Rattle.std.specs.Prelude.{◌≡◌, ◌==◌, ◌&&◌, ℕ, zero, suc, ◌+◌, ◌-◌, ◌%◌, Bool, true, false, not, List, [], ◌∷◌, ◌++◌, slice_get, nat_lt, nat_le, Option, None, Some, IsTrue, unwrap_or, option_and_then, if◌then◌else◌}
+use Rattle.std.specs.Prelude.{◌==◌, ◌&&◌, ℕ, zero, suc, ◌-◌, Bool, true, false, not, List, [], ◌∷◌, ◌++◌, slice_get, nat_lt, nat_le, Option, None, Some, IsTrue, unwrap_or, option_and_then, if◌then◌else◌}
 use Rattle.std.specs.Option.{option_map_or}
 use Rattle.m17_devices.specs.declared.member.Member.{Member}
 use Rattle.m17_stream.specs.declared.packet.StreamPacket.{StreamPacket}
 use Rattle.m17_stream.specs.Stream.{steps_ahead}
 use Rattle.m17_floor.specs.declared.act.Act.{Act}
 use Rattle.m17_floor.specs.declared.act.ActKind.{ActKind}
-use Rattle.m17_floor.specs.declared.act.ActKind.TheVariants.{Join, Leave, Packet, Other}
+use Rattle.m17_floor.specs.declared.act.ActKind.TheVariants.{Join, Packet}
 use Rattle.m17_floor.specs.declared.verdict.Verdict.{Verdict}
 use Rattle.m17_floor.specs.declared.verdict.Verdict.TheVariants.{Opened, Continued, Busy, Repeat, Late, AfterEnd, NotMember, ListenOnly}
 use Rattle.m17_floor.specs.Acts.{last_below, kind_at, moment_at, is_same, joined_at}

@@ -1,8 +1,11 @@
-ghost use Rattle.std.specs.Prelude.{◌≡◌, ◌≢◌, ℕ, max, List, [], ◌∷◌, ◌++◌, length, None, Some};
+ghost use Rattle.std.specs.Prelude.{◌≡◌, ◌≢◌, ℕ, nat_le, true, false, max, List, [], ◌∷◌, ◌++◌, length, None, Some};
 ghost use Rattle.m17_devices.specs.declared.member.Member.{Member};
+ghost use Rattle.m17_stream.specs.Stream.{steps_ahead};
 ghost use Rattle.m17_floor.specs.declared.act.Act.{Act};
 ghost use Rattle.m17_floor.specs.declared.act.ActKind.TheVariants.{Packet};
+ghost use Rattle.m17_floor.specs.declared.verdict.Verdict.TheVariants.{NotMember, ListenOnly};
 ghost use Rattle.m17_floor.specs.Acts.{moment_before};
+ghost use Rattle.m17_floor.specs.ByFrames.{by_own_frame, by_frames};
 ghost use Rattle.m17_floor.specs.Floor.{admits};
 ghost use Rattle.m17_floor.specs.StandsFor.{FloorStandsFor, OwnStandsFor, MaySpeak, HasNoPacket, IsJudged};
 
@@ -16,6 +19,9 @@ pub const FLOOR_TIMEOUT_MS: u64 = 1_600;
 
 /// The stream of a member's last admitted frame is remembered for so many milliseconds.
 pub const STREAM_MEMORY_MS: u64 = 10_000;
+
+// How many frame numbers there are: after 32,767 comes 0.
+const FRAME_NUMBERS: u16 = 32_768;
 
 // An admitted frame: of whom it is, its stream, its number, whether it ended the stream, and its moment.
 #[derive(Clone, Copy, Debug)]
@@ -40,4 +46,113 @@ impl Model for Floor {
     ghost Value = { Option Frame };
 
     ghost view = { λ f. option_map (λ a. record { member = a.member; sid = a.sid; number = a.number; last = a.last; at = a.at }) f.frame };
+}
+
+/// One sender's last admitted frame since it joined. This profile.
+#[derive(Debug, Drop)]
+pub struct Last {
+    frame: Option<AdmittedFrame>,
+}
+
+impl Model for Last {
+    ghost use Rattle.std.specs.Prelude.{Option, option_map};
+    ghost use Rattle.m17_floor.specs.StandsFor.{Frame};
+
+    ghost Value = { Option Frame };
+
+    ghost view = { λ f. option_map (λ a. record { member = a.member; sid = a.sid; number = a.number; last = a.last; at = a.at }) f.frame };
+}
+
+impl Last {
+    /// Nothing admitted: what is kept of a sender that joins. This profile.
+    pub fn new() -> Last
+        ensures none { result ≡ None }
+        ensures stands { (places : ℕ) (acts : List Act) (k : Member) → HasNoPacket acts → OwnStandsFor places acts k result }
+    {
+        Last { frame: None }
+    }
+
+    // The verdict on a packet that the floor allows: `admitted`, unless the sender's own frame stands against it.
+    fn verdict(&self, at: u64, p: &StreamPacket, admitted: Verdict) -> Verdict
+        ensures { result ≡ by_own_frame self.now at p.now admitted }
+    {
+        match self.frame {
+            Some(own) if own.sid == p.sid && at.saturating_sub(own.at) < STREAM_MEMORY_MS => {
+                if own.last {
+                    Verdict::AfterEnd
+                } else if p.number == own.number {
+                    Verdict::Repeat
+                } else if is_late(p.number, own.number) {
+                    Verdict::Late { last: own.number }
+                } else {
+                    admitted
+                }
+            }
+            _ => admitted,
+        }
+    }
+}
+
+// Whether the new number is half way round or more ahead of the old one, so that it rather is behind it.
+fn is_late(new: u16, old: u16) -> bool
+    ensures { result ≡ nat_le 16384 (steps_ahead new old) }
+{
+    new.wrapping_sub(old) % FRAME_NUMBERS >= FRAME_NUMBERS / 2
+}
+
+impl Floor {
+    /// A free floor. This profile.
+    pub fn new() -> Floor
+        ensures free { result ≡ None }
+        // It stands for every list of acts without a packet.
+        ensures stands { (places : ℕ) (acts : List Act) → HasNoPacket acts → FloorStandsFor places acts result }
+    {
+        Floor { frame: None }
+    }
+
+    // The verdict on a packet, with nothing changed.
+    fn verdict(&self, sender: Member, at: u64, p: &StreamPacket, own: &Last) -> Verdict
+        ensures { result ≡ by_frames self.now own.now sender at p.now }
+    {
+        match self.frame {
+            Some(f) if !f.last && at.saturating_sub(f.at) < FLOOR_TIMEOUT_MS => {
+                if f.member == sender && f.sid == p.sid {
+                    own.verdict(at, p, Verdict::Continued)
+                } else {
+                    Verdict::Busy { holder: f.member }
+                }
+            }
+            _ => own.verdict(at, p, Verdict::Opened),
+        }
+    }
+
+    /// Judges a packet that a member of the floor's module sent, and keeps it if it is admitted. `at` is the module's
+    /// moment at the packet, in milliseconds; `own` is what is kept of the sender since it joined, and the sender did
+    /// not join to listen only. A floor that another stream holds is `Busy`; a packet of a stream that the sender's own
+    /// frame belongs to is `AfterEnd`, `Repeat` or `Late` beside that frame; any other is `Opened` or `Continued`, and
+    /// so admitted. This profile.
+    pub fn judge(&mut self, sender: Member, at: u64, p: &StreamPacket, own: &mut Last) -> Verdict
+        // For every list that the floor has come from, the verdict is that of the floor rule, and all keeps standing.
+        ensures by_rule { (places : ℕ) (acts : List Act) (moment : ℕ) → FloorStandsFor places acts self.old → OwnStandsFor places acts sender own.old → MaySpeak places acts sender → at ≡ max (moment_before acts (length acts)) moment → IsJudged places acts (record { at = moment; kind = Packet sender p.now }) sender result self.new own.new }
+        // An admitted packet becomes the floor's last frame and the sender's own.
+        ensures admitted { admits (Some result) ≡ true → (self.new ≡ Some (record { member = sender; sid = p.now.sid; number = p.now.number; last = p.now.last; at = at })) × (own.new ≡ Some (record { member = sender; sid = p.now.sid; number = p.now.number; last = p.now.last; at = at })) }
+        // Another one changes nothing.
+        ensures refused { admits (Some result) ≡ false → (self.new ≡ self.old) × (own.new ≡ own.old) }
+        // It gives one of six verdicts.
+        ensures of_a_speaker { (result ≢ NotMember) × (result ≢ ListenOnly) }
+    {
+        let verdict = self.verdict(sender, at, p, own);
+        if verdict.is_admitted() {
+            let frame = AdmittedFrame {
+                member: sender,
+                sid: p.sid,
+                number: p.number,
+                last: p.last,
+                at,
+            };
+            self.frame = Some(frame);
+            own.frame = Some(frame);
+        }
+        verdict
+    }
 }

@@ -5,8 +5,9 @@
 
 mod act;
 mod floor;
+pub mod laws;
 mod verdict;
 
 pub use act::{Act, ActKind};
-pub use floor::Floor;
+pub use floor::{FLOOR_TIMEOUT_MS, Floor, Last, STREAM_MEMORY_MS};
 pub use verdict::Verdict;

@@ -21,3 +21,15 @@ pub enum Verdict {
     /// The sender joined to listen only.
     ListenOnly,
 }
+
+impl Verdict {
+    ghost use Rattle.std.specs.Prelude.{◌≡◌, Some};
+    ghost use Rattle.m17_floor.specs.Floor.{admits};
+
+    /// Whether a packet with this verdict is admitted: `Opened` or `Continued`. This profile.
+    pub fn is_admitted(self) -> bool
+        ensures { result ≡ admits (Some self) }
+    {
+        matches!(self, Verdict::Opened | Verdict::Continued)
+    }
+}

@@ -1,0 +1,62 @@
+-- What `last_below` finds.
+use Rattle.std.proofs.Common.{◌≡◌, ℕ, zero, suc, ◌<◌, Bool, true, false, cond, Option, None, Some, refl, ap, arith}
+use Rattle.std.proofs.lemmas.Option.{same_Some, cond_some}
+use Rattle.std.specs.Option.{option_and_then}
+use Rattle.m17_floor.specs.Acts.{last_below}
+
+pub last_below_zero : (test : ℕ → Bool) → last_below test zero ≡ None
+unfolding last_below
+last_below_zero test = refl
+
+pub last_below_suc : (test : ℕ → Bool) (n : ℕ) → last_below test (suc n) ≡ cond (test n) (Some n) (last_below test n)
+unfolding last_below
+last_below_suc test n = refl
+
+-- tests that agree below n
+pub last_below_same : (p q : ℕ → Bool) (n : ℕ) → ((m : ℕ) → m < n → p m ≡ q m) → last_below p n ≡ last_below q n
+unfolding last_below
+last_below_same p q zero h = refl
+last_below_same p q (suc n) h =
+    let e : p n ≡ q n = h n (omega arith) in
+    let r : last_below p n ≡ last_below q n = last_below_same p q n (λ m l. h m (omega arith)) in
+    rw (e, r) refl
+
+-- a test that no position passes
+pub last_below_none : (test : ℕ → Bool) (n : ℕ) → ((m : ℕ) → m < n → test m ≡ false) → last_below test n ≡ None
+unfolding last_below
+last_below_none test zero h = refl
+last_below_none test (suc n) h =
+    let e : test n ≡ false = h n (omega arith) in
+    rw e (last_below_none test n (λ m l. h m (omega arith)))
+
+lt_from_cond : (b : Bool) (n a : ℕ) (o : Option ℕ) → (o ≡ Some a → a < n) → cond b (Some n) o ≡ Some a → a < suc n
+lt_from_cond true n a o h e = omega (arith, same_Some n a e)
+lt_from_cond false n a o h e = omega (arith, h e)
+
+pub last_below_lt : (test : ℕ → Bool) (n a : ℕ) → last_below test n ≡ Some a → a < n
+unfolding last_below
+last_below_lt test zero a e = cc
+last_below_lt test (suc n) a e = lt_from_cond (test n) n a (last_below test n) (last_below_lt test n a) e
+
+true_from_cond : (test : ℕ → Bool) (b : Bool) (n a : ℕ) (o : Option ℕ) → b ≡ test n → (o ≡ Some a → test a ≡ true) → cond b (Some n) o ≡ Some a → test a ≡ true
+true_from_cond test true n a o h r e = rw (← same_Some n a e) cc
+true_from_cond test false n a o h r e = r e
+
+pub last_below_true : (test : ℕ → Bool) (n a : ℕ) → last_below test n ≡ Some a → test a ≡ true
+unfolding last_below
+last_below_true test zero a e = cc
+last_below_true test (suc n) a e = true_from_cond test (test n) n a (last_below test n) refl (last_below_true test n a) e
+
+-- what two continuations make of the same position
+pub and_then_same : {A B : Type 0} (o : Option A) (f g : A → Option B) → ((a : A) → o ≡ Some a → f a ≡ g a) → option_and_then f o ≡ option_and_then g o
+and_then_same None f g h = refl
+and_then_same (Some a) f g h = h a refl
+
+-- a position that is kept where it passes a further test
+pub kept_is : (test : ℕ → Bool) (o : Option ℕ) (b : ℕ) → option_and_then (λ a. cond (test a) (Some a) None) o ≡ Some b → o ≡ Some b
+kept_is test None b e = cc
+kept_is test (Some a) b e = ap Some ((cond_some (test a) a b e).1)
+
+pub some_from_cond : (b : Bool) (o : Option ℕ) (a : ℕ) → cond b o None ≡ Some a → o ≡ Some a
+some_from_cond true o a e = e
+some_from_cond false o a e = cc

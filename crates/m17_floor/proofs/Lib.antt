@@ -1,0 +1,9 @@
+mod Frames
+mod Joins
+mod Judged
+mod LastBelow
+mod Members
+mod NoPacket
+mod OneMore
+mod Prefix
+mod Standing
