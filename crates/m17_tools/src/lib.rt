@@ -4,6 +4,7 @@
 
 mod ending;
 mod filling;
+mod table;
 
 pub use ending::{Ending, Reason};
 pub use filling::{Filled, fill};
