@@ -65,7 +65,8 @@ impl Line {
     #[inline]
     pub fn text(&mut self, text: &str)
         requires { length self.old + length text.now ≤ room }
-        ensures { self.new ≡ self.old ++ text.now }
+        ensures appended { self.new ≡ self.old ++ text.now }
+        ensures longer { length self.new ≡ length self.old + length text.now }
     {
         self.bytes.try_extend_from_slice(text.as_bytes()).unwrap();
     }
@@ -74,7 +75,8 @@ impl Line {
     #[inline]
     pub fn number(&mut self, number: u64)
         requires { length self.old + 20 ≤ room }
-        ensures { self.new ≡ self.old ++ decimal number }
+        ensures appended { self.new ≡ self.old ++ decimal number }
+        ensures longer { length self.new ≤ length self.old + 20 }
     {
         let mut digits = Buffer::new();
         self.bytes
@@ -85,7 +87,8 @@ impl Line {
     /// Appends bytes as upper-case hex digits, two for each.
     pub fn hex(&mut self, bytes: &[u8])
         requires { length self.old + 2 * length bytes.now ≤ room }
-        ensures { self.new ≡ self.old ++ hex_of bytes.now }
+        ensures appended { self.new ≡ self.old ++ hex_of bytes.now }
+        ensures longer { length self.new ≡ length self.old + 2 * length bytes.now }
     {
         for byte in bytes {
             self.hex_byte(*byte);

@@ -13,7 +13,8 @@ impl Line {
     /// Appends why bytes are no stream packet, as in `refused magic 434F4E58`. This profile.
     pub fn stream_refusal(&mut self, refusal: &StreamRefusal)
         requires { length self.old + 48 ≤ room }
-        ensures { self.new ≡ self.old ++ stream_refusal_text refusal.now }
+        ensures appended { self.new ≡ self.old ++ stream_refusal_text refusal.now }
+        ensures longer { length self.new ≤ length self.old + 48 }
     {
         match refusal {
             StreamRefusal::Length(n) => {
@@ -28,7 +29,8 @@ impl Line {
     // Appends the refusal of a magic.
     fn refused_magic(&mut self, magic: &[u8; 4])
         requires { length self.old + 48 ≤ room }
-        ensures { self.new ≡ self.old ++ magic_text magic.now }
+        ensures appended { self.new ≡ self.old ++ magic_text magic.now }
+        ensures longer { length self.new ≤ length self.old + 48 }
     {
         self.text("refused magic ");
         self.hex(magic);
@@ -37,7 +39,8 @@ impl Line {
     // Appends the refusal of a CRC.
     fn refused_crc(&mut self, found: u16, expected: u16)
         requires { length self.old + 48 ≤ room }
-        ensures { self.new ≡ self.old ++ crc_text found expected }
+        ensures appended { self.new ≡ self.old ++ crc_text found expected }
+        ensures longer { length self.new ≤ length self.old + 48 }
     {
         self.text("refused crc ");
         self.hex(&found.to_be_bytes());

@@ -1,3 +1,4 @@
 pub mod FillSteps
 pub mod Joins
 pub mod Standing
+pub mod Records

@@ -4,6 +4,7 @@
 
 mod ending;
 mod filling;
+mod judging;
 mod table;
 
 pub use ending::{Ending, Reason};
