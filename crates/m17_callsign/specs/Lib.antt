@@ -1,2 +1,3 @@
 pub mod Callsign
 pub mod AddressBytes
+pub mod Letters

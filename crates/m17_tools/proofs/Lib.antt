@@ -2,3 +2,4 @@ pub mod FillSteps
 pub mod Joins
 pub mod Standing
 pub mod Records
+pub mod JudgeRun

@@ -1,5 +1,5 @@
 -- What `judge` reads and prints: a line for each record of 64 bytes, over one list of acts. This profile.
-use Rattle.std.specs.Prelude.{◌≡◌, ◌≢◌, ◌⊎◌, ℕ, ◌+◌, ◌*◌, ◌%◌, ◌<◌, ◌≤◌, false, List, [], ◌∷◌, ◌++◌, length, take, drop, map, slice_get, Some, codes, decimal}
+use Rattle.std.specs.Prelude.{◌≡◌, ◌≢◌, ◌⊎◌, ℕ, ◌+◌, ◌*◌, ◌%◌, ◌<◌, ◌≤◌, false, List, [], ◌∷◌, ◌++◌, length, take, drop, map, slice_get, Option, Some, codes, decimal}
 use Rattle.std.specs.List.{range_with_len, flat_map}
 use Rattle.std.specs.Int.{w16, w64, from_be_bytes}
 use Rattle.m17_devices.specs.declared.member.Member.{Member}
@@ -12,6 +12,8 @@ use Rattle.m17_floor.specs.declared.verdict.Verdict.{Verdict}
 use Rattle.m17_floor.specs.declared.verdict.Verdict.TheVariants.{Opened, Continued, Busy, Repeat, Late, AfterEnd, NotMember, ListenOnly}
 use Rattle.m17_floor.specs.Floor.{verdict_at}
 use Rattle.m17_print.specs.Refused.{stream_refusal_text}
+use Rattle.m17_tools.specs.declared.ending.Ending.{Ending}
+use Rattle.m17_tools.specs.declared.ending.Ending.TheVariants.{Finished, Refused, ReadFailed, WriteFailed}
 use Rattle.m17_tools.specs.declared.ending.Reason.{Reason}
 use Rattle.m17_tools.specs.declared.ending.Reason.TheVariants.{Cut, Large, Long, Odd, Digit}
 use Rattle.m17_tools.specs.Ending.{refused_line}
@@ -109,3 +111,13 @@ abbrev pub IsJudgeText : List ℕ → List ℕ → Type 0
 IsJudgeText input text = ((count : ℕ) × AreRecords input count × IsTextOf input count text)
     ⊎ ((count place : ℕ) × (reason : Reason) × (before : List ℕ) × RefusesRecords input count place reason × IsTextOf input count before
         × (text ≡ before ++ refused_line place reason))
+
+-- What stands written when `judge` ends in each way. `rest` is what is left of the input.
+abbrev pub JudgePrints : Ending → List ℕ → Option (List ℕ) → List ℕ → Type 0
+JudgePrints Finished input rest text = (count : ℕ) × AreRecords input count × IsTextOf input count text
+JudgePrints (Refused place reason) input rest text = (count : ℕ) × RefusesRecords input count place reason × IsTextOf input count text
+-- the lines of the records that were taken whole
+JudgePrints ReadFailed input rest text = (count taken : ℕ) × (64 * count ≤ taken) × (taken < 64 * (count + 1)) × (taken ≤ length input)
+    × (rest ≡ Some (drop taken input)) × IsTextOf input count text
+-- a part of the lines of some of the records
+JudgePrints WriteFailed input rest text = (count : ℕ) × (whole after : List ℕ) × (64 * count ≤ length input) × IsTextOf input count whole × (whole ≡ text ++ after)

@@ -1,4 +1,5 @@
 pub mod Fill
 pub mod Ending
 pub mod Judge
+pub mod Show
 pub mod Table

@@ -4,6 +4,7 @@
 
 mod ending;
 mod filling;
+mod judge_command;
 mod judging;
 mod table;
 

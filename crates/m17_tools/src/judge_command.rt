@@ -1,0 +1,58 @@
+ghost use Rattle.std.specs.Prelude.{◌≡◌, ℕ, ◌*◌, ◌≤◌, List, [], ◌++◌, length, drop, Option, None, Some, Ok};
+ghost use Rattle.m17_devices.specs.Faults.{HasRisen};
+ghost use Rattle.m17_tools.specs.declared.ending.Ending.{Ending};
+ghost use Rattle.m17_tools.specs.declared.ending.Reason.{Reason};
+ghost use Rattle.m17_tools.specs.Judge.{joins, talkers, AreRecords, RefusesRecords, JudgePrints, IsTextOf};
+ghost use Rattle.m17_tools.specs.Table.{TableStandsFor};
+
+use std::alloc::Global;
+
+use m17_devices::{NoMemory, Sink, Source};
+use m17_floor::laws;
+use m17_print::Line;
+
+use crate::judging::{RECORD_BYTES, judge_record};
+use crate::table::Table;
+use crate::{Ending, Filled, Reason, fill};
+
+/// How many records `judge` takes.
+pub const RECORDS_MAX: u64 = 1_000_000;
+
+// Judges the records one by one. `None` where as many as may come have come.
+fn judge_records<S: Source, K: Sink>(table: &mut Table, input: &mut S, out: &mut K) -> Option<Ending>
+    requires { TableStandsFor (joins talkers) table.old.floor table.old.owns.items table.old.moment }
+    ensures finished { result ≡ Some Ending.Finished → (bytes : List ℕ) → S.left input.old ≡ Some bytes → ((count : ℕ) × AreRecords bytes count) × (S.left input.new ≡ Some []) }
+    ensures refused { (place : ℕ) (reason : Reason) → result ≡ Some (Ending.Refused place reason) → (bytes : List ℕ) → S.left input.old ≡ Some bytes → (count : ℕ) × RefusesRecords bytes count place reason }
+    ensures read_failed { result ≡ Some Ending.ReadFailed → HasRisen (S.faults input.old) (S.faults input.new) }
+    ensures write_failed { result ≡ Some Ending.WriteFailed → HasRisen (K.faults out.old) (K.faults out.new) }
+    ensures reads_counted { S.faults input.old ≤ S.faults input.new }
+    ensures writes_counted { K.faults out.old ≤ K.faults out.new }
+    ensures text { (ending : Ending) → result ≡ Some ending → (bytes before : List ℕ) → S.left input.old ≡ Some bytes → K.written out.old ≡ Some before →
+        (text : List ℕ) × (K.written out.new ≡ Some (before ++ text)) × JudgePrints ending bytes (S.left input.new) text }
+    ensures full { result ≡ None → (bytes : List ℕ) → S.left input.old ≡ Some bytes → (64 * 1000000 ≤ length bytes) × (S.left input.new ≡ Some (drop (64 * 1000000) bytes)) }
+    ensures full_text { result ≡ None → (bytes before : List ℕ) → S.left input.old ≡ Some bytes → K.written out.old ≡ Some before →
+        (text : List ℕ) × (K.written out.new ≡ Some (before ++ text)) × IsTextOf bytes 1000000 text }
+{
+    laws::later_acts_change_no_verdict();
+    let mut line = Line::new();
+    let mut record = [0u8; RECORD_BYTES];
+    for index in 0..RECORDS_MAX {
+        match fill(input, out, &mut record) {
+            Filled::Taken(RECORD_BYTES) => {}
+            Filled::Taken(0) => return Some(Ending::Finished),
+            Filled::Taken(n) => {
+                return Some(Ending::Refused {
+                    place: 64 * index + n as u64,
+                    reason: Reason::Cut,
+                });
+            }
+            Filled::ReadFailed => return Some(Ending::ReadFailed),
+            Filled::WriteFailed => return Some(Ending::WriteFailed),
+        }
+        judge_record(table, index, &record, &mut line);
+        if out.write(line.bytes()).is_err() {
+            return Some(Ending::WriteFailed);
+        }
+    }
+    None
+}
