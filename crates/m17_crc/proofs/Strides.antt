@@ -12,6 +12,36 @@ use Rattle.m17_crc.proofs.Division.{crc_of-append}
 use Rattle.m17_crc.proofs.Linear.{after_byte-xor, after_byte-apart, after_zeros-xor}
 use Rattle.m17_crc.proofs.Entries.{entry_0, into_high, after_byte-halves}
 
+-- ---- the notation
+
+infixl 10 ◌⊕◌
+abbrev ◌⊕◌ : ℕ → ℕ → ℕ
+m ⊕ n = bit_xor m n
+
+abbrev t0 : ℕ → ℕ
+t0 x = get_or REMAINDERS_0 x 0
+
+abbrev t1 : ℕ → ℕ
+t1 x = get_or REMAINDERS_1 x 0
+
+abbrev t2 : ℕ → ℕ
+t2 x = get_or REMAINDERS_2 x 0
+
+abbrev t3 : ℕ → ℕ
+t3 x = get_or REMAINDERS_3 x 0
+
+abbrev t4 : ℕ → ℕ
+t4 x = get_or REMAINDERS_4 x 0
+
+abbrev t5 : ℕ → ℕ
+t5 x = get_or REMAINDERS_5 x 0
+
+abbrev t6 : ℕ → ℕ
+t6 x = get_or REMAINDERS_6 x 0
+
+abbrev t7 : ℕ → ℕ
+t7 x = get_or REMAINDERS_7 x 0
+
 -- ---- each table is the one before with a zero byte more
 
 zero_more : (table next : List ℕ) (x : ℕ) → x < length table → map (λ r. after_byte r 0) table ≡ next → after_byte (get_or table x 0) 0 ≡ get_or next x 0
@@ -45,99 +75,71 @@ table_7 : map (λ r. after_byte r 0) REMAINDERS_6 ≡ REMAINDERS_7
 unfolding after_byte after_bit
 table_7 = refl
 
-entry_1 : (x : ℕ) → x < 256 → after_byte (get_or REMAINDERS_0 x 0) 0 ≡ get_or REMAINDERS_1 x 0
+entry_1 : (x : ℕ) → x < 256 → after_byte (t0 x) 0 ≡ get_or REMAINDERS_1 x 0
 entry_1 x h = zero_more REMAINDERS_0 REMAINDERS_1 x h table_1
 
-entry_2 : (x : ℕ) → x < 256 → after_byte (get_or REMAINDERS_1 x 0) 0 ≡ get_or REMAINDERS_2 x 0
+entry_2 : (x : ℕ) → x < 256 → after_byte (t1 x) 0 ≡ get_or REMAINDERS_2 x 0
 entry_2 x h = zero_more REMAINDERS_1 REMAINDERS_2 x h table_2
 
-entry_3 : (x : ℕ) → x < 256 → after_byte (get_or REMAINDERS_2 x 0) 0 ≡ get_or REMAINDERS_3 x 0
+entry_3 : (x : ℕ) → x < 256 → after_byte (t2 x) 0 ≡ get_or REMAINDERS_3 x 0
 entry_3 x h = zero_more REMAINDERS_2 REMAINDERS_3 x h table_3
 
-entry_4 : (x : ℕ) → x < 256 → after_byte (get_or REMAINDERS_3 x 0) 0 ≡ get_or REMAINDERS_4 x 0
+entry_4 : (x : ℕ) → x < 256 → after_byte (t3 x) 0 ≡ get_or REMAINDERS_4 x 0
 entry_4 x h = zero_more REMAINDERS_3 REMAINDERS_4 x h table_4
 
-entry_5 : (x : ℕ) → x < 256 → after_byte (get_or REMAINDERS_4 x 0) 0 ≡ get_or REMAINDERS_5 x 0
+entry_5 : (x : ℕ) → x < 256 → after_byte (t4 x) 0 ≡ get_or REMAINDERS_5 x 0
 entry_5 x h = zero_more REMAINDERS_4 REMAINDERS_5 x h table_5
 
-entry_6 : (x : ℕ) → x < 256 → after_byte (get_or REMAINDERS_5 x 0) 0 ≡ get_or REMAINDERS_6 x 0
+entry_6 : (x : ℕ) → x < 256 → after_byte (t5 x) 0 ≡ get_or REMAINDERS_6 x 0
 entry_6 x h = zero_more REMAINDERS_5 REMAINDERS_6 x h table_6
 
-entry_7 : (x : ℕ) → x < 256 → after_byte (get_or REMAINDERS_6 x 0) 0 ≡ get_or REMAINDERS_7 x 0
+entry_7 : (x : ℕ) → x < 256 → after_byte (t6 x) 0 ≡ get_or REMAINDERS_7 x 0
 entry_7 x h = zero_more REMAINDERS_6 REMAINDERS_7 x h table_7
 
 -- ---- from byte to byte
 
 -- a zero byte after a sum
-moves : (p q r s : ℕ) → after_byte p 0 ≡ r → after_byte q 0 ≡ s → after_byte (bit_xor p q) 0 ≡ bit_xor r s
-moves p q r s e f = after_zeros-xor p q ∙ ap (λ m. bit_xor m (after_byte q 0)) e ∙ ap (bit_xor r) f
+moves : (p q r s : ℕ) → after_byte p 0 ≡ r → after_byte q 0 ≡ s → after_byte (p ⊕ q) 0 ≡ r ⊕ s
+moves p q r s e f = after_zeros-xor p q ∙ ap (λ m. m ⊕ after_byte q 0) e ∙ ap (λ m. r ⊕ m) f
 
 -- a byte after what a zero byte moves
-next : (p q x : ℕ) → x < 256 → after_byte p 0 ≡ q → after_byte p x ≡ bit_xor q (get_or REMAINDERS_0 x 0)
-next p q x h e = after_byte-apart p x ∙ ap (λ m. bit_xor m (after_byte 0 x)) e ∙ ap (bit_xor q) (entry_0 x h)
+next : (p q x : ℕ) → x < 256 → after_byte p 0 ≡ q → after_byte p x ≡ q ⊕ t0 x
+next p q x h e = after_byte-apart p x ∙ ap (λ m. m ⊕ after_byte 0 x) e ∙ ap (λ m. q ⊕ m) (entry_0 x h)
 
 -- the first two bytes take the register's two bytes with them
-two_bytes : (n x y : ℕ) → n < 2 ^ 16 → x < 2 ^ 8 → y < 2 ^ 8
-    → after_byte (after_byte n x) y ≡ bit_xor (get_or REMAINDERS_1 (bit_xor (n / 2 ^ 8) x) 0) (get_or REMAINDERS_0 (bit_xor (n % 2 ^ 8) y) 0)
+two_bytes : (n x y : ℕ) → n < 2 ^ 16 → x < 2 ^ 8 → y < 2 ^ 8 → after_byte (after_byte n x) y ≡ t1 (n / 2 ^ 8 ⊕ x) ⊕ t0 (n % 2 ^ 8 ⊕ y)
 two_bytes n x y h k l =
-    let first = bit_xor (n / 2 ^ 8) x in
+    let first = n / 2 ^ 8 ⊕ x in
     let low = n % 2 ^ 8 in
-    let second = bit_xor low y in
+    let second = low ⊕ y in
     let low_small : low < 2 ^ 8 = omega arith in
     let first_small : first < 2 ^ 8 = xor_lt 8 (n / 2 ^ 8) x (omega arith) k in
     let second_small : second < 2 ^ 8 = xor_lt 8 low y low_small l in
     ap (λ m. after_byte m y) (after_byte-halves n x h)
     ∙ after_byte-xor (after_byte 0 first) (low * 2 ^ 8) 0 y
-    ∙ ap (bit_xor (after_byte (after_byte 0 first) 0)) (into_high low y low_small ∙ entry_0 second second_small)
-    ∙ ap (λ m. bit_xor m (get_or REMAINDERS_0 second 0)) (ap (λ m. after_byte m 0) (entry_0 first first_small) ∙ entry_1 first first_small)
+    ∙ ap (λ m. after_byte (after_byte 0 first) 0 ⊕ m) (into_high low y low_small ∙ entry_0 second second_small)
+    ∙ ap (λ m. m ⊕ t0 second) (ap (λ m. after_byte m 0) (entry_0 first first_small) ∙ entry_1 first first_small)
 
 module _ (a b c d e f g h : ℕ) (a_in : a < 256) (b_in : b < 256) (c_in : c < 256) (d_in : d < 256) (e_in : e < 256) (f_in : f < 256) (g_in : g < 256) (h_in : h < 256) where
-  sum_2 : ℕ
-  sum_2 = bit_xor (get_or REMAINDERS_1 a 0) (get_or REMAINDERS_0 b 0)
-
-  sum_3 : ℕ
-  sum_3 = bit_xor (bit_xor (get_or REMAINDERS_2 a 0) (get_or REMAINDERS_1 b 0)) (get_or REMAINDERS_0 c 0)
-
-  sum_4 : ℕ
-  sum_4 = bit_xor (bit_xor (bit_xor (get_or REMAINDERS_3 a 0) (get_or REMAINDERS_2 b 0)) (get_or REMAINDERS_1 c 0)) (get_or REMAINDERS_0 d 0)
-
-  sum_5 : ℕ
-  sum_5 = bit_xor (bit_xor (bit_xor (bit_xor (get_or REMAINDERS_4 a 0) (get_or REMAINDERS_3 b 0)) (get_or REMAINDERS_2 c 0)) (get_or REMAINDERS_1 d 0)) (get_or REMAINDERS_0 e 0)
-
-  sum_6 : ℕ
-  sum_6 = bit_xor (bit_xor (bit_xor (bit_xor (bit_xor (get_or REMAINDERS_5 a 0) (get_or REMAINDERS_4 b 0)) (get_or REMAINDERS_3 c 0)) (get_or REMAINDERS_2 d 0)) (get_or REMAINDERS_1 e 0)) (get_or REMAINDERS_0 f 0)
-
-  sum_7 : ℕ
-  sum_7 = bit_xor (bit_xor (bit_xor (bit_xor (bit_xor (bit_xor (get_or REMAINDERS_6 a 0) (get_or REMAINDERS_5 b 0)) (get_or REMAINDERS_4 c 0)) (get_or REMAINDERS_3 d 0)) (get_or REMAINDERS_2 e 0)) (get_or REMAINDERS_1 f 0)) (get_or REMAINDERS_0 g 0)
-
-  sum_8 : ℕ
-  sum_8 = bit_xor (bit_xor (bit_xor (bit_xor (bit_xor (bit_xor (bit_xor (get_or REMAINDERS_7 a 0) (get_or REMAINDERS_6 b 0)) (get_or REMAINDERS_5 c 0)) (get_or REMAINDERS_4 d 0)) (get_or REMAINDERS_3 e 0)) (get_or REMAINDERS_2 f 0)) (get_or REMAINDERS_1 g 0)) (get_or REMAINDERS_0 h 0)
-
-  next_3 : after_byte sum_2 c ≡ sum_3
-  unfolding sum_2 sum_3
+  next_3 : after_byte (t1 a ⊕ t0 b) c ≡ t2 a ⊕ t1 b ⊕ t0 c
   next_3 = next _ _ c c_in (moves _ _ _ _ (entry_2 a a_in) (entry_1 b b_in))
 
-  next_4 : after_byte sum_3 d ≡ sum_4
-  unfolding sum_3 sum_4
+  next_4 : after_byte (t2 a ⊕ t1 b ⊕ t0 c) d ≡ t3 a ⊕ t2 b ⊕ t1 c ⊕ t0 d
   next_4 = next _ _ d d_in (moves _ _ _ _ (moves _ _ _ _ (entry_3 a a_in) (entry_2 b b_in)) (entry_1 c c_in))
 
-  next_5 : after_byte sum_4 e ≡ sum_5
-  unfolding sum_4 sum_5
+  next_5 : after_byte (t3 a ⊕ t2 b ⊕ t1 c ⊕ t0 d) e ≡ t4 a ⊕ t3 b ⊕ t2 c ⊕ t1 d ⊕ t0 e
   next_5 = next _ _ e e_in (moves _ _ _ _ (moves _ _ _ _ (moves _ _ _ _ (entry_4 a a_in) (entry_3 b b_in)) (entry_2 c c_in)) (entry_1 d d_in))
 
-  next_6 : after_byte sum_5 f ≡ sum_6
-  unfolding sum_5 sum_6
+  next_6 : after_byte (t4 a ⊕ t3 b ⊕ t2 c ⊕ t1 d ⊕ t0 e) f ≡ t5 a ⊕ t4 b ⊕ t3 c ⊕ t2 d ⊕ t1 e ⊕ t0 f
   next_6 = next _ _ f f_in (moves _ _ _ _ (moves _ _ _ _ (moves _ _ _ _ (moves _ _ _ _ (entry_5 a a_in) (entry_4 b b_in)) (entry_3 c c_in)) (entry_2 d d_in)) (entry_1 e e_in))
 
-  next_7 : after_byte sum_6 g ≡ sum_7
-  unfolding sum_6 sum_7
+  next_7 : after_byte (t5 a ⊕ t4 b ⊕ t3 c ⊕ t2 d ⊕ t1 e ⊕ t0 f) g ≡ t6 a ⊕ t5 b ⊕ t4 c ⊕ t3 d ⊕ t2 e ⊕ t1 f ⊕ t0 g
   next_7 = next _ _ g g_in (moves _ _ _ _ (moves _ _ _ _ (moves _ _ _ _ (moves _ _ _ _ (moves _ _ _ _ (entry_6 a a_in) (entry_5 b b_in)) (entry_4 c c_in)) (entry_3 d d_in)) (entry_2 e e_in)) (entry_1 f f_in))
 
-  next_8 : after_byte sum_7 h ≡ sum_8
-  unfolding sum_7 sum_8
+  next_8 : after_byte (t6 a ⊕ t5 b ⊕ t4 c ⊕ t3 d ⊕ t2 e ⊕ t1 f ⊕ t0 g) h ≡ t7 a ⊕ t6 b ⊕ t5 c ⊕ t4 d ⊕ t3 e ⊕ t2 f ⊕ t1 g ⊕ t0 h
   next_8 = next _ _ h h_in (moves _ _ _ _ (moves _ _ _ _ (moves _ _ _ _ (moves _ _ _ _ (moves _ _ _ _ (moves _ _ _ _ (entry_7 a a_in) (entry_6 b b_in)) (entry_5 c c_in)) (entry_4 d d_in)) (entry_3 e e_in)) (entry_2 f f_in)) (entry_1 g g_in))
 
-  six_more : fold after_byte sum_2 (c ∷ d ∷ e ∷ f ∷ g ∷ h ∷ []) ≡ sum_8
+  six_more : fold after_byte (t1 a ⊕ t0 b) (c ∷ d ∷ e ∷ f ∷ g ∷ h ∷ []) ≡ t7 a ⊕ t6 b ⊕ t5 c ⊕ t4 d ⊕ t3 e ⊕ t2 f ⊕ t1 g ⊕ t0 h
   six_more =
       ap (λ m. fold after_byte m (d ∷ e ∷ f ∷ g ∷ h ∷ [])) next_3
       ∙ ap (λ m. fold after_byte m (e ∷ f ∷ g ∷ h ∷ [])) next_4
@@ -147,12 +149,10 @@ module _ (a b c d e f g h : ℕ) (a_in : a < 256) (b_in : b < 256) (c_in : c < 2
       ∙ next_8
 
 stride : (n x y c d e f g h : ℕ) → n < 2 ^ 16 → x < 256 → y < 256 → c < 256 → d < 256 → e < 256 → f < 256 → g < 256 → h < 256
-    → fold after_byte n (x ∷ y ∷ c ∷ d ∷ e ∷ f ∷ g ∷ h ∷ [])
-    ≡ bit_xor (bit_xor (bit_xor (bit_xor (bit_xor (bit_xor (bit_xor (get_or REMAINDERS_7 (bit_xor (n / 2 ^ 8) x) 0) (get_or REMAINDERS_6 (bit_xor (n % 2 ^ 8) y) 0)) (get_or REMAINDERS_5 c 0)) (get_or REMAINDERS_4 d 0)) (get_or REMAINDERS_3 e 0)) (get_or REMAINDERS_2 f 0)) (get_or REMAINDERS_1 g 0)) (get_or REMAINDERS_0 h 0)
-unfolding sum_2 sum_8
+    → fold after_byte n (x ∷ y ∷ c ∷ d ∷ e ∷ f ∷ g ∷ h ∷ []) ≡ t7 (n / 2 ^ 8 ⊕ x) ⊕ t6 (n % 2 ^ 8 ⊕ y) ⊕ t5 c ⊕ t4 d ⊕ t3 e ⊕ t2 f ⊕ t1 g ⊕ t0 h
 stride n x y c d e f g h n_in x_in y_in c_in d_in e_in f_in g_in h_in =
-    let a = bit_xor (n / 2 ^ 8) x in
-    let b = bit_xor (n % 2 ^ 8) y in
+    let a = n / 2 ^ 8 ⊕ x in
+    let b = n % 2 ^ 8 ⊕ y in
     let a_in : a < 256 = xor_lt 8 (n / 2 ^ 8) x (omega arith) x_in in
     let b_in : b < 256 = xor_lt 8 (n % 2 ^ 8) y (omega arith) y_in in
     ap (λ m. fold after_byte m (c ∷ d ∷ e ∷ f ∷ g ∷ h ∷ [])) (two_bytes n x y n_in x_in y_in)
@@ -174,13 +174,13 @@ eight [] l = absurd (omega arith)
 
 -- the step by the tables, as the code computes it from the register's two bytes
 pub stride_step : (n : ℕ) (xs halves : List ℕ) → n < 2 ^ 16 → length xs ≡ 8 → ((k : ℕ) → k < 8 → get_or xs k 0 < 256) → halves ≡ n / 2 ^ 8 % 2 ^ 8 ∷ n % 2 ^ 8 ∷ []
-    → bit_xor (bit_xor (bit_xor (bit_xor (bit_xor (bit_xor (bit_xor (get_or REMAINDERS_7 (bit_xor (get_or halves 0 0) (get_or xs 0 0)) 0) (get_or REMAINDERS_6 (bit_xor (get_or halves 1 0) (get_or xs 1 0)) 0)) (get_or REMAINDERS_5 (get_or xs 2 0) 0)) (get_or REMAINDERS_4 (get_or xs 3 0) 0)) (get_or REMAINDERS_3 (get_or xs 4 0) 0)) (get_or REMAINDERS_2 (get_or xs 5 0) 0)) (get_or REMAINDERS_1 (get_or xs 6 0) 0)) (get_or REMAINDERS_0 (get_or xs 7 0) 0)
+    → t7 (get_or halves 0 0 ⊕ get_or xs 0 0) ⊕ t6 (get_or halves 1 0 ⊕ get_or xs 1 0) ⊕ t5 (get_or xs 2 0) ⊕ t4 (get_or xs 3 0) ⊕ t3 (get_or xs 4 0) ⊕ t2 (get_or xs 5 0) ⊕ t1 (get_or xs 6 0) ⊕ t0 (get_or xs 7 0)
     ≡ fold after_byte n xs
 stride_step n xs halves n_in l in_range e =
     let high : n / 2 ^ 8 % 2 ^ 8 ≡ n / 2 ^ 8 = omega arith in
     let at = λ (k : ℕ). get_or xs k 0 in
-    ap (λ p. bit_xor (bit_xor (bit_xor (bit_xor (bit_xor (bit_xor (bit_xor (get_or REMAINDERS_7 (bit_xor p (get_or xs 0 0)) 0) (get_or REMAINDERS_6 (bit_xor (get_or halves 1 0) (get_or xs 1 0)) 0)) (get_or REMAINDERS_5 (get_or xs 2 0) 0)) (get_or REMAINDERS_4 (get_or xs 3 0) 0)) (get_or REMAINDERS_3 (get_or xs 4 0) 0)) (get_or REMAINDERS_2 (get_or xs 5 0) 0)) (get_or REMAINDERS_1 (get_or xs 6 0) 0)) (get_or REMAINDERS_0 (get_or xs 7 0) 0)) (ap (λ l. get_or l 0 0) e ∙ high)
-    ∙ ap (λ p. bit_xor (bit_xor (bit_xor (bit_xor (bit_xor (bit_xor (bit_xor (get_or REMAINDERS_7 (bit_xor (n / 2 ^ 8) (get_or xs 0 0)) 0) (get_or REMAINDERS_6 (bit_xor p (get_or xs 1 0)) 0)) (get_or REMAINDERS_5 (get_or xs 2 0) 0)) (get_or REMAINDERS_4 (get_or xs 3 0) 0)) (get_or REMAINDERS_3 (get_or xs 4 0) 0)) (get_or REMAINDERS_2 (get_or xs 5 0) 0)) (get_or REMAINDERS_1 (get_or xs 6 0) 0)) (get_or REMAINDERS_0 (get_or xs 7 0) 0)) (ap (λ l. get_or l 1 0) e)
+    ap (λ p. t7 (p ⊕ at 0) ⊕ t6 (get_or halves 1 0 ⊕ at 1) ⊕ t5 (at 2) ⊕ t4 (at 3) ⊕ t3 (at 4) ⊕ t2 (at 5) ⊕ t1 (at 6) ⊕ t0 (at 7)) (ap (λ l. get_or l 0 0) e ∙ high)
+    ∙ ap (λ p. t7 (n / 2 ^ 8 ⊕ at 0) ⊕ t6 (p ⊕ at 1) ⊕ t5 (at 2) ⊕ t4 (at 3) ⊕ t3 (at 4) ⊕ t2 (at 5) ⊕ t1 (at 6) ⊕ t0 (at 7)) (ap (λ l. get_or l 1 0) e)
     ∙ sym (stride n (at 0) (at 1) (at 2) (at 3) (at 4) (at 5) (at 6) (at 7) n_in (in_range 0 (omega arith)) (in_range 1 (omega arith)) (in_range 2 (omega arith)) (in_range 3 (omega arith)) (in_range 4 (omega arith)) (in_range 5 (omega arith)) (in_range 6 (omega arith)) (in_range 7 (omega arith)))
     ∙ ap (fold after_byte n) (sym (eight xs l))
 
