@@ -1,9 +1,8 @@
 -- The forty letters and their indexes, by trying each.
-use Rattle.std.proofs.Common.{ℕ, zero, suc, ◌≡◌, ◌≢◌, ◌+◌, ◌-◌, ◌<◌, ◌≤◌, ◌⊎◌, inl, inr, Bool, true, false, ◌&&◌, ◌||◌, eqb, leb, List, length, get_or, refl, ap, sym, ◌∙◌, subst, arith, eqb-true, ltb-true, ltb}
+use Rattle.std.proofs.Common.{ℕ, zero, suc, ◌≡◌, ◌≢◌, ◌+◌, ◌-◌, ◌<◌, ◌≤◌, ◌⊎◌, inl, inr, Bool, true, false, ◌&&◌, ◌||◌, eqb, leb, get_or, refl, ap, sym, ◌∙◌, subst, arith, eqb-true, ltb-true, ltb}
 use Rattle.std.proofs.lemmas.List.{get_or_default}
 use Rattle.std.proofs.lemmas.Bool.{cases_eq}
 use Rattle.std.proofs.lemmas.Bool.Decides.{nat_tests}
-use Rattle.std.proofs.lemmas.Grind.{common_steps}
 use Rattle.m17_callsign.specs.Callsign.{alphabet, IsLetter, index_of}
 
 -- the test passes at each number below n

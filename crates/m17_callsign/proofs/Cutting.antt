@@ -1,11 +1,10 @@
 -- What is cut off an address, letter by letter, and that it ends in a callsign.
-use Rattle.std.proofs.Common.{ℕ, zero, suc, ◌≡◌, ◌≢◌, ◌+◌, ◌-◌, ◌*◌, ◌/◌, ◌%◌, ◌^◌, ◌<◌, ◌≤◌, ◌⊎◌, inl, inr, List, [], ◌∷◌, ◌++◌, length, get_or, refl, ap, sym, ◌∙◌, subst, arith, slice_index, add-one}
+use Rattle.std.proofs.Common.{ℕ, zero, suc, ◌≡◌, ◌≢◌, ◌+◌, ◌-◌, ◌*◌, ◌/◌, ◌%◌, ◌^◌, ◌<◌, ◌≤◌, inl, inr, List, [], ◌∷◌, ◌++◌, length, get_or, ap, sym, ◌∙◌, subst, arith, add-one}
 use Rattle.std.specs.List.{All}
 use Rattle.std.proofs.lemmas.Bool.{cases_eq}
 use Rattle.std.proofs.lemmas.List.{get_or_push, length_push}
 use Rattle.std.proofs.lemmas.List.Elements.{All-push, All-nil}
 use Rattle.std.proofs.Math.Nat.{div-add-mod, div-lt_iff_lt-mul, pow-suc, mul_assoc, mul-one}
-use Rattle.std.proofs.lemmas.Grind.{common_steps}
 use Rattle.m17_callsign.specs.Callsign.{alphabet, IsLetter, IsCallsignOf, index_of, last_letter}
 use Rattle.m17_callsign.proofs.Alphabet.{index_of-space, IsLetter-at, index_of-at}
 use Rattle.m17_callsign.proofs.Folded.{folded, folded-nil, folded-cons, folded-is-sum}
@@ -49,8 +48,8 @@ cut_room address text rest low cut =
     let short = cut.short in
     let left = cut.left in
     elim (cases_eq (length text) 9) [
-      inl full ↦ absurd (let none : 40 ^ (9 - length text) ≡ 1 = ap (λ (n : ℕ). 40 ^ (9 - n)) full in omega arith)
-    | inr room ↦ omega arith
+      | inl full ↦ absurd (let none : 40 ^ (9 - length text) ≡ 1 = ap (λ (n : ℕ). 40 ^ (9 - n)) full in omega arith)
+      | inr room ↦ omega arith
     ]
 
 -- the sum with one more letter
@@ -66,7 +65,7 @@ cut_step address text rest x low letter index cut =
     let power : 40 ^ length (text ++ x ∷ []) ≡ 40 ^ length text * 40 = ap (λ (n : ℕ). 40 ^ n) (long ∙ add-one (length text)) ∙ pow-suc 40 (length text) in
     let less : 9 - length text ≡ suc (9 - length (text ++ x ∷ [])) = omega arith in
     let left : rest < 40 ^ (9 - length (text ++ x ∷ [])) * 40 =
-        subst (λ (bound : ℕ). rest < bound) (ap (λ (n : ℕ). 40 ^ n) less ∙ pow-suc 40 (9 - length (text ++ x ∷ []))) cut.left in
+    subst (λ (bound : ℕ). rest < bound) (ap (λ (n : ℕ). 40 ^ n) less ∙ pow-suc 40 (9 - length (text ++ x ∷ []))) cut.left in
     record {
       short = omega arith;
       left = (div-lt_iff_lt-mul {k = 40} {x = rest} {y = 40 ^ (9 - length (text ++ x ∷ []))} (omega arith)).1 left;
@@ -97,12 +96,12 @@ cut_on : (n address rest : ℕ) (text : List ℕ) → rest < 40 ^ n → IsCut ad
 cut_on zero address rest text less cut = (text, cut_end address text rest (omega arith) cut)
 cut_on (suc n) address rest text less cut =
     elim (cases_eq rest 0) [
-      inl none ↦ (text, cut_end address text rest none cut)
-    | inr more ↦
-      let x = some_letter (rest % 40) (omega arith) in
-      let left : rest < 40 ^ n * 40 = subst (λ (bound : ℕ). rest < bound) (pow-suc 40 n) less in
-      cut_on n address (rest / 40) (text ++ x.0 ∷ []) ((div-lt_iff_lt-mul {k = 40} {x = rest} {y = 40 ^ n} (omega arith)).1 left)
-      (cut_step address text rest x.0 (omega arith) x.1 x.2 cut)
+      | inl none ↦ (text, cut_end address text rest none cut)
+      | inr more ↦
+          let x = some_letter (rest % 40) (omega arith) in
+          let left : rest < 40 ^ n * 40 = subst (λ (bound : ℕ). rest < bound) (pow-suc 40 n) less in
+          cut_on n address (rest / 40) (text ++ x.0 ∷ []) ((div-lt_iff_lt-mul {k = 40} {x = rest} {y = 40 ^ n} (omega arith)).1 left)
+          (cut_step address text rest x.0 (omega arith) x.1 x.2 cut)
     ]
 
 pub some_text : (address : ℕ) → 0 < address → address < 40 ^ 9 → (t : List ℕ) × IsCallsignOf t address

@@ -1,5 +1,5 @@
 -- The sum over all letters as a fold from the last letter, and what a scan from the last letter has seen.
-use Rattle.std.proofs.Common.{ℕ, zero, suc, ◌≡◌, ◌≢◌, ◌+◌, ◌-◌, ◌*◌, ◌^◌, ◌<◌, ◌≤◌, ◌⊎◌, inl, inr, List, [], ◌∷◌, length, get_or, drop, Option, Some, None, refl, ap, sym, ◌∙◌, subst, arith, add-one, slice_index, mul_assoc, lit<}
+use Rattle.std.proofs.Common.{ℕ, zero, suc, ◌≡◌, ◌+◌, ◌-◌, ◌*◌, ◌^◌, ◌<◌, ◌≤◌, inl, inr, List, [], ◌∷◌, length, get_or, drop, Option, Some, None, refl, ap, sym, ◌∙◌, subst, arith, add-one, slice_index, mul_assoc, lit<}
 use Rattle.std.specs.List.{sum_by, range_with_len, All}
 use Rattle.std.proofs.lemmas.List.{drop_all, get_or_default}
 use Rattle.std.proofs.lemmas.Nat.{mul-add-lt}
@@ -7,7 +7,6 @@ use Rattle.std.proofs.Math.Nat.{pow-suc, pow-succ', one-le-pow, pow-le-pow_right
 use Rattle.std.proofs.lemmas.List.Sums.{sum_by-cons}
 use Rattle.std.proofs.Math.Seq.{drop-cons}
 use Rattle.std.proofs.lemmas.Bool.{cases_eq}
-use Rattle.std.proofs.lemmas.Grind.{common_steps}
 use Rattle.m17_callsign.specs.Callsign.{IsLetter, index_of, share_of}
 use Rattle.m17_callsign.proofs.Alphabet.{index_of-letter-lt}
 
@@ -80,11 +79,12 @@ IsLetter-more xs i end letter rest k low high =
 Seen-letter : (xs : List ℕ) (i v index : ℕ) (unknown : Option ℕ) → 0 < i → i ≤ length xs → IsLetter (get_or xs (i - 1) 0) → index ≡ index_of (get_or xs (i - 1) 0) → Seen xs i v unknown → Seen xs (i - 1) (v * 40 + index) unknown
 Seen-letter xs i v index None low high letter is seen = (
   (let step = folded-drop xs (i - 1) (omega arith) in
-   let same : i - 1 + 1 ≡ i = omega arith in
-   let fold = ap (λ (j : ℕ). folded (drop j xs)) same in
-   let value = seen.0 in
-   omega arith),
-  IsLetter-more xs i (length xs) letter seen.1)
+      let same : i - 1 + 1 ≡ i = omega arith in
+      let fold = ap (λ (j : ℕ). folded (drop j xs)) same in
+      let value = seen.0 in
+      omega arith),
+  IsLetter-more xs i (length xs) letter seen.1,
+)
 Seen-letter xs i v index (Some p) low high letter is seen = (omega arith, seen.1, seen.2, IsLetter-more xs i p letter seen.3)
 
 pub seen_letter : (xs : List ℕ) (i v index : ℕ) (unknown : Option ℕ) → 0 < i → i ≤ length xs → IsLetter (get_or xs (i - 1) 0) → index ≡ index_of (get_or xs (i - 1) 0) → IsSeen xs i v unknown → IsSeen xs (i - 1) (v * 40 + index) unknown

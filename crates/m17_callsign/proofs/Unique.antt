@@ -1,6 +1,6 @@
 -- An address has at most one callsign, and only from 1 to 40^9 - 1.
-use Rattle.std.proofs.Common.{ℕ, zero, suc, ◌≡◌, ◌≢◌, ◌+◌, ◌-◌, ◌*◌, ◌/◌, ◌%◌, ◌^◌, ◌<◌, ◌≤◌, ◌⊎◌, inl, inr, List, [], ◌∷◌, ◌++◌, length, get_or, refl, ap, sym, ◌∙◌, subst, arith, slice_index}
-use Rattle.std.specs.List.{All, AllByRecursion}
+use Rattle.std.proofs.Common.{ℕ, suc, ◌≡◌, ◌≢◌, ◌+◌, ◌-◌, ◌*◌, ◌/◌, ◌%◌, ◌^◌, ◌<◌, ◌≤◌, ◌⊎◌, inl, inr, List, [], ◌∷◌, length, refl, ap, sym, ◌∙◌, subst, arith, slice_index, Some, None, ◌↔◌}
+use Rattle.std.specs.List.{AllByRecursion}
 use Rattle.std.proofs.lemmas.List.Elements.{recursion_from_All}
 use Rattle.std.proofs.lemmas.Nat.{div-mul-add, mod-mul-add, mul-add-lt}
 use Rattle.std.proofs.Math.Nat.{pow-succ', pow-le-pow_right}
@@ -76,3 +76,16 @@ pub one_callsign : (address : ℕ) → 0 < address → address < 40 ^ 9 → (t :
 one_callsign address low high =
     let some = some_text address low high in
     (some.0, some.1, λ u call. one_text u some.0 address call some.1)
+
+-- what is answered with the callsign, and without one
+pub answered : (text : List ℕ) (address : ℕ) → IsCallsignOf text address → (t : List ℕ) → (Some text ≡ Some t) ↔ IsCallsignOf t address
+answered text address call t = (
+  λ is. let same : text ≡ t = cc in subst (λ (other : List ℕ). IsCallsignOf other address) same call,
+  λ other. ap Some (one_text text t address call other),
+)
+
+pub unanswered : (address : ℕ) → ((address ≡ 0) ⊎ (40 ^ 9 ≤ address)) → (t : List ℕ) → (None ≡ Some t) ↔ IsCallsignOf t address
+unanswered address out t = (
+  λ is. cc,
+  λ call. absurd (let within = callsign_in_range t address call in elim out [ inl none ↦ omega arith | inr high ↦ omega arith ]),
+)

@@ -10,5 +10,4 @@ pub fn bytes_are_exact()
 /// Each address from 1 to 40^9 - 1 has exactly one callsign. M17 Protocol Specification, address encoding.
 pub fn each_address_has_one_callsign()
     ensures { (a : ℕ) → 0 < a → a < end_of_callsigns → (t : List ℕ) × IsCallsignOf t a × ((u : List ℕ) → IsCallsignOf u a → u ≡ t) }
-{
-}
+{}

@@ -1,5 +1,5 @@
 -- Each step of the scan from the last letter, and what it has seen at the end.
-use Rattle.std.proofs.Common.{arith, rules, refl}
+use Rattle.std.proofs.Common.{rules, refl}
 use Rattle.std.proofs.lemmas.Bool.{false≢true}
 use Rattle.m17_callsign.proofs.Folded.{seen_none, seen_letter, seen_unknown, seen_sum, seen_all, seen_fits}
 use Rattle.m17_callsign.proofs.encoding.sum_of_letters.Goals as goal
