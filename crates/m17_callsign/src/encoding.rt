@@ -8,7 +8,7 @@ use super::letters::letter_index;
 use super::refusal::CallRefusal;
 
 /// How many letters a callsign has at most.
-pub const MAX_LETTERS: usize = 9;
+const MAX_LETTERS: usize = 9;
 
 /// The address of a callsign, or the first reason why the text is none: it is empty, it is too long, its first byte
 /// that is no letter, a space at its end. The first letter counts least. M17 Protocol Specification, address encoding.
