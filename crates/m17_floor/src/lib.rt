@@ -6,6 +6,7 @@
 mod act;
 mod floor;
 pub mod laws;
+pub mod plain;
 mod verdict;
 
 pub use act::{Act, ActKind};
