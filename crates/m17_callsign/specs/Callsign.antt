@@ -1,5 +1,5 @@
 -- Callsigns and the addresses that stand for them. M17 Protocol Specification, address encoding.
-use Rattle.std.specs.Prelude.{◌≡◌, ◌≢◌, ◌==◌, ℕ, ◌+◌, ◌-◌, ◌*◌, ◌^◌, ◌<◌, ◌≤◌, List, length, codes, slice_index, position, unwrap_or, All, Contains}
+use Rattle.std.specs.Prelude.{◌≡◌, ◌≢◌, ◌==◌, ℕ, ◌-◌, ◌*◌, ◌^◌, ◌<◌, ◌≤◌, List, length, codes, slice_index, position, unwrap_or, All, Contains}
 use Rattle.std.specs.List.{sum_by, range_with_len}
 use Rattle.m17_callsign.specs.declared.refusal.CallRefusal.{CallRefusal}
 use Rattle.m17_callsign.specs.declared.refusal.CallRefusal.TheVariants.{Empty, Long, Letter, TrailingSpace}

@@ -5,7 +5,10 @@
 #![tactic(auto)]
 
 mod address;
+mod bytes;
+pub mod laws;
 mod refusal;
 
 pub use address::{Address, CallAddress};
+pub use bytes::{from_bytes, to_bytes};
 pub use refusal::CallRefusal;

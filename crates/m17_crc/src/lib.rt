@@ -6,8 +6,18 @@
 ghost use Rattle.std.specs.Prelude.{◌≡◌};
 ghost use Rattle.m17_crc.specs.Crc.{crc_of};
 
-pub fn dummy(x: u8) -> u8
-    ensures { result ≡ result }
+mod pieces;
+pub mod plain;
+mod steps;
+mod tables;
+
+pub use pieces::Crc;
+use steps::{START, after_bytes};
+
+/// The CRC of `bytes`: 16 bits, the most significant first, of which a packet carries the high byte before the low one.
+/// It is FFFF for no bytes at all. M17 Protocol Specification, CRC.
+pub fn crc(bytes: &[u8]) -> u16
+    ensures { result ≡ crc_of bytes.now }
 {
-    x
+    after_bytes(START, bytes)
 }

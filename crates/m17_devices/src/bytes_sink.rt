@@ -1,4 +1,4 @@
-ghost use Rattle.std.specs.Prelude.{◌≡◌, ℕ, ◌+◌, ◌-◌, ◌^◌, ◌<◌, ◌≤◌, ◌↔◌, ◌⊎◌, min, length, take, [], ◌++◌, List, Option, Some, Contains, IsErr, OnOk, IfOk, OnErr, IfSome};
+ghost use Rattle.std.specs.Prelude.{◌≡◌, ℕ, ◌+◌, ◌-◌, ◌^◌, ◌<◌, ◌≤◌, ◌↔◌, ◌⊎◌, min, length, take, [], ◌++◌, List, Option, Some, Contains, IsErr, OnOk, IfOk, OnErr};
 ghost use Rattle.m17_devices.specs.Faults.{HasRisen};
 ghost use Rattle.m17_devices.specs.Sink.{AppendsPrefix};
 
@@ -61,8 +61,8 @@ impl Sink for BytesSink {
     ghost written = { λ s. Some s.written };
 
     fn write(&mut self, bytes: &[u8]) -> Result<(), Failed>
-        ensures ok { OnOk result (IfSome (Some self.old.written) (λ before. Some self.new.written ≡ Some (before ++ bytes.now))) }
-        ensures err { OnErr result (IfSome (Some self.old.written) (λ before. AppendsPrefix before bytes.now (Some self.new.written))) }
+        ensures ok { OnOk result ((before : List ℕ) → Some self.old.written ≡ Some before → Some self.new.written ≡ Some (before ++ bytes.now)) }
+        ensures err { OnErr result ((before : List ℕ) → Some self.old.written ≡ Some before → AppendsPrefix before bytes.now (Some self.new.written)) }
         ensures failed { OnErr result (HasRisen self.old.faults self.new.faults) }
         ensures counted { self.old.faults ≤ self.new.faults }
 

@@ -1,4 +1,4 @@
-ghost use Rattle.std.specs.Prelude.{◌≡◌, ℕ, ◌+◌, ◌-◌, ◌^◌, ◌≤◌, ◌↔◌, min, length, take, drop, ◌++◌, List, Option, Some, Contains, IsErr, IfOk, OnErr, IfSome};
+ghost use Rattle.std.specs.Prelude.{◌≡◌, ℕ, ◌+◌, ◌-◌, ◌^◌, ◌≤◌, ◌↔◌, min, length, take, drop, ◌++◌, List, Option, Some, Contains, IsErr, IfOk, OnErr};
 ghost use Rattle.m17_devices.specs.Faults.{HasRisen};
 ghost use Rattle.m17_devices.specs.Source.{Takes};
 
@@ -50,7 +50,7 @@ impl Source for BytesSource {
 
     fn read(&mut self, into: &mut [u8]) -> Result<usize, Failed>
         ensures within { IfOk result (λ n. n ≤ length into.old) }
-        ensures taken { IfOk result (λ n. IfSome (Some self.old.left) (λ bytes. Takes bytes n into.old into.new (Some self.new.left))) }
+        ensures taken { IfOk result (λ n. (bytes : List ℕ) → Some self.old.left ≡ Some bytes → Takes bytes n into.old into.new (Some self.new.left)) }
         ensures failed { OnErr result (HasRisen self.old.faults self.new.faults) }
         ensures nothing_taken { OnErr result (Some self.new.left ≡ Some self.old.left) }
         ensures counted { self.old.faults ≤ self.new.faults }

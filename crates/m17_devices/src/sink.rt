@@ -1,4 +1,4 @@
-ghost use Rattle.std.specs.Prelude.{◌≡◌, ℕ, ◌≤◌, List, ◌++◌, Option, Some, OnOk, OnErr, IfSome};
+ghost use Rattle.std.specs.Prelude.{◌≡◌, ℕ, ◌≤◌, List, ◌++◌, Option, Some, OnOk, OnErr};
 ghost use Rattle.m17_devices.specs.Faults.{HasRisen};
 ghost use Rattle.m17_devices.specs.Sink.{AppendsPrefix};
 
@@ -14,8 +14,8 @@ pub trait Sink {
 
     /// Appends all of the bytes. `Failed` where the device failed, and then some prefix of them was appended.
     fn write(&mut self, bytes: &[u8]) -> Result<(), Failed>
-        ensures ok { OnOk result (IfSome (written self.old) (λ before. written self.new ≡ Some (before ++ bytes.now))) }
-        ensures err { OnErr result (IfSome (written self.old) (λ before. AppendsPrefix before bytes.now (written self.new))) }
+        ensures ok { OnOk result ((before : List ℕ) → written self.old ≡ Some before → written self.new ≡ Some (before ++ bytes.now)) }
+        ensures err { OnErr result ((before : List ℕ) → written self.old ≡ Some before → AppendsPrefix before bytes.now (written self.new)) }
         ensures failed { OnErr result (HasRisen (faults self.old) (faults self.new)) }
         ensures counted { faults self.old ≤ faults self.new };
 

@@ -1,4 +1,4 @@
-ghost use Rattle.std.specs.Prelude.{◌≡◌, ℕ, ◌≤◌, List, length, Option, IfOk, OnErr, IfSome};
+ghost use Rattle.std.specs.Prelude.{◌≡◌, ℕ, ◌≤◌, List, length, Option, Some, IfOk, OnErr};
 ghost use Rattle.m17_devices.specs.Faults.{HasRisen};
 ghost use Rattle.m17_devices.specs.Source.{Takes};
 
@@ -16,8 +16,8 @@ pub trait Source {
     /// with room only at the end. `Failed` where the device failed, and then nothing was taken.
     fn read(&mut self, into: &mut [u8]) -> Result<usize, Failed>
         ensures within { IfOk result (λ n. n ≤ length into.old) }
-        ensures taken { IfOk result (λ n. IfSome (left self.old)
-            (λ bytes. Takes bytes n into.old into.new (left self.new))) }
+        ensures taken { IfOk result (λ n. (bytes : List ℕ) → left self.old ≡ Some bytes
+            → Takes bytes n into.old into.new (left self.new)) }
         ensures failed { OnErr result (HasRisen (faults self.old) (faults self.new)) }
         ensures nothing_taken { OnErr result (left self.new ≡ left self.old) }
         ensures counted { faults self.old ≤ faults self.new };

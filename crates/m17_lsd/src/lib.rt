@@ -3,6 +3,9 @@
 //! pass TYPE and META unread.
 #![tactic(auto)]
 
+mod bytes;
+pub mod laws;
 mod lsd;
 
+pub use bytes::{read, write};
 pub use lsd::Lsd;

@@ -3,6 +3,11 @@
 //! Who may send a packet, and when it is relayed, is left to the crates above.
 #![tactic(auto)]
 
+mod bytes;
+pub mod laws;
+mod order;
 mod packet;
 
-pub use packet::{StreamPacket, StreamRefusal};
+pub use bytes::{read, write};
+pub use order::ahead;
+pub use packet::{FRAME_NUMBERS, PACKET_BYTES, StreamPacket, StreamRefusal};

@@ -1,0 +1,3 @@
+pub mod CrcFits
+pub mod Places
+pub mod Packets

@@ -1,0 +1,99 @@
+ghost use Rattle.std.specs.Prelude.{◌≡◌, ◌↔◌, ◌+◌, ◌<◌, ◌≤◌, ◌++◌, take, drop, length, All, ◌^◌, MatchResult};
+ghost use Rattle.std.specs.Int.{w16, to_be_bytes};
+ghost use Rattle.m17_stream.specs.Fields.{HasFields};
+ghost use Rattle.m17_stream.specs.Stream.{SpellsStream, RefusesStream, front_bytes, frame_field};
+ghost use Rattle.m17_stream.specs.declared.packet.StreamPacket.{StreamPacket};
+ghost use Rattle.m17_stream.specs.declared.packet.StreamRefusal.{StreamRefusal};
+
+use crate::packet::{CRC_AT, FIELD_AT, LSD_AT, MAGIC, PAYLOAD_AT, SID_AT};
+use crate::{FRAME_NUMBERS, PACKET_BYTES, StreamPacket, StreamRefusal, laws};
+use m17_crc::crc;
+
+/// The stream packet that these bytes spell, all of them; else the first reason why they spell none: `Length` where
+/// there are not 54 bytes, `Magic` where they do not begin with `M17 `, and `Crc` where the CRC field is not the CRC of
+/// the bytes before it. M17 Protocol Specification, IP networking.
+pub fn read(b: &[u8]) -> Result<StreamPacket, StreamRefusal>
+    ensures ok { (p : StreamPacket) → (result ≡ Ok p) ↔ SpellsStream p b.now }
+    ensures err { (refusal : StreamRefusal) → (result ≡ Err refusal) ↔ RefusesStream b.now refusal }
+{
+    laws::one_spelling();
+    read_first(b)
+}
+
+/// The packet or the refusal, whichever comes first.
+fn read_first(b: &[u8]) -> Result<StreamPacket, StreamRefusal>
+    ensures { MatchResult result (λ p. SpellsStream p b.now) (RefusesStream b.now) }
+{
+    let Some(b) = b.as_array::<PACKET_BYTES>() else {
+        return Err(StreamRefusal::Length(b.len()));
+    };
+    let magic: [u8; 4] = *b[..SID_AT].as_array().unwrap();
+    if magic != MAGIC {
+        return Err(StreamRefusal::Magic(magic));
+    }
+    let found = number_at(b, CRC_AT);
+    let expected = crc(&b[..CRC_AT]);
+    if found != expected {
+        return Err(StreamRefusal::Crc { found, expected });
+    }
+    Ok(fields(b))
+}
+
+/// The big-endian number in the two bytes from this place on.
+#[inline]
+fn number_at(b: &[u8; PACKET_BYTES], place: usize) -> u16
+    requires { place + 1 < 54 }
+    ensures { to_be_bytes w16 result ≡ take 2 (drop place b.now) }
+{
+    u16::from_be_bytes([b[place], b[place + 1]])
+}
+
+/// The fields between the magic and the CRC.
+#[inline]
+fn fields(b: &[u8; PACKET_BYTES]) -> StreamPacket
+    ensures { HasFields result b.now }
+{
+    let field = number_at(b, FIELD_AT);
+    StreamPacket {
+        sid: number_at(b, SID_AT),
+        lsd: m17_lsd::read(b[LSD_AT..FIELD_AT].as_array().unwrap()),
+        number: field % FRAME_NUMBERS,
+        last: field >= FRAME_NUMBERS,
+        payload: *b[PAYLOAD_AT..CRC_AT].as_array().unwrap(),
+    }
+}
+
+/// The 54 bytes of the packet. M17 Protocol Specification, IP networking.
+pub fn write(p: &StreamPacket) -> [u8; 54]
+    ensures { SpellsStream p.now result }
+{
+    let mut bytes = [0; PACKET_BYTES];
+    put(&mut bytes, 0, &MAGIC);
+    put(&mut bytes, SID_AT, &p.sid.to_be_bytes());
+    put(&mut bytes, LSD_AT, &m17_lsd::write(&p.lsd));
+    put(&mut bytes, FIELD_AT, &field(p.last, p.number).to_be_bytes());
+    put(&mut bytes, PAYLOAD_AT, &p.payload);
+    let crc = crc(&bytes[..CRC_AT]);
+    put(&mut bytes, CRC_AT, &crc.to_be_bytes());
+    bytes
+}
+
+/// Writes the part at its place, and leaves all before it.
+#[inline]
+fn put(bytes: &mut [u8; PACKET_BYTES], place: usize, part: &[u8])
+    requires { place + length part.now ≤ 54 }
+    ensures front { take (place + length part.now) bytes.new ≡ take place bytes.old ++ part.now }
+    ensures whole { length bytes.new ≡ 54 }
+    ensures part_bytes { All (λ byte. byte < 2 ^ 8) part.now }
+{
+    bytes[place..place + part.len()].copy_from_slice(part);
+}
+
+/// The field of a frame: its number, and the top bit in the last frame of its stream.
+#[inline]
+fn field(last: bool, number: u16) -> u16
+    requires { number < 32768 }
+    ensures { result ≡ frame_field last number }
+{
+    if last { FRAME_NUMBERS + number } else { number }
+}

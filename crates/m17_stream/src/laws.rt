@@ -1,0 +1,17 @@
+ghost use Rattle.std.specs.Prelude.{◌≡◌, ℕ, List};
+ghost use Rattle.m17_stream.specs.Stream.{SpellsStream};
+ghost use Rattle.m17_stream.specs.declared.packet.StreamPacket.{StreamPacket};
+
+/// Two packets that the same bytes spell are one. M17 Protocol Specification, IP networking.
+#[inline]
+pub fn one_spelling()
+    ensures { (p q : StreamPacket) (bytes : List ℕ) → SpellsStream p bytes → SpellsStream q bytes → p ≡ q }
+{
+    m17_lsd::laws::fields_are_exact();
+}
+
+/// A packet has one spelling. M17 Protocol Specification, IP networking.
+#[inline]
+pub fn one_packet()
+    ensures { (p : StreamPacket) (a b : List ℕ) → SpellsStream p a → SpellsStream p b → a ≡ b }
+{}

@@ -1,0 +1,3 @@
+pub mod FillSteps
+pub mod Joins
+pub mod Standing

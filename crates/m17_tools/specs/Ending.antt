@@ -1,0 +1,15 @@
+-- The text of a refusal of the input. This profile.
+use Rattle.std.specs.Prelude.{ℕ, List, [], ◌∷◌, ◌++◌, codes, decimal}
+use Rattle.m17_tools.specs.declared.ending.Reason.{Reason}
+use Rattle.m17_tools.specs.declared.ending.Reason.TheVariants.{Cut, Large, Long, Odd, Digit}
+
+abbrev pub reason_text : Reason → List ℕ
+reason_text Cut = codes "cut"
+reason_text Large = codes "large"
+reason_text Long = codes "long"
+reason_text Odd = codes "odd"
+reason_text Digit = codes "digit"
+
+-- the last line of a run whose input is refused
+abbrev pub refused_line : ℕ → Reason → List ℕ
+refused_line place reason = codes "input refused at " ++ decimal place ++ codes ": " ++ reason_text reason ++ 10 ∷ []

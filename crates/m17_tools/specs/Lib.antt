@@ -1,0 +1,4 @@
+pub mod Fill
+pub mod Ending
+pub mod Judge
+pub mod Table

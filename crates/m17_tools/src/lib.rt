@@ -1,0 +1,10 @@
+//! The commands on bytes: what goes in as records or lines comes out as lines. It promises the exact text of each
+//! command, and for each way to end its cause. Which command runs, and the last line of a run, is left to the program.
+#![tactic(auto)]
+
+mod ending;
+mod filling;
+mod table;
+
+pub use ending::{Ending, Reason};
+pub use filling::{Filled, fill};
