@@ -7,6 +7,8 @@ mod act;
 mod floor;
 pub mod laws;
 pub mod plain;
+#[cfg(test)]
+mod tests;
 mod verdict;
 
 pub use act::{Act, ActKind};

@@ -1,9 +1,9 @@
-use Rattle.std.proofs.Common.{List, Option, ap, sym, ◌∙◌, arith, length, ◌≡◌, map}
+use Rattle.std.proofs.Common.{List, Option, ap, ◌∙◌, arith, length, ◌≡◌, map}
 use Rattle.m17_floor.specs.Acts.{kind_at}
 use Rattle.m17_floor.specs.declared.verdict.Verdict.{Verdict}
 use Rattle.m17_floor.specs.Floor.{verdict_given, admits}
 use Rattle.m17_floor.proofs.OneMore.{length_more}
-use Rattle.m17_floor.proofs.VerdictsSoFar.{AreVerdicts, no_verdicts, one_more_verdict}
+use Rattle.m17_floor.proofs.VerdictsSoFar.{no_verdicts, one_more_verdict}
 use Rattle.m17_floor.proofs.plain.verdicts.Goals as goal
 
 pub loop-init : goal.loop-init
