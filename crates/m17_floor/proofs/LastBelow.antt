@@ -1,5 +1,6 @@
 -- What `last_below` finds.
-use Rattle.std.proofs.Common.{◌≡◌, ℕ, zero, suc, ◌<◌, Bool, true, false, cond, Option, None, Some, refl, ap, arith}
+use Rattle.std.proofs.Common.{◌≡◌, ℕ, zero, suc, ◌-◌, ◌<◌, ◌≤◌, Bool, true, false, cond, Option, None, Some, refl, ap, sym, subst, ◌∙◌, arith}
+use Rattle.std.proofs.lemmas.Bool.{cond-true, cond-false}
 use Rattle.std.proofs.lemmas.Option.{same_Some, cond_some}
 use Rattle.std.specs.Option.{option_and_then}
 use Rattle.m17_floor.specs.Acts.{last_below}
@@ -60,3 +61,22 @@ kept_is test (Some a) b e = ap Some ((cond_some (test a) a b e).1)
 pub some_from_cond : (b : Bool) (o : Option ℕ) (a : ℕ) → cond b o None ≡ Some a → o ≡ Some a
 some_from_cond true o a e = e
 some_from_cond false o a e = cc
+
+-- the steps of a loop that looks back
+pub found_back : (test : ℕ → Bool) (m : ℕ) → 0 < m → test (m - 1) ≡ true → last_below test m ≡ Some (m - 1)
+found_back test zero h t = absurd (omega arith)
+found_back test (suc k) h t =
+    let e : suc k - 1 ≡ k = omega arith in
+    let here : test k ≡ true = subst (λ (x : ℕ). test x ≡ true) e t in
+    last_below_suc test k ∙ cond-true (test k) (Some k) (last_below test k) here ∙ ap Some (sym e)
+
+pub passed_back : (test : ℕ → Bool) (m : ℕ) → 0 < m → test (m - 1) ≡ false → last_below test (m - 1) ≡ last_below test m
+passed_back test zero h t = absurd (omega arith)
+passed_back test (suc k) h t =
+    let e : suc k - 1 ≡ k = omega arith in
+    let here : test k ≡ false = subst (λ (x : ℕ). test x ≡ false) e t in
+    ap (last_below test) e ∙ sym (last_below_suc test k ∙ cond-false (test k) (Some k) (last_below test k) here)
+
+pub none_back : (test : ℕ → Bool) (m : ℕ) → m ≤ 0 → None ≡ last_below test m
+none_back test zero h = sym (last_below_zero test)
+none_back test (suc k) h = absurd (omega arith)

@@ -7,3 +7,4 @@ mod NoPacket
 mod OneMore
 mod Prefix
 mod Standing
+mod VerdictsSoFar

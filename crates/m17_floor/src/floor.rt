@@ -1,6 +1,5 @@
-ghost use Rattle.std.specs.Prelude.{◌≡◌, ◌≢◌, ℕ, nat_le, true, false, max, List, [], ◌∷◌, ◌++◌, length, None, Some};
+ghost use Rattle.std.specs.Prelude.{◌≡◌, ◌≢◌, ℕ, ◌<◌, true, false, max, List, [], ◌∷◌, ◌++◌, length, None, Some};
 ghost use Rattle.m17_devices.specs.declared.member.Member.{Member};
-ghost use Rattle.m17_stream.specs.Stream.{steps_ahead};
 ghost use Rattle.m17_floor.specs.declared.act.Act.{Act};
 ghost use Rattle.m17_floor.specs.declared.act.ActKind.TheVariants.{Packet};
 ghost use Rattle.m17_floor.specs.declared.verdict.Verdict.TheVariants.{NotMember, ListenOnly};
@@ -11,7 +10,7 @@ ghost use Rattle.m17_floor.specs.StandsFor.{FloorStandsFor, OwnStandsFor, MaySpe
 
 use crate::Verdict;
 use m17_devices::Member;
-use m17_stream::StreamPacket;
+use m17_stream::{StreamPacket, ahead};
 use std::marker::Model;
 
 /// A floor is given up when so many milliseconds went by without an admitted frame.
@@ -19,9 +18,6 @@ pub const FLOOR_TIMEOUT_MS: u64 = 1_600;
 
 /// The stream of a member's last admitted frame is remembered for so many milliseconds.
 pub const STREAM_MEMORY_MS: u64 = 10_000;
-
-// How many frame numbers there are: after 32,767 comes 0.
-const FRAME_NUMBERS: u16 = 32_768;
 
 // An admitted frame: of whom it is, its stream, its number, whether it ended the stream, and its moment.
 #[derive(Clone, Copy, Debug)]
@@ -31,6 +27,7 @@ struct AdmittedFrame {
     number: u16,
     last: bool,
     at: u64,
+    ghost numbered: { number < 32768 },
 }
 
 /// The floor of a module: its last admitted frame, unless its sender has left. This profile.
@@ -82,22 +79,15 @@ impl Last {
                     Verdict::AfterEnd
                 } else if p.number == own.number {
                     Verdict::Repeat
-                } else if is_late(p.number, own.number) {
-                    Verdict::Late { last: own.number }
-                } else {
+                } else if ahead(p.number, own.number) {
                     admitted
+                } else {
+                    Verdict::Late { last: own.number }
                 }
             }
             _ => admitted,
         }
     }
-}
-
-// Whether the new number is half way round or more ahead of the old one, so that it rather is behind it.
-fn is_late(new: u16, old: u16) -> bool
-    ensures { result ≡ nat_le 16384 (steps_ahead new old) }
-{
-    new.wrapping_sub(old) % FRAME_NUMBERS >= FRAME_NUMBERS / 2
 }
 
 impl Floor {

@@ -6,6 +6,9 @@
 mod act;
 mod floor;
 pub mod laws;
+pub mod plain;
+#[cfg(test)]
+mod tests;
 mod verdict;
 
 pub use act::{Act, ActKind};
