@@ -1,5 +1,5 @@
 -- Each byte list is one packet, or is refused for one reason.
-use Rattle.std.proofs.Common.{◌≡◌, ◌⊎◌, ℕ, ◌+◌, ◌*◌, ◌%◌, ◌<◌, ◌≤◌, ◌^◌, Bool, true, false, leb, List, [], ◌∷◌, ◌++◌, length, take, drop, get_or, All, inl, inr, refl, sym, ap, ◌∙◌, subst, arith}
+use Rattle.std.proofs.Common.{◌≡◌, ◌⊎◌, ℕ, ◌+◌, ◌%◌, ◌<◌, ◌≤◌, ◌^◌, leb, List, ◌++◌, length, take, drop, inl, inr, refl, sym, ap, ◌∙◌, arith}
 use Rattle.std.proofs.lemmas.Bool.{cases_eq, cases_Bool, false≢true}
 use Rattle.std.proofs.lemmas.List.{length-take, length-drop, take_all}
 use Rattle.std.proofs.lemmas.List.Elements.{All-take, All-drop}
@@ -15,9 +15,9 @@ use Rattle.m17_lsd.specs.Lsd.{FitsFields, lsd_bytes}
 use Rattle.m17_stream.specs.declared.packet.StreamPacket.{StreamPacket}
 use Rattle.m17_stream.specs.declared.packet.StreamRefusal.{StreamRefusal}
 use Rattle.m17_stream.specs.declared.packet.StreamRefusal.TheVariants.{Length, Magic, Crc}
-use Rattle.m17_stream.specs.Exact.{IsBytes, IsOnlyPacket, IsOnlyRefusal, HasOneReading}
+use Rattle.m17_stream.specs.Exact.{IsBytes, HasOneReading}
 use Rattle.m17_stream.specs.Fields.{HasFields}
-use Rattle.m17_stream.specs.Stream.{SpellsStream, RefusesStream, magic, frame_field}
+use Rattle.m17_stream.specs.Stream.{SpellsStream, RefusesStream, magic}
 use Rattle.m17_stream.proofs.Numbers.{number_in, number_in_bytes, number_in_fits, address_in, address_in_bytes, address_in_fits}
 use Rattle.m17_stream.proofs.Packets.{LsdIsExact, one_spelling, not_both, one_refusal, spells, field_of_parts}
 
@@ -47,16 +47,16 @@ lsd_in_fits b long h =
       src = address_in_fits _ (IsBytes-part 6 6 b h);
       kind = number_in_fits _ (IsBytes-part 12 2 b h);
       meta_bytes = IsBytes-part 14 14 b h;
-      meta_length = length-part 14 14 b (omega arith)
+      meta_length = length-part 14 14 b (omega arith);
     }
 
 lsd_in_bytes : (b : List ℕ) → length b ≡ 28 → IsBytes b → lsd_bytes (lsd_in b) ≡ b
 lsd_in_bytes b long h =
     four_parts (address_bytes (lsd_in b).dst) (address_bytes (lsd_in b).src) (to_be_bytes w16 (lsd_in b).kind) (lsd_in b).meta b long
-      (address_in_bytes _ (length-part 0 6 b (omega arith)) (IsBytes-part 0 6 b h))
-      (address_in_bytes _ (length-part 6 6 b (omega arith)) (IsBytes-part 6 6 b h))
-      (number_in_bytes _ (length-part 12 2 b (omega arith)) (IsBytes-part 12 2 b h))
-      refl
+    (address_in_bytes _ (length-part 0 6 b (omega arith)) (IsBytes-part 0 6 b h))
+    (address_in_bytes _ (length-part 6 6 b (omega arith)) (IsBytes-part 6 6 b h))
+    (number_in_bytes _ (length-part 12 2 b (omega arith)) (IsBytes-part 12 2 b h))
+    refl
 
 -- the packet in 54 bytes
 field_in : List ℕ → ℕ
@@ -65,13 +65,13 @@ field_in b = number_in (take 2 (drop 34 b))
 packet_in : List ℕ → StreamPacket
 unfolding field_in
 packet_in b = record {
-    sid = number_in (take 2 (drop 4 b));
-    lsd = lsd_in (take 28 (drop 6 b));
-    number = field_in b % 32768;
-    last = leb 32768 (field_in b);
-    payload = take 16 (drop 36 b);
-    numbered = mod_below (field_in b) 32768 (omega arith)
-  }
+  sid = number_in (take 2 (drop 4 b));
+  lsd = lsd_in (take 28 (drop 6 b));
+  number = field_in b % 32768;
+  last = leb 32768 (field_in b);
+  payload = take 16 (drop 36 b);
+  numbered = mod_below (field_in b) 32768 (omega arith);
+}
 
 packet_in_fields : (b : List ℕ) → length b ≡ 54 → IsBytes b → HasFields (packet_in b) b
 unfolding packet_in field_in
@@ -85,8 +85,8 @@ packet_in_fields b long h =
       sid = number_in_bytes _ (length-part 4 2 b (omega arith)) (IsBytes-part 4 2 b h);
       lsd = lsd_in_bytes _ (length-part 6 28 b (omega arith)) (IsBytes-part 6 28 b h);
       field = ap (to_be_bytes w16) (field_of_parts (field_in b) (number_in_fits _ field_bytes))
-        ∙ number_in_bytes _ (length-part 34 2 b (omega arith)) field_bytes;
-      payload = refl
+          ∙ number_in_bytes _ (length-part 34 2 b (omega arith)) field_bytes;
+      payload = refl;
     }
 
 abbrev Reads : List ℕ → Type 0
@@ -98,16 +98,16 @@ read_crc b long h m =
     let last : IsBytes (drop 52 b) = All-drop (λ byte. byte < 2 ^ 8) 52 b h in
     let crc_bytes : to_be_bytes w16 (number_in (drop 52 b)) ≡ drop 52 b = number_in_bytes (drop 52 b) (simp length-drop (omega arith)) last in
     elim (cases_eq (number_in (drop 52 b)) (crc_of (take 52 b))) [
-      inl e ↦ inl (packet_in b, spells (packet_in b) b long (packet_in_fields b long h) m (ap (to_be_bytes w16) (sym e) ∙ crc_bytes))
-    | inr ne ↦ inr (Crc (number_in (drop 52 b)) (crc_of (take 52 b)), (long, m, number_in_fits (drop 52 b) last, crc_bytes, refl, ne))
+      | inl e ↦ inl (packet_in b, spells (packet_in b) b long (packet_in_fields b long h) m (ap (to_be_bytes w16) (sym e) ∙ crc_bytes))
+      | inr ne ↦ inr (Crc (number_in (drop 52 b)) (crc_of (take 52 b)), (long, m, number_in_fits (drop 52 b) last, crc_bytes, refl, ne))
     ]
 
 read_magic : (b : List ℕ) → length b ≡ 54 → IsBytes b → Reads b
 read_magic b long h =
     let decides = bytes_eq-Decides (take 4 b) magic in
     elim (cases_Bool (bytes_eq (take 4 b) magic)) [
-      inl same ↦ read_crc b long h (decides.0 same)
-    | inr other ↦ inr (Magic (take 4 b), (long, refl, λ e. false≢true (sym other ∙ decides.1 e)))
+      | inl same ↦ read_crc b long h (decides.0 same)
+      | inr other ↦ inr (Magic (take 4 b), (long, refl, λ e. false≢true (sym other ∙ decides.1 e)))
     ]
 
 reads : (b : List ℕ) → IsBytes b → Reads b
@@ -115,6 +115,6 @@ reads b h = elim (cases_eq (length b) 54) [ inl long ↦ read_magic b long h | i
 
 pub one_reading : LsdIsExact → (b : List ℕ) → IsBytes b → HasOneReading b
 one_reading law b h = elim (reads b h) [
-      inl found ↦ inl (found.0, record { spells = found.1; no_other = λ q s. one_spelling law q found.0 b s found.1; no_refusal = λ r k. not_both b found.0 r found.1 k })
-    | inr found ↦ inr (found.0, record { refuses = found.1; no_other = λ r k. one_refusal b r found.0 k found.1; no_packet = λ p s. not_both b p found.0 s found.1 })
-    ]
+  | inl found ↦ inl (found.0, record { spells = found.1; no_other = λ q s. one_spelling law q found.0 b s found.1; no_refusal = λ r k. not_both b found.0 r found.1 k })
+  | inr found ↦ inr (found.0, record { refuses = found.1; no_other = λ r k. one_refusal b r found.0 k found.1; no_packet = λ p s. not_both b p found.0 s found.1 })
+]
