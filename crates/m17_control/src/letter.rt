@@ -1,3 +1,5 @@
+ghost use Rattle.std.specs.Prelude.{◌≡◌, ◌↔◌, IsSome, IfSome};
+
 use std::marker::Model;
 
 /// The letter of a module, A to Z. Contracts see its byte, 65 to 90. This profile.
@@ -14,4 +16,30 @@ impl Model for ModuleLetter {
     ghost invariant = { λ m. (65 ≤ m.0) × (m.0 ≤ 90) };
 
     ghost inverse = { λ n. record { 0 = n } };
+}
+
+impl ModuleLetter {
+    ghost use Rattle.m17_control.specs.Forms.{IsModule};
+
+    /// The module with this letter; none for a byte that is not A to Z, as for a small letter. This profile.
+    #[inline]
+    pub fn new(byte: u8) -> Option<ModuleLetter>
+        ensures in_range { IsSome result ↔ IsModule byte }
+        ensures same { IfSome result (λ letter. letter ≡ byte) }
+    {
+        if byte.is_ascii_uppercase() {
+            Some(ModuleLetter(byte))
+        } else {
+            None
+        }
+    }
+
+    /// The letter of the module, A to Z. This profile.
+    #[inline]
+    pub fn byte(self) -> u8
+        ensures same { result ≡ self }
+        ensures in_range { IsModule result }
+    {
+        self.0
+    }
 }

@@ -3,8 +3,14 @@
 //! `write` spells the packet. What a packet does to a peer or a module is left to the crates above.
 #![tactic(auto)]
 
+mod form;
+pub mod laws;
 mod letter;
 mod packet;
+mod reader;
+mod writer;
 
 pub use letter::ModuleLetter;
 pub use packet::{Control, Packet, Refusal};
+pub use reader::decode;
+pub use writer::write;

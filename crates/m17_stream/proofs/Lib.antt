@@ -1,3 +1,5 @@
 pub mod CrcFits
-pub mod Places
+pub mod Numbers
 pub mod Packets
+pub mod Places
+pub mod Reading

@@ -1,4 +1,5 @@
 ghost use Rattle.std.specs.Prelude.{◌≡◌, ℕ, List};
+ghost use Rattle.m17_stream.specs.Exact.{IsBytes, HasOneReading};
 ghost use Rattle.m17_stream.specs.Stream.{SpellsStream};
 ghost use Rattle.m17_stream.specs.declared.packet.StreamPacket.{StreamPacket};
 
@@ -15,3 +16,12 @@ pub fn one_spelling()
 pub fn one_packet()
     ensures { (p : StreamPacket) (a b : List ℕ) → SpellsStream p a → SpellsStream p b → a ≡ b }
 {}
+
+/// Each byte list spells one packet, or is refused for one reason, and not both. M17 Protocol Specification, IP
+/// networking.
+#[inline]
+pub fn reading_is_exact()
+    ensures { (bytes : List ℕ) → IsBytes bytes → HasOneReading bytes }
+{
+    m17_lsd::laws::fields_are_exact();
+}

@@ -1,0 +1,4 @@
+pub mod Controls
+pub mod Parts
+pub mod Reading
+pub mod Refused

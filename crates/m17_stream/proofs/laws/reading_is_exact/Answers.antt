@@ -1,0 +1,5 @@
+use Rattle.m17_stream.proofs.Reading.{one_reading}
+use Rattle.m17_stream.proofs.laws.reading_is_exact.Goals as goal
+
+pub returns : goal.returns
+returns c = one_reading c.fields_are_exact.ensures
