@@ -3,3 +3,4 @@ pub mod Joins
 pub mod Standing
 pub mod Records
 pub mod JudgeRun
+pub mod JudgeEnd

@@ -121,3 +121,11 @@ JudgePrints ReadFailed input rest text = (count taken : ℕ) × (64 * count ≤ 
     × (rest ≡ Some (drop taken input)) × IsTextOf input count text
 -- a part of the lines of some of the records
 JudgePrints WriteFailed input rest text = (count : ℕ) × (whole after : List ℕ) × (64 * count ≤ length input) × IsTextOf input count whole × (whole ≡ text ++ after)
+
+-- After as many records as may come: how the look for one more byte ends, with what was left of the input and what is.
+abbrev pub LooksPast : Ending → List ℕ → Option (List ℕ) → Type 0
+LooksPast Finished left rest = (left ≡ []) × (rest ≡ Some [])
+LooksPast (Refused place Large) left rest = (place ≡ 64 * 1000000) × (0 < length left)
+LooksPast (Refused place _) left rest = ⊥
+LooksPast ReadFailed left rest = rest ≡ Some left
+LooksPast WriteFailed left rest = Unit {0}
