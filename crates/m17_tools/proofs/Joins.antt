@@ -65,10 +65,10 @@ speakers-joins joined others (suc n) fits t h =
     let e : suc n ≡ n + 1 = omega arith in
     let grown : joins n ++ join_of n ∷ [] ≡ joins (suc n) = sym (ap joins e ∙ joins_more n) in
     let here : MaySpeak talkers (joins n ++ join_of n ∷ []) (talker t) =
-        elim (cases_lt t n) [
-            inl before ↦ others talkers (joins n) (talker n) 0 (talker t) (λ same. absurd (omega (arith, ap (λ (x : ℕ). x) same))) (speakers-joins joined others n (omega arith) t before)
-          | inr after ↦ let same : n ≡ t = omega arith in subst (λ (m : ℕ). MaySpeak talkers (joins n ++ join_of n ∷ []) (talker m)) same (joined talkers (joins n) (talker n) 0 (omega arith))
-        ] in
+    elim (cases_lt t n) [
+      | inl before ↦ others talkers (joins n) (talker n) 0 (talker t) (λ same. absurd (omega (arith, ap (λ (x : ℕ). x) same))) (speakers-joins joined others n (omega arith) t before)
+      | inr after ↦ let same : n ≡ t = omega arith in subst (λ (m : ℕ). MaySpeak talkers (joins n ++ join_of n ∷ []) (talker m)) same (joined talkers (joins n) (talker n) 0 (omega arith))
+    ] in
     subst (λ (acts : List Act). MaySpeak talkers acts (talker t)) grown here
 
 pub le_talkers : talkers ≤ talkers

@@ -41,7 +41,7 @@ at_start bytes rest floor owns moment first told stands = record {
   lines = [];
   are_lines = record { acts_count = refl; lines_count = refl; each = λ n h. absurd (omega arith) };
   stands = subst (λ (acts : List Act). TableStandsFor acts floor owns moment) (sym (append-nil (joins talkers))) stands;
-  printed = λ before e. e ∙ ap Some (sym (append-nil before))
+  printed = λ before e. e ∙ ap Some (sym (append-nil before));
 }
 
 -- what stands in a list stands there in a longer one
@@ -53,17 +53,19 @@ slice_get_longer xs ys i x e =
 -- a line is the same over a longer list of acts
 line_longer : LaterActsChangeNoVerdict → (acts more : List Act) (n : ℕ) (bytes line : List ℕ) → IsLine acts n bytes line → IsLine (acts ++ more) n bytes line
 line_longer law acts more n bytes line (inl j) = inl (record {
-    packet = j.packet; spelled = j.spelled;
-    act = slice_get_longer acts more (talkers + n) _ j.act;
-    verdict = j.verdict;
-    ruled = law talkers acts more (talkers + n) (slice_get_within acts (talkers + n) _ j.act) ∙ j.ruled;
-    text = j.text
-  })
+  packet = j.packet;
+  spelled = j.spelled;
+  act = slice_get_longer acts more (talkers + n) _ j.act;
+  verdict = j.verdict;
+  ruled = law talkers acts more (talkers + n) (slice_get_within acts (talkers + n) _ j.act) ∙ j.ruled;
+  text = j.text;
+})
 line_longer law acts more n bytes line (inr t) = inr (record {
-    refusal = t.refusal; refused = t.refused;
-    act = slice_get_longer acts more (talkers + n) _ t.act;
-    text = t.text
-  })
+  refusal = t.refusal;
+  refused = t.refused;
+  act = slice_get_longer acts more (talkers + n) _ t.act;
+  text = t.text;
+})
 
 -- what was filled is the next record
 record_filled : (bytes buffer bytes' : List ℕ) (count : ℕ) (rest : Option (List ℕ)) → length buffer ≡ 64 → IsFilled (drop (64 * count) bytes) 64 buffer bytes' rest → bytes' ≡ record_at bytes count
@@ -85,15 +87,19 @@ lines_more law bytes count more lines act line are newest = record {
   acts_count = length_push more act ∙ ap (λ n. n + 1) are.acts_count;
   lines_count = length_push lines line ∙ ap (λ n. n + 1) are.lines_count;
   each = λ n below. elim (cases_lt n count) [
-      inl earlier ↦
-        let old = are.each n earlier in
-        (old.0, slice_get_longer lines (line ∷ []) n old.0 old.1,
-         subst (λ (acts : List Act). IsLine acts n (record_at bytes n) old.0) (acts_more more act) (line_longer law (acts_with more) (act ∷ []) n (record_at bytes n) old.0 old.2))
+    | inl earlier ↦
+        let old = are.each n earlier in (
+          old.0,
+          slice_get_longer lines (line ∷ []) n old.0 old.1,
+          subst (λ (acts : List Act). IsLine acts n (record_at bytes n) old.0) (acts_more more act) (line_longer law (acts_with more) (act ∷ []) n (record_at bytes n) old.0 old.2),
+        )
     | inr later ↦
-        let same : count ≡ n = omega arith in
-        (line, slice_get_push lines line n (are.lines_count ∙ same),
-         subst (λ (k : ℕ). IsLine (acts_with (more ++ act ∷ [])) k (record_at bytes k) line) same newest)
-  ]
+        let same : count ≡ n = omega arith in (
+          line,
+          slice_get_push lines line n (are.lines_count ∙ same),
+          subst (λ (k : ℕ). IsLine (acts_with (more ++ act ∷ [])) k (record_at bytes k) line) same newest,
+        )
+  ];
 }
 
 -- the next record has its act and its line
@@ -102,11 +108,12 @@ newest_line : (bytes : List ℕ) (count : ℕ) (rest rest' : Option (List ℕ)) 
     → JudgesRecord count bytes' floor owns moment floor' owns' moment' line
     → (act : Act) × TableStandsFor (acts_with (after.more ++ act ∷ [])) floor' owns' moment' × IsLine (acts_with (after.more ++ act ∷ [])) count (record_at bytes count) line
 newest_line bytes count rest rest' floor floor' owns owns' moment moment' first written buffer bytes' line after size filled judges =
-    let step = judges (acts_with after.more) (length-acts_with after.more count after.are_lines.acts_count) after.stands in
-    (step.0,
-     subst (λ (acts : List Act). TableStandsFor acts floor' owns' moment') (acts_more after.more step.0) step.1,
-     subst (λ (xs : List ℕ). IsLine (acts_with (after.more ++ step.0 ∷ [])) count xs line) (record_filled bytes buffer bytes' count rest' size filled)
-        (subst (λ (acts : List Act). IsLine acts count bytes' line) (acts_more after.more step.0) step.2))
+    let step = judges (acts_with after.more) (length-acts_with after.more count after.are_lines.acts_count) after.stands in (
+      step.0,
+      subst (λ (acts : List Act). TableStandsFor acts floor' owns' moment') (acts_more after.more step.0) step.1,
+      subst (λ (xs : List ℕ). IsLine (acts_with (after.more ++ step.0 ∷ [])) count xs line) (record_filled bytes buffer bytes' count rest' size filled)
+          (subst (λ (acts : List Act). IsLine acts count bytes' line) (acts_more after.more step.0) step.2),
+    )
 
 -- there was room in the input for it
 within_more : (bytes buffer bytes' : List ℕ) (count : ℕ) (rest' : Option (List ℕ)) → 64 * count ≤ length bytes → IsFilled (drop (64 * count) bytes) 64 buffer bytes' rest' → 64 * (count + 1) ≤ length bytes
@@ -128,7 +135,7 @@ one_more law bytes count rest rest' floor floor' owns owns' moment moment' first
       are_lines = lines_more law bytes count after.more after.lines step.0 line after.are_lines step.2;
       stands = step.1;
       printed = λ before told. writes (before ++ joined_lines after.lines) (after.printed before told)
-        ∙ ap Some (append_assoc before (joined_lines after.lines) line ∙ ap (λ xs. before ++ xs) (flat_map_more (λ (xs : List ℕ). xs) [] after.lines line))
+          ∙ ap Some (append_assoc before (joined_lines after.lines) line ∙ ap (λ xs. before ++ xs) (flat_map_more (λ (xs : List ℕ). xs) [] after.lines line));
     }
 
 -- the text with its line
@@ -137,9 +144,10 @@ pub text_more : LaterActsChangeNoVerdict → (bytes : List ℕ) (count : ℕ) (r
     → JudgesRecord count bytes' floor owns moment floor' owns' moment' line
     → (64 * (count + 1) ≤ length bytes) × IsTextOf bytes (count + 1) (joined_lines (after.lines ++ line ∷ []))
 text_more law bytes count rest rest' floor floor' owns owns' moment moment' first written buffer bytes' line after size filled judges =
-    let step = newest_line bytes count rest rest' floor floor' owns owns' moment moment' first written buffer bytes' line after size filled judges in
-    (within_more bytes buffer bytes' count rest' after.within filled,
-     record { more = after.more ++ step.0 ∷ []; lines = after.lines ++ line ∷ []; are_lines = lines_more law bytes count after.more after.lines step.0 line after.are_lines step.2; joined = refl })
+    let step = newest_line bytes count rest rest' floor floor' owns owns' moment moment' first written buffer bytes' line after size filled judges in (
+      within_more bytes buffer bytes' count rest' after.within filled,
+      record { more = after.more ++ step.0 ∷ []; lines = after.lines ++ line ∷ []; are_lines = lines_more law bytes count after.more after.lines step.0 line after.are_lines step.2; joined = refl },
+    )
 
 -- the text so far
 pub text_after : (bytes : List ℕ) (count : ℕ) (rest : Option (List ℕ)) (floor : Option Frame) (owns : List (Option Frame)) (moment : ℕ) (first written : Option (List ℕ))
@@ -152,9 +160,10 @@ pub at_the_end : (bytes : List ℕ) (count : ℕ) (rest rest' : Option (List ℕ
     → AreRecords bytes count × (rest' ≡ Some [])
 at_the_end bytes count rest rest' floor owns moment first written buffer filled n after size none few is_filled =
     let over : n ≡ length (drop (64 * count) bytes) = is_filled.at_end (omega arith) in
-    let all : length bytes ≡ 64 * count = omega (arith, length-drop (64 * count) bytes, over, after.within) in
-    (record { whole = all; not_large = omega arith },
-     is_filled.rest_left ∙ ap Some (drop_all n (drop (64 * count) bytes) (omega (arith, over))))
+    let all : length bytes ≡ 64 * count = omega (arith, length-drop (64 * count) bytes, over, after.within) in (
+      record { whole = all; not_large = omega arith },
+      is_filled.rest_left ∙ ap Some (drop_all n (drop (64 * count) bytes) (omega (arith, over))),
+    )
 
 -- a part of a record came, and then the end
 pub cut_inside : (bytes : List ℕ) (count : ℕ) (rest rest' : Option (List ℕ)) (floor : Option Frame) (owns : List (Option Frame)) (moment : ℕ) (first written : Option (List ℕ)) (buffer filled : List ℕ) (n : ℕ)
@@ -169,10 +178,15 @@ cut_inside bytes count rest rest' floor owns moment first written buffer filled 
 pub failed_inside : (bytes : List ℕ) (count : ℕ) (rest rest' : Option (List ℕ)) (floor : Option Frame) (owns : List (Option Frame)) (moment : ℕ) (first written : Option (List ℕ)) (text : List ℕ)
     → IsAfter bytes count rest floor owns moment first written → IsCutShort (drop (64 * count) bytes) 64 rest' → IsTextOf bytes count text
     → JudgePrints ReadFailed bytes rest' text
-failed_inside bytes count rest rest' floor owns moment first written text after short is_text =
-    (count, 64 * count + short.taken, omega arith, omega (arith, short.not_all),
-     omega (arith, short.no_more, length-drop (64 * count) bytes, after.within),
-     short.rest_left ∙ ap Some (drop-drop short.taken (64 * count) bytes), is_text)
+failed_inside bytes count rest rest' floor owns moment first written text after short is_text = (
+  count,
+  64 * count + short.taken,
+  omega arith,
+  omega (arith, short.not_all),
+  omega (arith, short.no_more, length-drop (64 * count) bytes, after.within),
+  short.rest_left ∙ ap Some (drop-drop short.taken (64 * count) bytes),
+  is_text,
+)
 
 -- a line was written in part
 pub written_in_part : (bytes : List ℕ) (count : ℕ) (rest : Option (List ℕ)) (floor : Option Frame) (owns : List (Option Frame)) (moment : ℕ) (first written written' : Option (List ℕ)) (before : List ℕ)
@@ -180,11 +194,18 @@ pub written_in_part : (bytes : List ℕ) (count : ℕ) (rest : Option (List ℕ)
     → AppendsPrefix (before ++ joined_lines earlier) line written'
     → (text : List ℕ) × (written' ≡ Some (before ++ text)) × JudgePrints WriteFailed bytes rest text
 written_in_part bytes count rest floor owns moment first written written' before earlier line within is_text told part =
-    let n = part.0 in
-    (joined_lines earlier ++ take n line,
-     part.1 ∙ ap Some (append_assoc before (joined_lines earlier) (take n line)),
-     (count, joined_lines (earlier ++ line ∷ []), drop n line, within, is_text,
-      sym (flat_map_more (λ (xs : List ℕ). xs) [] earlier line) ∙ ap (λ xs. joined_lines earlier ++ xs) (sym (take-append-drop n line)) ∙ sym (append_assoc (joined_lines earlier) (take n line) (drop n line))))
+    let n = part.0 in (
+      joined_lines earlier ++ take n line,
+      part.1 ∙ ap Some (append_assoc before (joined_lines earlier) (take n line)),
+      (
+        count,
+        joined_lines (earlier ++ line ∷ []),
+        drop n line,
+        within,
+        is_text,
+        sym (flat_map_more (λ (xs : List ℕ). xs) [] earlier line) ∙ ap (λ xs. joined_lines earlier ++ xs) (sym (take-append-drop n line)) ∙ sym (append_assoc (joined_lines earlier) (take n line) (drop n line)),
+      ),
+    )
 
 -- nothing more was written
 pub written_whole : (bytes : List ℕ) (count : ℕ) (rest : Option (List ℕ)) (floor : Option Frame) (owns : List (Option Frame)) (moment : ℕ) (first written : Option (List ℕ))

@@ -110,7 +110,7 @@ RefusesRecords input count place _ = ⊥
 abbrev pub IsJudgeText : List ℕ → List ℕ → Type 0
 IsJudgeText input text = ((count : ℕ) × AreRecords input count × IsTextOf input count text)
     ⊎ ((count place : ℕ) × (reason : Reason) × (before : List ℕ) × RefusesRecords input count place reason × IsTextOf input count before
-        × (text ≡ before ++ refused_line place reason))
+    × (text ≡ before ++ refused_line place reason))
 
 -- What stands written when `judge` ends in each way. `rest` is what is left of the input.
 abbrev pub JudgePrints : Ending → List ℕ → Option (List ℕ) → List ℕ → Type 0

@@ -10,3 +10,4 @@ mod table;
 
 pub use ending::{Ending, Reason};
 pub use filling::{Filled, fill};
+pub use judge_command::{RECORDS_MAX, judge};

@@ -20,4 +20,4 @@ returns-clause-text g c = λ ending is bytes before told told_written.
     let full = c.in-None.ensures.full refl bytes told in
     let text = c.in-None.ensures.full_text refl bytes before told told_written in
     same_answer (λ (a : Ending). StandsWritten a bytes (g.S.Source.left c.look_past.new.input) before (g.K.Sink.written c.look_past.new.out)) c.look_past.result ending is
-        (text.0, c.look_past.ensures.nothing_written ∙ text.1, past_prints c.look_past.result bytes _ text.0 full.0 (c.look_past.ensures.looks _ full.1) text.2)
+    (text.0, c.look_past.ensures.nothing_written ∙ text.1, past_prints c.look_past.result bytes _ text.0 full.0 (c.look_past.ensures.looks _ full.1) text.2)

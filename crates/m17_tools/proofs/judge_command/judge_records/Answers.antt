@@ -13,20 +13,20 @@ loop-index-init g c = record {
   after = λ bytes told. at_start bytes _ _ _ _ _ told c.requires;
   size = refl;
   reads = omega arith;
-  writes = omega arith
+  writes = omega arith;
 }
 
 pub loop-index-preserved : goal.loop-index-preserved
 loop-index-preserved g c = record {
   after = λ bytes told.
-    let after = c.loop-index.invariant.after bytes told in
-    let whole : c.in-Taken-eq64.field-0 ≡ 64 = omega arith in
-    let filled = c.in-Taken-eq64.ensures.filled 64 (ap Taken whole) (drop (64 * c.loop-index.index) bytes) after.rest_left in
-    one_more c.later_acts_change_no_verdict.ensures bytes c.loop-index.index _ _ _ _ _ _ _ _ _ _ _ c.loop-index.record c.fill.new.into c.judge_record.new.line after c.loop-index.invariant.size filled c.judge_record.ensures
-        (λ before told_now. c.in-Ok.ensures.ok before (c.in-Taken-eq64.ensures.nothing_written ∙ told_now) ∙ ap (λ xs. Some (before ++ xs)) c.bytes.ensures.value);
+      let after = c.loop-index.invariant.after bytes told in
+      let whole : c.in-Taken-eq64.field-0 ≡ 64 = omega arith in
+      let filled = c.in-Taken-eq64.ensures.filled 64 (ap Taken whole) (drop (64 * c.loop-index.index) bytes) after.rest_left in
+      one_more c.later_acts_change_no_verdict.ensures bytes c.loop-index.index _ _ _ _ _ _ _ _ _ _ _ c.loop-index.record c.fill.new.into c.judge_record.new.line after c.loop-index.invariant.size filled c.judge_record.ensures
+      (λ before told_now. c.in-Ok.ensures.ok before (c.in-Taken-eq64.ensures.nothing_written ∙ told_now) ∙ ap (λ xs. Some (before ++ xs)) c.bytes.ensures.value);
   size = c.fill.auto.into ∙ c.loop-index.invariant.size;
   reads = search rules;
-  writes = search rules
+  writes = search rules;
 }
 
 pub returns-in-Taken-eq0-clause-finished : goal.returns-in-Taken-eq0-clause-finished
@@ -71,7 +71,7 @@ returns-in-Err-clause-text g c = λ ending is bytes before told told_written.
     let filled = c.in-Taken-eq64.ensures.filled 64 (ap Taken whole) (drop (64 * c.loop-index.index) bytes) after.rest_left in
     let more = text_more c.later_acts_change_no_verdict.ensures bytes c.loop-index.index _ _ _ _ _ _ _ _ _ _ c.loop-index.record c.fill.new.into c.judge_record.new.line after c.loop-index.invariant.size filled c.judge_record.ensures in
     let part : AppendsPrefix (before ++ joined_lines after.lines) c.judge_record.new.line (g.K.Sink.written c.write.new.self) =
-        rw (← c.bytes.ensures.value) (c.in-Err.ensures.err (before ++ joined_lines after.lines) (c.in-Taken-eq64.ensures.nothing_written ∙ after.printed before told_written)) in
+    rw (← c.bytes.ensures.value) (c.in-Err.ensures.err (before ++ joined_lines after.lines) (c.in-Taken-eq64.ensures.nothing_written ∙ after.printed before told_written)) in
     same_ending WriteFailed ending bytes _ before _ is (written_in_part bytes (c.loop-index.index + 1) (g.S.Source.left c.fill.new.input) c.args.table.now.floor c.args.table.now.owns.items c.args.table.now.moment (g.K.Sink.written c.args.out.now) (g.K.Sink.written c.args.out.now) (g.K.Sink.written c.write.new.self) before after.lines c.judge_record.new.line more.0 more.1 told_written part)
 
 pub returns-clause-full : goal.returns-clause-full
