@@ -90,12 +90,10 @@ fn with_module(b: &[u8]) -> Result<Packet, Refusal>
 {
     let magic = magic_of(b);
     if magic == CONN {
-        let from = from_of(b)?;
-        let module = module_of(b)?;
+        let (from, module) = membership_of(b)?;
         Ok(Packet::Control(Control::Conn { from, module }))
     } else if magic == LSTN {
-        let from = from_of(b)?;
-        let module = module_of(b)?;
+        let (from, module) = membership_of(b)?;
         Ok(Packet::Control(Control::Lstn { from, module }))
     } else {
         Err(Refusal::Magic(magic))
@@ -125,15 +123,17 @@ fn from_of(b: &[u8]) -> Result<CallAddress, Refusal>
     }
 }
 
-/// The module of a packet that has one.
+/// From and the module of a packet that has both: From is judged first.
 #[inline]
-fn module_of(b: &[u8]) -> Result<ModuleLetter, Refusal>
-    requires { length b.now ≡ 11 }
-    ensures { MatchResult result (λ letter. IsModule letter × (letter ≡ slice_index b.now 10)) (λ refusal. (refusal ≡ Refusal.Module (slice_index b.now 10)) × (IsModule (slice_index b.now 10) → ⊥)) }
+fn membership_of(b: &[u8]) -> Result<(CallAddress, ModuleLetter), Refusal>
+    requires has_magic { HasMagic b.now }
+    requires long { length b.now ≡ 11 }
+    ensures { MatchResult result (λ found. IsFrom found.0 × HasFrom b.now found.0 × IsModule found.1 × (found.1 ≡ slice_index b.now 10)) (Refuses b.now) }
 {
+    let from = from_of(b)?;
     let byte = b[MODULE_AT];
     match ModuleLetter::new(byte) {
-        Some(module) => Ok(module),
+        Some(module) => Ok((from, module)),
         None => Err(Refusal::Module(byte)),
     }
 }
