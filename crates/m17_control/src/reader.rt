@@ -4,7 +4,10 @@ ghost use Rattle.m17_control.specs.Forms.{Spells, Refuses, HasMagic, HasFrom, Is
 ghost use Rattle.m17_control.specs.declared.packet.Packet.{Packet};
 ghost use Rattle.m17_control.specs.declared.packet.Refusal.{Refusal};
 
-use crate::form::{ACKN, CONN, DISC, FROM_AT, LONGEST, LSTN, MODULE_AT, NACK, PING, PONG};
+use crate::form::{
+    ACKN, BARE_BYTES, CONN, DISC, FROM_AT, FROM_BYTES, LSTN, MODULE_AT, MODULE_BYTES, NACK, PING,
+    PONG,
+};
 use crate::{Control, ModuleLetter, Packet, Refusal, laws};
 use m17_callsign::{CallAddress, from_bytes};
 use m17_stream::StreamRefusal;
@@ -39,9 +42,9 @@ fn control(b: &[u8]) -> Result<Packet, Refusal>
     ensures { MatchResult result (λ p. Spells p b.now) (Refuses b.now) }
 {
     match b.len() {
-        FROM_AT => bare(b),
-        MODULE_AT => with_from(b),
-        LONGEST => with_module(b),
+        BARE_BYTES => bare(b),
+        FROM_BYTES => with_from(b),
+        MODULE_BYTES => with_module(b),
         n => Err(Refusal::Length(u32::try_from(n).unwrap_or(u32::MAX))),
     }
 }
