@@ -5,18 +5,18 @@ use Rattle.m17_callsign.specs.declared.refusal.CallRefusal.{CallRefusal}
 use Rattle.m17_callsign.specs.declared.refusal.CallRefusal.TheVariants.{Empty, Long, Letter, TrailingSpace}
 
 -- The 40 letters in the order of their indexes: the space, A to Z, 0 to 9, and three signs.
-abbrev pub alphabet : List ℕ
+unfoldable pub alphabet : List ℕ
 alphabet = codes " ABCDEFGHIJKLMNOPQRSTUVWXYZ0123456789-/."
 
 -- How many addresses below this one have a callsign, and 0: nine letters at the most.
 abbrev pub end_of_callsigns : ℕ
 end_of_callsigns = 40 ^ 9
 
-abbrev pub IsLetter : ℕ → Type 0
+unfoldable pub IsLetter : ℕ → Type 0
 IsLetter letter = Contains alphabet letter
 
 -- the place of a letter in the alphabet
-abbrev pub index_of : ℕ → ℕ
+unfoldable pub index_of : ℕ → ℕ
 index_of letter = unwrap_or (position (λ x. x == letter) alphabet) 0
 
 -- what the letter at a place adds to the address: the first letter counts least

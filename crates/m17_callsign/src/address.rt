@@ -6,7 +6,7 @@ use std::marker::Model;
 const END_OF_ADDRESSES: u64 = 0x1_0000_0000_0000;
 
 /// How many addresses below this one have a callsign, and 0: 40^9.
-pub const END_OF_CALLSIGNS: u64 = 262_144_000_000_000;
+pub(crate) const END_OF_CALLSIGNS: u64 = 262_144_000_000_000;
 
 /// An address: a number below 2^48. Contracts see the number. M17 Protocol Specification, address encoding.
 #[derive(Clone, Copy, Debug, PartialEq, Eq, PartialOrd, Ord)]

@@ -6,9 +6,17 @@
 
 mod address;
 mod bytes;
+mod call_text;
+mod encoding;
 pub mod laws;
+mod letters;
 mod refusal;
 
 pub use address::{Address, CallAddress};
 pub use bytes::{from_bytes, to_bytes};
+pub use call_text::{CallText, text};
+pub use encoding::encode;
 pub use refusal::CallRefusal;
+
+#[cfg(test)]
+mod tests;

@@ -1,7 +1,7 @@
 use thiserror::Error;
 
 /// Why a text is no callsign. M17 Protocol Specification, address encoding.
-#[derive(Debug, Drop, Error)]
+#[derive(Clone, Copy, Debug, PartialEq, Eq, Error)]
 pub enum CallRefusal {
     /// The text has no byte.
     #[error("a callsign has at least one letter")]

@@ -1,0 +1,4 @@
+pub mod Alphabet
+pub mod Cutting
+pub mod Folded
+pub mod Unique
