@@ -7,7 +7,7 @@ use Rattle.std.proofs.lemmas.Nat.Bits.{bit_at_xor, bit_at-suc, bit_at-lt, bit_at
 use Rattle.std.proofs.lemmas.List.Concat.{flat_map-append}
 use Rattle.std.proofs.lemmas.List.Sums.{fold-append}
 use Rattle.std.proofs.lemmas.List.{length-append}
-use Rattle.m17_crc.specs.Crc.{byte_bits, bits_of, less_front, divisor, remainder, number_of, dividend, crc_of}
+use Rattle.m17_crc.specs.Crc.{byte_bits, bits_of, less_front, remainder, number_of, dividend, crc_of}
 use Rattle.m17_crc.specs.Register.{after_bit}
 
 -- each is 0 or 1
@@ -103,10 +103,6 @@ digit zero k n m tail small h bits = digit_zero k n m tail h bits ∙ ap (λ c. 
 digit (suc zero) k n m tail small h bits = digit_one k n m tail h bits ∙ ap (λ c. less_front (low_bits (suc k) (bit_xor (2 * n % 2 ^ 16) c)) tail) (let e : m ≡ m * 1 = omega arith in e)
 digit (suc (suc p)) k n m tail small h bits = absurd (omega arith)
 
-divisor-low_bits : divisor ≡ 1 ∷ low_bits 16 0x5935
-unfolding low_bits
-divisor-low_bits = refl
-
 bit_below : (b n : ℕ) → (b + n) % 2 < 2
 bit_below b n = omega arith
 
@@ -190,9 +186,6 @@ crc_of-append fed bytes =
     ∙ ap (fold after_bit 0xFFFF) (flat_map-append byte_bits fed bytes)
     ∙ fold-append after_bit 0xFFFF (bits_of fed) (bits_of bytes)
     ∙ ap (λ n. fold after_bit n (bits_of bytes)) (sym (crc_of-fold fed))
-
-pub crc_of-lt : (bytes : List ℕ) → crc_of bytes < 2 ^ 16
-crc_of-lt bytes = omega (arith, crc_of-fold bytes, after_bits-lt 0xFFFF (bits_of bytes) (omega arith))
 
 pub crc_of-nil : crc_of [] ≡ 0xFFFF
 crc_of-nil = crc_of-fold []

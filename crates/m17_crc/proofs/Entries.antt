@@ -45,7 +45,7 @@ halves n =
     ∙ shr_split n 8)
 
 -- a byte after a register that is only that byte's negative leaves nothing
-into_high : (high x : ℕ) → high < 2 ^ 8 → after_byte (high * 2 ^ 8) x ≡ after_byte 0 (bit_xor high x)
+pub into_high : (high x : ℕ) → high < 2 ^ 8 → after_byte (high * 2 ^ 8) x ≡ after_byte 0 (bit_xor high x)
 into_high high x h =
     ap (λ m. after_byte m x) (sym (xor_zero_r (high * 2 ^ 8)))
     ∙ ap (after_byte (bit_xor (high * 2 ^ 8) 0)) (sym (sym (xor_assoc high high x) ∙ ap (λ m. bit_xor m x) (xor_self high)))
@@ -69,14 +69,14 @@ after_byte-table n x h k =
     ∙ ap (λ m. bit_xor m (n % 2 ^ 8 * 2 ^ 8)) (entry_0 (bit_xor (n / 2 ^ 8) x) (xor_lt 8 (n / 2 ^ 8) x (omega arith) k))
 
 -- the step by the table, as the code computes it from the register's two bytes
-pub byte_step : (n x i l : ℕ) (bytes : List ℕ) → n < 2 ^ 16 → x < 2 ^ 8 → bytes ≡ n / 2 ^ 8 % 2 ^ 8 ∷ n % 2 ^ 8 ∷ []
-    → i ≡ bit_xor (get_or bytes 0 0) x → l ≡ get_or bytes 1 0
-    → bit_xor (get_or REMAINDERS_0 i 0) (l * 2 ^ 8 % 2 ^ 16) ≡ after_byte n x
-byte_step n x i l bytes h k e f g =
+pub byte_step : (n x l : ℕ) (bytes : List ℕ) → n < 2 ^ 16 → x < 2 ^ 8 → bytes ≡ n / 2 ^ 8 % 2 ^ 8 ∷ n % 2 ^ 8 ∷ []
+    → l ≡ get_or bytes 1 0
+    → bit_xor (get_or REMAINDERS_0 (bit_xor (get_or bytes 0 0) x) 0) (l * 2 ^ 8 % 2 ^ 16) ≡ after_byte n x
+byte_step n x l bytes h k e g =
     let high : n / 2 ^ 8 % 2 ^ 8 ≡ n / 2 ^ 8 = omega arith in
     let first : get_or bytes 0 0 ≡ n / 2 ^ 8 = ap (λ l. get_or l 0 0) e ∙ high in
     let second : l ≡ n % 2 ^ 8 = g ∙ ap (λ l. get_or l 1 0) e in
     let moved_up : l * 2 ^ 8 % 2 ^ 16 ≡ n % 2 ^ 8 * 2 ^ 8 = omega arith in
-    ap (λ m. bit_xor (get_or REMAINDERS_0 m 0) (l * 2 ^ 8 % 2 ^ 16)) (f ∙ ap (λ m. bit_xor m x) first)
+    ap (λ m. bit_xor (get_or REMAINDERS_0 m 0) (l * 2 ^ 8 % 2 ^ 16)) (ap (λ m. bit_xor m x) first)
     ∙ ap (bit_xor (get_or REMAINDERS_0 (bit_xor (n / 2 ^ 8) x) 0)) moved_up
     ∙ sym (after_byte-table n x h k)

@@ -1,3 +1,4 @@
 pub mod Division
 pub mod Linear
 pub mod Entries
+pub mod Strides

@@ -6,6 +6,6 @@ use Rattle.m17_crc.proofs.steps.after_byte.Goals as goal
 
 pub returns : goal.returns
 returns c = λ fed e.
-    byte_step c.args.register c.args.byte c.from.result c.from-2.result c.to_be_bytes.result (omega arith) (omega arith) c.to_be_bytes.ensures c.from.ensures c.from-2.ensures
+    byte_step c.args.register c.args.byte c.from.result c.to_be_bytes.result (omega arith) (omega arith) c.to_be_bytes.ensures c.from.ensures
     ∙ ap (λ n. after_byte n c.args.byte) e
     ∙ sym (crc_of-byte fed c.args.byte)
