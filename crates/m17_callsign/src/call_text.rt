@@ -1,5 +1,6 @@
-ghost use Rattle.std.specs.Prelude.{◌≡◌, ◌≤◌, ◌↔◌, ◌⊎◌, ℕ, List, Some, IsNone};
+ghost use Rattle.std.specs.Prelude.{◌≡◌, ◌≤◌, ◌↔◌, ◌⊎◌, ℕ, List, Some, IsNone, IfSome};
 ghost use Rattle.m17_callsign.specs.Callsign.{IsCallsignOf, end_of_callsigns};
+ghost use Rattle.m17_callsign.specs.Letters.{callsign_of};
 
 use super::address::{Address, END_OF_CALLSIGNS};
 use super::letters::{BASE, MAX_LETTERS, letter_at};
@@ -34,6 +35,7 @@ impl CallText {
 /// Specification, address encoding.
 pub fn text(a: Address) -> Option<CallText>
     ensures some { (t : List ℕ) → (result ≡ Some t) ↔ IsCallsignOf t a }
+    ensures letters { IfSome result (λ t. t ≡ callsign_of a) }
     ensures none { IsNone result ↔ ((a ≡ 0) ⊎ (end_of_callsigns ≤ a)) }
 {
     let mut rest = a.value();

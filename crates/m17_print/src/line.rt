@@ -1,10 +1,9 @@
 ghost use Rattle.std.specs.Prelude.{◌≡◌, ◌+◌, ◌*◌, ◌^◌, ◌<◌, ◌≤◌, [], ◌∷◌, ◌++◌, length, decimal};
 ghost use Rattle.m17_print.specs.Line.{room, hex_digits, hex_of};
 
-use std::marker::Model;
-
 use arrayvec::ArrayVec;
 use itoa::Buffer;
+use std::marker::Model;
 
 /// How many bytes a line may have, its line feed included.
 pub const ROOM: usize = 224;
