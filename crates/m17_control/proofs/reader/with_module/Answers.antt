@@ -1,4 +1,4 @@
-use Rattle.std.proofs.Common.{◌≡◌, List, ℕ, take, codes, rules}
+use Rattle.std.proofs.Common.{◌≡◌, take, codes, rules}
 use Rattle.m17_callsign.specs.AddressBytes.{address_bytes}
 use Rattle.m17_control.proofs.Parts.{of_module}
 use Rattle.m17_control.proofs.reader.with_module.Goals as goal
