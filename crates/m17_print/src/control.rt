@@ -14,19 +14,19 @@ impl Line {
         ensures longer { length self.new ≤ length self.old + 24 }
     {
         match control {
-            Control::Conn { from, module } => self.joining("conn ", *from, *module),
-            Control::Lstn { from, module } => self.joining("lstn ", *from, *module),
+            Control::Conn { from, module } => self.with_module("conn ", *from, *module),
+            Control::Lstn { from, module } => self.with_module("lstn ", *from, *module),
             Control::Ackn => self.text("ackn"),
             Control::Nack => self.text("nack"),
-            Control::Ping { from } => self.from("ping ", *from),
-            Control::Pong { from } => self.from("pong ", *from),
+            Control::Ping { from } => self.with_from("ping ", *from),
+            Control::Pong { from } => self.with_from("pong ", *from),
             Control::Disc { from: None } => self.text("disc"),
-            Control::Disc { from: Some(from) } => self.from("disc ", *from),
+            Control::Disc { from: Some(from) } => self.with_from("disc ", *from),
         }
     }
 
     // Appends a word and the callsign of From.
-    fn from(&mut self, word: &str, from: CallAddress)
+    fn with_from(&mut self, word: &str, from: CallAddress)
         requires word_long { length word.now ≡ 5 }
         requires fits { length self.old + 17 ≤ room }
         ensures appended { self.new ≡ self.old ++ (word.now ++ address_text from) }
@@ -37,13 +37,13 @@ impl Line {
     }
 
     // Appends a word, the callsign of From and the letter of a module.
-    fn joining(&mut self, word: &str, from: CallAddress, letter: ModuleLetter)
+    fn with_module(&mut self, word: &str, from: CallAddress, letter: ModuleLetter)
         requires word_long { length word.now ≡ 5 }
         requires fits { length self.old + 24 ≤ room }
         ensures appended { self.new ≡ self.old ++ (word.now ++ address_text from ++ codes " " ++ letter ∷ []) }
         ensures longer { length self.new ≤ length self.old + 24 }
     {
-        self.from(word, from);
+        self.with_from(word, from);
         self.text(" ");
         self.byte(letter.byte());
     }

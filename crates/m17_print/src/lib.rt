@@ -9,3 +9,6 @@ mod packet;
 mod refused;
 
 pub use line::Line;
+
+#[cfg(test)]
+mod tests;

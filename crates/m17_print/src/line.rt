@@ -6,14 +6,14 @@ use itoa::Buffer;
 use std::marker::Model;
 
 /// How many bytes a line may have, its line feed included.
-pub const ROOM: usize = 224;
+const ROOM: usize = 224;
 
 const UPPER_DIGITS: &[u8; 16] = b"0123456789ABCDEF";
 
 /// A line that is being made, in a buffer that is used again. Contracts see its bytes so far.
 #[derive(Debug, Drop)]
 pub struct Line {
-    bytes: ArrayVec<u8, 224>,
+    bytes: ArrayVec<u8, ROOM>,
 }
 
 impl Model for Line {

@@ -8,9 +8,6 @@ use m17_control::Packet;
 use m17_lsd::{Lsd, type_text};
 use m17_stream::StreamPacket;
 
-/// The most that a packet takes of a line's room.
-pub const PACKET_ROOM: usize = 200;
-
 impl Line {
     /// Appends a packet with all its fields, as in `conn AB1CD A`. M17 Protocol Specification, IP networking; the words
     /// are this profile's.

@@ -8,9 +8,6 @@ use m17_callsign::Address;
 use m17_control::Refusal;
 use m17_stream::StreamRefusal;
 
-/// The most that a refusal takes of a line's room.
-pub const REFUSAL_ROOM: usize = 48;
-
 impl Line {
     /// Appends why bytes are no stream packet, as in `refused magic 434F4E58`. This profile.
     pub fn stream_refusal(&mut self, refusal: &StreamRefusal)
