@@ -26,3 +26,7 @@ status_of Finished = 0
 status_of (Refused place reason) = 1
 status_of ReadFailed = 3
 status_of WriteFailed = 4
+
+-- the command `judge` ended so
+abbrev pub EndsJudge : ℕ → Ending → Type 0
+EndsJudge status ending = (status ≡ status_of ending) ⊎ (status ≡ 4)

@@ -2,6 +2,7 @@
 //! with its answer. The streams here are the trusted edge: they count their faults and tell nothing of content.
 #![tactic(auto)]
 
+mod command;
 mod conclude;
 mod std_in;
 mod std_out;
