@@ -3,3 +3,8 @@ pub mod Joins
 pub mod Standing
 pub mod Records
 pub mod JudgeRun
+pub mod Held
+pub mod Feeds
+pub mod ShownLines
+pub mod OddDigits
+pub mod ShowRun
