@@ -175,6 +175,10 @@ pub index_of-at : (i : ℕ) → i < 40 → index_of (get_or alphabet i 0) ≡ i
 unfolding letter_of
 index_of-at i lt = index_of-letter_of i lt
 
+pub letter_at-index_of : (x : ℕ) → IsLetter x → get_or alphabet (index_of x) 0 ≡ x
+unfolding letter_of
+letter_at-index_of x h = letter_of-index_of x h
+
 pub ascii-at : (i : ℕ) → i < 40 → get_or alphabet i 0 < 128
 unfolding letter_of
 ascii-at i lt = ltb-true _ _ (passes_at (λ k. ltb (letter_of k) 128) 40 i all_ascii lt)

@@ -10,7 +10,7 @@ use Rattle.m17_callsign.proofs.Folded.{folded, folded-nil, folded-cons, folded-i
 use Rattle.m17_callsign.proofs.Cutting.{some_text}
 
 -- the last letter, if there is one, is no space
-abbrev EndsWell : List ℕ → Type 0
+abbrev pub EndsWell : List ℕ → Type 0
 EndsWell [] = Unit {0}
 EndsWell (x ∷ []) = x ≢ 32
 EndsWell (x ∷ y ∷ ys) = EndsWell (y ∷ ys)
@@ -24,11 +24,11 @@ EndsWell-from_last : (x : ℕ) (xs : List ℕ) → last_letter (x ∷ xs) ≢ 32
 EndsWell-from_last x [] h = h
 EndsWell-from_last x (y ∷ ys) h = EndsWell-from_last y ys (λ e. h (last_letter-cons x y ys ∙ e))
 
-EndsWell-tail : (x : ℕ) (xs : List ℕ) → EndsWell (x ∷ xs) → EndsWell xs
+pub EndsWell-tail : (x : ℕ) (xs : List ℕ) → EndsWell (x ∷ xs) → EndsWell xs
 EndsWell-tail x [] h = tt
 EndsWell-tail x (y ∷ ys) h = h
 
-folded-pos : (x : ℕ) (xs : List ℕ) → AllByRecursion IsLetter (x ∷ xs) → EndsWell (x ∷ xs) → 0 < folded (x ∷ xs)
+pub folded-pos : (x : ℕ) (xs : List ℕ) → AllByRecursion IsLetter (x ∷ xs) → EndsWell (x ∷ xs) → 0 < folded (x ∷ xs)
 folded-pos x [] letters end = let pos = index_of-no_space x letters.0 end in let fold = folded-cons x [] in omega arith
 folded-pos x (y ∷ ys) letters end = let pos = folded-pos y ys letters.1 end in let fold = folded-cons x (y ∷ ys) in omega arith
 
@@ -51,7 +51,7 @@ same_fold (x ∷ xs) (y ∷ ys) one other end stop same =
     let tail = same_fold xs ys one.1 other.1 (EndsWell-tail x xs end) (EndsWell-tail y ys stop) rests in
     cc
 
-EndsWell-from_callsign : (text : List ℕ) → last_letter text ≢ 32 → EndsWell text
+pub EndsWell-from_callsign : (text : List ℕ) → last_letter text ≢ 32 → EndsWell text
 EndsWell-from_callsign [] h = tt
 EndsWell-from_callsign (x ∷ xs) h = EndsWell-from_last x xs h
 

@@ -1,14 +1,15 @@
-ghost use Rattle.std.specs.Prelude.{◌≡◌, ◌≤◌, ◌↔◌, ◌⊎◌, ℕ, List, Some, IsNone};
+ghost use Rattle.std.specs.Prelude.{◌≡◌, ◌≤◌, ◌↔◌, ◌⊎◌, ℕ, List, Some, IsNone, IfSome};
 ghost use Rattle.m17_callsign.specs.Callsign.{IsCallsignOf, end_of_callsigns};
+ghost use Rattle.m17_callsign.specs.Letters.{callsign_of};
 
 use super::address::{Address, END_OF_CALLSIGNS};
-use super::letters::letter_at;
+use super::letters::{BASE, MAX_LETTERS, letter_at};
 use arrayvec::ArrayString;
 use std::marker::Model;
 
 /// A callsign as text: up to 9 letters. Contracts see its bytes. M17 Protocol Specification, address encoding.
 #[derive(Debug, Drop)]
-pub struct CallText(ArrayString<9>);
+pub struct CallText(ArrayString<MAX_LETTERS>);
 
 impl Model for CallText {
     ghost use Rattle.std.specs.Prelude.{ℕ, List};
@@ -34,6 +35,7 @@ impl CallText {
 /// Specification, address encoding.
 pub fn text(a: Address) -> Option<CallText>
     ensures some { (t : List ℕ) → (result ≡ Some t) ↔ IsCallsignOf t a }
+    ensures letters { IfSome result (λ t. t ≡ callsign_of a) }
     ensures none { IsNone result ↔ ((a ≡ 0) ⊎ (end_of_callsigns ≤ a)) }
 {
     let mut rest = a.value();
@@ -42,8 +44,8 @@ pub fn text(a: Address) -> Option<CallText>
     }
     let mut letters = ArrayString::new();
     while rest > 0 {
-        letters.push(char::from(letter_at(rest % 40)));
-        rest /= 40;
+        letters.push(char::from(letter_at(rest % BASE)));
+        rest /= BASE;
     }
     Some(CallText(letters))
 }

@@ -4,11 +4,8 @@ ghost use Rattle.m17_callsign.specs.Callsign.{IsCallsignOf, IsRefused, IsLetter,
 ghost use Rattle.m17_callsign.specs.declared.refusal.CallRefusal.{CallRefusal};
 
 use super::address::Address;
-use super::letters::letter_index;
+use super::letters::{BASE, MAX_LETTERS, letter_index};
 use super::refusal::CallRefusal;
-
-/// How many letters a callsign has at most.
-const MAX_LETTERS: usize = 9;
 
 /// The address of a callsign, or the first reason why the text is none: it is empty, it is too long, its first byte
 /// that is no letter, a space at its end. The first letter counts least. M17 Protocol Specification, address encoding.
@@ -45,7 +42,7 @@ fn sum_of_letters(letters: &[u8]) -> Result<u64, usize>
     let mut unknown = None;
     for place in (0..letters.len()).rev() {
         match letter_index(letters[place]) {
-            Some(index) => value = value * 40 + index,
+            Some(index) => value = value * BASE + index,
             None => unknown = Some(place),
         }
     }

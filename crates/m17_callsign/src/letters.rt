@@ -1,6 +1,12 @@
 ghost use Rattle.std.specs.Prelude.{◌≡◌, ◌<◌, ◌↔◌, IsSome, IfSome};
 ghost use Rattle.m17_callsign.specs.Callsign.{IsLetter, index_of};
 
+/// How many letters the alphabet has.
+pub(crate) const BASE: u64 = 40;
+
+/// How many letters a callsign has at most.
+pub(crate) const MAX_LETTERS: usize = 9;
+
 /// The 40 letters in the order of their indexes. M17 Protocol Specification, address encoding.
 const ALPHABET: &[u8; 40] = b" ABCDEFGHIJKLMNOPQRSTUVWXYZ0123456789-/.";
 

@@ -4,8 +4,13 @@
 #![tactic(auto)]
 
 mod bytes;
+mod kind_text;
 pub mod laws;
 mod lsd;
 
 pub use bytes::{read, write};
+pub use kind_text::type_text;
 pub use lsd::Lsd;
+
+#[cfg(test)]
+mod tests;

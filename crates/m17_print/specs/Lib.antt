@@ -1,3 +1,4 @@
 pub mod Line
 pub mod Refused
 pub mod Packets
+pub mod Parts

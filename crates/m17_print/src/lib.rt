@@ -2,7 +2,13 @@
 //! when, and where it goes, is left to the crates above.
 #![tactic(auto)]
 
+mod address;
+mod control;
 mod line;
+mod packet;
 mod refused;
 
 pub use line::Line;
+
+#[cfg(test)]
+mod tests;

@@ -1,20 +1,19 @@
 ghost use Rattle.std.specs.Prelude.{◌≡◌, ◌+◌, ◌*◌, ◌^◌, ◌<◌, ◌≤◌, [], ◌∷◌, ◌++◌, length, decimal};
 ghost use Rattle.m17_print.specs.Line.{room, hex_digits, hex_of};
 
-use std::marker::Model;
-
 use arrayvec::ArrayVec;
 use itoa::Buffer;
+use std::marker::Model;
 
 /// How many bytes a line may have, its line feed included.
-pub const ROOM: usize = 224;
+const ROOM: usize = 224;
 
 const UPPER_DIGITS: &[u8; 16] = b"0123456789ABCDEF";
 
 /// A line that is being made, in a buffer that is used again. Contracts see its bytes so far.
 #[derive(Debug, Drop)]
 pub struct Line {
-    bytes: ArrayVec<u8, 224>,
+    bytes: ArrayVec<u8, ROOM>,
 }
 
 impl Model for Line {

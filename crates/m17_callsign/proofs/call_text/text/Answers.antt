@@ -3,6 +3,7 @@ use Rattle.std.proofs.Common.{ℕ, List, [], ◌∷◌, ◌++◌, ◌<◌, ◌/�
 use Rattle.std.proofs.lemmas.Str.{encode_ascii}
 use Rattle.m17_callsign.proofs.Cutting.{IsCut, cut_start, cut_room, cut_step, cut_end}
 use Rattle.m17_callsign.proofs.Unique.{answered, unanswered}
+use Rattle.m17_callsign.proofs.Spelled.{callsign_of-callsign}
 use Rattle.m17_callsign.proofs.call_text.text.Goals as goal
 
 pub returns-then-rest-eq0-clause-some : goal.returns-then-rest-eq0-clause-some
@@ -30,3 +31,6 @@ loop-rest-preserved c =
 
 pub returns-clause-some : goal.returns-clause-some
 returns-clause-some c = answered c.loop-rest.letters.bytes c.args.a (cut_end c.args.a c.loop-rest.letters.bytes c.loop-rest.rest (omega arith) c.loop-rest.invariant)
+
+pub returns-clause-letters : goal.returns-clause-letters
+returns-clause-letters c = callsign_of-callsign c.loop-rest.letters.bytes c.args.a (cut_end c.args.a c.loop-rest.letters.bytes c.loop-rest.rest (omega arith) c.loop-rest.invariant)
