@@ -193,3 +193,12 @@ large input (x ∷ held) count left first written full so_far some =
       ends = refuses;
       printed = λ before e. (so_far.text, so_far.printed before e, (refuses, so_far.shown))
     }
+
+-- what an ending says of the input
+pub ends_finished : (input : List ℕ) (ending : Ending) (left first written : Option (List ℕ)) → EndsShow ending input left first written → ending ≡ Finished
+    → ((count : ℕ) × AreLineCount input count) × (left ≡ Some [])
+ends_finished input ending left first written at_end is = subst (λ (e : Ending). EndsAt e input left) is at_end.ends
+
+pub ends_refused : (input : List ℕ) (ending : Ending) (place : ℕ) (reason : Reason) (left first written : Option (List ℕ)) → EndsShow ending input left first written
+    → ending ≡ Refused place reason → RefusesLine input place reason
+ends_refused input ending place reason left first written at_end is = subst (λ (e : Ending). EndsAt e input left) is at_end.ends

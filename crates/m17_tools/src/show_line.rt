@@ -1,5 +1,6 @@
 ghost use Rattle.std.specs.Prelude.{◌≡◌, ℕ, ◌+◌, ◌≤◌, List, [], ◌++◌, length, Option, Some, OnOk, IfErr};
 ghost use Rattle.m17_devices.specs.Faults.{HasRisen};
+ghost use Rattle.m17_print.specs.Line.{room};
 ghost use Rattle.m17_tools.specs.Show.{content_of, IsShown, IsLineShown};
 ghost use Rattle.m17_tools.specs.Lines.{RefusesContent, ShowsLine};
 
@@ -26,7 +27,7 @@ fn content(line: &[u8]) -> &[u8]
 // Appends what the bytes spell as a packet, or why they spell none.
 #[inline]
 fn append_packet(bytes: &[u8], printed: &mut Line)
-    requires { length printed.old + 200 ≤ 224 }
+    requires { length printed.old + 200 ≤ room }
     ensures shown { (text : List ℕ) × (printed.new ≡ printed.old ++ text) × IsShown bytes.now text }
     ensures longer { length printed.new ≤ length printed.old + 200 }
 {
@@ -46,8 +47,8 @@ fn make_line(line: &[u8], printed: &mut Line) -> Result<(), Reason>
     if digits.len() > LINE_DIGITS {
         return Err(Reason::Long);
     }
-    let mut room = [0u8; LINE_DIGITS / 2];
-    let bytes = &mut room[..digits.len() / 2];
+    let mut buffer = [0u8; LINE_DIGITS / 2];
+    let bytes = &mut buffer[..digits.len() / 2];
     match hex::decode_to_slice(digits, bytes) {
         Ok(()) => {}
         Err(FromHexError::OddLength) => return Err(Reason::Odd),

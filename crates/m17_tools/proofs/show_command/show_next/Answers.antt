@@ -1,4 +1,4 @@
-use Rattle.std.proofs.Common.{◌≡◌, ℕ, List, [], take, slice_range, Option, Some, refl, sym, subst, arith}
+use Rattle.std.proofs.Common.{ℕ, List, [], take, Option, Some, refl, sym, subst}
 use Rattle.m17_tools.specs.Lines.{IsShownTo, EndsShow, ShowsLine}
 use Rattle.m17_tools.specs.Pending.{pending}
 use Rattle.m17_tools.proofs.ShowRun.{kept, line_next, long, read_failed, write_failed}
@@ -6,10 +6,9 @@ use Rattle.m17_tools.proofs.show_command.show_next.Goals as goal
 
 pub returns-in-Line-clause-shows : goal.returns-in-Line-clause-shows
 returns-in-Line-clause-shows g c = λ bytes first so_far.
-    let front : take (c.in-Line.size) c.pending.result.now ≡ slice_range c.pending.result.now 0 c.in-Line.size = grind arith in
     line_next bytes _ _ c.args.number c.in-Line.size _ first _ _ c.show_line-ending.result c.requires (kept bytes _ _ c.args.number _ _ first _ _ so_far c.in-Line.ensures.kept c.in-Line.ensures.nothing_written)
       c.in-Line.ensures.found (subst (λ (xs : List ℕ). ShowsLine c.args.number (take c.in-Line.size xs) (g.K.Sink.written c.next.new.out) (g.K.Sink.written c.show_line-ending.new.out) c.show_line-ending.result) c.pending.ensures
-        (rw front c.show_line-ending.ensures.shows)) c.take.ensures
+        c.show_line-ending.ensures.shows) c.take.ensures
 
 pub returns-in-Long-clause-shows : goal.returns-in-Long-clause-shows
 returns-in-Long-clause-shows g c = λ bytes first so_far.
