@@ -38,7 +38,7 @@ first_feed xs (Some size) h = record {
       let same : get_or (take size xs) k 0 ≡ get_or xs k 0 = get_or-take size xs k 0 inside in
       let P : ℕ → Type 0 = λ byte. byte == 10 ≡ true → ⊥ in
       subst P (sym same) (h.0.before k (omega arith) inside));
-  feed = eqb-true (get_or xs size 0) 10 h.1
+  feed = eqb-true (get_or xs size 0) 10 h.1;
 }
 
 -- a byte before bytes without a line feed

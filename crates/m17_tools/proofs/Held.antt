@@ -45,7 +45,7 @@ more_held bytes filled rest buffer held start end k n left ordered within fits s
       longer = grown bytes filled start end k n ordered within fits ∙ ap (λ xs. xs ++ take n filled) same
           ∙ ap (λ xs. held ++ xs) (ap (take n) takes.filled_front ∙ take_at (take n rest) (drop n buffer) n size);
       rest_left = takes.rest_left;
-      at_end = λ none. takes.at_end none room
+      at_end = λ none. takes.at_end none room;
     }
 
 -- what is to come stays the same over a read
@@ -53,10 +53,12 @@ pub ahead_more : (held held' ahead : List ℕ) (left left' : Option (List ℕ)) 
     → ((rest : List ℕ) → left ≡ Some rest → IsMoreOf rest n held held' left') → IsAhead held' left' ahead
 ahead_more held held' ahead left left' n before more =
     let rest = before.0 in
-    let m = more rest before.1 in
-    (drop n rest, m.rest_left,
-     before.2 ∙ ap (λ xs. held ++ xs) (sym (take-append-drop n rest)) ∙ sym (append_assoc held (take n rest) (drop n rest))
-       ∙ ap (λ xs. xs ++ drop n rest) (sym m.longer))
+    let m = more rest before.1 in (
+      drop n rest,
+      m.rest_left,
+      before.2 ∙ ap (λ xs. held ++ xs) (sym (take-append-drop n rest)) ∙ sym (append_assoc held (take n rest) (drop n rest))
+          ∙ ap (λ xs. xs ++ drop n rest) (sym m.longer),
+    )
 
 -- a read that took nothing has come to the end
 pub ahead_at_end : (held held' ahead : List ℕ) (left left' : Option (List ℕ)) (n : ℕ) → n ≡ 0 → IsAhead held left ahead

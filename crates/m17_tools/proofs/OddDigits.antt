@@ -16,7 +16,7 @@ not_odd : (text : List ℕ) (decoded : Result (List ℕ) FromHexError) (answer :
 not_odd text (Ok bytes) answer out same even decodes is = let ok = decodes.0 in cc
 not_odd text (Err e) answer out same even decodes is =
     elim (decode_of-err text e same) [
-        inl odd ↦ omega (arith, odd.0)
+      | inl odd ↦ omega (arith, odd.0)
       | inr digit ↦ let first = digit.1 in cc
     ]
 
@@ -24,7 +24,7 @@ pub odd_length : (text : List ℕ) (room : ℕ) (answer : Result Unit FromHexErr
     → Decodes (decode_sized text room) answer out → answer ≡ Err OddLength → length text % 2 ≡ 1
 odd_length text room answer out half decodes is =
     elim (cases_eq (length text % 2) 1) [
-        inl odd ↦ odd
+      | inl odd ↦ odd
       | inr even ↦
           let zero : length text % 2 ≡ 0 = omega arith in
           let same : decode_sized text room ≡ decode_of text = decode_sized-twice text room (omega arith) in

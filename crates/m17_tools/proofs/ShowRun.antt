@@ -13,25 +13,25 @@ use Rattle.m17_tools.proofs.ShownLines.{at_start, none_shown, line_at, count_at,
 -- the beginning of a run
 pub start : (input held : List ℕ) (left first : Option (List ℕ)) → held ≡ [] → left ≡ Some input → IsShownTo input 0 held left first first
 start input held left first none told = record {
-    ahead = input;
-    is_ahead = (input, told, ap (λ xs. xs ++ input) (sym none));
-    is_at = at_start input;
-    text = [];
-    shown = none_shown input;
-    printed = λ before e. e ∙ ap Some (sym (append-nil before))
-  }
+  ahead = input;
+  is_ahead = (input, told, ap (λ xs. xs ++ input) (sym none));
+  is_at = at_start input;
+  text = [];
+  shown = none_shown input;
+  printed = λ before e. e ∙ ap Some (sym (append-nil before));
+}
 
 -- more of the input is held, and nothing was written
 pub kept : (input held held' : List ℕ) (count : ℕ) (left left' first written written' : Option (List ℕ)) → IsShownTo input count held left first written
     → ((ahead : List ℕ) → IsAhead held left ahead → IsAhead held' left' ahead) → written' ≡ written → IsShownTo input count held' left' first written'
 kept input held held' count left left' first written written' so_far keeps same = record {
-    ahead = so_far.ahead;
-    is_ahead = keeps so_far.ahead so_far.is_ahead;
-    is_at = so_far.is_at;
-    text = so_far.text;
-    shown = so_far.shown;
-    printed = λ before e. same ∙ so_far.printed before e
-  }
+  ahead = so_far.ahead;
+  is_ahead = keeps so_far.ahead so_far.is_ahead;
+  is_at = so_far.is_at;
+  text = so_far.text;
+  shown = so_far.shown;
+  printed = λ before e. same ∙ so_far.printed before e;
+}
 
 -- the refusal of a line stands at its number
 refuses_line : (input line : List ℕ) (count : ℕ) (reason : Reason) → count < 1000000 → slice_get (lines_of input) count ≡ Some line
@@ -52,17 +52,23 @@ line_ends input line text count (Refused place reason) left first written writte
     let refuses : RefusesLine input place reason = subst (λ (n : ℕ). RefusesLine input n reason) (sym h.0) (refuses_line input line count reason few there h.1) in
     record {
       ends = refuses;
-      printed = λ before e. (text, h.2 ∙ printed before e, (refuses, subst (λ (n : ℕ). IsShownText input n text) (sym h.0) shown))
+      printed = λ before e. (text, h.2 ∙ printed before e, (refuses, subst (λ (n : ℕ). IsShownText input n text) (sym h.0) shown));
     }
 line_ends input line text count WriteFailed left first written written' few there shown printed h = record {
-    ends = tt;
-    printed = λ before e.
-      let part = h.2 (before ++ text) (printed before e) in
-      (text ++ take part.0 h.0,
-       part.1 ∙ ap Some (append_assoc before text (take part.0 h.0)),
-       (count + 1, text ++ h.0, drop part.0 h.0, shown_more input text line h.0 count shown there h.1,
-        ap (λ xs. text ++ xs) (sym (take-append-drop part.0 h.0)) ∙ sym (append_assoc text (take part.0 h.0) (drop part.0 h.0))))
-  }
+  ends = tt;
+  printed = λ before e.
+      let part = h.2 (before ++ text) (printed before e) in (
+        text ++ take part.0 h.0,
+        part.1 ∙ ap Some (append_assoc before text (take part.0 h.0)),
+        (
+          count + 1,
+          text ++ h.0,
+          drop part.0 h.0,
+          shown_more input text line h.0 count shown there h.1,
+          ap (λ xs. text ++ xs) (sym (take-append-drop part.0 h.0)) ∙ sym (append_assoc text (take part.0 h.0) (drop part.0 h.0)),
+        ),
+      );
+}
 
 -- a line that begins what is held
 pub line_next : (input held held' : List ℕ) (count size : ℕ) (left first written written' : Option (List ℕ)) (outcome : Option Ending) → count < 1000000
@@ -72,8 +78,8 @@ line_next input held held' count size left first written written' None few so_fa
     let line = take size held in
     let rest = so_far.is_ahead.0 in
     let split : so_far.ahead ≡ line ++ 10 ∷ (held' ++ rest) =
-      so_far.is_ahead.2 ∙ ap (λ xs. xs ++ rest) (held_line held size begins) ∙ append_assoc line (10 ∷ drop (size + 1) held) rest
-      ∙ ap (λ xs. line ++ 10 ∷ (xs ++ rest)) (sym after) in
+    so_far.is_ahead.2 ∙ ap (λ xs. xs ++ rest) (held_line held size begins) ∙ append_assoc line (10 ∷ drop (size + 1) held) rest
+    ∙ ap (λ xs. line ++ 10 ∷ (xs ++ rest)) (sym after) in
     let here : IsAt input count (line ++ 10 ∷ (held' ++ rest)) = subst (IsAt input count) split so_far.is_at in
     let there = line_at input (line ++ 10 ∷ (held' ++ rest)) line (lines_of (held' ++ rest)) count here (lines_of-line line (held' ++ rest) begins.no_feed) in
     record {
@@ -82,13 +88,13 @@ line_next input held held' count size left first written written' None few so_fa
       is_at = at_more input line (held' ++ rest) count begins.no_feed here;
       text = so_far.text ++ h.0;
       shown = shown_more input so_far.text line h.0 count so_far.shown there h.1;
-      printed = λ before e. h.2 (before ++ so_far.text) (so_far.printed before e) ∙ ap Some (append_assoc before so_far.text h.0)
+      printed = λ before e. h.2 (before ++ so_far.text) (so_far.printed before e) ∙ ap Some (append_assoc before so_far.text h.0);
     }
 line_next input held held' count size left first written written' (Some ending) few so_far begins h after =
     let line = take size held in
     let rest = so_far.is_ahead.0 in
     let split : so_far.ahead ≡ line ++ 10 ∷ (drop (size + 1) held ++ rest) =
-      so_far.is_ahead.2 ∙ ap (λ xs. xs ++ rest) (held_line held size begins) ∙ append_assoc line (10 ∷ drop (size + 1) held) rest in
+    so_far.is_ahead.2 ∙ ap (λ xs. xs ++ rest) (held_line held size begins) ∙ append_assoc line (10 ∷ drop (size + 1) held) rest in
     let here : IsAt input count (line ++ 10 ∷ (drop (size + 1) held ++ rest)) = subst (IsAt input count) split so_far.is_at in
     let there = line_at input (line ++ 10 ∷ (drop (size + 1) held ++ rest)) line (lines_of (drop (size + 1) held ++ rest)) count here (lines_of-line line (drop (size + 1) held ++ rest) begins.no_feed) in
     line_ends input line so_far.text count ending left first written written' few there so_far.shown so_far.printed h
@@ -105,7 +111,7 @@ long input (x ∷ held) count left first written few so_far many none =
     let refuses : RefusesLine input count Long = (few, line, there, content_long line 256 (omega arith)) in
     record {
       ends = refuses;
-      printed = λ before e. (so_far.text, so_far.printed before e, (refuses, so_far.shown))
+      printed = λ before e. (so_far.text, so_far.printed before e, (refuses, so_far.shown));
     }
 
 -- the source failed before a line was there
@@ -119,22 +125,27 @@ read_failed input held count left first written so_far none =
     let size = length-append taken rest in
     record {
       ends = tt;
-      printed = λ before e.
-        (so_far.text, so_far.printed before e,
-         (count, length taken,
+      printed = λ before e. (
+        so_far.text,
+        so_far.printed before e,
+        (
+          count,
+          length taken,
           (let total = ap length whole in omega arith),
           so_far.is_ahead.1 ∙ ap Some (sym (ap (drop (length taken)) whole ∙ drop_at taken rest (length taken) refl)),
           subst (λ (xs : List ℕ). AreEnded xs count) (sym (ap (take (length taken)) whole ∙ take_at taken rest (length taken) refl)) (ended_same at.before held count at.ended none),
-          so_far.shown))
+          so_far.shown,
+        ),
+      );
     }
 
 -- the sink failed between two lines
 pub write_failed : (input held : List ℕ) (count : ℕ) (left first written : Option (List ℕ)) → IsShownTo input count held left first written
     → EndsShow WriteFailed input left first written
 write_failed input held count left first written so_far = record {
-    ends = tt;
-    printed = λ before e. (so_far.text, so_far.printed before e, (count, so_far.text, [], so_far.shown, sym (append-nil so_far.text)))
-  }
+  ends = tt;
+  printed = λ before e. (so_far.text, so_far.printed before e, (count, so_far.text, [], so_far.shown, sym (append-nil so_far.text)));
+}
 
 -- the whole input was shown
 all_shown : (input text : List ℕ) (count : ℕ) (left first written : Option (List ℕ)) → count ≤ 1000000 → length (lines_of input) ≡ count → left ≡ Some []
@@ -143,7 +154,7 @@ all_shown input text count left first written few whole none shown printed =
     let lines : AreLineCount input count = record { whole = whole; not_large = few } in
     record {
       ends = ((count, lines), none);
-      printed = λ before e. (text, printed before e, (count, lines, shown))
+      printed = λ before e. (text, printed before e, (count, lines, shown));
     }
 
 -- nothing of the input is left
@@ -168,9 +179,9 @@ last_line input (x ∷ held) count left first written written' few so_far no_fee
     let first_line = ap lines_of (nothing_ahead (x ∷ held) so_far.ahead left so_far.is_ahead none) ∙ lines_of-last x held no_feed in
     let there = line_at input so_far.ahead (x ∷ held) [] count so_far.is_at first_line in
     all_shown input (so_far.text ++ h.0) (count + 1) left first written' (omega arith)
-      (count_at input so_far.ahead count so_far.is_at ∙ ap (λ (ls : List (List ℕ)). count + length ls) first_line) none
-      (shown_more input so_far.text (x ∷ held) h.0 count so_far.shown there h.1)
-      (λ before e. h.2 (before ++ so_far.text) (so_far.printed before e) ∙ ap Some (append_assoc before so_far.text h.0))
+    (count_at input so_far.ahead count so_far.is_at ∙ ap (λ (ls : List (List ℕ)). count + length ls) first_line) none
+    (shown_more input so_far.text (x ∷ held) h.0 count so_far.shown there h.1)
+    (λ before e. h.2 (before ++ so_far.text) (so_far.printed before e) ∙ ap Some (append_assoc before so_far.text h.0))
 
 pub last_ends : (input held : List ℕ) (count : ℕ) (ending : Ending) (left first written written' : Option (List ℕ)) → count < 1000000 → IsShownTo input count held left first written
     → HasNoFeed held → 0 < length held → left ≡ Some [] → ShowsLine count held written written' (Some ending) → EndsShow ending input left first written'
@@ -187,11 +198,11 @@ large input [] count left first written full so_far some = absurd (omega arith)
 large input (x ∷ held) count left first written full so_far some =
     let more = some_line x (held ++ so_far.is_ahead.0) in
     let whole : length (lines_of input) ≡ count + length (lines_of (x ∷ (held ++ so_far.is_ahead.0))) =
-      count_at input so_far.ahead count so_far.is_at ∙ ap (λ (xs : List ℕ). count + length (lines_of xs)) so_far.is_ahead.2 in
+    count_at input so_far.ahead count so_far.is_at ∙ ap (λ (xs : List ℕ). count + length (lines_of xs)) so_far.is_ahead.2 in
     let refuses : RefusesLine input count Large = (full, omega arith) in
     record {
       ends = refuses;
-      printed = λ before e. (so_far.text, so_far.printed before e, (refuses, so_far.shown))
+      printed = λ before e. (so_far.text, so_far.printed before e, (refuses, so_far.shown));
     }
 
 -- what an ending says of the input

@@ -25,10 +25,10 @@ at_start input = record { lines = []; lines_count = refl; split = refl; before =
 
 pub none_shown : (input : List ℕ) → IsShownText input 0 []
 none_shown input = record {
-    printed = [];
-    are_shown = record { printed_count = refl; each = λ n below. absurd (omega arith) };
-    joined = refl
-  }
+  printed = [];
+  are_shown = record { printed_count = refl; each = λ n below. absurd (omega arith) };
+  joined = refl;
+}
 
 -- the first of the lines to come is that line of the input
 pub line_at : (input rest line : List ℕ) (after : List (List ℕ)) (count : ℕ) → IsAt input count rest → lines_of rest ≡ line ∷ after → slice_get (lines_of input) count ≡ Some line
@@ -48,32 +48,32 @@ held_line held size begins =
 -- one line further on
 pub at_more : (input line rest : List ℕ) (count : ℕ) → HasNoFeed line → IsAt input count (line ++ 10 ∷ rest) → IsAt input (count + 1) rest
 at_more input line rest count none at = record {
-    lines = at.lines ++ line ∷ [];
-    lines_count = length_push at.lines line ∙ ap (λ n. n + 1) at.lines_count;
-    split = at.split ∙ ap (λ ls. at.lines ++ ls) (lines_of-line line rest none) ∙ sym (append_assoc at.lines (line ∷ []) (lines_of rest));
-    before = at.before ++ (line ++ 10 ∷ []);
-    input_is = at.input_is ∙ ap (λ xs. at.before ++ xs) (sym (append_assoc line (10 ∷ []) rest)) ∙ sym (append_assoc at.before (line ++ 10 ∷ []) rest);
-    ended = ended_more at.before line count at.ended none
-  }
+  lines = at.lines ++ line ∷ [];
+  lines_count = length_push at.lines line ∙ ap (λ n. n + 1) at.lines_count;
+  split = at.split ∙ ap (λ ls. at.lines ++ ls) (lines_of-line line rest none) ∙ sym (append_assoc at.lines (line ∷ []) (lines_of rest));
+  before = at.before ++ (line ++ 10 ∷ []);
+  input_is = at.input_is ∙ ap (λ xs. at.before ++ xs) (sym (append_assoc line (10 ∷ []) rest)) ∙ sym (append_assoc at.before (line ++ 10 ∷ []) rest);
+  ended = ended_more at.before line count at.ended none;
+}
 
 -- the text of one more line
 pub shown_more : (input text line shown : List ℕ) (count : ℕ) → IsShownText input count text → slice_get (lines_of input) count ≡ Some line → IsLineShown line shown
     → IsShownText input (count + 1) (text ++ shown)
 shown_more input text line shown count so_far there is_shown = record {
-    printed = so_far.printed ++ shown ∷ [];
-    are_shown = record {
-      printed_count = length_push so_far.printed shown ∙ ap (λ n. n + 1) so_far.are_shown.printed_count;
-      each = λ n below. elim (cases_lt n count) [
-          inl earlier ↦
-            let old = so_far.are_shown.each n earlier in
-            (old.0, old.1, old.2, slice_get_longer so_far.printed (shown ∷ []) n old.1 old.3, old.4)
-        | inr later ↦
-            let same : count ≡ n = omega arith in
-            (line, shown, ap (slice_get (lines_of input)) (sym same) ∙ there, slice_get_after so_far.printed shown [] n (so_far.are_shown.printed_count ∙ same), is_shown)
-      ]
-    };
-    joined = ap (λ xs. xs ++ shown) so_far.joined ∙ flat_map_more (λ (xs : List ℕ). xs) [] so_far.printed shown
-  }
+  printed = so_far.printed ++ shown ∷ [];
+  are_shown = record {
+    printed_count = length_push so_far.printed shown ∙ ap (λ n. n + 1) so_far.are_shown.printed_count;
+    each = λ n below. elim (cases_lt n count) [
+      | inl earlier ↦
+          let old = so_far.are_shown.each n earlier in
+          (old.0, old.1, old.2, slice_get_longer so_far.printed (shown ∷ []) n old.1 old.3, old.4)
+      | inr later ↦
+          let same : count ≡ n = omega arith in
+          (line, shown, ap (slice_get (lines_of input)) (sym same) ∙ there, slice_get_after so_far.printed shown [] n (so_far.are_shown.printed_count ∙ same), is_shown)
+    ];
+  };
+  joined = ap (λ xs. xs ++ shown) so_far.joined ∙ flat_map_more (λ (xs : List ℕ). xs) [] so_far.printed shown;
+}
 
 -- the content of a line lacks one byte at the most
 without_return : (line : List ℕ) (b : Bool) (n : ℕ) → n + 1 < length line → n < length (cond b (take (length line - 1) line) line)

@@ -75,7 +75,7 @@ RefusesLine input count Cut = ⊥
 abbrev pub IsShowText : List ℕ → List ℕ → Type 0
 IsShowText input text = ((count : ℕ) × AreLineCount input count × IsShownText input count text)
     ⊎ ((count : ℕ) × (reason : Reason) × (before : List ℕ) × RefusesLine input count reason × IsShownText input count before
-        × (text ≡ before ++ refused_line count reason))
+    × (text ≡ before ++ refused_line count reason))
 
 -- so many line feeds stand in the bytes: so many lines have ended
 abbrev pub AreEnded : List ℕ → ℕ → Type 0

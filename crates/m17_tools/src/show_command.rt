@@ -6,12 +6,11 @@ ghost use Rattle.m17_tools.specs.Show.{AreLineCount, RefusesLine, ShowPrints};
 ghost use Rattle.m17_tools.specs.Lines.{HasNoFeed, IsShownTo, EndsShow, ShowsNext};
 ghost use Rattle.m17_tools.specs.Pending.{pending};
 
-use m17_devices::{Sink, Source};
-use m17_print::Line;
-
 use crate::line_reader::{LineReader, Next};
 use crate::show_line::show_line;
 use crate::{Ending, Reason};
+use m17_devices::{Sink, Source};
+use m17_print::Line;
 
 /// How many lines `show` takes.
 pub const LINES_MAX: u64 = 1_000_000;
@@ -42,7 +41,11 @@ pub fn show<S: Source, K: Sink>(input: &mut S, out: &mut K) -> Ending
 }
 
 // Shows the lines one by one. `None` where as many as may come have come.
-fn show_lines<S: Source, K: Sink>(reader: &mut LineReader, input: &mut S, out: &mut K) -> Option<Ending>
+fn show_lines<S: Source, K: Sink>(
+    reader: &mut LineReader,
+    input: &mut S,
+    out: &mut K,
+) -> Option<Ending>
     ensures shows { (ending : Ending) → result ≡ Some ending → (bytes : List ℕ) (first : Option (List ℕ)) →
         IsShownTo bytes 0 (pending reader.old) (S.left input.old) first (K.written out.old) → EndsShow ending bytes (S.left input.new) first (K.written out.new) }
     ensures full { result ≡ None → (bytes : List ℕ) (first : Option (List ℕ)) →
@@ -138,3 +141,6 @@ fn end_at_limit<S: Source, K: Sink>(reader: &mut LineReader, input: &mut S, out:
         Err(_) => Ending::ReadFailed,
     }
 }
+
+#[cfg(test)]
+mod tests;

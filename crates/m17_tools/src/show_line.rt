@@ -4,11 +4,10 @@ ghost use Rattle.m17_print.specs.Line.{room};
 ghost use Rattle.m17_tools.specs.Show.{content_of, IsShown, IsLineShown};
 ghost use Rattle.m17_tools.specs.Lines.{RefusesContent, ShowsLine};
 
+use crate::{Ending, Reason};
 use hex::FromHexError;
 use m17_devices::Sink;
 use m17_print::Line;
-
-use crate::{Ending, Reason};
 
 /// How many hex digits a line may have, two for each byte of the packet. This profile.
 pub const LINE_DIGITS: usize = 256;
@@ -61,7 +60,12 @@ fn make_line(line: &[u8], printed: &mut Line) -> Result<(), Reason>
 }
 
 // Shows one line. The ending, where it is refused or was not written.
-pub(crate) fn show_line<K: Sink>(line: &[u8], number: u64, printed: &mut Line, out: &mut K) -> Option<Ending>
+pub(crate) fn show_line<K: Sink>(
+    line: &[u8],
+    number: u64,
+    printed: &mut Line,
+    out: &mut K,
+) -> Option<Ending>
     ensures shows { ShowsLine number line.now (K.written out.old) (K.written out.new) result }
     ensures write_failed { result ≡ Some Ending.WriteFailed → HasRisen (K.faults out.old) (K.faults out.new) }
     ensures writes_counted { K.faults out.old ≤ K.faults out.new }

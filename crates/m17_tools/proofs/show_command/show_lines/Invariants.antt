@@ -7,7 +7,7 @@ use Rattle.m17_tools.proofs.show_command.show_lines.Given as goal
 abbrev pub invariant-loop-number : goal.invariant-loop-number
 invariant-loop-number g l = record {
   shown : (bytes : List ℕ) (first : Option (List ℕ)) → IsShownTo bytes 0 (pending l.fn.reader) (g.S.Source.left l.fn.input) first (g.K.Sink.written l.fn.out)
-    → IsShownTo bytes l.number (pending l.reader) (g.S.Source.left l.input) first (g.K.Sink.written l.out);
+      → IsShownTo bytes l.number (pending l.reader) (g.S.Source.left l.input) first (g.K.Sink.written l.out);
   reads : g.S.Source.faults l.fn.input ≤ g.S.Source.faults l.input;
-  writes : g.K.Sink.faults l.fn.out ≤ g.K.Sink.faults l.out
+  writes : g.K.Sink.faults l.fn.out ≤ g.K.Sink.faults l.out;
 }

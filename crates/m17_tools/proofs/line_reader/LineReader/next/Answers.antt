@@ -9,7 +9,7 @@ reads-preserved g c = record {
   kept = λ ahead before. ahead_more _ _ ahead _ _ c.in-Ok.field-0 (c.reads.invariant.kept ahead before) c.in-Ok.ensures.more;
   reads = search rules;
   writes = search rules;
-  written = search rules
+  written = search rules;
 }
 
 pub returns-in-Ok-eq0-clause-found : goal.returns-in-Ok-eq0-clause-found

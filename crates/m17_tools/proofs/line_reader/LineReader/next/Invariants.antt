@@ -9,7 +9,7 @@ invariant-reads g l = record {
   kept : (ahead : List ℕ) → IsAhead (pending l.fn.self) (g.S.Source.left l.fn.input) ahead → IsAhead (pending l.self) (g.S.Source.left l.input) ahead;
   reads : g.S.Source.faults l.fn.input ≤ g.S.Source.faults l.input;
   writes : g.K.Sink.faults l.fn.out ≤ g.K.Sink.faults l.out;
-  written : g.K.Sink.written l.out ≡ g.K.Sink.written l.fn.out
+  written : g.K.Sink.written l.out ≡ g.K.Sink.written l.fn.out;
 }
 
 abbrev pub decreases-reads : goal.decreases-reads
