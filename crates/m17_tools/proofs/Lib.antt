@@ -4,3 +4,8 @@ pub mod Standing
 pub mod Records
 pub mod JudgeRun
 pub mod JudgeEnd
+pub mod Held
+pub mod Feeds
+pub mod ShownLines
+pub mod OddDigits
+pub mod ShowRun

@@ -6,8 +6,13 @@ mod ending;
 mod filling;
 mod judge_command;
 mod judging;
+mod line_reader;
+mod show_command;
+mod show_line;
 mod table;
 
 pub use ending::{Ending, Reason};
 pub use filling::{Filled, fill};
 pub use judge_command::{RECORDS_MAX, judge};
+pub use show_command::{LINES_MAX, show};
+pub use show_line::LINE_DIGITS;

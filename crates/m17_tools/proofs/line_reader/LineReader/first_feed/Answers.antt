@@ -1,0 +1,12 @@
+use Rattle.std.proofs.Common.{◌≡◌, List, ℕ, Option, subst, ◌∙◌}
+use Rattle.std.specs.Prelude.{MatchOption}
+use Rattle.memchr.specs.Find.{IsFirstByte, is_byte}
+use Rattle.m17_tools.specs.Lines.{HasNoFeed, BeginsWithLine}
+use Rattle.m17_tools.specs.Pending.{pending}
+use Rattle.m17_tools.proofs.Feeds.{first_feed}
+use Rattle.m17_tools.proofs.line_reader.LineReader.first_feed.Goals as goal
+
+pub returns : goal.returns
+returns c =
+    let P : List ℕ → Type 0 = λ xs. MatchOption c.memchr.result (HasNoFeed xs) (BeginsWithLine xs) in
+    subst P c.pending.ensures (first_feed c.pending.result.now c.memchr.result c.memchr.ensures)
