@@ -1,9 +1,8 @@
 ghost use Rattle.std.specs.Prelude.{◌≡◌, ◌+◌, ◌-◌, ◌^◌, ◌<◌, ◌≤◌, length, None, IfOk, OnErr};
 ghost use Rattle.m17_devices.specs.Faults.{HasRisen};
 
-use std::alloc::Global;
-
 use m17_devices::{Failed, NoMemory, Sink};
+use std::alloc::Global;
 
 const BUFFER_BYTES: usize = 65_536;
 
