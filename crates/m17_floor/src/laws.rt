@@ -19,8 +19,8 @@ pub fn who_joins_may_speak()
 {}
 
 /// A packet isn't admitted while its sender's last admitted frame is of its stream, less than 10,000 ms old, and either
-/// ended the stream or is 0 to 16,384 numbers past it. So neither is one with the stream id and number of a packet that
-/// was admitted since its sender's Join: a copy that the network makes is not relayed twice.
+/// ended the stream or is 0 to 16,384 numbers past it. Under the same conditions no packet is admitted that has the stream
+/// id and number of one that was admitted since its sender's Join, as a copy has that the network made.
 pub fn repeats_are_not_admitted()
     ensures passed { PassedNumbersAreNotAdmitted }
     ensures repeats { RepeatsAreNotAdmitted }

@@ -4,7 +4,7 @@ use Rattle.std.proofs.lemmas.List.{drop-drop, drop_all, drop_at, take_at, append
 use Rattle.std.proofs.Math.Seq.{take-add}
 use Rattle.m17_devices.specs.Source.{Takes}
 use Rattle.m17_tools.specs.Fill.{IsFilled}
-use borrow.Rule.Slice.PartMut.{put_mid, post_of}
+use borrow.Rule.Slice.PartMut.{put_mid}
 
 -- what is written over the rest of a buffer stands after its front
 put_rest : (at : ℕ) (buffer filled : List ℕ) → at ≤ length buffer → put_mid at (length buffer - at) buffer filled ≡ take at buffer ++ filled

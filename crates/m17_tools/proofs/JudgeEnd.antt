@@ -1,14 +1,13 @@
 -- The end of a run of `judge` that took as many records as may come.
-use Rattle.std.proofs.Common.{◌≡◌, ◌≢◌, ℕ, ◌+◌, ◌-◌, ◌*◌, ◌<◌, ◌≤◌, List, [], ◌++◌, length, drop, Option, None, Some, Result, Ok, unwrap_or, refl, sym, ap, subst, ◌∙◌, arith}
-use Rattle.std.proofs.lemmas.List.{append-nil, length-drop, nil_from_length, drop-drop}
+use Rattle.std.proofs.Common.{◌≡◌, ℕ, ◌*◌, ◌≤◌, List, [], length, drop, Option, Some, Result, Ok, refl, sym, ap, subst, ◌∙◌, arith}
+use Rattle.std.proofs.lemmas.List.{append-nil, length-drop, nil_from_length}
 use Rattle.m17_devices.specs.declared.NoMemory.{NoMemory}
 use Rattle.m17_tools.specs.declared.ending.Ending.{Ending}
 use Rattle.m17_tools.specs.declared.ending.Ending.TheVariants.{Finished, Refused, ReadFailed, WriteFailed}
-use Rattle.m17_tools.specs.declared.ending.Reason.{Reason}
 use Rattle.m17_tools.specs.declared.ending.Reason.TheVariants.{Cut, Large, Long, Odd, Digit}
 use Rattle.m17_tools.specs.Fill.{IsFilled, IsCutShort}
-use Rattle.m17_tools.specs.Judge.{IsTextOf, AreRecords, RefusesRecords, JudgePrints, LooksPast}
-use Rattle.m17_tools.proofs.JudgeRun.{RefusesAs, StandsWritten}
+use Rattle.m17_tools.specs.Judge.{IsTextOf, AreRecords, JudgePrints, LooksPast}
+use Rattle.m17_tools.proofs.JudgeRun.{RefusesAs}
 
 -- nothing came into a buffer of one byte
 pub nothing_past : (left buffer filled : List ℕ) (n : ℕ) (rest : Option (List ℕ)) → length buffer ≡ 1 → n ≡ 0 → IsFilled left n buffer filled rest → (left ≡ []) × (rest ≡ Some [])

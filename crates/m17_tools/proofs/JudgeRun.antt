@@ -1,19 +1,18 @@
 -- A run of `judge`, record by record.
-use Rattle.std.proofs.Common.{◌≡◌, ◌≢◌, ℕ, zero, suc, ◌+◌, ◌-◌, ◌*◌, ◌<◌, ◌≤◌, ◌⊎◌, List, [], ◌∷◌, ◌++◌, length, take, drop, slice_get, Option, None, Some, unwrap_or, refl, sym, ap, subst, ◌∙◌, arith, append_assoc, inl, inr, length-append}
+use Rattle.std.proofs.Common.{◌≡◌, ℕ, ◌+◌, ◌*◌, ◌<◌, ◌≤◌, List, [], ◌∷◌, ◌++◌, length, take, drop, slice_get, Option, Some, unwrap_or, refl, sym, ap, subst, ◌∙◌, arith, append_assoc, inl, inr, length-append}
 use Rattle.std.specs.List.{flat_map}
 use Rattle.std.proofs.lemmas.Option.{slice_get_within, get_or_from_slice_get, slice_get-get_or}
-use Rattle.std.proofs.lemmas.List.{append-nil, drop-drop, drop_all, length-drop, length_push, get_or_append_left, flat_map_more, get_or_push, take-append-drop}
+use Rattle.std.proofs.lemmas.List.{append-nil, drop-drop, drop_all, length-drop, length_push, get_or_append_left, flat_map_more, take-append-drop}
 use Rattle.std.proofs.lemmas.Bool.{cases_lt}
 use Rattle.m17_devices.specs.Sink.{AppendsPrefix}
 use Rattle.m17_floor.specs.declared.act.Act.{Act}
-use Rattle.m17_floor.specs.Floor.{verdict_at}
 use Rattle.m17_floor.specs.Laws.{LaterActsChangeNoVerdict}
 use Rattle.m17_floor.specs.StandsFor.{Frame}
 use Rattle.m17_tools.specs.declared.ending.Ending.{Ending}
 use Rattle.m17_tools.specs.declared.ending.Ending.TheVariants.{Finished, Refused, ReadFailed, WriteFailed}
-use Rattle.m17_tools.specs.declared.ending.Reason.TheVariants.{Cut, Large}
+use Rattle.m17_tools.specs.declared.ending.Reason.TheVariants.{Cut}
 use Rattle.m17_tools.specs.Fill.{IsFilled, IsCutShort}
-use Rattle.m17_tools.specs.Judge.{joins, talkers, acts_with, record_at, IsLine, IsJudged, IsTurnedAway, AreLines, IsTextOf, AreRecords, RefusesRecords, JudgePrints}
+use Rattle.m17_tools.specs.Judge.{joins, talkers, acts_with, record_at, IsLine, AreLines, IsTextOf, AreRecords, RefusesRecords, JudgePrints}
 use Rattle.m17_tools.specs.Table.{TableStandsFor, JudgesRecord}
 use Rattle.m17_tools.proofs.Joins.{length-joins}
 use Rattle.m17_tools.proofs.Records.{slice_get_push}

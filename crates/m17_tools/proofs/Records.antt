@@ -1,5 +1,5 @@
 -- The line of one more record.
-use Rattle.std.proofs.Common.{◌≡◌, ℕ, ◌+◌, ◌<◌, ◌≤◌, List, [], ◌∷◌, ◌++◌, length, slice_get, get_or, Option, Some, codes, decimal, refl, sym, ap, subst, ◌∙◌, arith, append_assoc, inl, inr}
+use Rattle.std.proofs.Common.{◌≡◌, ℕ, ◌+◌, List, [], ◌∷◌, ◌++◌, length, slice_get, Some, codes, decimal, sym, ap, ◌∙◌, arith, inl, inr}
 use Rattle.std.proofs.lemmas.Option.{slice_get-get_or}
 use Rattle.std.proofs.lemmas.List.{get_or_push, length_push}
 use Rattle.m17_stream.specs.declared.packet.StreamPacket.{StreamPacket}
@@ -10,7 +10,7 @@ use Rattle.m17_floor.specs.declared.act.ActKind.TheVariants.{Packet, Other}
 use Rattle.m17_floor.specs.declared.verdict.Verdict.{Verdict}
 use Rattle.m17_floor.specs.Floor.{verdict_at}
 use Rattle.m17_print.specs.Refused.{stream_refusal_text}
-use Rattle.m17_tools.specs.Judge.{talker, talkers, moment_of, talker_of, packet_of, verdict_text, line_with, IsLine, IsJudged, IsTurnedAway}
+use Rattle.m17_tools.specs.Judge.{talker, talkers, moment_of, talker_of, packet_of, verdict_text, IsLine}
 
 -- what was pushed stands at the end
 pub slice_get_push : {X : Type 0} (xs : List X) (x : X) (n : ℕ) → length xs ≡ n → slice_get (xs ++ x ∷ []) n ≡ Some x

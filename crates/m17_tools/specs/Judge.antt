@@ -1,5 +1,5 @@
 -- What `judge` reads and prints: a line for each record of 64 bytes, over one list of acts. This profile.
-use Rattle.std.specs.Prelude.{◌≡◌, ◌≢◌, ◌⊎◌, ℕ, ◌+◌, ◌*◌, ◌%◌, ◌<◌, ◌≤◌, false, List, [], ◌∷◌, ◌++◌, length, take, drop, map, slice_get, Option, Some, codes, decimal}
+use Rattle.std.specs.Prelude.{◌≡◌, ◌⊎◌, ℕ, ◌+◌, ◌*◌, ◌<◌, ◌≤◌, false, List, [], ◌∷◌, ◌++◌, length, take, drop, map, slice_get, Option, Some, codes, decimal}
 use Rattle.std.specs.List.{range_with_len, flat_map}
 use Rattle.std.specs.Int.{w16, w64, from_be_bytes}
 use Rattle.m17_devices.specs.declared.member.Member.{Member}
@@ -15,7 +15,7 @@ use Rattle.m17_print.specs.Refused.{stream_refusal_text}
 use Rattle.m17_tools.specs.declared.ending.Ending.{Ending}
 use Rattle.m17_tools.specs.declared.ending.Ending.TheVariants.{Finished, Refused, ReadFailed, WriteFailed}
 use Rattle.m17_tools.specs.declared.ending.Reason.{Reason}
-use Rattle.m17_tools.specs.declared.ending.Reason.TheVariants.{Cut, Large, Long, Odd, Digit}
+use Rattle.m17_tools.specs.declared.ending.Reason.TheVariants.{Cut, Large}
 use Rattle.m17_tools.specs.Ending.{refused_line}
 
 -- record n of the input, the last of which may be cut

@@ -1,4 +1,4 @@
-use Rattle.std.proofs.Common.{rules, ◌≡◌, ℕ, ◌+◌, ◌-◌, ◌<◌, ◌≤◌, List, [], ◌++◌, length, take, drop, Some, sym, ap, subst, ◌∙◌, arith, length-take, length-drop}
+use Rattle.std.proofs.Common.{rules, ◌≡◌, ℕ, ◌-◌, length, subst, arith}
 use Rattle.std.proofs.lemmas.Grind.{common_steps}
 use Rattle.m17_tools.specs.Fill.{IsFilled}
 use borrow.Rule.Slice.PartMut.{put_mid}

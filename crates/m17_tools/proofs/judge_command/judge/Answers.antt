@@ -1,4 +1,4 @@
-use Rattle.std.proofs.Common.{◌≡◌, ℕ, List, Some, refl, ◌∙◌}
+use Rattle.std.proofs.Common.{refl, ◌∙◌}
 use Rattle.m17_tools.specs.declared.ending.Ending.{Ending}
 use Rattle.m17_tools.specs.declared.ending.Ending.TheVariants.{Finished, Refused}
 use Rattle.m17_tools.proofs.JudgeRun.{RefusesAs, StandsWritten}

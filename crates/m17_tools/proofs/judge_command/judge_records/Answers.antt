@@ -1,11 +1,11 @@
-use Rattle.std.proofs.Common.{◌≡◌, ℕ, ◌+◌, ◌*◌, ◌<◌, List, ◌++◌, Some, length, drop, refl, ap, sym, subst, ◌∙◌, rules, arith}
+use Rattle.std.proofs.Common.{◌≡◌, ℕ, ◌+◌, ◌*◌, ◌++◌, Some, drop, refl, ap, subst, ◌∙◌, rules, arith}
 use Rattle.m17_devices.specs.Sink.{AppendsPrefix}
-use Rattle.m17_tools.specs.Fill.{IsFilled, IsCutShort}
+use Rattle.m17_tools.specs.Fill.{IsCutShort}
 use Rattle.m17_tools.specs.Judge.{IsTextOf}
 use Rattle.m17_tools.specs.declared.ending.Ending.TheVariants.{Finished, Refused, ReadFailed, WriteFailed}
 use Rattle.m17_tools.specs.declared.ending.Reason.TheVariants.{Cut}
 use Rattle.m17_tools.specs.declared.filling.Filled.TheVariants.{Taken}
-use Rattle.m17_tools.proofs.JudgeRun.{IsAfter, joined_lines, at_start, one_more, text_more, text_after, at_the_end, cut_inside, failed_inside, written_in_part, written_whole, same_ending, same_refusal}
+use Rattle.m17_tools.proofs.JudgeRun.{joined_lines, at_start, one_more, text_more, text_after, at_the_end, cut_inside, failed_inside, written_in_part, written_whole, same_ending, same_refusal}
 use Rattle.m17_tools.proofs.judge_command.judge_records.Goals as goal
 
 pub loop-index-init : goal.loop-index-init

@@ -1,4 +1,4 @@
-use Rattle.std.proofs.Common.{◌≡◌, [], ◌∷◌, ◌++◌, refl, ap, ◌∙◌}
+use Rattle.std.proofs.Common.{[], ◌∷◌, ◌++◌, refl, ap, ◌∙◌}
 use Rattle.m17_print.specs.Refused.{stream_refusal_text}
 use Rattle.m17_tools.specs.Judge.{verdict_text}
 use Rattle.m17_tools.proofs.Records.{turned_away, judged_line}

@@ -1,4 +1,4 @@
-use Rattle.std.proofs.Common.{◌≡◌, ◌<◌, List, arith}
+use Rattle.std.proofs.Common.{List, arith}
 use Rattle.m17_floor.specs.declared.act.Act.{Act}
 use Rattle.m17_floor.specs.declared.act.ActKind.TheVariants.{Packet}
 use Rattle.m17_floor.specs.StandsFor.{IsJudged}

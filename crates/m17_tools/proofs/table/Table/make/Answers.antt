@@ -1,4 +1,4 @@
-use Rattle.std.proofs.Common.{rules, sym}
+use Rattle.std.proofs.Common.{sym}
 use Rattle.m17_tools.specs.Judge.{joins, talker, talkers}
 use Rattle.m17_tools.proofs.Joins.{moment-joins, no_packet-joins, speakers-joins, le_talkers}
 use Rattle.m17_tools.proofs.table.Table.make.Goals as goal
