@@ -1,8 +1,7 @@
 -- The words of the program, its answers, and what stands written with each. This profile.
-use Rattle.std.specs.Prelude.{◌≡◌, ◌⊎◌, ℕ, ◌+◌, ◌*◌, ◌<◌, ◌≤◌, List, [], ◌∷◌, ◌++◌, length, take, drop, codes, Option, Some}
+use Rattle.std.specs.Prelude.{◌≡◌, ◌⊎◌, ℕ, List, [], ◌∷◌, ◌++◌, codes, Option, Some}
 use Rattle.m17_tools.specs.declared.ending.Ending.{Ending}
 use Rattle.m17_tools.specs.declared.ending.Ending.TheVariants.{Finished, Refused, ReadFailed, WriteFailed}
-use Rattle.m17_tools.specs.declared.ending.Reason.{Reason}
 use Rattle.m17_tools.specs.Ending.{last_line}
 
 -- the words are the one word `judge`

@@ -1,4 +1,4 @@
-use Rattle.std.proofs.Common.{◌≡◌, ◌∙◌, Ok, refl, ap}
+use Rattle.std.proofs.Common.{Ok, refl, ap}
 use Rattle.m17_tools.specs.Judge.{JudgePrints}
 use Rattle.m17_app.proofs.Endings.{is_refused, concluded}
 use Rattle.m17_app.proofs.run.run_judge.Goals as goal

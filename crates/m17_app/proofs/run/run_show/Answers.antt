@@ -1,4 +1,3 @@
-use Rattle.std.proofs.Common.{◌≡◌, refl}
 use Rattle.m17_tools.specs.Show.{ShowPrints}
 use Rattle.m17_app.proofs.Endings.{is_refused, concluded}
 use Rattle.m17_app.proofs.run.run_show.Goals as goal
