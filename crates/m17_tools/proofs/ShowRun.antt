@@ -1,11 +1,11 @@
 -- A run of `show`, line by line: how it goes on, and how it comes to each end.
-use Rattle.std.proofs.Common.{◌≡◌, ℕ, ◌+◌, ◌-◌, ◌<◌, ◌≤◌, List, [], ◌∷◌, ◌++◌, length, take, drop, slice_get, Option, None, Some, unwrap_or, refl, sym, ap, subst, ◌∙◌, arith, append_assoc, length-append}
-use Rattle.std.proofs.lemmas.List.{append-nil, take-append-drop, take_at, drop_at, nil_from_length}
+use Rattle.std.proofs.Common.{◌≡◌, ℕ, ◌+◌, ◌<◌, ◌≤◌, List, [], ◌∷◌, ◌++◌, length, take, drop, slice_get, Option, None, Some, unwrap_or, refl, sym, ap, subst, ◌∙◌, arith, append_assoc, length-append}
+use Rattle.std.proofs.lemmas.List.{append-nil, take-append-drop, take_at, drop_at}
 use Rattle.m17_tools.specs.declared.ending.Ending.{Ending}
 use Rattle.m17_tools.specs.declared.ending.Ending.TheVariants.{Finished, Refused, ReadFailed, WriteFailed}
 use Rattle.m17_tools.specs.declared.ending.Reason.{Reason}
 use Rattle.m17_tools.specs.declared.ending.Reason.TheVariants.{Cut, Large, Long, Odd, Digit}
-use Rattle.m17_tools.specs.Show.{lines_of, content_of, AreEnded, AreLineCount, IsLineShown, IsShownText, RefusesLine, ShowPrints}
+use Rattle.m17_tools.specs.Show.{lines_of, content_of, AreEnded, AreLineCount, IsShownText, RefusesLine}
 use Rattle.m17_tools.specs.Lines.{HasNoFeed, BeginsWithLine, IsAhead, RefusesContent, ShowsLine, IsAt, IsShownTo, EndsAt, EndsShow, ShowsNext}
 use Rattle.m17_tools.proofs.Feeds.{ended_same, lines_of-line, lines_of-last, lines_of-begun, lines_of-none, some_line}
 use Rattle.m17_tools.proofs.ShownLines.{at_start, none_shown, line_at, count_at, held_line, at_more, shown_more, content_long}

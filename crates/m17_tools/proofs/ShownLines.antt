@@ -1,12 +1,11 @@
 -- Where a run of `show` stands in its input, and the text of one more line.
-use Rattle.std.proofs.Common.{◌≡◌, ℕ, ◌+◌, ◌-◌, ◌<◌, ◌≤◌, ◌⊎◌, ◌==◌, Bool, true, false, cond, List, [], ◌∷◌, ◌++◌, length, take, drop, slice_get, get_or, Option, Some, refl, sym, ap, subst, ◌∙◌, arith, append_assoc, inl, inr, length-append}
-use Rattle.std.specs.List.{flat_map}
+use Rattle.std.proofs.Common.{◌≡◌, ℕ, ◌+◌, ◌-◌, ◌<◌, ◌==◌, Bool, true, false, cond, List, [], ◌∷◌, ◌++◌, length, take, drop, slice_get, Some, refl, sym, ap, ◌∙◌, arith, append_assoc, inl, inr, length-append}
 use Rattle.std.proofs.lemmas.Option.{slice_get_within, get_or_from_slice_get, slice_get-get_or}
-use Rattle.std.proofs.lemmas.List.{append-nil, length_push, get_or_append_left, get_or_at, flat_map_more, take-append-drop, drop_more, length-take}
+use Rattle.std.proofs.lemmas.List.{length_push, get_or_append_left, get_or_at, flat_map_more, take-append-drop, drop_more, length-take}
 use Rattle.std.proofs.lemmas.Bool.{cases_lt}
-use Rattle.m17_tools.specs.Show.{lines_of, last_byte, content_of, AreEnded, AreLineCount, IsLineShown, AreShown, IsShownText}
+use Rattle.m17_tools.specs.Show.{lines_of, last_byte, content_of, IsLineShown, IsShownText}
 use Rattle.m17_tools.specs.Lines.{HasNoFeed, BeginsWithLine, IsAt}
-use Rattle.m17_tools.proofs.Feeds.{ended_more, lines_of-line, lines_of-last, lines_of-begun, lines_of-none}
+use Rattle.m17_tools.proofs.Feeds.{ended_more, lines_of-line}
 
 -- what stands after so many in a list
 slice_get_after : {X : Type 0} (xs : List X) (y : X) (ys : List X) (n : ℕ) → length xs ≡ n → slice_get (xs ++ y ∷ ys) n ≡ Some y

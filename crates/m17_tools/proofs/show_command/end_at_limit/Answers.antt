@@ -1,10 +1,9 @@
-use Rattle.std.proofs.Common.{rules, ◌≡◌, ℕ, ◌<◌, List, [], ◌++◌, length, Ok, Some, refl, sym, ap, subst, ◌∙◌, arith, lit≤}
-use Rattle.std.proofs.lemmas.Bool.{eqb-true}
+use Rattle.std.proofs.Common.{rules, ◌≡◌, ◌<◌, [], ◌++◌, length, Ok, refl, sym, ap, subst, ◌∙◌, arith, lit≤}
 use Rattle.std.proofs.lemmas.List.{nil_from_length}
-use Rattle.m17_tools.specs.Lines.{HasNoFeed, IsAhead}
+use Rattle.m17_tools.specs.Lines.{HasNoFeed}
 use Rattle.m17_tools.specs.Pending.{pending}
 use Rattle.m17_tools.proofs.Held.{ahead_more, ahead_at_end}
-use Rattle.m17_tools.proofs.ShowRun.{kept, large, finished, read_failed, write_failed}
+use Rattle.m17_tools.proofs.ShowRun.{kept, large, finished, read_failed}
 use Rattle.m17_tools.proofs.show_command.end_at_limit.Goals as goal
 
 pub returns-then-not-is_empty-clause-shows : goal.returns-then-not-is_empty-clause-shows

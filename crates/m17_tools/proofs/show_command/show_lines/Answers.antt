@@ -1,7 +1,3 @@
-use Rattle.std.proofs.Common.{List, ℕ, Option, subst}
-use Rattle.m17_tools.specs.declared.ending.Ending.{Ending}
-use Rattle.m17_tools.specs.Lines.{ShowsNext}
-use Rattle.m17_tools.specs.Pending.{pending}
 use Rattle.m17_tools.proofs.show_command.show_lines.Goals as goal
 
 pub returns-then-is_some-clause-shows : goal.returns-then-is_some-clause-shows

@@ -1,6 +1,5 @@
 use Rattle.std.proofs.Common.{◌≡◌, ◌≤◌, ◌%◌, ℕ, List, length, sym, subst, Err, arith, ap, ◌∙◌}
 use Rattle.std.proofs.lemmas.List.{length-take-le}
-use Rattle.m17_tools.specs.Show.{content_of}
 use Rattle.m17_tools.proofs.OddDigits.{odd_length}
 use Rattle.m17_tools.proofs.show_line.make_line.Goals as goal
 

@@ -1,8 +1,6 @@
-use Rattle.std.proofs.Common.{◌≡◌, List, ℕ, Option, subst, ◌∙◌}
+use Rattle.std.proofs.Common.{List, ℕ, subst}
 use Rattle.std.specs.Prelude.{MatchOption}
-use Rattle.memchr.specs.Find.{IsFirstByte, is_byte}
 use Rattle.m17_tools.specs.Lines.{HasNoFeed, BeginsWithLine}
-use Rattle.m17_tools.specs.Pending.{pending}
 use Rattle.m17_tools.proofs.Feeds.{first_feed}
 use Rattle.m17_tools.proofs.line_reader.LineReader.first_feed.Goals as goal
 

@@ -1,6 +1,5 @@
-use Rattle.std.proofs.Common.{rules, ◌≡◌, ℕ, List, [], ◌++◌, Ok, Some, ap, subst, sym, ◌∙◌, arith}
-use Rattle.m17_tools.specs.Lines.{HasNoFeed, IsAhead}
-use Rattle.m17_tools.specs.Pending.{pending}
+use Rattle.std.proofs.Common.{rules, ◌++◌, Ok, ap, subst, sym, ◌∙◌, arith}
+use Rattle.m17_tools.specs.Lines.{HasNoFeed}
 use Rattle.m17_tools.proofs.Held.{ahead_more, ahead_at_end}
 use Rattle.m17_tools.proofs.line_reader.LineReader.next.Goals as goal
 
