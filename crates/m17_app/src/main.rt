@@ -2,17 +2,58 @@
 //! with its answer. The streams here are the trusted edge: they count their faults and tell nothing of content.
 #![tactic(auto)]
 
+mod command;
+mod conclude;
+mod run;
 mod std_in;
 mod std_out;
 
+use conclude::NO_MEMORY;
+use run::run;
 use std::alloc::Global;
+use std::env;
+use std::io::ErrorKind;
 use std::process::ExitCode;
-use std::{env, io};
-
-use m17_devices::NoMemory;
 use std_in::StdIn;
 use std_out::StdOut;
 
 fn main(rt: HostRuntime) -> ExitCode {
-    ExitCode::from(0)
+    ExitCode::from(start(rt))
 }
+
+// Runs the program over the standard streams.
+fn start(rt: HostRuntime) -> u8 {
+    let alloc = rt.alloc();
+    let Some(words) = words_of(rt) else {
+        return NO_MEMORY;
+    };
+    let Ok(mut input) = StdIn::make(alloc, rt.stdin()) else {
+        return NO_MEMORY;
+    };
+    let Ok(mut out) = StdOut::make(alloc, &rt) else {
+        return NO_MEMORY;
+    };
+    run(&rt, alloc, &words, &mut input, &mut out)
+}
+
+// The words after the program's name. Words that are no text name no command, as no words do; none where there is no
+// memory for them.
+fn words_of(rt: HostRuntime) -> Option<Vec<String>> {
+    let alloc: Global = rt.alloc();
+    let mut words = Vec::new(alloc);
+    match env::args(&rt) {
+        Ok(args) => {
+            for word in args.skip(1) {
+                if words.push(word).is_err() {
+                    return None;
+                }
+            }
+            Some(words)
+        }
+        Err(e) if e.kind() == ErrorKind::InvalidData => Some(words),
+        Err(_) => None,
+    }
+}
+
+#[cfg(test)]
+mod tests;

@@ -1,9 +1,8 @@
 ghost use Rattle.std.specs.Prelude.{◌≡◌, ℕ, IfOk, ◌+◌, ◌-◌, ◌^◌, ◌<◌, ◌≤◌, length, None};
 
+use m17_devices::{Failed, NoMemory, Source};
 use std::alloc::Global;
 use std::io::{ErrorKind, Read};
-
-use m17_devices::{Failed, NoMemory, Source};
 
 const BUFFER_BYTES: usize = 65_536;
 

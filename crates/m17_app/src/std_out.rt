@@ -1,8 +1,8 @@
-ghost use Rattle.std.specs.Prelude.{◌≡◌, ◌+◌, ◌-◌, ◌^◌, ◌<◌, ◌≤◌, length, None, IfOk};
-
-use std::alloc::Global;
+ghost use Rattle.std.specs.Prelude.{◌≡◌, ◌+◌, ◌-◌, ◌^◌, ◌<◌, ◌≤◌, length, None, IfOk, OnErr};
+ghost use Rattle.m17_devices.specs.Faults.{HasRisen};
 
 use m17_devices::{Failed, NoMemory, Sink};
+use std::alloc::Global;
 
 const BUFFER_BYTES: usize = 65_536;
 
@@ -12,7 +12,6 @@ pub struct StdOut<'a, P: Print> {
     to: &'a P,
     buffer: Vec<u8>,
     faults: u64,
-    ghost within: { length buffer.items ≤ 65536 },
 }
 
 impl<'a, P: Print> StdOut<'a, P> {
@@ -29,6 +28,20 @@ impl<'a, P: Print> StdOut<'a, P> {
             Err(_) => Err(NoMemory),
         }
     }
+
+    // Hands bytes on as they are, and counts a fault.
+    fn hand_on(&mut self, bytes: &[u8]) -> Result<(), Failed>
+        ensures failed { OnErr result (HasRisen self.old.faults self.new.faults) }
+        ensures counted { self.old.faults ≤ self.new.faults }
+    {
+        match self.to.write_all(bytes) {
+            Ok(()) => Ok(()),
+            Err(_) => {
+                self.faults = self.faults.saturating_add(1);
+                Err(Failed)
+            }
+        }
+    }
 }
 
 impl<P: Print> Sink for StdOut<'_, P> {
@@ -37,19 +50,19 @@ impl<P: Print> Sink for StdOut<'_, P> {
     ghost written = { λ _. None };
 
     fn write(&mut self, bytes: &[u8]) -> Result<(), Failed> {
-        if bytes.len() > BUFFER_BYTES - self.buffer.len() {
+        if bytes.len() > BUFFER_BYTES.saturating_sub(self.buffer.len()) {
             self.flush()?;
         }
-        let kept = if bytes.len() > BUFFER_BYTES {
-            self.to.write_all(bytes).is_ok()
-        } else {
-            self.buffer.extend_from_slice(bytes).is_ok()
-        };
-        if !kept {
-            self.faults = self.faults.saturating_add(1);
-            return Err(Failed);
+        if bytes.len() > BUFFER_BYTES {
+            return self.hand_on(bytes);
         }
-        Ok(())
+        match self.buffer.extend_from_slice(bytes) {
+            Ok(()) => Ok(()),
+            Err(_) => {
+                self.faults = self.faults.saturating_add(1);
+                Err(Failed)
+            }
+        }
     }
 
     fn flush(&mut self) -> Result<(), Failed> {
@@ -58,10 +71,12 @@ impl<P: Print> Sink for StdOut<'_, P> {
         }
         let written = self.to.write_all(&self.buffer);
         self.buffer.clear();
-        if written.is_err() {
-            self.faults = self.faults.saturating_add(1);
-            return Err(Failed);
+        match written {
+            Ok(()) => Ok(()),
+            Err(_) => {
+                self.faults = self.faults.saturating_add(1);
+                Err(Failed)
+            }
         }
-        Ok(())
     }
 }

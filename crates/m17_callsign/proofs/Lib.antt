@@ -1,4 +1,5 @@
 pub mod Alphabet
+pub mod SixBytes
 pub mod Cutting
 pub mod Folded
 pub mod Spelled

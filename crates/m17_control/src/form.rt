@@ -14,11 +14,17 @@ pub const PONG: [u8; 4] = [b'P', b'O', b'N', b'G'];
 
 pub const DISC: [u8; 4] = [b'D', b'I', b'S', b'C'];
 
-/// Where From begins, and how long a packet is that has none.
-pub const FROM_AT: usize = 4;
+/// How many bytes a packet has that is a magic alone.
+pub const BARE_BYTES: usize = 4;
 
-/// Where the module stands, and how long a packet is that has From and no module.
-pub const MODULE_AT: usize = 10;
+/// How many bytes a packet has that is a magic and From.
+pub const FROM_BYTES: usize = 10;
 
-/// How long a packet is that has From and a module: the longest.
-pub const LONGEST: usize = 11;
+/// How many bytes a packet has that is a magic, From and a module: the longest.
+pub const MODULE_BYTES: usize = 11;
+
+/// Where From begins.
+pub const FROM_AT: usize = BARE_BYTES;
+
+/// Where the module stands.
+pub const MODULE_AT: usize = FROM_BYTES;

@@ -14,3 +14,6 @@ pub use letter::ModuleLetter;
 pub use packet::{Control, Packet, Refusal};
 pub use reader::decode;
 pub use writer::write;
+
+#[cfg(test)]
+mod tests;

@@ -4,7 +4,10 @@ ghost use Rattle.m17_control.specs.Forms.{Spells, Refuses, HasMagic, HasFrom, Is
 ghost use Rattle.m17_control.specs.declared.packet.Packet.{Packet};
 ghost use Rattle.m17_control.specs.declared.packet.Refusal.{Refusal};
 
-use crate::form::{ACKN, CONN, DISC, FROM_AT, LONGEST, LSTN, MODULE_AT, NACK, PING, PONG};
+use crate::form::{
+    ACKN, BARE_BYTES, CONN, DISC, FROM_AT, FROM_BYTES, LSTN, MODULE_AT, MODULE_BYTES, NACK, PING,
+    PONG,
+};
 use crate::{Control, ModuleLetter, Packet, Refusal, laws};
 use m17_callsign::{CallAddress, from_bytes};
 use m17_stream::StreamRefusal;
@@ -39,9 +42,9 @@ fn control(b: &[u8]) -> Result<Packet, Refusal>
     ensures { MatchResult result (λ p. Spells p b.now) (Refuses b.now) }
 {
     match b.len() {
-        FROM_AT => bare(b),
-        MODULE_AT => with_from(b),
-        LONGEST => with_module(b),
+        BARE_BYTES => bare(b),
+        FROM_BYTES => with_from(b),
+        MODULE_BYTES => with_module(b),
         n => Err(Refusal::Length(u32::try_from(n).unwrap_or(u32::MAX))),
     }
 }
@@ -90,12 +93,10 @@ fn with_module(b: &[u8]) -> Result<Packet, Refusal>
 {
     let magic = magic_of(b);
     if magic == CONN {
-        let from = from_of(b)?;
-        let module = module_of(b)?;
+        let (from, module) = membership_of(b)?;
         Ok(Packet::Control(Control::Conn { from, module }))
     } else if magic == LSTN {
-        let from = from_of(b)?;
-        let module = module_of(b)?;
+        let (from, module) = membership_of(b)?;
         Ok(Packet::Control(Control::Lstn { from, module }))
     } else {
         Err(Refusal::Magic(magic))
@@ -125,15 +126,17 @@ fn from_of(b: &[u8]) -> Result<CallAddress, Refusal>
     }
 }
 
-/// The module of a packet that has one.
+/// From and the module of a packet that has both: From is judged first.
 #[inline]
-fn module_of(b: &[u8]) -> Result<ModuleLetter, Refusal>
-    requires { length b.now ≡ 11 }
-    ensures { MatchResult result (λ letter. IsModule letter × (letter ≡ slice_index b.now 10)) (λ refusal. (refusal ≡ Refusal.Module (slice_index b.now 10)) × (IsModule (slice_index b.now 10) → ⊥)) }
+fn membership_of(b: &[u8]) -> Result<(CallAddress, ModuleLetter), Refusal>
+    requires has_magic { HasMagic b.now }
+    requires long { length b.now ≡ 11 }
+    ensures { MatchResult result (λ found. IsFrom found.0 × HasFrom b.now found.0 × IsModule found.1 × (found.1 ≡ slice_index b.now 10)) (Refuses b.now) }
 {
+    let from = from_of(b)?;
     let byte = b[MODULE_AT];
     match ModuleLetter::new(byte) {
-        Some(module) => Ok(module),
+        Some(module) => Ok((from, module)),
         None => Err(Refusal::Module(byte)),
     }
 }

@@ -3,7 +3,7 @@ ghost use Rattle.arrayvec.specs.ArrayVec.{array_vec_len};
 ghost use Rattle.m17_callsign.specs.AddressBytes.{address_bytes};
 ghost use Rattle.m17_control.specs.Forms.{SpellsControl, IsFrom, IsModule};
 
-use crate::form::{ACKN, CONN, DISC, LONGEST, LSTN, NACK, PING, PONG};
+use crate::form::{ACKN, CONN, DISC, LSTN, MODULE_BYTES, NACK, PING, PONG};
 use crate::{Control, ModuleLetter};
 use arrayvec::ArrayVec;
 use m17_callsign::{CallAddress, to_bytes};
@@ -27,7 +27,7 @@ pub fn write(c: &Control) -> ArrayVec<u8, 11>
 
 /// A magic alone.
 #[inline]
-fn bare(magic: &[u8; 4]) -> ArrayVec<u8, LONGEST>
+fn bare(magic: &[u8; 4]) -> ArrayVec<u8, MODULE_BYTES>
     ensures items { result.items ≡ magic.now }
     ensures len { array_vec_len result ≡ 4 }
 {
@@ -38,7 +38,7 @@ fn bare(magic: &[u8; 4]) -> ArrayVec<u8, LONGEST>
 
 /// A magic, and From.
 #[inline]
-fn with_from(magic: &[u8; 4], from: CallAddress) -> ArrayVec<u8, LONGEST>
+fn with_from(magic: &[u8; 4], from: CallAddress) -> ArrayVec<u8, MODULE_BYTES>
     ensures items { result.items ≡ magic.now ++ address_bytes from }
     ensures len { array_vec_len result ≡ 10 }
     ensures in_range { IsFrom from }
@@ -50,7 +50,11 @@ fn with_from(magic: &[u8; 4], from: CallAddress) -> ArrayVec<u8, LONGEST>
 
 /// A magic, From and the module.
 #[inline]
-fn with_module(magic: &[u8; 4], from: CallAddress, letter: ModuleLetter) -> ArrayVec<u8, LONGEST>
+fn with_module(
+    magic: &[u8; 4],
+    from: CallAddress,
+    letter: ModuleLetter,
+) -> ArrayVec<u8, MODULE_BYTES>
     ensures items { result.items ≡ magic.now ++ address_bytes from ++ letter ∷ [] }
     ensures in_range { IsFrom from }
     ensures letter { IsModule letter }
@@ -62,7 +66,7 @@ fn with_module(magic: &[u8; 4], from: CallAddress, letter: ModuleLetter) -> Arra
 
 /// Adds the bytes of a field at the end.
 #[inline]
-fn put(bytes: &mut ArrayVec<u8, LONGEST>, field: &[u8])
+fn put(bytes: &mut ArrayVec<u8, MODULE_BYTES>, field: &[u8])
     requires { array_vec_len bytes.old + length field.now ≤ 11 }
     ensures items { bytes.new.items ≡ bytes.old.items ++ field.now }
     ensures len { array_vec_len bytes.new ≡ array_vec_len bytes.old + length field.now }

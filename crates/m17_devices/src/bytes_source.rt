@@ -57,6 +57,8 @@ impl Source for BytesSource {
 
         // It fails exactly at the calls that were listed, and else fills the buffer as far as it can.
         ensures told_to_fail { IsErr result ↔ Contains self.old.fails self.old.next_call }
+        ensures calls_counted { self.new.next_call ≡ min (self.old.next_call + 1) (2 ^ 64 - 1) }
+        ensures same_list { self.new.fails ≡ self.old.fails }
         ensures fills { IfOk result (λ n. n ≡ min (length into.old) (length self.old.left)) }
     {
         let call = self.next_call;

@@ -23,3 +23,6 @@ pub struct Failed;
 /// There was no memory for what was asked. This profile.
 #[derive(Clone, Copy, Debug, PartialEq, Eq)]
 pub struct NoMemory;
+
+#[cfg(test)]
+mod tests;

@@ -6,5 +6,6 @@ mod Members
 mod NoPacket
 mod OneMore
 mod Prefix
+mod Repeats
 mod Standing
 mod VerdictsSoFar

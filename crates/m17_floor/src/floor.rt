@@ -13,10 +13,10 @@ use m17_devices::Member;
 use m17_stream::{StreamPacket, ahead};
 use std::marker::Model;
 
-/// A floor is given up when so many milliseconds went by without an admitted frame.
+/// A floor is given up when so many milliseconds went by without an admitted frame. This profile.
 pub const FLOOR_TIMEOUT_MS: u64 = 1_600;
 
-/// The stream of a member's last admitted frame is remembered for so many milliseconds.
+/// The stream of a member's last admitted frame is remembered for so many milliseconds. This profile.
 pub const STREAM_MEMORY_MS: u64 = 10_000;
 
 // An admitted frame: of whom it is, its stream, its number, whether it ended the stream, and its moment.

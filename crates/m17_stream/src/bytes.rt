@@ -21,6 +21,7 @@ pub fn read(b: &[u8]) -> Result<StreamPacket, StreamRefusal>
 }
 
 /// The packet or the refusal, whichever comes first.
+#[inline]
 fn read_first(b: &[u8]) -> Result<StreamPacket, StreamRefusal>
     ensures { MatchResult result (λ p. SpellsStream p b.now) (RefusesStream b.now) }
 {

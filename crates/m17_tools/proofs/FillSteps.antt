@@ -4,7 +4,7 @@ use Rattle.std.proofs.lemmas.List.{drop-drop, drop_all, drop_at, take_at, append
 use Rattle.std.proofs.Math.Seq.{take-add}
 use Rattle.m17_devices.specs.Source.{Takes}
 use Rattle.m17_tools.specs.Fill.{IsFilled}
-use borrow.Rule.Slice.PartMut.{put_mid, post_of}
+use borrow.Rule.Slice.PartMut.{put_mid}
 
 -- what is written over the rest of a buffer stands after its front
 put_rest : (at : ℕ) (buffer filled : List ℕ) → at ≤ length buffer → put_mid at (length buffer - at) buffer filled ≡ take at buffer ++ filled
@@ -27,11 +27,12 @@ filled_more bytes buffer first filled at n rest begun takes =
     let back : drop at buffer ≡ drop at first = ap (drop at) begun.front ∙ drop_at (take at bytes) (drop at first) at size in
     let front : take at buffer ≡ take at bytes = ap (take at) begun.front ∙ take_at (take at bytes) (drop at first) at size in
     let more : filled ≡ take n (drop at bytes) ++ drop (at + n) first = takes.filled_front ∙ ap (λ xs. take n (drop at bytes) ++ drop n xs) (take_rest buffer at) ∙ ap (λ xs. take n (drop at bytes) ++ drop n xs) back ∙ ap (λ xs. take n (drop at bytes) ++ xs) (drop-drop n at first) in
-    let left : n ≤ length bytes - at = rw (← length-drop at bytes) takes.no_more in
-    (omega arith,
-     put_rest at buffer filled begun.fits ∙ ap (λ xs. xs ++ filled) front ∙ ap (λ xs. take at bytes ++ xs) more
-       ∙ sym (append_assoc (take at bytes) (take n (drop at bytes)) (drop (at + n) first)) ∙ ap (λ xs. xs ++ drop (at + n) first) (sym (take-add at n bytes)),
-     takes.rest_left ∙ ap Some (drop-drop n at bytes))
+    let left : n ≤ length bytes - at = rw (← length-drop at bytes) takes.no_more in (
+      omega arith,
+      put_rest at buffer filled begun.fits ∙ ap (λ xs. xs ++ filled) front ∙ ap (λ xs. take at bytes ++ xs) more
+          ∙ sym (append_assoc (take at bytes) (take n (drop at bytes)) (drop (at + n) first)) ∙ ap (λ xs. xs ++ drop (at + n) first) (sym (take-add at n bytes)),
+      takes.rest_left ∙ ap Some (drop-drop n at bytes),
+    )
 
 -- a read that takes nothing into a buffer with room has come to the end
 pub filled_at_end : (bytes buffer first filled : List ℕ) (at n : ℕ) (rest : Option (List ℕ)) → IsBegun bytes buffer first at → at < length buffer → n ≡ 0
@@ -47,5 +48,5 @@ filled_at_end bytes buffer first filled at n rest begun room none_taken some =
       no_more = begun.within;
       front = rw add-zero at more.1;
       rest_left = rw add-zero at more.2;
-      at_end = λ _. omega (arith, begun.within)
+      at_end = λ _. omega (arith, begun.within);
     }

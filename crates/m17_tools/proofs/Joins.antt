@@ -1,11 +1,9 @@
 -- The Joins of the talkers, one more at a time.
-use Rattle.std.proofs.Common.{◌≡◌, ◌≢◌, ℕ, zero, suc, ◌+◌, ◌<◌, ◌≤◌, ◌⊎◌, false, List, [], ◌∷◌, ◌++◌, length, map, take, fold, max, refl, sym, ap, subst, ◌∙◌, arith, rules, ⊎_elim, inl, inr, lit≤}
-use Rattle.std.specs.List.{range_with_len, AllByRecursion}
-use Rattle.std.proofs.lemmas.List.{take_all, map-append, length_push}
+use Rattle.std.proofs.Common.{◌≡◌, ℕ, zero, suc, ◌+◌, ◌<◌, ◌≤◌, false, List, [], ◌∷◌, ◌++◌, length, map, fold, max, refl, sym, ap, subst, ◌∙◌, arith, inl, inr, lit≤}
+use Rattle.std.proofs.lemmas.List.{take_all, map-append}
 use Rattle.std.proofs.lemmas.List.Sums.{fold_push}
 use Rattle.std.proofs.lemmas.List.FromFn.{map-range_with_len_more, length-map-range_with_len}
 use Rattle.std.proofs.lemmas.Bool.{cases_lt}
-use Rattle.m17_devices.specs.declared.member.Member.{Member}
 use Rattle.m17_floor.specs.declared.act.Act.{Act}
 use Rattle.m17_floor.specs.declared.act.ActKind.TheVariants.{Join}
 use Rattle.m17_floor.specs.Acts.{moment_before, greatest_moment}
@@ -65,10 +63,10 @@ speakers-joins joined others (suc n) fits t h =
     let e : suc n ≡ n + 1 = omega arith in
     let grown : joins n ++ join_of n ∷ [] ≡ joins (suc n) = sym (ap joins e ∙ joins_more n) in
     let here : MaySpeak talkers (joins n ++ join_of n ∷ []) (talker t) =
-        elim (cases_lt t n) [
-            inl before ↦ others talkers (joins n) (talker n) 0 (talker t) (λ same. absurd (omega (arith, ap (λ (x : ℕ). x) same))) (speakers-joins joined others n (omega arith) t before)
-          | inr after ↦ let same : n ≡ t = omega arith in subst (λ (m : ℕ). MaySpeak talkers (joins n ++ join_of n ∷ []) (talker m)) same (joined talkers (joins n) (talker n) 0 (omega arith))
-        ] in
+    elim (cases_lt t n) [
+      | inl before ↦ others talkers (joins n) (talker n) 0 (talker t) (λ same. absurd (omega (arith, ap (λ (x : ℕ). x) same))) (speakers-joins joined others n (omega arith) t before)
+      | inr after ↦ let same : n ≡ t = omega arith in subst (λ (m : ℕ). MaySpeak talkers (joins n ++ join_of n ∷ []) (talker m)) same (joined talkers (joins n) (talker n) 0 (omega arith))
+    ] in
     subst (λ (acts : List Act). MaySpeak talkers acts (talker t)) grown here
 
 pub le_talkers : talkers ≤ talkers

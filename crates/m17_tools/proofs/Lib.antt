@@ -3,6 +3,7 @@ pub mod Joins
 pub mod Standing
 pub mod Records
 pub mod JudgeRun
+pub mod JudgeEnd
 pub mod Held
 pub mod Feeds
 pub mod ShownLines

@@ -1,5 +1,5 @@
 -- The table of talkers goes on standing for the acts, one more at a time.
-use Rattle.std.proofs.Common.{◌≡◌, ◌≢◌, ℕ, ◌+◌, ◌<◌, ◌≤◌, ◌⊎◌, List, [], ◌∷◌, ◌++◌, length, max, slice_get, slice_set, get_or, Option, Some, refl, sym, ap, subst, ◌∙◌, arith, inl, inr}
+use Rattle.std.proofs.Common.{◌≡◌, ◌≢◌, ℕ, ◌<◌, ◌⊎◌, List, [], ◌∷◌, ◌++◌, length, max, slice_get, slice_set, get_or, Option, Some, refl, sym, ap, subst, ◌∙◌, arith, inl, inr}
 use Rattle.std.proofs.lemmas.Option.{slice_get_within, get_or_from_slice_get, slice_get-get_or, slice_get_read}
 use Rattle.std.proofs.lemmas.List.{get_or-set_other, get_or-set_same, length-set}
 use Rattle.std.proofs.lemmas.Bool.{cases_eq}
@@ -21,7 +21,7 @@ set_cases xs at y t x within e =
     let inside : t < length (slice_set xs at y) = slice_get_within (slice_set xs at y) t x e in
     let found = sym (get_or_from_slice_get (slice_set xs at y) t x x e) in
     elim (cases_eq t at) [
-        inl same ↦ inl (same, found ∙ ap (λ (k : ℕ). get_or (slice_set xs at y) k x) same ∙ get_or-set_same xs at y x within)
+      | inl same ↦ inl (same, found ∙ ap (λ (k : ℕ). get_or (slice_set xs at y) k x) same ∙ get_or-set_same xs at y x within)
       | inr other ↦ inr (other, slice_get-get_or xs t x (omega (arith, length-set xs at y)) ∙ ap Some (sym (get_or-set_other xs at t y x other) ∙ sym found))
     ]
 
@@ -31,11 +31,11 @@ pub judged_more : (acts : List Act) (act : Act) (t : ℕ) (verdict : Verdict) (f
 judged_more acts act t verdict floor floor' owns own' moment within stands judged = record {
   floor_stands = judged.floor_stands;
   each_stands = λ k own at_place. elim (set_cases owns t own' k own within at_place) [
-      inl p ↦ subst (λ (m : ℕ). OwnStandsFor talkers (acts ++ act ∷ []) (talker m) own) (sym p.0) (p.1 ∙ judged.own_stands)
+    | inl p ↦ subst (λ (m : ℕ). OwnStandsFor talkers (acts ++ act ∷ []) (talker m) own) (sym p.0) (p.1 ∙ judged.own_stands)
     | inr p ↦ judged.others_stand (talker k) own (λ same. p.0 (ap (λ (m : Member). m.place) same)) (stands.each_stands k own p.1)
   ];
   all_may_speak = λ k below. judged.speakers (talker k) (stands.all_may_speak k below);
-  moment_is = ap (λ m. max m act.at) stands.moment_is ∙ sym (moment_more acts act)
+  moment_is = ap (λ m. max m act.at) stands.moment_is ∙ sym (moment_more acts act);
 }
 
 pub passed_more : OtherActsChangeNothing → (acts : List Act) (at : ℕ) (floor : Option Frame) (owns : List (Option Frame)) (moment : ℕ) → TableStandsFor acts floor owns moment
@@ -47,14 +47,14 @@ passed_more law acts at floor owns moment stands =
       floor_stands = keeps.floor floor stands.floor_stands;
       each_stands = λ k own at_place. keeps.own (talker k) own (stands.each_stands k own at_place);
       all_may_speak = λ k below. keeps.speakers (talker k) (stands.all_may_speak k below);
-      moment_is = ap (λ m. max m at) stands.moment_is ∙ sym (moment_more acts act)
+      moment_is = ap (λ m. max m at) stands.moment_is ∙ sym (moment_more acts act);
     }
 
 -- a talker's packet is judged by the floor rule of these acts
 pub ruled_at : (acts : List Act) (at t q : ℕ) (p : StreamPacket) (verdict : Verdict) (floor floor' own own' : Option Frame) (owns : List (Option Frame)) (moment moment' : ℕ)
     → q ≡ t → own ≡ get_or owns t own → t < length owns → t < talkers → moment' ≡ max moment at → TableStandsFor acts floor owns moment
     → ((places : ℕ) (before : List Act) (m : ℕ) → FloorStandsFor places before floor → OwnStandsFor places before (talker q) own → MaySpeak places before (talker q)
-        → moment' ≡ max (moment_before before (length before)) m → IsJudged places before (record { at = m; kind = Packet (talker q) p }) (talker q) verdict floor' own')
+    → moment' ≡ max (moment_before before (length before)) m → IsJudged places before (record { at = m; kind = Packet (talker q) p }) (talker q) verdict floor' own')
     → IsJudged talkers acts (record { at = at; kind = Packet (talker t) p }) (talker t) verdict floor' own'
 ruled_at acts at t q p verdict floor floor' own own' owns moment moment' same read within below later stands rule =
     let slot : slice_get owns t ≡ Some own = slice_get_read owns (length owns) t own refl within read in

@@ -1,5 +1,5 @@
 -- What `judge` reads and prints: a line for each record of 64 bytes, over one list of acts. This profile.
-use Rattle.std.specs.Prelude.{◌≡◌, ◌≢◌, ◌⊎◌, ℕ, ◌+◌, ◌*◌, ◌%◌, ◌<◌, ◌≤◌, false, List, [], ◌∷◌, ◌++◌, length, take, drop, map, slice_get, Option, Some, codes, decimal}
+use Rattle.std.specs.Prelude.{◌≡◌, ◌⊎◌, ℕ, ◌+◌, ◌*◌, ◌<◌, ◌≤◌, false, List, [], ◌∷◌, ◌++◌, length, take, drop, map, slice_get, Option, Some, codes, decimal}
 use Rattle.std.specs.List.{range_with_len, flat_map}
 use Rattle.std.specs.Int.{w16, w64, from_be_bytes}
 use Rattle.m17_devices.specs.declared.member.Member.{Member}
@@ -15,7 +15,7 @@ use Rattle.m17_print.specs.Refused.{stream_refusal_text}
 use Rattle.m17_tools.specs.declared.ending.Ending.{Ending}
 use Rattle.m17_tools.specs.declared.ending.Ending.TheVariants.{Finished, Refused, ReadFailed, WriteFailed}
 use Rattle.m17_tools.specs.declared.ending.Reason.{Reason}
-use Rattle.m17_tools.specs.declared.ending.Reason.TheVariants.{Cut, Large, Long, Odd, Digit}
+use Rattle.m17_tools.specs.declared.ending.Reason.TheVariants.{Cut, Large}
 use Rattle.m17_tools.specs.Ending.{refused_line}
 
 -- record n of the input, the last of which may be cut
@@ -110,7 +110,7 @@ RefusesRecords input count place _ = ⊥
 abbrev pub IsJudgeText : List ℕ → List ℕ → Type 0
 IsJudgeText input text = ((count : ℕ) × AreRecords input count × IsTextOf input count text)
     ⊎ ((count place : ℕ) × (reason : Reason) × (before : List ℕ) × RefusesRecords input count place reason × IsTextOf input count before
-        × (text ≡ before ++ refused_line place reason))
+    × (text ≡ before ++ refused_line place reason))
 
 -- What stands written when `judge` ends in each way. `rest` is what is left of the input.
 abbrev pub JudgePrints : Ending → List ℕ → Option (List ℕ) → List ℕ → Type 0
@@ -121,3 +121,11 @@ JudgePrints ReadFailed input rest text = (count taken : ℕ) × (64 * count ≤ 
     × (rest ≡ Some (drop taken input)) × IsTextOf input count text
 -- a part of the lines of some of the records
 JudgePrints WriteFailed input rest text = (count : ℕ) × (whole after : List ℕ) × (64 * count ≤ length input) × IsTextOf input count whole × (whole ≡ text ++ after)
+
+-- After as many records as may come: how the look for one more byte ends, with what was left of the input and what is.
+abbrev pub LooksPast : Ending → List ℕ → Option (List ℕ) → Type 0
+LooksPast Finished left rest = (left ≡ []) × (rest ≡ Some [])
+LooksPast (Refused place Large) left rest = (place ≡ 64 * 1000000) × (0 < length left)
+LooksPast (Refused place _) left rest = ⊥
+LooksPast ReadFailed left rest = rest ≡ Some left
+LooksPast WriteFailed left rest = Unit {0}

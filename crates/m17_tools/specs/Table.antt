@@ -21,4 +21,4 @@ StandsAtFirst own = (places : ℕ) (acts : List Act) (k : Member) → HasNoPacke
 abbrev pub JudgesRecord : ℕ → List ℕ → Option Frame → List (Option Frame) → ℕ → Option Frame → List (Option Frame) → ℕ → List ℕ → Type 0
 JudgesRecord n bytes floor owns moment floor' owns' moment' line =
     (acts : List Act) → length acts ≡ talkers + n → TableStandsFor acts floor owns moment →
-        (act : Act) × TableStandsFor (acts ++ act ∷ []) floor' owns' moment' × IsLine (acts ++ act ∷ []) n bytes line
+    (act : Act) × TableStandsFor (acts ++ act ∷ []) floor' owns' moment' × IsLine (acts ++ act ∷ []) n bytes line

@@ -4,10 +4,9 @@ ghost use Rattle.m17_print.specs.Line.{room};
 ghost use Rattle.m17_tools.specs.Judge.{talkers, talker_of, moment_of, packet_of, verdict_text, IsLine};
 ghost use Rattle.m17_tools.specs.Table.{TableStandsFor, JudgesRecord};
 
+use crate::table::Table;
 use m17_floor::Verdict;
 use m17_print::Line;
-
-use crate::table::Table;
 
 /// How many bytes a record of `judge` has: its moment in 8, its talker in 2, and its packet in 54.
 pub const RECORD_BYTES: usize = 64;
@@ -77,7 +76,12 @@ fn begin(line: &mut Line, index: u64)
 }
 
 // Judges record `index`, and makes its line.
-pub(crate) fn judge_record(table: &mut Table, index: u64, record: &[u8; RECORD_BYTES], line: &mut Line)
+pub(crate) fn judge_record(
+    table: &mut Table,
+    index: u64,
+    record: &[u8; RECORD_BYTES],
+    line: &mut Line,
+)
     ensures { JudgesRecord index record.now table.old.floor table.old.owns.items table.old.moment table.new.floor table.new.owns.items table.new.moment line.new }
 {
     let at = record_moment(record);

@@ -13,5 +13,6 @@ mod table;
 
 pub use ending::{Ending, Reason};
 pub use filling::{Filled, fill};
+pub use judge_command::{RECORDS_MAX, judge};
 pub use show_command::{LINES_MAX, show};
 pub use show_line::LINE_DIGITS;

@@ -6,11 +6,10 @@ ghost use Rattle.m17_floor.specs.StandsFor.{Frame};
 ghost use Rattle.m17_tools.specs.Judge.{joins, talker, talkers};
 ghost use Rattle.m17_tools.specs.Table.{TableStandsFor, StandsAtFirst};
 
-use std::alloc::Global;
-
 use m17_devices::{Member, NoMemory};
 use m17_floor::{Floor, Last, Verdict, laws};
 use m17_stream::StreamPacket;
+use std::alloc::Global;
 
 const TALKERS: usize = 65_536;
 

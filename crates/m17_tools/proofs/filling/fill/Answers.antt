@@ -1,4 +1,4 @@
-use Rattle.std.proofs.Common.{rules, ◌≡◌, ℕ, ◌+◌, ◌-◌, ◌<◌, ◌≤◌, List, [], ◌++◌, length, take, drop, Some, sym, ap, subst, ◌∙◌, arith, length-take, length-drop}
+use Rattle.std.proofs.Common.{rules, ◌≡◌, ℕ, ◌-◌, length, subst, arith}
 use Rattle.std.proofs.lemmas.Grind.{common_steps}
 use Rattle.m17_tools.specs.Fill.{IsFilled}
 use borrow.Rule.Slice.PartMut.{put_mid}
@@ -9,12 +9,12 @@ pub loop-have-preserved : goal.loop-have-preserved
 loop-have-preserved g c = record {
   within = grind (arith, common_steps);
   rest = λ bytes told.
-    let kept = c.loop-have.invariant.rest bytes told in
-    let begun : IsBegun bytes c.loop-have.into c.args.into.now c.loop-have.have = record { within = kept.0; fits = omega arith; front = kept.1 } in
-    filled_more bytes c.loop-have.into c.args.into.now c.read.new.into c.loop-have.have c.in-Ok.n _ begun (c.in-Ok.ensures.taken _ kept.2);
+      let kept = c.loop-have.invariant.rest bytes told in
+      let begun : IsBegun bytes c.loop-have.into c.args.into.now c.loop-have.have = record { within = kept.0; fits = omega arith; front = kept.1 } in
+      filled_more bytes c.loop-have.into c.args.into.now c.read.new.into c.loop-have.have c.in-Ok.n _ begun (c.in-Ok.ensures.taken _ kept.2);
   reads = search rules;
   writes = search rules;
-  written = search rules
+  written = search rules;
 }
 
 pub returns-in-Ok-eq0-clause-filled : goal.returns-in-Ok-eq0-clause-filled

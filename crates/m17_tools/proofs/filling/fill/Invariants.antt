@@ -8,7 +8,7 @@ invariant-loop-have g l = record {
   rest : (bytes : List ℕ) → g.S.Source.left l.fn.input ≡ Some bytes → (l.have ≤ length bytes) × (l.into ≡ take l.have bytes ++ drop l.have l.initial.into) × (g.S.Source.left l.input ≡ Some (drop l.have bytes));
   reads : g.S.Source.faults l.fn.input ≤ g.S.Source.faults l.input;
   writes : g.K.Sink.faults l.fn.out ≤ g.K.Sink.faults l.out;
-  written : g.K.Sink.written l.out ≡ g.K.Sink.written l.fn.out
+  written : g.K.Sink.written l.out ≡ g.K.Sink.written l.fn.out;
 }
 
 abbrev pub decreases-loop-have : goal.decreases-loop-have

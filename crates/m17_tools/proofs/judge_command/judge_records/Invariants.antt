@@ -8,5 +8,5 @@ invariant-loop-index g l = record {
   after : (bytes : List ℕ) → g.S.Source.left l.fn.input ≡ Some bytes → IsAfter bytes l.index (g.S.Source.left l.input) l.table.floor l.table.owns.items l.table.moment (g.K.Sink.written l.fn.out) (g.K.Sink.written l.out);
   size : length l.record ≡ 64;
   reads : g.S.Source.faults l.fn.input ≤ g.S.Source.faults l.input;
-  writes : g.K.Sink.faults l.fn.out ≤ g.K.Sink.faults l.out
+  writes : g.K.Sink.faults l.fn.out ≤ g.K.Sink.faults l.out;
 }

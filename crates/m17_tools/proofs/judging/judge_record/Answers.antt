@@ -1,4 +1,4 @@
-use Rattle.std.proofs.Common.{◌≡◌, [], ◌∷◌, ◌++◌, refl, ap, ◌∙◌}
+use Rattle.std.proofs.Common.{[], ◌∷◌, ◌++◌, refl, ap, ◌∙◌}
 use Rattle.m17_print.specs.Refused.{stream_refusal_text}
 use Rattle.m17_tools.specs.Judge.{verdict_text}
 use Rattle.m17_tools.proofs.Records.{turned_away, judged_line}
@@ -11,6 +11,9 @@ returns-in-Err c = λ acts size stands.
 
 pub returns-in-Ok : goal.returns-in-Ok
 returns-in-Ok c = λ acts size stands.
-    let text = c.byte.ensures ∙ ap (λ xs. xs ++ 10 ∷ []) (c.append_verdict.ensures.appended ∙ ap (λ xs. xs ++ verdict_text c.judge-verdict.result) c.begin.ensures.begun) in
-    (_, c.judge-verdict.ensures.stands acts stands, judged_line acts c.args.index _ _ c.args.record.now _ c.in-Ok.packet c.judge-verdict.result size c.record_moment-at.ensures
-        c.record_talker.ensures (rw c.record_packet.ensures at ((c.in-Ok.ensures.ok c.in-Ok.packet).0 refl)) (c.judge-verdict.ensures.ruled acts stands) text)
+    let text = c.byte.ensures ∙ ap (λ xs. xs ++ 10 ∷ []) (c.append_verdict.ensures.appended ∙ ap (λ xs. xs ++ verdict_text c.judge-verdict.result) c.begin.ensures.begun) in (
+      _,
+      c.judge-verdict.ensures.stands acts stands,
+      judged_line acts c.args.index _ _ c.args.record.now _ c.in-Ok.packet c.judge-verdict.result size c.record_moment-at.ensures
+          c.record_talker.ensures (rw c.record_packet.ensures at ((c.in-Ok.ensures.ok c.in-Ok.packet).0 refl)) (c.judge-verdict.ensures.ruled acts stands) text,
+    )

@@ -1,4 +1,4 @@
-use Rattle.std.proofs.Common.{drop, length, arith, length-drop}
+use Rattle.std.proofs.Common.{drop, arith, length-drop}
 use Rattle.std.proofs.lemmas.List.{take_all}
 use Rattle.m17_tools.proofs.judging.record_packet.Goals as goal
 

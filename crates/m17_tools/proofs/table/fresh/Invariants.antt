@@ -6,5 +6,5 @@ use Rattle.m17_tools.proofs.table.fresh.Given as goal
 abbrev pub invariant-loop-talker : goal.invariant-loop-talker
 invariant-loop-talker l = record {
   count : length l.owns.items ≡ l._talker;
-  at_first : (t : ℕ) (own : Option Frame) → slice_get l.owns.items t ≡ Some own → StandsAtFirst own
+  at_first : (t : ℕ) (own : Option Frame) → slice_get l.owns.items t ≡ Some own → StandsAtFirst own;
 }

@@ -1,4 +1,3 @@
-use Rattle.std.proofs.Common.{◌≡◌, subst, sym}
 use Rattle.m17_tools.proofs.Standing.{passed_more}
 use Rattle.m17_tools.proofs.table.Table.pass.Goals as goal
 

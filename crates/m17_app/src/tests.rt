@@ -1,0 +1,229 @@
+//! What no clause says: the worked runs of the commands, over devices in memory.
+use crate::run::run;
+use m17_callsign::Address;
+use m17_devices::{BytesSink, BytesSource};
+use m17_lsd::Lsd;
+use m17_stream::StreamPacket;
+use std::alloc::{AllocError, Global};
+use std::test::Fail;
+
+// A record of `judge`: its moment, its talker, and the stream id, number and end bit of its packet.
+#[derive(Clone, Copy, Debug)]
+struct Spoken(u64, u16, u16, u16, bool);
+
+// The packet of AB1CD to all, with everything else zero.
+fn packet(sid: u16, number: u16, last: bool) -> [u8; 54] {
+    let src = match Address::new(0x9f_dd51) {
+        Some(src) => src,
+        None => Address::broadcast(),
+    };
+    m17_stream::write(&StreamPacket {
+        sid,
+        lsd: Lsd {
+            dst: Address::broadcast(),
+            src,
+            kind: 5,
+            meta: [0; 14],
+        },
+        number: number % 32_768,
+        last,
+        payload: [0; 16],
+    })
+}
+
+fn records(alloc: Global, spoken: &[Spoken]) -> Result<Vec<u8>, AllocError> {
+    let mut input = Vec::new(alloc);
+    for Spoken(at, talker, sid, number, last) in spoken.iter().copied() {
+        input.extend_from_slice(&at.to_be_bytes())?;
+        input.extend_from_slice(&talker.to_be_bytes())?;
+        input.extend_from_slice(&packet(sid, number, last))?;
+    }
+    Ok(input)
+}
+
+fn words(alloc: Global, given: &[&str]) -> Result<Vec<String>, AllocError> {
+    let mut words = Vec::new(alloc);
+    for word in given {
+        words.push(String::from_str(alloc, word)?)?;
+    }
+    Ok(words)
+}
+
+// Runs the program, and hands back its status and what it wrote.
+fn ran(
+    rt: &HostRuntime,
+    given: &[&str],
+    input: Vec<u8>,
+    read_fails: &[u64],
+    write_fails: &[u64],
+) -> Result<(u8, Vec<u8>), AllocError> {
+    let alloc = rt.alloc();
+    let mut source = BytesSource::new(input, read_fails.to_vec(alloc)?);
+    let Ok(mut sink) = BytesSink::make(alloc, 4096, write_fails.to_vec(alloc)?) else {
+        return Err(AllocError);
+    };
+    let status = run(rt, alloc, &words(alloc, given)?, &mut source, &mut sink);
+    Ok((status, sink.bytes().to_vec(alloc)?))
+}
+
+#[test]
+fn the_floor_is_held_lost_and_given_up(rt: HostRuntime) -> Result<(), Fail> {
+    let two = [Spoken(0, 3, 1, 0, false), Spoken(0, 4, 2, 0, false)];
+    let one_stream = [
+        Spoken(0, 0, 1, 5, false),
+        Spoken(40, 0, 1, 5, false),
+        Spoken(80, 0, 1, 4, false),
+        Spoken(120, 0, 1, 7, false),
+        Spoken(160, 0, 1, 6, false),
+    ];
+    let round = [Spoken(0, 0, 1, 32767, false), Spoken(0, 0, 1, 0, false)];
+    let half_less = [Spoken(0, 0, 1, 0, false), Spoken(0, 0, 1, 16383, false)];
+    let half = [Spoken(0, 0, 1, 0, false), Spoken(0, 0, 1, 16384, false)];
+    let ended = [
+        Spoken(0, 0, 1, 7, false),
+        Spoken(40, 0, 1, 9, true),
+        Spoken(80, 0, 1, 8, false),
+        Spoken(10_039, 0, 1, 0, false),
+        Spoken(10_040, 0, 1, 0, false),
+    ];
+    let silent = [
+        Spoken(0, 0, 1, 0, false),
+        Spoken(1_599, 1, 2, 0, false),
+        Spoken(1_600, 1, 2, 0, false),
+        Spoken(1_600, 0, 1, 1, false),
+    ];
+    let back = [
+        Spoken(5_000, 0, 1, 0, false),
+        Spoken(0, 1, 2, 0, false),
+        Spoken(6_600, 1, 2, 0, false),
+    ];
+    let runs: [(&[Spoken], &str); 8] = [
+        (&two, "0 opened\n1 busy 3\n"),
+        (
+            &one_stream,
+            "0 opened\n1 repeat\n2 late 5\n3 continued\n4 late 7\n",
+        ),
+        (&round, "0 opened\n1 continued\n"),
+        (&half_less, "0 opened\n1 continued\n"),
+        (&half, "0 opened\n1 late 0\n"),
+        (
+            &ended,
+            "0 opened\n1 continued\n2 after-end\n3 after-end\n4 opened\n",
+        ),
+        (&silent, "0 opened\n1 busy 0\n2 opened\n3 busy 1\n"),
+        (&back, "0 opened\n1 busy 0\n2 opened\n"),
+    ];
+    for (spoken, text) in runs {
+        let (status, written) = ran(&rt, &["judge"], records(rt.alloc(), spoken)?, &[], &[])?;
+        assert_eq!(rt; status, 0, "{text}");
+        assert_eq!(rt; written.as_slice(), text.as_bytes());
+    }
+    Ok(())
+}
+
+#[test]
+fn a_refused_packet_moves_the_moment_alone(rt: HostRuntime) -> Result<(), Fail> {
+    let spoken = [
+        Spoken(0, 0, 1, 0, false),
+        Spoken(1_600, 1, 2, 0, false),
+        Spoken(1_500, 1, 2, 0, false),
+    ];
+    let mut input = records(rt.alloc(), &spoken)?;
+    assert_eq!(rt; input.len(), 192);
+    input[64 + 10 + 53] = 0xff;
+    input[64 + 10 + 52] = 0xff;
+    let (status, written) = ran(&rt, &["judge"], input, &[], &[])?;
+    assert_eq!(rt; status, 0);
+    let mut lines = written.as_slice().split(|byte| *byte == b'\n');
+    assert_eq!(rt; lines.next(), Some(b"0 opened".as_slice()));
+    let refused = lines.next().ok_or("one line")?;
+    assert!(rt; refused.starts_with(b"1 refused crc FFFF "));
+    assert_eq!(rt; lines.next(), Some(b"2 opened".as_slice()));
+    Ok(())
+}
+
+#[test]
+fn a_wrong_magic_is_named(rt: HostRuntime) -> Result<(), Fail> {
+    let mut input = records(rt.alloc(), &[Spoken(0, 0, 1, 0, false)])?;
+    assert_eq!(rt; input.len(), 64);
+    input[10] = b'C';
+    input[11] = b'O';
+    input[12] = b'N';
+    input[13] = b'X';
+    let (status, written) = ran(&rt, &["judge"], input, &[], &[])?;
+    assert_eq!(rt; status, 0);
+    assert_eq!(rt;
+        written.as_slice(),
+        b"0 refused magic 434F4E58\n".as_slice()
+    );
+    Ok(())
+}
+
+#[test]
+fn each_way_to_end_has_its_status_and_last_line(rt: HostRuntime) -> Result<(), Fail> {
+    let alloc = rt.alloc();
+    let spoken = [Spoken(0, 3, 1, 0, false), Spoken(0, 4, 2, 0, false)];
+    let mut cut = records(alloc, &spoken)?;
+    cut.truncate(65);
+    let runs: [(&[&str], Vec<u8>, &[u64], &[u64], u8, &str); 11] = [
+        (
+            &["judge"],
+            cut,
+            &[],
+            &[],
+            1,
+            "0 opened\ninput refused at 65: cut\n",
+        ),
+        (&["judge"], Vec::new(alloc), &[], &[], 0, ""),
+        (
+            &["judge"],
+            records(alloc, &spoken)?,
+            &[0],
+            &[],
+            3,
+            "read failed\n",
+        ),
+        (
+            &["judge"],
+            records(alloc, &spoken)?,
+            &[1],
+            &[],
+            3,
+            "0 opened\nread failed\n",
+        ),
+        (&["judge"], records(alloc, &spoken)?, &[], &[0], 4, ""),
+        (
+            &["judge"],
+            records(alloc, &spoken)?,
+            &[],
+            &[1],
+            4,
+            "0 opened\n",
+        ),
+        (&[], Vec::new(alloc), &[], &[], 2, "words refused\n"),
+        (
+            &["judge", "judge"],
+            Vec::new(alloc),
+            &[],
+            &[],
+            2,
+            "words refused\n",
+        ),
+        (&["Judge"], Vec::new(alloc), &[], &[], 2, "words refused\n"),
+        (&["help"], Vec::new(alloc), &[], &[], 2, "words refused\n"),
+        (
+            &["show"],
+            b"4".to_vec(alloc)?,
+            &[],
+            &[],
+            1,
+            "input refused at 0: odd\n",
+        ),
+    ];
+    for (given, input, read_fails, write_fails, status, text) in runs {
+        let (answer, written) = ran(&rt, given, input, read_fails, write_fails)?;
+        assert_eq!(rt; answer, status, "{text}");
+        assert_eq!(rt; written.as_slice(), text.as_bytes());
+    }
+    Ok(())
+}

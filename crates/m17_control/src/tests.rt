@@ -1,0 +1,116 @@
+use super::*;
+use m17_callsign::{Address, CallAddress};
+use std::test::Fail;
+
+fn from(value: u64) -> Option<CallAddress> {
+    CallAddress::new(Address::new(value)?)
+}
+
+/// A stream packet.
+fn stream() -> [u8; 54] {
+    *b"M17 \x12\x34\xff\xff\xff\xff\xff\xff\x00\x00\x00\x9f\xdd\x51\x00\x05\
+\x00\x00\x00\x00\x00\x00\x00\x00\x00\x00\x00\x00\x00\x00\x00\x05\
+\x00\x00\x00\x00\x00\x00\x00\x00\x00\x00\x00\x00\x00\x00\x00\x00\x39\xe5"
+}
+
+/// The bytes are read as the packet, and the packet is written as the bytes.
+fn stands_for(bytes: &[u8], packet: Control) -> bool {
+    write(&packet).as_slice() == bytes && decode(bytes) == Ok(Packet::Control(packet))
+}
+
+#[test]
+fn control_packets_are_read_and_written(rt: HostRuntime) -> Result<(), Fail> {
+    let near = from(0x9f_dd51).ok_or("no callsign")?;
+    let far = from(0x4b13_d106).ok_or("no callsign")?;
+    let a = ModuleLetter::new(b'A').ok_or("no module")?;
+    let z = ModuleLetter::new(b'Z').ok_or("no module")?;
+    assert!(rt;
+        stands_for(
+            b"CONN\x00\x00\x00\x9f\xdd\x51A",
+            Control::Conn {
+                from: near,
+                module: a
+            }
+        )
+    );
+    assert!(rt;
+        stands_for(
+            b"LSTN\x00\x00\x4b\x13\xd1\x06Z",
+            Control::Lstn {
+                from: far,
+                module: z
+            }
+        )
+    );
+    assert!(rt; stands_for(b"ACKN", Control::Ackn));
+    assert!(rt; stands_for(b"NACK", Control::Nack));
+    assert!(rt;
+        stands_for(
+            b"PING\x00\x00\x00\x9f\xdd\x51",
+            Control::Ping { from: near }
+        )
+    );
+    assert!(rt;
+        stands_for(
+            b"PONG\x00\x00\x00\x9f\xdd\x51",
+            Control::Pong { from: near }
+        )
+    );
+    assert!(rt;
+        stands_for(
+            b"DISC\x00\x00\x00\x9f\xdd\x51",
+            Control::Disc { from: Some(near) }
+        )
+    );
+    assert!(rt; stands_for(b"DISC", Control::Disc { from: None }));
+    Ok(())
+}
+
+#[test]
+fn a_stream_packet_is_read(rt: HostRuntime) -> Result<(), Fail> {
+    let bytes = stream();
+    match decode(&bytes) {
+        Ok(Packet::Stream(packet)) => assert_eq!(rt; m17_stream::write(&packet), bytes),
+        _ => return Err(Fail::from("no stream packet")),
+    }
+    Ok(())
+}
+
+#[test]
+fn other_bytes_are_refused(rt: HostRuntime) {
+    for (bytes, refusal) in [
+        (b"".as_slice(), Refusal::Length(0)),
+        (&[0; 53], Refusal::Length(53)),
+        (&[0; 64], Refusal::Length(64)),
+        (b"CONN\x00\x00\x00\x9f\xdd\x51", Refusal::Magic(*b"CONN")),
+        (b"M17 \x00\x00\x00\x9f\xdd\x51A", Refusal::Magic(*b"M17 ")),
+        (b"CONN\x00\x00\x00\x00\x00\x00A", Refusal::Address(0)),
+        (
+            b"CONN\xff\xff\xff\xff\xff\xffA",
+            Refusal::Address(0xffff_ffff_ffff),
+        ),
+        (b"CONN\x00\x00\x00\x00\x00\x00\x5b", Refusal::Address(0)),
+        (b"CONN\x00\x00\x00\x9f\xdd\x51\x5b", Refusal::Module(0x5b)),
+    ] {
+        assert_eq!(rt; decode(bytes), Err(refusal));
+    }
+}
+
+#[test]
+fn other_bytes_as_long_as_a_stream_packet_are_refused(rt: HostRuntime) {
+    let mut other_crc = stream();
+    other_crc[53] = 0xe4;
+    assert_eq!(rt;
+        decode(&other_crc),
+        Err(Refusal::Crc {
+            found: 0x39e4,
+            expected: 0x39e5
+        })
+    );
+    let mut other_magic = stream();
+    other_magic[0] = b'P';
+    other_magic[1] = b'I';
+    other_magic[2] = b'N';
+    other_magic[3] = b'G';
+    assert_eq!(rt; decode(&other_magic), Err(Refusal::Magic(*b"PING")));
+}

@@ -1,0 +1,107 @@
+#!/usr/bin/env python3
+"""Writes the example inputs beside this file: judge.bin for `m17 judge`, and show.hex for `m17 show`.
+
+The packets are made here from their layouts, and their CRCs by the plain division, so that the examples owe nothing to
+the program that reads them. All numbers have their highest byte first.
+"""
+
+import os
+
+LETTERS = " ABCDEFGHIJKLMNOPQRSTUVWXYZ0123456789-/."
+BROADCAST = b"\xff" * 6
+END_BIT = 0x8000
+VOICE_STREAM = 0x0005
+
+
+def address(callsign):
+    """A callsign as six bytes: its letters are the digits of a number to base 40, the first letter least significant."""
+    value = 0
+    for letter in reversed(callsign):
+        value = 40 * value + LETTERS.index(letter)
+    return value.to_bytes(6, "big")
+
+
+def crc(data):
+    """The remainder of the division by x^16 + 0x5935, from FFFF on, the most significant bit of each byte first."""
+    remainder = 0xFFFF
+    for byte in data:
+        remainder ^= byte << 8
+        for _ in range(8):
+            remainder <<= 1
+            if remainder & 0x10000:
+                remainder ^= 0x15935
+    return remainder
+
+
+def stream_packet(stream_id, number, source, payload=bytes(16)):
+    """54 bytes: magic, stream id, link setup data (DST, SRC, TYPE, META), frame number with its end bit, payload, CRC."""
+    body = b"M17 " + stream_id.to_bytes(2, "big")
+    body += BROADCAST + address(source) + VOICE_STREAM.to_bytes(2, "big") + bytes(14)
+    body += number.to_bytes(2, "big") + payload
+    return body + crc(body).to_bytes(2, "big")
+
+
+def record(moment, talker, packet):
+    """64 bytes: the moment in milliseconds, the talker's number, the packet."""
+    return moment.to_bytes(8, "big") + talker.to_bytes(2, "big") + packet
+
+
+def judge_records():
+    """Two talkers on one module. Beside each record stands what `judge` says of it."""
+
+    def first(number):
+        return stream_packet(0x1234, number, "AB1CD")
+
+    def second(number):
+        return stream_packet(0x5678, number, "N0CALL")
+
+    spoiled = bytearray(second(2))
+    spoiled[53] ^= 1
+
+    return [
+        record(0, 0, first(0)),  # 0 opened
+        record(20, 1, second(0)),  # 1 busy 0
+        record(40, 0, first(1)),  # 2 continued
+        record(80, 0, first(2)),  # 3 continued
+        record(1679, 1, second(0)),  # 4 busy 0: the holder was silent for 1,599 ms
+        record(1680, 1, second(1)),  # 5 opened: for 1,600 ms, so the floor is given up
+        record(1700, 0, first(3)),  # 6 busy 1
+        record(1720, 1, second(1)),  # 7 repeat
+        record(1740, 1, bytes(spoiled)),  # 8 refused crc: the last bit of the packet is wrong
+        record(1760, 1, second(3)),  # 9 continued: number 2 was lost on the way
+        record(1780, 1, second(2)),  # 10 late 3
+        record(1800, 1, second(4 | END_BIT)),  # 11 continued: the last frame
+        record(1840, 1, second(5)),  # 12 after-end
+        record(1880, 0, stream_packet(0x1235, 0, "AB1CD")),  # 13 opened: the floor is free
+    ]
+
+
+def show_packets():
+    """A hotspot's connection, as seen on the reflector's port, and one packet that is refused."""
+    hotspot = address("AB1CD")
+    reflector = address("M17-TST")
+    return [
+        b"CONN" + hotspot + b"A",
+        b"ACKN",
+        stream_packet(0x1234, 0, "AB1CD", bytes(range(0x00, 0x10))),
+        stream_packet(0x1234, 1, "AB1CD", bytes(range(0x10, 0x20))),
+        stream_packet(0x1234, 2 | END_BIT, "AB1CD", bytes(range(0x20, 0x30))),
+        b"PING" + reflector,
+        b"PONG" + hotspot,
+        b"CONN" + hotspot + b"[",  # refused module 5B
+        b"DISC" + hotspot,
+        b"DISC",
+    ]
+
+
+def main():
+    folder = os.path.dirname(os.path.abspath(__file__))
+    with open(os.path.join(folder, "judge.bin"), "wb") as out:
+        out.write(b"".join(judge_records()))
+    with open(os.path.join(folder, "show.hex"), "w") as out:
+        for packet in show_packets():
+            out.write(packet.hex().upper() + "\n")
+
+
+if __name__ == "__main__":
+    main()
