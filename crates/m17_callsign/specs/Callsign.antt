@@ -8,9 +8,13 @@ use Rattle.m17_callsign.specs.declared.refusal.CallRefusal.TheVariants.{Empty, L
 unfoldable pub alphabet : List ℕ
 alphabet = codes " ABCDEFGHIJKLMNOPQRSTUVWXYZ0123456789-/."
 
--- How many addresses below this one have a callsign, and 0: nine letters at the most.
+-- The first address above all those that have a callsign of nine letters or fewer.
 abbrev pub end_of_callsigns : ℕ
 end_of_callsigns = 40 ^ 9
+
+-- the address is one that has a callsign: 1 to 40^9 - 1
+abbrev pub HasCallsign : ℕ → Type 0
+HasCallsign address = (0 < address) × (address < end_of_callsigns)
 
 unfoldable pub IsLetter : ℕ → Type 0
 IsLetter letter = Contains alphabet letter

@@ -5,7 +5,7 @@ use std::marker::Model;
 /// How many addresses there are, 2^48.
 const END_OF_ADDRESSES: u64 = 0x1_0000_0000_0000;
 
-/// How many addresses below this one have a callsign, and 0: 40^9.
+/// The first address above all those that have a callsign.
 pub(crate) const END_OF_CALLSIGNS: u64 = 262_144_000_000_000;
 
 /// An address: a number below 2^48. Contracts see the number. M17 Protocol Specification, address encoding.
@@ -61,24 +61,25 @@ impl Address {
 pub struct CallAddress(u64);
 
 impl Model for CallAddress {
-    ghost use Rattle.std.specs.Prelude.{ℕ, ◌^◌, ◌<◌};
+    ghost use Rattle.std.specs.Prelude.{ℕ};
+    ghost use Rattle.m17_callsign.specs.Callsign.{HasCallsign};
 
     ghost Value = { ℕ };
 
     ghost view = { λ a. a.0 };
 
-    ghost invariant = { λ a. (0 < a.0) × (a.0 < 40 ^ 9) };
+    ghost invariant = { λ a. HasCallsign a.0 };
 
     ghost inverse = { λ n. record { 0 = n } };
 }
 
 impl CallAddress {
-    ghost use Rattle.m17_callsign.specs.Callsign.{end_of_callsigns};
+    ghost use Rattle.m17_callsign.specs.Callsign.{HasCallsign};
 
     /// The same address, where it has a callsign; none for 0 and for 40^9 and above. M17 Protocol Specification,
     /// address encoding.
     pub fn new(address: Address) -> Option<CallAddress>
-        ensures in_range { IsSome result ↔ ((0 < address) × (address < end_of_callsigns)) }
+        ensures in_range { IsSome result ↔ HasCallsign address }
         ensures same { IfSome result (λ call. call ≡ address) }
     {
         let value = address.value();
@@ -92,7 +93,7 @@ impl CallAddress {
     /// The same address, 1 to 40^9 - 1. M17 Protocol Specification, address encoding.
     pub fn address(self) -> Address
         ensures same { result ≡ self }
-        ensures in_range { (0 < result) × (result < end_of_callsigns) }
+        ensures in_range { HasCallsign result }
     {
         Address(self.0)
     }

@@ -1,6 +1,6 @@
 ghost use Rattle.std.specs.Prelude.{◌≡◌, ◌+◌, ◌<◌, ◌≤◌, ◌^◌, ◌↔◌, ℕ, length, Ok, Err, All, IfOk, IfErr};
 ghost use Rattle.std.specs.List.{sum_by, range_with_len};
-ghost use Rattle.m17_callsign.specs.Callsign.{IsCallsignOf, IsRefused, IsLetter, share_of};
+ghost use Rattle.m17_callsign.specs.Callsign.{IsCallsignOf, IsRefused, HasCallsign, IsLetter, share_of};
 ghost use Rattle.m17_callsign.specs.declared.refusal.CallRefusal.{CallRefusal};
 
 use super::address::Address;
@@ -9,8 +9,10 @@ use super::refusal::CallRefusal;
 
 /// The address of a callsign, or the first reason why the text is none: it is empty, it is too long, its first byte
 /// that is no letter, a space at its end. The first letter counts least. M17 Protocol Specification, address encoding.
+#[tactic(auto, using(crate::proofs::Unique::callsign_in_range))]
 pub fn encode(text: &str) -> Result<Address, CallRefusal>
     ensures ok { (a : ℕ) → (result ≡ Ok a) ↔ IsCallsignOf text.now a }
+    ensures in_range { IfOk result HasCallsign }
     ensures err { (refusal : CallRefusal) → (result ≡ Err refusal) ↔ IsRefused text.now refusal }
 {
     let letters = text.as_bytes();

@@ -3,7 +3,7 @@
 use Rattle.std.specs.Prelude.{◌≡◌, ◌≢◌, ◌⊎◌, ℕ, ◌<◌, ◌≤◌, ◌^◌, List, [], ◌∷◌, ◌++◌, length, take, drop, codes, slice_index, min, ◌-◌, None, Some}
 use Rattle.std.specs.Int.{w16, to_be_bytes}
 use Rattle.m17_callsign.specs.AddressBytes.{address_bytes}
-use Rattle.m17_callsign.specs.Callsign.{end_of_callsigns}
+use Rattle.m17_callsign.specs.Callsign.{HasCallsign}
 use Rattle.m17_crc.specs.Crc.{crc_of}
 use Rattle.m17_stream.specs.Stream as stream
 use Rattle.m17_control.specs.declared.packet.Control.{Control}
@@ -15,7 +15,7 @@ use Rattle.m17_control.specs.declared.packet.Refusal.TheVariants.{Length, Magic,
 
 -- an address that a control packet may have as its From: one with a callsign
 abbrev pub IsFrom : ℕ → Type 0
-IsFrom address = (0 < address) × (address < end_of_callsigns)
+IsFrom address = HasCallsign address
 
 -- a module's letter, A to Z
 abbrev pub IsModule : ℕ → Type 0

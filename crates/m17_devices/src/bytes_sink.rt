@@ -67,6 +67,8 @@ impl Sink for BytesSink {
         ensures counted { self.old.faults ≤ self.new.faults }
 
         // It fails exactly at the calls that were listed and where the room does not suffice, and then appends nothing.
+        ensures success_is_no_fault { OnOk result (self.new.faults ≡ self.old.faults) }
+        ensures failure_is_one_fault { OnErr result (self.new.faults ≡ min (self.old.faults + 1) (2 ^ 64 - 1)) }
         ensures calls_counted { self.new.next_call ≡ min (self.old.next_call + 1) (2 ^ 64 - 1) }
         ensures same_list { (self.new.fails ≡ self.old.fails) × (self.new.room ≡ self.old.room) }
         ensures told_to_fail { IsErr result ↔ (Contains self.old.fails self.old.next_call ⊎ (self.old.room < length self.old.written + length bytes.now)) }
@@ -88,6 +90,8 @@ impl Sink for BytesSink {
         ensures same { Some self.new.written ≡ Some self.old.written }
         ensures failed { OnErr result (HasRisen self.old.faults self.new.faults) }
         ensures counted { self.old.faults ≤ self.new.faults }
+        ensures success_is_no_fault { OnOk result (self.new.faults ≡ self.old.faults) }
+        ensures failure_is_one_fault { OnErr result (self.new.faults ≡ min (self.old.faults + 1) (2 ^ 64 - 1)) }
         ensures calls_counted { self.new.next_call ≡ min (self.old.next_call + 1) (2 ^ 64 - 1) }
         ensures same_list { (self.new.fails ≡ self.old.fails) × (self.new.room ≡ self.old.room) }
         ensures told_to_fail { IsErr result ↔ Contains self.old.fails self.old.next_call }

@@ -1,4 +1,4 @@
-ghost use Rattle.std.specs.Prelude.{◌≡◌, ℕ, ◌+◌, ◌-◌, ◌^◌, ◌≤◌, ◌↔◌, min, length, take, drop, ◌++◌, List, Option, Some, Contains, IsErr, IfOk, OnErr};
+ghost use Rattle.std.specs.Prelude.{◌≡◌, ℕ, ◌+◌, ◌-◌, ◌^◌, ◌≤◌, ◌↔◌, min, length, take, drop, ◌++◌, List, Option, Some, Contains, IsErr, IfOk, OnOk, OnErr};
 ghost use Rattle.m17_devices.specs.Faults.{HasRisen};
 ghost use Rattle.m17_devices.specs.Source.{Takes};
 
@@ -57,6 +57,8 @@ impl Source for BytesSource {
 
         // It fails exactly at the calls that were listed, and else fills the buffer as far as it can.
         ensures told_to_fail { IsErr result ↔ Contains self.old.fails self.old.next_call }
+        ensures success_is_no_fault { OnOk result (self.new.faults ≡ self.old.faults) }
+        ensures failure_is_one_fault { OnErr result (self.new.faults ≡ min (self.old.faults + 1) (2 ^ 64 - 1)) }
         ensures calls_counted { self.new.next_call ≡ min (self.old.next_call + 1) (2 ^ 64 - 1) }
         ensures same_list { self.new.fails ≡ self.old.fails }
         ensures fills { IfOk result (λ n. n ≡ min (length into.old) (length self.old.left)) }
