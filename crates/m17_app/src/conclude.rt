@@ -29,6 +29,7 @@ fn end_with<K: Sink>(out: &mut K, line: &[u8], status: u8) -> u8
     ensures whole { (result ≡ 4 → ⊥) → (before : List ℕ) → K.written out.old ≡ Some before → K.written out.new ≡ Some (before ++ line.now) }
     ensures part { (before : List ℕ) → K.written out.old ≡ Some before → AppendsPrefix before line.now (K.written out.new) }
     ensures failed { result ≡ 4 → (status ≡ 4) ⊎ HasRisen (K.faults out.old) (K.faults out.new) }
+    ensures handed_on { (result ≡ 4 → ⊥) → K.held_back out.new ≡ 0 }
     ensures counted { K.faults out.old ≤ K.faults out.new }
 {
     match out.write(line) {
@@ -46,6 +47,7 @@ pub fn refuse_words<K: Sink>(out: &mut K) -> u8
     ensures whole { result ≡ 2 → (before : List ℕ) → K.written out.old ≡ Some before → K.written out.new ≡ Some (before ++ words_refused_line) }
     ensures part { (before : List ℕ) → K.written out.old ≡ Some before → AppendsPrefix before words_refused_line (K.written out.new) }
     ensures failed { result ≡ 4 → HasRisen (K.faults out.old) (K.faults out.new) }
+    ensures handed_on { (result ≡ 4 → ⊥) → K.held_back out.new ≡ 0 }
     ensures counted { K.faults out.old ≤ K.faults out.new }
 {
     end_with(out, b"words refused\n", WORDS_REFUSED)
@@ -57,6 +59,7 @@ pub fn conclude<K: Sink>(out: &mut K, ending: Ending) -> u8
     ensures whole { (result ≡ 4 → ⊥) → (before : List ℕ) → K.written out.old ≡ Some before → K.written out.new ≡ Some (before ++ last_line ending) }
     ensures part { (before : List ℕ) → K.written out.old ≡ Some before → AppendsPrefix before (last_line ending) (K.written out.new) }
     ensures failed { result ≡ 4 → (ending ≡ Ending.WriteFailed) ⊎ HasRisen (K.faults out.old) (K.faults out.new) }
+    ensures handed_on { (result ≡ 4 → ⊥) → K.held_back out.new ≡ 0 }
     ensures counted { K.faults out.old ≤ K.faults out.new }
 {
     let mut line = Line::new();

@@ -1,5 +1,6 @@
 ghost use Rattle.std.specs.Prelude.{◌≡◌, ◌⊎◌, ℕ, ◌≤◌, List, [], ◌++◌, map, string_bytes, Option, Some};
 ghost use Rattle.m17_devices.specs.Faults.{HasRisen};
+ghost use Rattle.m17_devices.specs.Sink.{AppendsPrefix};
 ghost use Rattle.m17_tools.specs.declared.ending.Reason.{Reason};
 ghost use Rattle.m17_tools.specs.Judge.{AreRecords, RefusesRecords, IsJudgeText, JudgePrints};
 ghost use Rattle.m17_tools.specs.Show.{AreLineCount, RefusesLine, IsShowText, ShowPrints};
@@ -13,6 +14,7 @@ use std::alloc::Global;
 // Runs `judge` to its last line.
 fn run_judge<S: Source, K: Sink>(alloc: Global, input: &mut S, out: &mut K) -> u8
     ensures status { (result ≡ 0) ⊎ (result ≡ 1) ⊎ (result ≡ 3) ⊎ (result ≡ 4) ⊎ (result ≡ 70) }
+    ensures handed_on { (result ≡ 4 → ⊥) → (result ≡ 70 → ⊥) → K.held_back out.new ≡ 0 }
     ensures read_failed { result ≡ 3 → HasRisen (S.faults input.old) (S.faults input.new) }
     ensures write_failed { result ≡ 4 → HasRisen (K.faults out.old) (K.faults out.new) }
     ensures no_memory { result ≡ 70 → (S.left input.new ≡ S.left input.old) × (K.written out.new ≡ K.written out.old) }
@@ -30,6 +32,7 @@ fn run_judge<S: Source, K: Sink>(alloc: Global, input: &mut S, out: &mut K) -> u
 // Runs `show` to its last line.
 fn run_show<S: Source, K: Sink>(input: &mut S, out: &mut K) -> u8
     ensures status { (result ≡ 0) ⊎ (result ≡ 1) ⊎ (result ≡ 3) ⊎ (result ≡ 4) }
+    ensures handed_on { (result ≡ 4 → ⊥) → K.held_back out.new ≡ 0 }
     ensures read_failed { result ≡ 3 → HasRisen (S.faults input.old) (S.faults input.new) }
     ensures write_failed { result ≡ 4 → HasRisen (K.faults out.old) (K.faults out.new) }
     ensures finished { result ≡ 0 → (bytes : List ℕ) → S.left input.old ≡ Some bytes → ((count : ℕ) × AreLineCount bytes count) × (S.left input.new ≡ Some []) }
@@ -59,11 +62,19 @@ pub fn run<R, S: Source, K: Sink>(
     ensures words_refused { AreRefused (map string_bytes words.now) → (result ≡ 2) ⊎ (result ≡ 4) }
     ensures words_line { result ≡ 2 → (before : List ℕ) → K.written out.old ≡ Some before → K.written out.new ≡ Some (before ++ words_refused_line) }
 
+    // With 4 a part of it may be, and in both cases nothing was taken.
+    ensures words_part { AreRefused (map string_bytes words.now) → (before : List ℕ) → K.written out.old ≡ Some before → AppendsPrefix before words_refused_line (K.written out.new) }
+    ensures words_untouched { AreRefused (map string_bytes words.now) → S.left input.new ≡ S.left input.old }
+
+    // What was written went out, where the sink did not fail.
+    ensures handed_on { (result ≡ 4 → ⊥) → (result ≡ 70 → ⊥) → K.held_back out.new ≡ 0 }
+
     // 3 and 4 have their causes.
     ensures read_failed { result ≡ 3 → HasRisen (S.faults input.old) (S.faults input.new) }
     ensures write_failed { result ≡ 4 → HasRisen (K.faults out.old) (K.faults out.new) }
 
-    // Want of memory comes before anything was taken or written.
+    // Want of memory comes before anything was taken or written, and never in `show`.
+    ensures show_takes_no_memory { NamesShow (map string_bytes words.now) → result ≡ 70 → ⊥ }
     ensures no_memory { result ≡ 70 → (S.left input.new ≡ S.left input.old) × (K.written out.new ≡ K.written out.old) }
 
     // `judge`: 0 says that the input is a list of records, read to its end, 1 why and where it is none.

@@ -49,6 +49,8 @@ impl<P: Print> Sink for StdOut<'_, P> {
 
     ghost written = { λ _. None };
 
+    ghost held_back = { λ s. length s.buffer.items };
+
     fn write(&mut self, bytes: &[u8]) -> Result<(), Failed> {
         if bytes.len() > BUFFER_BYTES.saturating_sub(self.buffer.len()) {
             self.flush()?;

@@ -60,6 +60,8 @@ impl Sink for BytesSink {
 
     ghost written = { λ s. Some s.written };
 
+    ghost held_back = { λ _. 0 };
+
     fn write(&mut self, bytes: &[u8]) -> Result<(), Failed>
         ensures ok { OnOk result ((before : List ℕ) → Some self.old.written ≡ Some before → Some self.new.written ≡ Some (before ++ bytes.now)) }
         ensures err { OnErr result ((before : List ℕ) → Some self.old.written ≡ Some before → AppendsPrefix before bytes.now (Some self.new.written)) }

@@ -32,8 +32,8 @@ past_prints (Refused place Cut) bytes rest text within looks is = absurd looks
 past_prints (Refused place Long) bytes rest text within looks is = absurd looks
 past_prints (Refused place Odd) bytes rest text within looks is = absurd looks
 past_prints (Refused place Digit) bytes rest text within looks is = absurd looks
-past_prints ReadFailed bytes rest text within looks is = (1000000, 64000000, omega arith, omega arith, within, looks, is)
-past_prints WriteFailed bytes rest text within looks is = (1000000, text, [], within, is, sym (append-nil text))
+past_prints ReadFailed bytes rest text within looks is = (1000000, 64000000, omega arith, omega arith, omega arith, within, looks, is)
+past_prints WriteFailed bytes rest text within looks is = (1000000, text, [], omega arith, within, is, sym (append-nil text))
 
 -- what is known of the input then
 pub past_refuses : (a : Ending) (bytes : List ℕ) (rest : Option (List ℕ)) → 64000000 ≤ length bytes → LooksPast a (drop 64000000 bytes) rest → RefusesAs a bytes

@@ -175,12 +175,12 @@ cut_inside bytes count rest rest' floor owns moment first written buffer filled 
 
 -- the source failed inside a record
 pub failed_inside : (bytes : List ℕ) (count : ℕ) (rest rest' : Option (List ℕ)) (floor : Option Frame) (owns : List (Option Frame)) (moment : ℕ) (first written : Option (List ℕ)) (text : List ℕ)
-    → IsAfter bytes count rest floor owns moment first written → IsCutShort (drop (64 * count) bytes) 64 rest' → IsTextOf bytes count text
+    → count < 1000000 → IsAfter bytes count rest floor owns moment first written → IsCutShort (drop (64 * count) bytes) 64 rest' → IsTextOf bytes count text
     → JudgePrints ReadFailed bytes rest' text
-failed_inside bytes count rest rest' floor owns moment first written text after short is_text = (
+failed_inside bytes count rest rest' floor owns moment first written text room after short is_text = (
   count,
   64 * count + short.taken,
-  omega arith,
+  omega arith, omega arith,
   omega (arith, short.not_all),
   omega (arith, short.no_more, length-drop (64 * count) bytes, after.within),
   short.rest_left ∙ ap Some (drop-drop short.taken (64 * count) bytes),
@@ -189,10 +189,10 @@ failed_inside bytes count rest rest' floor owns moment first written text after 
 
 -- a line was written in part
 pub written_in_part : (bytes : List ℕ) (count : ℕ) (rest : Option (List ℕ)) (floor : Option Frame) (owns : List (Option Frame)) (moment : ℕ) (first written written' : Option (List ℕ)) (before : List ℕ)
-    (earlier : List (List ℕ)) (line : List ℕ) → 64 * count ≤ length bytes → IsTextOf bytes count (joined_lines (earlier ++ line ∷ [])) → first ≡ Some before
+    (earlier : List (List ℕ)) (line : List ℕ) → count ≤ 1000000 → 64 * count ≤ length bytes → IsTextOf bytes count (joined_lines (earlier ++ line ∷ [])) → first ≡ Some before
     → AppendsPrefix (before ++ joined_lines earlier) line written'
     → (text : List ℕ) × (written' ≡ Some (before ++ text)) × JudgePrints WriteFailed bytes rest text
-written_in_part bytes count rest floor owns moment first written written' before earlier line within is_text told part =
+written_in_part bytes count rest floor owns moment first written written' before earlier line room within is_text told part =
     let n = part.0 in (
       joined_lines earlier ++ take n line,
       part.1 ∙ ap Some (append_assoc before (joined_lines earlier) (take n line)),
@@ -200,6 +200,7 @@ written_in_part bytes count rest floor owns moment first written written' before
         count,
         joined_lines (earlier ++ line ∷ []),
         drop n line,
+        room,
         within,
         is_text,
         sym (flat_map_more (λ (xs : List ℕ). xs) [] earlier line) ∙ ap (λ xs. joined_lines earlier ++ xs) (sym (take-append-drop n line)) ∙ sym (append_assoc (joined_lines earlier) (take n line) (drop n line)),
@@ -208,9 +209,9 @@ written_in_part bytes count rest floor owns moment first written written' before
 
 -- nothing more was written
 pub written_whole : (bytes : List ℕ) (count : ℕ) (rest : Option (List ℕ)) (floor : Option Frame) (owns : List (Option Frame)) (moment : ℕ) (first written : Option (List ℕ))
-    → (after : IsAfter bytes count rest floor owns moment first written) → JudgePrints WriteFailed bytes rest (joined_lines after.lines)
-written_whole bytes count rest floor owns moment first written after =
-    (count, joined_lines after.lines, [], after.within, text_after bytes count rest floor owns moment first written after, sym (append-nil (joined_lines after.lines)))
+    → count ≤ 1000000 → (after : IsAfter bytes count rest floor owns moment first written) → JudgePrints WriteFailed bytes rest (joined_lines after.lines)
+written_whole bytes count rest floor owns moment first written room after =
+    (count, joined_lines after.lines, [], room, after.within, text_after bytes count rest floor owns moment first written after, sym (append-nil (joined_lines after.lines)))
 
 -- what stands written, at an ending
 abbrev pub StandsWritten : Ending → List ℕ → Option (List ℕ) → List ℕ → Option (List ℕ) → Type 0

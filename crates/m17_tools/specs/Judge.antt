@@ -63,7 +63,7 @@ abbrev pub line_with : ℕ → List ℕ → List ℕ
 line_with n text = decimal n ++ codes " " ++ text ++ 10 ∷ []
 
 -- Record n has a packet. It is an act of its talker, and its line has the verdict of the floor rule at its position.
-pub record IsJudged (acts : List Act) (n : ℕ) (bytes line : List ℕ) : Type 0 where
+pub record IsVerdictLine (acts : List Act) (n : ℕ) (bytes line : List ℕ) : Type 0 where
   pub packet : StreamPacket
   pub spelled : SpellsStream packet (packet_of bytes)
   pub act : slice_get acts (talkers + n) ≡ Some (record { at = moment_of bytes; kind = Packet (talker (talker_of bytes)) packet })
@@ -72,7 +72,7 @@ pub record IsJudged (acts : List Act) (n : ℕ) (bytes line : List ℕ) : Type 0
   pub text : line ≡ line_with n (verdict_text verdict)
 
 -- The packet of record n is refused. It is another act, and its line has the reason.
-pub record IsTurnedAway (acts : List Act) (n : ℕ) (bytes line : List ℕ) : Type 0 where
+pub record IsRefusalLine (acts : List Act) (n : ℕ) (bytes line : List ℕ) : Type 0 where
   pub refusal : StreamRefusal
   pub refused : RefusesStream (packet_of bytes) refusal
   pub act : slice_get acts (talkers + n) ≡ Some (record { at = moment_of bytes; kind = Other })
@@ -80,7 +80,7 @@ pub record IsTurnedAway (acts : List Act) (n : ℕ) (bytes line : List ℕ) : Ty
 
 -- the line of record n
 abbrev pub IsLine : List Act → ℕ → List ℕ → List ℕ → Type 0
-IsLine acts n bytes line = IsJudged acts n bytes line ⊎ IsTurnedAway acts n bytes line
+IsLine acts n bytes line = IsVerdictLine acts n bytes line ⊎ IsRefusalLine acts n bytes line
 
 -- the lines of the first `count` records of the input, each with its act
 pub record AreLines (input : List ℕ) (count : ℕ) (more : List Act) (lines : List (List ℕ)) : Type 0 where
@@ -117,10 +117,10 @@ abbrev pub JudgePrints : Ending → List ℕ → Option (List ℕ) → List ℕ 
 JudgePrints Finished input rest text = (count : ℕ) × AreRecords input count × IsTextOf input count text
 JudgePrints (Refused place reason) input rest text = (count : ℕ) × RefusesRecords input count place reason × IsTextOf input count text
 -- the lines of the records that were taken whole
-JudgePrints ReadFailed input rest text = (count taken : ℕ) × (64 * count ≤ taken) × (taken < 64 * (count + 1)) × (taken ≤ length input)
+JudgePrints ReadFailed input rest text = (count taken : ℕ) × (count ≤ 1000000) × (64 * count ≤ taken) × (taken < 64 * (count + 1)) × (taken ≤ length input)
     × (rest ≡ Some (drop taken input)) × IsTextOf input count text
 -- a part of the lines of some of the records
-JudgePrints WriteFailed input rest text = (count : ℕ) × (whole after : List ℕ) × (64 * count ≤ length input) × IsTextOf input count whole × (whole ≡ text ++ after)
+JudgePrints WriteFailed input rest text = (count : ℕ) × (whole after : List ℕ) × (count ≤ 1000000) × (64 * count ≤ length input) × IsTextOf input count whole × (whole ≡ text ++ after)
 
 -- After as many records as may come: how the look for one more byte ends, with what was left of the input and what is.
 abbrev pub LooksPast : Ending → List ℕ → Option (List ℕ) → Type 0

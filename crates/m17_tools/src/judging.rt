@@ -17,26 +17,26 @@ const PACKET_AT: usize = 10;
 
 // The moment of a record, in milliseconds.
 #[inline]
-fn record_moment(record: &[u8; RECORD_BYTES]) -> u64
-    ensures { result ≡ moment_of record.now }
+fn record_moment(bytes: &[u8; RECORD_BYTES]) -> u64
+    ensures { result ≡ moment_of bytes.now }
 {
-    u64::from_be_bytes(*record[..TALKER_AT].as_array().unwrap())
+    u64::from_be_bytes(*bytes[..TALKER_AT].as_array().unwrap())
 }
 
 // The talker of a record.
 #[inline]
-fn record_talker(record: &[u8; RECORD_BYTES]) -> u16
-    ensures { result ≡ talker_of record.now }
+fn record_talker(bytes: &[u8; RECORD_BYTES]) -> u16
+    ensures { result ≡ talker_of bytes.now }
 {
-    u16::from_be_bytes(*record[TALKER_AT..PACKET_AT].as_array().unwrap())
+    u16::from_be_bytes(*bytes[TALKER_AT..PACKET_AT].as_array().unwrap())
 }
 
 // The bytes of a record's packet.
 #[inline]
-fn record_packet(record: &[u8; RECORD_BYTES]) -> &[u8]
-    ensures { result.now ≡ packet_of record.now }
+fn record_packet(bytes: &[u8; RECORD_BYTES]) -> &[u8]
+    ensures { result.now ≡ packet_of bytes.now }
 {
-    &record[PACKET_AT..]
+    &bytes[PACKET_AT..]
 }
 
 // Appends a verdict as `judge` prints it.
@@ -79,16 +79,16 @@ fn begin(line: &mut Line, index: u64)
 pub(crate) fn judge_record(
     table: &mut Table,
     index: u64,
-    record: &[u8; RECORD_BYTES],
+    bytes: &[u8; RECORD_BYTES],
     line: &mut Line,
 )
-    ensures { JudgesRecord index record.now table.old.floor table.old.owns.items table.old.moment table.new.floor table.new.owns.items table.new.moment line.new }
+    ensures { JudgesRecord index bytes.now table.old.floor table.old.owns.items table.old.moment table.new.floor table.new.owns.items table.new.moment line.new }
 {
-    let at = record_moment(record);
+    let at = record_moment(bytes);
     begin(line, index);
-    match m17_stream::read(record_packet(record)) {
+    match m17_stream::read(record_packet(bytes)) {
         Ok(packet) => {
-            let verdict = table.judge(at, record_talker(record), &packet);
+            let verdict = table.judge(at, record_talker(bytes), &packet);
             append_verdict(line, verdict);
             line.byte(b'\n');
         }

@@ -1,5 +1,8 @@
-//! The commands on bytes: what goes in as records or lines comes out as lines. It promises the exact text of each
-//! command, and for each way to end its cause. Which command runs, and the last line of a run, is left to the program.
+//! The commands on bytes: what goes in as records or lines comes out as lines. `judge` judges records of packets by the
+//! floor rule, and `show` says what the bytes of hex lines are. It promises, for the bytes that came in, the exact text
+//! that was written when a command ended, the place and the reason where the input is refused, and that a failure is told
+//! only where a device failed. Output is handed on before more input would be waited for, and memory does not grow with
+//! the input. Which command runs, the last line of a run and its status are left to the program.
 #![tactic(auto)]
 
 mod ending;
@@ -12,7 +15,6 @@ mod show_line;
 mod table;
 
 pub use ending::{Ending, Reason};
-pub use filling::{Filled, fill};
-pub use judge_command::{RECORDS_MAX, judge};
-pub use show_command::{LINES_MAX, show};
-pub use show_line::LINE_DIGITS;
+pub(crate) use filling::{Filled, fill};
+pub use judge_command::judge;
+pub use show_command::show;

@@ -57,12 +57,12 @@ pub returns-in-ReadFailed-clause-text : goal.returns-in-ReadFailed-clause-text
 returns-in-ReadFailed-clause-text g c = λ ending is bytes before told told_written.
     let after = c.loop-index.invariant.after bytes told in
     let short = c.in-ReadFailed.ensures.cut_short refl (drop (64 * c.loop-index.index) bytes) after.rest_left in
-    same_ending ReadFailed ending bytes _ before _ is (joined_lines after.lines, c.in-ReadFailed.ensures.nothing_written ∙ after.printed before told_written, failed_inside bytes c.loop-index.index _ _ _ _ _ _ _ (joined_lines after.lines) after (subst (λ (n : ℕ). IsCutShort (drop (64 * c.loop-index.index) bytes) n (g.S.Source.left c.fill.new.input)) c.loop-index.invariant.size short) (text_after bytes _ _ _ _ _ _ _ after))
+    same_ending ReadFailed ending bytes _ before _ is (joined_lines after.lines, c.in-ReadFailed.ensures.nothing_written ∙ after.printed before told_written, failed_inside bytes c.loop-index.index _ _ _ _ _ _ _ (joined_lines after.lines) (omega arith) after (subst (λ (n : ℕ). IsCutShort (drop (64 * c.loop-index.index) bytes) n (g.S.Source.left c.fill.new.input)) c.loop-index.invariant.size short) (text_after bytes _ _ _ _ _ _ _ after))
 
 pub returns-in-WriteFailed-clause-text : goal.returns-in-WriteFailed-clause-text
 returns-in-WriteFailed-clause-text g c = λ ending is bytes before told told_written.
     let after = c.loop-index.invariant.after bytes told in
-    same_ending WriteFailed ending bytes _ before _ is (joined_lines after.lines, c.in-WriteFailed.ensures.nothing_written ∙ after.printed before told_written, written_whole bytes _ _ _ _ _ _ _ after)
+    same_ending WriteFailed ending bytes _ before _ is (joined_lines after.lines, c.in-WriteFailed.ensures.nothing_written ∙ after.printed before told_written, written_whole bytes c.loop-index.index _ _ _ _ _ _ (omega arith) after)
 
 pub returns-in-Err-clause-text : goal.returns-in-Err-clause-text
 returns-in-Err-clause-text g c = λ ending is bytes before told told_written.
@@ -72,7 +72,7 @@ returns-in-Err-clause-text g c = λ ending is bytes before told told_written.
     let more = text_more c.later_acts_change_no_verdict.ensures bytes c.loop-index.index _ _ _ _ _ _ _ _ _ _ c.loop-index.record c.fill.new.into c.judge_record.new.line after c.loop-index.invariant.size filled c.judge_record.ensures in
     let part : AppendsPrefix (before ++ joined_lines after.lines) c.judge_record.new.line (g.K.Sink.written c.write.new.self) =
     rw (← c.bytes.ensures.value) (c.in-Err.ensures.err (before ++ joined_lines after.lines) (c.in-Taken-eq64.ensures.nothing_written ∙ after.printed before told_written)) in
-    same_ending WriteFailed ending bytes _ before _ is (written_in_part bytes (c.loop-index.index + 1) (g.S.Source.left c.fill.new.input) c.args.table.now.floor c.args.table.now.owns.items c.args.table.now.moment (g.K.Sink.written c.args.out.now) (g.K.Sink.written c.args.out.now) (g.K.Sink.written c.write.new.self) before after.lines c.judge_record.new.line more.0 more.1 told_written part)
+    same_ending WriteFailed ending bytes _ before _ is (written_in_part bytes (c.loop-index.index + 1) (g.S.Source.left c.fill.new.input) c.args.table.now.floor c.args.table.now.owns.items c.args.table.now.moment (g.K.Sink.written c.args.out.now) (g.K.Sink.written c.args.out.now) (g.K.Sink.written c.write.new.self) before after.lines c.judge_record.new.line (omega arith) more.0 more.1 told_written part)
 
 pub returns-clause-full : goal.returns-clause-full
 returns-clause-full g c = λ _ bytes told.

@@ -3,4 +3,4 @@ use Rattle.std.proofs.lemmas.List.{take_all}
 use Rattle.m17_tools.proofs.judging.record_packet.Goals as goal
 
 pub returns : goal.returns
-returns c = take_all 54 (drop 10 c.args.record.now) (omega (arith, length-drop 10 c.args.record.now, c.told-record))
+returns c = take_all 54 (drop 10 c.args.bytes.now) (omega (arith, length-drop 10 c.args.bytes.now, c.told-bytes))
