@@ -1,5 +1,7 @@
-//! The program. `run` does all that it does, over any source and sink; `main` hands it the standard streams and ends
-//! with its answer. The streams here are the trusted edge: they count their faults and tell nothing of content.
+//! The program. `run` reads the words, runs their command over any source and sink, writes the last line and answers the
+//! status; it promises what was written for the bytes that came in, the cause of each status, and that what was written
+//! went out. `main` hands it the standard streams and ends with its answer. `StdIn` and `StdOut` are the trusted edge:
+//! they buffer, count their faults, and tell nothing of content. What the commands print is left to `m17_tools`.
 #![tactic(auto)]
 
 mod command;

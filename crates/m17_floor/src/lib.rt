@@ -1,6 +1,8 @@
 //! The floor of a module: who may speak. It states the floor rule once, over the whole list of what happened, and
 //! promises that `Floor::judge`, which keeps one frame and one more for each member, gives that rule's verdict.
-//! `laws` has what follows from the rule alone, and `plain` the rule as it is stated, slow, to compare with.
+//! `laws` has what follows from the rule alone, and `plain` the rule as it is stated, slow, to compare with. The
+//! definitions look back through the list by position (`specs/Acts.antt`, `Floor.antt`); what the small state stands for
+//! is `specs/StandsFor.antt`.
 //! Who is a member, and to whom a packet goes, is left to the crates above.
 #![tactic(auto)]
 

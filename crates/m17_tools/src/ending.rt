@@ -26,7 +26,7 @@ pub enum Reason {
     Large,
     /// A line has more than 256 bytes.
     Long,
-    /// A line has an odd number of hex digits.
+    /// A line has an odd number of bytes.
     Odd,
     /// A byte of a line is no hex digit.
     Digit,
