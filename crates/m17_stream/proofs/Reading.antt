@@ -19,7 +19,7 @@ use Rattle.m17_stream.specs.Exact.{IsBytes, HasOneReading}
 use Rattle.m17_stream.specs.Fields.{HasFields}
 use Rattle.m17_stream.specs.Stream.{SpellsStream, RefusesStream, magic}
 use Rattle.m17_stream.proofs.Numbers.{number_in, number_in_bytes, number_in_fits, address_in, address_in_bytes, address_in_fits}
-use Rattle.m17_stream.proofs.Packets.{LsdIsExact, one_spelling, not_both, one_refusal, spells, field_of_parts}
+use Rattle.m17_stream.proofs.Packets.{LsdIsExact, CrcFits, one_spelling, not_both, one_refusal, spells, field_of_parts}
 
 IsBytes-part : (n k : ℕ) (b : List ℕ) → IsBytes b → IsBytes (take k (drop n b))
 IsBytes-part n k b h = All-take (λ byte. byte < 2 ^ 8) k (drop n b) (All-drop (λ byte. byte < 2 ^ 8) n b h)
@@ -113,8 +113,8 @@ read_magic b long h =
 reads : (b : List ℕ) → IsBytes b → Reads b
 reads b h = elim (cases_eq (length b) 54) [ inl long ↦ read_magic b long h | inr ne ↦ inr (Length (length b), (refl, ne)) ]
 
-pub one_reading : LsdIsExact → (b : List ℕ) → IsBytes b → HasOneReading b
-one_reading law b h = elim (reads b h) [
-  | inl found ↦ inl (found.0, record { spells = found.1; no_other = λ q s. one_spelling law q found.0 b s found.1; no_refusal = λ r k. not_both b found.0 r found.1 k })
-  | inr found ↦ inr (found.0, record { refuses = found.1; no_other = λ r k. one_refusal b r found.0 k found.1; no_packet = λ p s. not_both b p found.0 s found.1 })
+pub one_reading : LsdIsExact → CrcFits → (b : List ℕ) → IsBytes b → HasOneReading b
+one_reading law fits b h = elim (reads b h) [
+  | inl found ↦ inl (found.0, record { spells = found.1; no_other = λ q s. one_spelling law q found.0 b s found.1; no_refusal = λ r k. not_both fits b found.0 r found.1 k })
+  | inr found ↦ inr (found.0, record { refuses = found.1; no_other = λ r k. one_refusal b r found.0 k found.1; no_packet = λ p s. not_both fits b p found.0 s found.1 })
 ]
