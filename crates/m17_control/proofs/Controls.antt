@@ -1,28 +1,15 @@
 -- A control packet from its bytes, and what its bytes are.
-use Rattle.std.proofs.Common.{◌≡◌, ◌≢◌, ◌⊎◌, ℕ, ◌/◌, ◌%◌, ◌<◌, ◌^◌, cond, eqb, List, ◌∷◌, length, take, drop, get_or, codes, None, Some, inl, inr, refl, sym, ap, ◌∙◌, subst, arith}
-use Rattle.std.proofs.lemmas.Nat.{from_be_bytes-to_be_bytes_8}
-use Rattle.std.specs.Int.{w64, from_be_bytes}
+use Rattle.std.proofs.Common.{◌≡◌, ◌≢◌, ◌⊎◌, ℕ, ◌<◌, ◌^◌, cond, eqb, List, length, take, drop, get_or, codes, None, Some, inl, inr, refl, sym, ap, ◌∙◌, subst, arith}
+use Rattle.std.proofs.lemmas.Bool.{cases_eq}
 use Rattle.std.specs.Str.{bytes_eq}
 use Rattle.m17_callsign.specs.AddressBytes.{address_bytes}
 use Rattle.m17_control.specs.declared.packet.Control.{Control}
 use Rattle.m17_control.specs.declared.packet.Control.TheVariants.{Conn, Lstn, Ackn, Nack, Ping, Pong, Disc}
 use Rattle.m17_control.specs.Forms.{SpellsControl, IsFrom, IsModule, HasMagic}
 
--- the address in six bytes
-abbrev pub address_in : List ℕ → ℕ
-address_in b = from_be_bytes w64 (0 ∷ 0 ∷ b)
-
-pub address_back : (a : ℕ) → a < 2 ^ 48 → address_in (address_bytes a) ≡ a
-address_back a h =
-    let high : a / 72057594037927936 % 256 ≡ 0 = omega arith in
-    let next : a / 281474976710656 % 256 ≡ 0 = omega arith in
-    ap (λ x. from_be_bytes w64 (x ∷ 0 ∷ address_bytes a)) (sym high)
-    ∙ ap (λ x. from_be_bytes w64 (a / 72057594037927936 % 256 ∷ x ∷ address_bytes a)) (sym next)
-    ∙ from_be_bytes-to_be_bytes_8 a (omega arith)
-
--- addresses with the same bytes are one
-pub one_address : (a b : ℕ) → a < 2 ^ 48 → b < 2 ^ 48 → address_bytes a ≡ address_bytes b → a ≡ b
-one_address a b ha hb e = sym (address_back a ha) ∙ ap address_in e ∙ address_back b hb
+-- what the law on the bytes of addresses says
+abbrev pub BytesAreExact : Type 0
+BytesAreExact = (a b : ℕ) → a < 2 ^ 48 → b < 2 ^ 48 → address_bytes a ≡ address_bytes b → a ≡ b
 
 -- what a control packet is that has a spelling of this length, magic, address and letter
 abbrev control_by : List ℕ → ℕ → ℕ → ℕ → Control
@@ -35,25 +22,40 @@ control_by m long from letter =
     (cond (bytes_eq m (codes "PONG")) (Pong from)
     (cond (eqb long 4) (Disc None) (Disc (Some from))))))))
 
-abbrev control_in : List ℕ → Control
-control_in b = control_by (take 4 b) (length b) (address_in (take 6 (drop 4 b))) (get_or b 10 0)
+abbrev control_in : ℕ → List ℕ → Control
+control_in from b = control_by (take 4 b) (length b) from (get_or b 10 0)
 
 pub from_fits : (a : ℕ) → IsFrom a → a < 2 ^ 48
 from_fits a h = omega (arith, h.1)
 
-control_back : (c : Control) (b : List ℕ) → SpellsControl c b → control_in b ≡ c
-control_back (Conn from letter) b h = ap control_in h.2 ∙ ap (λ a. Conn a letter) (address_back from (from_fits from h.0))
-control_back (Lstn from letter) b h = ap control_in h.2 ∙ ap (λ a. Lstn a letter) (address_back from (from_fits from h.0))
-control_back Ackn b h = ap control_in h
-control_back Nack b h = ap control_in h
-control_back (Ping from) b h = ap control_in h.1 ∙ ap Ping (address_back from (from_fits from h.0))
-control_back (Pong from) b h = ap control_in h.1 ∙ ap Pong (address_back from (from_fits from h.0))
-control_back (Disc None) b h = ap control_in h
-control_back (Disc (Some from)) b h = ap control_in h.1 ∙ ap (λ a. Disc (Some a)) (address_back from (from_fits from h.0))
+pub with_from_not_4 : (b : List ℕ) → (length b ≡ 10) ⊎ (length b ≡ 11) → length b ≢ 4
+with_from_not_4 b (inl h) e = omega arith
+with_from_not_4 b (inr h) e = omega arith
 
--- the same bytes spell one control packet
-pub one_control : (c d : Control) (b : List ℕ) → SpellsControl c b → SpellsControl d b → c ≡ d
-one_control c d b h k = sym (control_back c b h) ∙ control_back d b k
+-- the address of From, where there is one
+abbrev IsFromOf : List ℕ → ℕ → Type 0
+IsFromOf b a = length b ≢ 4 → IsFrom a × (address_bytes a ≡ take 6 (drop 4 b))
+
+from_back : BytesAreExact → (a from : ℕ) (b : List ℕ) → IsFromOf b a → (length b ≡ 10) ⊎ (length b ≡ 11) → IsFrom from
+    → take 6 (drop 4 b) ≡ address_bytes from → a ≡ from
+from_back law a from b at long good field =
+    let found = at (with_from_not_4 b long) in
+    law a from (from_fits a found.0) (from_fits from good) (found.1 ∙ field)
+
+-- the From of the bytes that a control packet spells
+six : List ℕ → List ℕ
+six b = take 6 (drop 4 b)
+
+control_back : BytesAreExact → (c : Control) (a : ℕ) (b : List ℕ) → IsFromOf b a → SpellsControl c b → control_in a b ≡ c
+unfolding six
+control_back law (Conn from letter) a b at h = ap (control_in a) h.2 ∙ ap (λ x. Conn x letter) (from_back law a from b at (inr (ap length h.2)) h.0 (ap six h.2))
+control_back law (Lstn from letter) a b at h = ap (control_in a) h.2 ∙ ap (λ x. Lstn x letter) (from_back law a from b at (inr (ap length h.2)) h.0 (ap six h.2))
+control_back law Ackn a b at h = ap (control_in a) h
+control_back law Nack a b at h = ap (control_in a) h
+control_back law (Ping from) a b at h = ap (control_in a) h.1 ∙ ap Ping (from_back law a from b at (inl (ap length h.1)) h.0 (ap six h.1))
+control_back law (Pong from) a b at h = ap (control_in a) h.1 ∙ ap Pong (from_back law a from b at (inl (ap length h.1)) h.0 (ap six h.1))
+control_back law (Disc None) a b at h = ap (control_in a) h
+control_back law (Disc (Some from)) a b at h = ap (control_in a) h.1 ∙ ap (λ x. Disc (Some x)) (from_back law a from b at (inl (ap length h.1)) h.0 (ap six h.1))
 
 -- a control packet has one spelling
 pub one_spelling : (c : Control) (a b : List ℕ) → SpellsControl c a → SpellsControl c b → a ≡ b
@@ -116,3 +118,13 @@ is_control (Disc (Some from)) b h = subst IsControl (sym h.1) (record {
   from = λ ne. (from, h.0, refl);
   letter = λ l. absurd (omega arith);
 })
+
+-- the same bytes spell one control packet
+pub one_control : BytesAreExact → (c d : Control) (b : List ℕ) → SpellsControl c b → SpellsControl d b → c ≡ d
+one_control law c d b h k =
+    elim (cases_eq (length b) 4) [
+      | inl four ↦ (let none : IsFromOf b 0 = λ ne. absurd (ne four) in sym (control_back law c 0 b none h) ∙ control_back law d 0 b none k)
+      | inr ne ↦ (let from = (is_control c b h).from ne in
+          let at : IsFromOf b from.0 = λ _. (from.1, from.2) in
+          sym (control_back law c from.0 b at h) ∙ control_back law d from.0 b at k)
+    ]

@@ -1,10 +1,10 @@
 -- Each byte list is one packet, or is refused for one reason.
-use Rattle.std.proofs.Common.{◌≡◌, ◌≢◌, ◌↔◌, ◌⊎◌, ℕ, ◌-◌, ◌<◌, ◌≤◌, ◌^◌, min, List, ◌∷◌, length, take, drop, get_or, codes, None, Some, Result, Ok, Err, MatchResult, zero, suc, inl, inr, refl, sym, ap, ◌∙◌, subst, arith}
+use Rattle.std.proofs.Common.{◌≡◌, ◌≢◌, ◌↔◌, ◌⊎◌, ℕ, ◌-◌, ◌<◌, ◌≤◌, ◌^◌, min, List, length, take, drop, get_or, codes, None, Some, Result, Ok, Err, MatchResult, inl, inr, refl, sym, ap, ◌∙◌, subst, arith}
 use Rattle.std.proofs.lemmas.Bool.{cases_eq, cases_lt, cases_Bool, false≢true}
-use Rattle.std.proofs.lemmas.List.{length-take, length-drop, take_all, get_or_past}
+use Rattle.std.proofs.lemmas.List.{length-take, length-drop, take_all}
 use Rattle.std.proofs.lemmas.List.Elements.{All-take, All-drop}
-use Rattle.std.proofs.lemmas.Nat.{be_bytes_8}
 use Rattle.std.proofs.lemmas.Slice.Eq.{bytes_eq-Decides}
+use Rattle.std.specs.List.{All}
 use Rattle.std.specs.Str.{bytes_eq}
 use Rattle.m17_callsign.specs.AddressBytes.{address_bytes}
 use Rattle.m17_callsign.specs.Callsign.{end_of_callsigns}
@@ -19,7 +19,7 @@ use Rattle.m17_control.specs.declared.packet.Refusal.{Refusal}
 use Rattle.m17_control.specs.declared.packet.Refusal.TheVariants.{Length, Magic, Address, Module, Crc}
 use Rattle.m17_control.specs.Exact.{IsBytes, HasOneReading}
 use Rattle.m17_control.specs.Forms.{Spells, Refuses, IsFrom, IsModule, IsLength, HasMagic, HasFrom}
-use Rattle.m17_control.proofs.Controls.{address_in, one_spelling as control_spelling}
+use Rattle.m17_control.proofs.Controls.{BytesAreExact, one_spelling as control_spelling}
 use Rattle.m17_control.proofs.Parts.{of_from, of_module, no_stream_magic}
 use Rattle.m17_control.proofs.Refused.{HasOneStream, not_both, one_packet, one_refusal}
 
@@ -32,30 +32,16 @@ same_or_other a b =
     let decides = bytes_eq-Decides a b in
     elim (cases_Bool (bytes_eq a b)) [ inl same ↦ inl (decides.0 same) | inr other ↦ inr (λ e. false≢true (sym other ∙ decides.1 e)) ]
 
-byte_at : (b : List ℕ) → IsBytes b → (i : ℕ) → get_or b i 0 < 256
-byte_at b h i = elim (cases_lt i (length b)) [ inl k ↦ h i 0 k | inr k ↦ rw (get_or_past b i 0 k) (omega arith) ]
-
-padded : (b : List ℕ) → IsBytes b → (i : ℕ) → get_or (0 ∷ 0 ∷ b) i 0 < 256
-padded b h zero = omega arith
-padded b h (suc zero) = omega arith
-padded b h (suc (suc i)) = byte_at b h i
+-- what the law on six bytes says
+abbrev EachSixBytes : Type 0
+EachSixBytes = (bytes : List ℕ) → length bytes ≡ 6 → All (λ byte. byte < 2 ^ 8) bytes → (a : ℕ) × (a < 2 ^ 48) × (address_bytes a ≡ bytes)
 
 -- the From of bytes that have room for it
-from_in : List ℕ → ℕ
-from_in b = address_in (take 6 (drop 4 b))
-
-has_from : (b : List ℕ) → IsBytes b → HasMagic b → (length b ≡ 10) ⊎ (length b ≡ 11) → 10 ≤ length b → HasFrom b (from_in b)
-unfolding from_in
-has_from b h magic long room =
-    let field = take 6 (drop 4 b) in
-    let bytes : IsBytes field = All-take (λ byte. byte < 2 ^ 8) 6 (drop 4 b) (All-drop (λ byte. byte < 2 ^ 8) 4 b h) in
-    let six : length field ≡ 6 = simp (length-take, length-drop) (omega arith) in
-    record {
-      has_magic = magic;
-      length_with_from = long;
-      fits = omega (arith, byte_at field bytes 0, byte_at field bytes 1, byte_at field bytes 2, byte_at field bytes 3, byte_at field bytes 4, byte_at field bytes 5);
-      field = ap (drop 2) (be_bytes_8 (0 ∷ 0 ∷ field) (address_in field) (omega arith) (padded field bytes) refl);
-    }
+has_from : EachSixBytes → (b : List ℕ) → IsBytes b → HasMagic b → (length b ≡ 10) ⊎ (length b ≡ 11) → 10 ≤ length b → (a : ℕ) × HasFrom b a
+has_from six b h magic long room =
+    let bytes = All-take (λ byte. byte < 2 ^ 8) 6 (drop 4 b) (All-drop (λ byte. byte < 2 ^ 8) 4 b h) in
+    let from = six (take 6 (drop 4 b)) (simp (length-take, length-drop) (omega arith)) bytes in
+    (from.0, record { has_magic = magic; length_with_from = long; fits = from.1; field = from.2 })
 
 is_from : (a : ℕ) → (IsFrom a) ⊎ (IsFrom a → ⊥)
 is_from a =
@@ -115,21 +101,21 @@ read_bare b long =
     ]
 
 -- a control packet with From, or the refusal of that
-read_from : (b : List ℕ) → IsBytes b → length b ≡ 10 → HasMagic b → ((a : ℕ) → IsFrom a → HasFrom b a → (p : Packet) × Spells p b) → Reads b
-read_from b h long magic make =
-    let from = has_from b h magic (inl long) (omega arith) in
-    elim (is_from (from_in b)) [ inl good ↦ inl (make (from_in b) good from) | inr bad ↦ inr (Address (from_in b), (from, bad)) ]
+read_from : EachSixBytes → (b : List ℕ) → IsBytes b → length b ≡ 10 → HasMagic b → ((a : ℕ) → IsFrom a → HasFrom b a → (p : Packet) × Spells p b) → Reads b
+read_from six b h long magic make =
+    let from = has_from six b h magic (inl long) (omega arith) in
+    elim (is_from from.0) [ inl good ↦ inl (make from.0 good from.1) | inr bad ↦ inr (Address from.0, (from.1, bad)) ]
 
-read_with_from : (b : List ℕ) → IsBytes b → length b ≡ 10 → Reads b
-read_with_from b h long =
+read_with_from : EachSixBytes → (b : List ℕ) → IsBytes b → length b ≡ 10 → Reads b
+read_with_from six b h long =
     elim (same_or_other (take 4 b) (codes "PING")) [
-      | inl e ↦ read_from b h long (inr (inl (long, inl e)))
+      | inl e ↦ read_from six b h long (inr (inl (long, inl e)))
           (λ a good from. (packets.Control (Ping a), (good, of_from (codes "PING") (address_bytes a) b long e from.field)))
       | inr ne ↦ elim (same_or_other (take 4 b) (codes "PONG")) [
-        | inl e ↦ read_from b h long (inr (inl (long, inr (inl e))))
+        | inl e ↦ read_from six b h long (inr (inl (long, inr (inl e))))
             (λ a good from. (packets.Control (Pong a), (good, of_from (codes "PONG") (address_bytes a) b long e from.field)))
         | inr ne' ↦ elim (same_or_other (take 4 b) (codes "DISC")) [
-          | inl e ↦ read_from b h long (inr (inl (long, inr (inr e))))
+          | inl e ↦ read_from six b h long (inr (inl (long, inr (inr e))))
               (λ a good from. (packets.Control (Disc (Some a)), (good, of_from (codes "DISC") (address_bytes a) b long e from.field)))
           | inr ne'' ↦ inr (Magic (take 4 b), (inr (inl long), refl, no_from_magic b long ne ne' ne''))
         ]
@@ -137,28 +123,28 @@ read_with_from b h long =
     ]
 
 -- a control packet with From and a module, or the refusal of one of them
-read_module : (b : List ℕ) → IsBytes b → length b ≡ 11 → HasMagic b
+read_module : EachSixBytes → (b : List ℕ) → IsBytes b → length b ≡ 11 → HasMagic b
     → ((a : ℕ) → IsFrom a → HasFrom b a → IsModule (get_or b 10 0) → (p : Packet) × Spells p b) → Reads b
-read_module b h long magic make =
-    let from = has_from b h magic (inr long) (omega arith) in
-    elim (is_from (from_in b)) [
+read_module six b h long magic make =
+    let from = has_from six b h magic (inr long) (omega arith) in
+    elim (is_from from.0) [
       | inl good ↦ elim (is_module (get_or b 10 0)) [
-        | inl letter ↦ inl (make (from_in b) good from letter)
-        | inr other ↦ inr (Module (get_or b 10 0), (long, refl, other, from_in b, from, good))
+        | inl letter ↦ inl (make from.0 good from.1 letter)
+        | inr other ↦ inr (Module (get_or b 10 0), (long, refl, other, from.0, from.1, good))
       ]
-      | inr bad ↦ inr (Address (from_in b), (from, bad))
+      | inr bad ↦ inr (Address from.0, (from.1, bad))
     ]
 
-read_with_module : (b : List ℕ) → IsBytes b → length b ≡ 11 → Reads b
-read_with_module b h long =
+read_with_module : EachSixBytes → (b : List ℕ) → IsBytes b → length b ≡ 11 → Reads b
+read_with_module six b h long =
     elim (same_or_other (take 4 b) (codes "CONN")) [
-      | inl e ↦ read_module b h long (inr (inr (inl (long, inl e))))
+      | inl e ↦ read_module six b h long (inr (inr (inl (long, inl e))))
           (λ a good from letter. (
             packets.Control (Conn a (get_or b 10 0)),
             (good, letter, of_module (codes "CONN") (address_bytes a) b (get_or b 10 0) long e from.field refl),
           ))
       | inr ne ↦ elim (same_or_other (take 4 b) (codes "LSTN")) [
-        | inl e ↦ read_module b h long (inr (inr (inl (long, inr e))))
+        | inl e ↦ read_module six b h long (inr (inr (inl (long, inr e))))
             (λ a good from letter. (
               packets.Control (Lstn a (get_or b 10 0)),
               (good, letter, of_module (codes "LSTN") (address_bytes a) b (get_or b 10 0) long e from.field refl),
@@ -176,14 +162,14 @@ read_stream : (b : List ℕ) → length b ≡ 54 → HasOneStream b → Reads b
 read_stream b long (inl one) = inl (packets.Stream one.0, one.1.spells)
 read_stream b long (inr one) = refused_stream b long one.0 one.1.refuses
 
-reads : (b : List ℕ) → IsBytes b → HasOneStream b → Reads b
-reads b h one =
+reads : EachSixBytes → (b : List ℕ) → IsBytes b → HasOneStream b → Reads b
+reads six b h one =
     elim (cases_eq (length b) 4) [
       | inl long ↦ read_bare b long
       | inr n₁ ↦ elim (cases_eq (length b) 10) [
-        | inl long ↦ read_with_from b h long
+        | inl long ↦ read_with_from six b h long
         | inr n₂ ↦ elim (cases_eq (length b) 11) [
-          | inl long ↦ read_with_module b h long
+          | inl long ↦ read_with_module six b h long
           | inr n₃ ↦ elim (cases_eq (length b) 54) [
             | inl long ↦ read_stream b long one
             | inr n₄ ↦ inr (Length (min (length b) (2 ^ 32 - 1)), (no_length (length b) n₁ n₂ n₃ n₄, refl))
@@ -192,10 +178,10 @@ reads b h one =
       ]
     ]
 
-pub one_reading : (b : List ℕ) → IsBytes b → HasOneStream b → HasOneReading b
-one_reading b h one = elim (reads b h one) [
-  | inl found ↦ inl (found.0, record { spells = found.1; no_other = λ q s. one_packet b one q found.0 s found.1; no_refusal = λ r k. not_both b one found.0 r found.1 k })
-  | inr found ↦ inr (found.0, record { refuses = found.1; no_other = λ r k. one_refusal b one r found.0 k found.1; no_packet = λ p s. not_both b one p found.0 s found.1 })
+pub one_reading : BytesAreExact → EachSixBytes → (b : List ℕ) → IsBytes b → HasOneStream b → HasOneReading b
+one_reading law six b h one = elim (reads six b h one) [
+  | inl found ↦ inl (found.0, record { spells = found.1; no_other = λ q s. one_packet law b one q found.0 s found.1; no_refusal = λ r k. not_both law b one found.0 r found.1 k })
+  | inr found ↦ inr (found.0, record { refuses = found.1; no_other = λ r k. one_refusal law b one r found.0 k found.1; no_packet = λ p s. not_both law b one p found.0 s found.1 })
 ]
 
 -- a result that is right is the only one

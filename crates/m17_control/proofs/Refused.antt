@@ -11,7 +11,7 @@ use Rattle.m17_control.specs.declared.packet.Packet.TheVariants as packets
 use Rattle.m17_control.specs.declared.packet.Refusal.{Refusal}
 use Rattle.m17_control.specs.declared.packet.Refusal.TheVariants.{Length, Magic, Address, Module, Crc}
 use Rattle.m17_control.specs.Forms.{Spells, Refuses, IsFrom, IsModule, IsLength, HasMagic, HasFrom}
-use Rattle.m17_control.proofs.Controls.{IsControl, is_control, one_control, one_address, from_fits}
+use Rattle.m17_control.proofs.Controls.{IsControl, is_control, BytesAreExact, one_control, from_fits, with_from_not_4}
 
 -- what the law of stream packets says of these bytes
 abbrev pub HasOneStream : List ℕ → Type 0
@@ -66,30 +66,26 @@ short_not_54 b (inl h) e = omega arith
 short_not_54 b (inr (inl h)) e = omega arith
 short_not_54 b (inr (inr h)) e = omega arith
 
-with_from_not_4 : (b : List ℕ) → (length b ≡ 10) ⊎ (length b ≡ 11) → length b ≡ 4 → ⊥
-with_from_not_4 b (inl h) e = omega arith
-with_from_not_4 b (inr h) e = omega arith
-
 -- what spells a control packet is not refused
-control_not_refused : (b : List ℕ) (r : Refusal) → IsControl b → Refuses b r → ⊥
-control_not_refused b (Length n) h r = r.0 (control_length b h)
-control_not_refused b (Magic m) h r = r.2 h.magic
-control_not_refused b (Address a) h r =
+control_not_refused : BytesAreExact → (b : List ℕ) (r : Refusal) → IsControl b → Refuses b r → ⊥
+control_not_refused law b (Length n) h r = r.0 (control_length b h)
+control_not_refused law b (Magic m) h r = r.2 h.magic
+control_not_refused law b (Address a) h r =
     let from = h.from (with_from_not_4 b r.0.length_with_from) in
-    let same : from.0 ≡ a = one_address from.0 a (from_fits from.0 from.1) r.0.fits (from.2 ∙ sym r.0.field) in
+    let same : from.0 ≡ a = law from.0 a (from_fits from.0 from.1) r.0.fits (from.2 ∙ sym r.0.field) in
     r.1 (subst IsFrom same from.1)
-control_not_refused b (Module l) h r = r.2 (subst IsModule (sym r.1) (h.letter r.0))
-control_not_refused b (Crc f e) h r = short_not_54 b h.short r.0
+control_not_refused law b (Module l) h r = r.2 (subst IsModule (sym r.1) (h.letter r.0))
+control_not_refused law b (Crc f e) h r = short_not_54 b h.short r.0
 
-pub not_both : (b : List ℕ) → HasOneStream b → (p : Packet) (r : Refusal) → Spells p b → Refuses b r → ⊥
-not_both b one (packets.Stream p) r s k = stream_not_refused b one p r s (stream_length b one p s) k
-not_both b one (packets.Control c) r s k = control_not_refused b r (is_control c b s) k
+pub not_both : BytesAreExact → (b : List ℕ) → HasOneStream b → (p : Packet) (r : Refusal) → Spells p b → Refuses b r → ⊥
+not_both law b one (packets.Stream p) r s k = stream_not_refused b one p r s (stream_length b one p s) k
+not_both law b one (packets.Control c) r s k = control_not_refused law b r (is_control c b s) k
 
-pub one_packet : (b : List ℕ) → HasOneStream b → (p q : Packet) → Spells p b → Spells q b → p ≡ q
-one_packet b one (packets.Stream p) (packets.Stream q) s k = ap packets.Stream (stream_one_packet b one p q s k)
-one_packet b one (packets.Stream p) (packets.Control d) s k = absurd (short_not_54 b (is_control d b k).short (stream_length b one p s))
-one_packet b one (packets.Control c) (packets.Stream q) s k = absurd (short_not_54 b (is_control c b s).short (stream_length b one q k))
-one_packet b one (packets.Control c) (packets.Control d) s k = ap packets.Control (one_control c d b s k)
+pub one_packet : BytesAreExact → (b : List ℕ) → HasOneStream b → (p q : Packet) → Spells p b → Spells q b → p ≡ q
+one_packet law b one (packets.Stream p) (packets.Stream q) s k = ap packets.Stream (stream_one_packet b one p q s k)
+one_packet law b one (packets.Stream p) (packets.Control d) s k = absurd (short_not_54 b (is_control d b k).short (stream_length b one p s))
+one_packet law b one (packets.Control c) (packets.Stream q) s k = absurd (short_not_54 b (is_control c b s).short (stream_length b one q k))
+one_packet law b one (packets.Control c) (packets.Control d) s k = ap packets.Control (one_control law c d b s k)
 
 -- a length that has From is a length of packets
 from_length : (b : List ℕ) → (length b ≡ 10) ⊎ (length b ≡ 11) → IsLength (length b)
@@ -111,20 +107,20 @@ magic_alone b (Address a) long never r = absurd (never r.0.has_magic)
 magic_alone b (Module l) long never r = absurd (never r.4.has_magic)
 magic_alone b (Crc f e) long never r = absurd (never r.1)
 
-address_alone : (b : List ℕ) (a : ℕ) (r : Refusal) → HasFrom b a → (IsFrom a → ⊥) → Refuses b r → r ≡ Address a
-address_alone b a (Length m) h never r = absurd (r.0 (from_length b h.length_with_from))
-address_alone b a (Magic m) h never r = absurd (r.2 h.has_magic)
-address_alone b a (Address c) h never r = ap Address (one_address c a r.0.fits h.fits (r.0.field ∙ sym h.field))
-address_alone b a (Module l) h never r = absurd (never (subst IsFrom (one_address r.3 a r.4.fits h.fits (r.4.field ∙ sym h.field)) r.5))
-address_alone b a (Crc f e) h never r = absurd (no_from_at b 54 r.0 (λ e. cc) (λ e. cc) h.length_with_from)
+address_alone : BytesAreExact → (b : List ℕ) (a : ℕ) (r : Refusal) → HasFrom b a → (IsFrom a → ⊥) → Refuses b r → r ≡ Address a
+address_alone law b a (Length m) h never r = absurd (r.0 (from_length b h.length_with_from))
+address_alone law b a (Magic m) h never r = absurd (r.2 h.has_magic)
+address_alone law b a (Address c) h never r = ap Address (law c a r.0.fits h.fits (r.0.field ∙ sym h.field))
+address_alone law b a (Module l) h never r = absurd (never (subst IsFrom (law r.3 a r.4.fits h.fits (r.4.field ∙ sym h.field)) r.5))
+address_alone law b a (Crc f e) h never r = absurd (no_from_at b 54 r.0 (λ e. cc) (λ e. cc) h.length_with_from)
 
-module_alone : (b : List ℕ) (a : ℕ) (r : Refusal) → length b ≡ 11 → HasFrom b a → IsFrom a → (IsModule (get_or b 10 0) → ⊥) → Refuses b r
+module_alone : BytesAreExact → (b : List ℕ) (a : ℕ) (r : Refusal) → length b ≡ 11 → HasFrom b a → IsFrom a → (IsModule (get_or b 10 0) → ⊥) → Refuses b r
     → r ≡ Module (get_or b 10 0)
-module_alone b a (Length m) long h from never r = absurd (r.0 (inr (inr (inl long))))
-module_alone b a (Magic m) long h from never r = absurd (r.2 h.has_magic)
-module_alone b a (Address c) long h from never r = absurd (r.1 (subst IsFrom (one_address a c h.fits r.0.fits (h.field ∙ sym r.0.field)) from))
-module_alone b a (Module l) long h from never r = ap Module r.1
-module_alone b a (Crc f e) long h from never r = absurd (omega arith)
+module_alone law b a (Length m) long h from never r = absurd (r.0 (inr (inr (inl long))))
+module_alone law b a (Magic m) long h from never r = absurd (r.2 h.has_magic)
+module_alone law b a (Address c) long h from never r = absurd (r.1 (subst IsFrom (law a c h.fits r.0.fits (h.field ∙ sym r.0.field)) from))
+module_alone law b a (Module l) long h from never r = ap Module r.1
+module_alone law b a (Crc f e) long h from never r = absurd (omega arith)
 
 crc_alone : (b : List ℕ) → HasOneStream b → (f e : ℕ) (r : Refusal) → Refuses b (Crc f e) → Refuses b r → r ≡ Crc f e
 crc_alone b one f e (Length m) h r = absurd (r.0 (inr (inr (inr h.0))))
@@ -137,9 +133,9 @@ crc_alone b one f e (Crc g d) h r =
     let expected : d ≡ e = cc in
     cc
 
-pub one_refusal : (b : List ℕ) → HasOneStream b → (r s : Refusal) → Refuses b r → Refuses b s → r ≡ s
-one_refusal b one r (Length n) h k = length_alone b n r k.0 h ∙ ap Length (sym k.1)
-one_refusal b one r (Magic m) h k = magic_alone b r k.0 k.2 h ∙ ap Magic (sym k.1)
-one_refusal b one r (Address a) h k = address_alone b a r k.0 k.1 h
-one_refusal b one r (Module l) h k = module_alone b k.3 r k.0 k.4 k.5 (λ m. k.2 (subst IsModule (sym k.1) m)) h ∙ ap Module (sym k.1)
-one_refusal b one r (Crc f e) h k = crc_alone b one f e r k h
+pub one_refusal : BytesAreExact → (b : List ℕ) → HasOneStream b → (r s : Refusal) → Refuses b r → Refuses b s → r ≡ s
+one_refusal law b one r (Length n) h k = length_alone b n r k.0 h ∙ ap Length (sym k.1)
+one_refusal law b one r (Magic m) h k = magic_alone b r k.0 k.2 h ∙ ap Magic (sym k.1)
+one_refusal law b one r (Address a) h k = address_alone law b a r k.0 k.1 h
+one_refusal law b one r (Module l) h k = module_alone law b k.3 r k.0 k.4 k.5 (λ m. k.2 (subst IsModule (sym k.1) m)) h ∙ ap Module (sym k.1)
+one_refusal law b one r (Crc f e) h k = crc_alone b one f e r k h

@@ -11,6 +11,8 @@ pub fn decoding_is_exact()
     ensures one_of_both { (bytes : List ℕ) → IsBytes bytes → HasOneReading bytes }
     ensures one_spelling { (p : Packet) (a b : List ℕ) → Spells p a → Spells p b → a ≡ b }
 {
+    m17_callsign::laws::bytes_are_exact();
+    m17_callsign::laws::each_six_bytes_are_an_address();
     m17_stream::laws::reading_is_exact();
     m17_stream::laws::one_packet();
 }

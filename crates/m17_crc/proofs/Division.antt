@@ -1,5 +1,5 @@
 -- Long division, bit by bit, in a register of 16 bits.
-use Rattle.std.proofs.Common.{◌≡◌, ◌==◌, ℕ, zero, suc, ◌+◌, ◌*◌, ◌/◌, ◌%◌, ◌^◌, ◌<◌, ◌≤◌, List, [], ◌∷◌, ◌++◌, length, drop, fold, replicate, if◌then◌else◌, refl, sym, ap, ◌∙◌, arith}
+use Rattle.std.proofs.Common.{◌≡◌, ◌==◌, ℕ, zero, suc, ◌+◌, ◌*◌, ◌/◌, ◌%◌, ◌^◌, ◌<◌, ◌≤◌, List, [], ◌∷◌, ◌++◌, length, drop, fold, replicate, if◌then◌else◌, refl, sym, ap, ◌∙◌, subst, arith}
 use Rattle.std.specs.Int.{bit_at}
 use Rattle.std.specs.Int.Bits.{bit_xor, xor_zero_r, xor_lt}
 use Rattle.std.proofs.lemmas.Nat.{shr_split, shr-shr}
@@ -178,6 +178,9 @@ crc_of-fold bytes =
     ∙ ap number_of (remainder-bits 0xFFFF (bits_of bytes) (AreBits-bytes bytes))
     ∙ ap (λ m. fold (λ n b. 2 * n + b) m (low_bits 16 last)) (sym (none_above last small))
     ∙ number_of-low_bits 16 last
+
+pub crc_of-lt : (bytes : List ℕ) → crc_of bytes < 2 ^ 16
+crc_of-lt bytes = subst (λ n. n < 2 ^ 16) (sym (crc_of-fold bytes)) (after_bits-lt 0xFFFF (bits_of bytes) (omega arith))
 
 -- more bytes go on from the CRC so far
 pub crc_of-append : (fed bytes : List ℕ) → crc_of (fed ++ bytes) ≡ fold after_bit (crc_of fed) (bits_of bytes)

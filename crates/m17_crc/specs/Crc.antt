@@ -11,8 +11,8 @@ byte_bits byte = map (λ k. bit_at byte (7 - k)) (range_with_len 0 8)
 abbrev pub bits_of : List ℕ → List ℕ
 bits_of bytes = flat_map byte_bits bytes
 
--- The bits after the first ones of `taken` were subtracted, bit by bit and without carry: 1 less 1 is 0, and 0 less 1
--- is 1. The bits past `taken` stay.
+-- `bits`, with `taken` subtracted from its first ones, bit by bit and without carry: 1 less 1 is 0, and 0 less 1 is 1.
+-- The bits past `taken` stay.
 abbrev pub less_front : List ℕ → List ℕ → List ℕ
 less_front [] bits = bits
 less_front (t ∷ taken) [] = []

@@ -6,6 +6,7 @@
 ghost use Rattle.std.specs.Prelude.{◌≡◌};
 ghost use Rattle.m17_crc.specs.Crc.{crc_of};
 
+pub mod laws;
 mod pieces;
 pub mod plain;
 mod steps;

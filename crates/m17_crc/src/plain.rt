@@ -3,6 +3,8 @@ ghost use Rattle.std.specs.Prelude.{◌≡◌, ℕ, ◌<◌, ◌++◌, List, [],
 ghost use Rattle.m17_crc.specs.Crc.{crc_of};
 ghost use Rattle.m17_crc.specs.Register.{after_bit, after_byte};
 
+use crate::steps::START;
+
 // The low 16 of the divisor's 17 bits: the polynomial without its x^16.
 const POLYNOMIAL: u16 = 0x5935;
 
@@ -11,7 +13,7 @@ const POLYNOMIAL: u16 = 0x5935;
 pub fn crc_by_division(bytes: &[u8]) -> u16
     ensures { result ≡ crc_of bytes.now }
 {
-    let mut remainder = 0xffff;
+    let mut remainder = START;
     for byte in bytes {
         remainder = after_byte(remainder, *byte);
     }

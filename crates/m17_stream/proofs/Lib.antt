@@ -1,4 +1,3 @@
-pub mod CrcFits
 pub mod Numbers
 pub mod Packets
 pub mod Places

@@ -1,13 +1,12 @@
--- Numbers from their bytes.
-use Rattle.std.proofs.Common.{◌≡◌, ℕ, ◌<◌, ◌^◌, List, ◌∷◌, length, drop, get_or, zero, suc, inl, inr, refl, ap, arith}
+-- Numbers of 16 bits from their bytes.
+use Rattle.std.proofs.Common.{◌≡◌, ℕ, ◌<◌, ◌^◌, List, length, get_or, inl, inr, refl, arith}
 use Rattle.std.proofs.lemmas.Bool.{cases_lt}
 use Rattle.std.proofs.lemmas.List.{get_or_past}
-use Rattle.std.proofs.lemmas.Nat.{be_bytes_2, be_bytes_8}
-use Rattle.std.specs.Int.{w16, w64, to_be_bytes, from_be_bytes}
-use Rattle.m17_callsign.specs.AddressBytes.{address_bytes}
+use Rattle.std.proofs.lemmas.Nat.{be_bytes_2}
+use Rattle.std.specs.Int.{w16, to_be_bytes, from_be_bytes}
 use Rattle.m17_stream.specs.Exact.{IsBytes}
 
-pub byte_at : (b : List ℕ) → IsBytes b → (i : ℕ) → get_or b i 0 < 256
+byte_at : (b : List ℕ) → IsBytes b → (i : ℕ) → get_or b i 0 < 256
 byte_at b h i = elim (cases_lt i (length b)) [ inl k ↦ h i 0 k | inr k ↦ rw (get_or_past b i 0 k) (omega arith) ]
 
 abbrev pub number_in : List ℕ → ℕ
@@ -18,17 +17,3 @@ number_in_bytes b long h = be_bytes_2 b (number_in b) long (byte_at b h) refl
 
 pub number_in_fits : (b : List ℕ) → IsBytes b → number_in b < 2 ^ 16
 number_in_fits b h = omega (arith, byte_at b h 0, byte_at b h 1)
-
-abbrev pub address_in : List ℕ → ℕ
-address_in b = from_be_bytes w64 (0 ∷ 0 ∷ b)
-
-padded : (b : List ℕ) → IsBytes b → (i : ℕ) → get_or (0 ∷ 0 ∷ b) i 0 < 256
-padded b h zero = omega arith
-padded b h (suc zero) = omega arith
-padded b h (suc (suc i)) = byte_at b h i
-
-pub address_in_bytes : (b : List ℕ) → length b ≡ 6 → IsBytes b → address_bytes (address_in b) ≡ b
-address_in_bytes b long h = ap (drop 2) (be_bytes_8 (0 ∷ 0 ∷ b) (address_in b) (omega arith) (padded b h) refl)
-
-pub address_in_fits : (b : List ℕ) → IsBytes b → address_in b < 2 ^ 48
-address_in_fits b h = omega (arith, byte_at b h 0, byte_at b h 1, byte_at b h 2, byte_at b h 3, byte_at b h 4, byte_at b h 5)

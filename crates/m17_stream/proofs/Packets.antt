@@ -13,7 +13,6 @@ use Rattle.m17_stream.specs.declared.packet.StreamRefusal.{StreamRefusal}
 use Rattle.m17_stream.specs.declared.packet.StreamRefusal.TheVariants.{Length, Magic, Crc}
 use Rattle.m17_stream.specs.Fields.{HasFields}
 use Rattle.m17_stream.specs.Stream.{SpellsStream, RefusesStream, magic, frame_field, front_bytes}
-use Rattle.m17_stream.proofs.CrcFits.{crc_fits}
 use Rattle.m17_stream.proofs.Places.{front_from_parts, Parts, parts_of}
 
 packet : ℕ → Lsd → (n : ℕ) → Bool → List ℕ → n < 32768 → StreamPacket
@@ -107,12 +106,16 @@ fields_of p b h =
 pub one_spelling : LsdIsExact → (p q : StreamPacket) (b : List ℕ) → SpellsStream p b → SpellsStream q b → p ≡ q
 one_spelling law p q b hp hq = same_fields law p q b (fields_of p b hp) (fields_of q b hq)
 
-pub not_both : (b : List ℕ) (p : StreamPacket) (r : StreamRefusal) → SpellsStream p b → RefusesStream b r → ⊥
-not_both b p (Length n) h r = r.1 (parts p b h).whole
-not_both b p (Magic m) h r = r.2 (r.1 ∙ (parts p b h).magic)
-not_both b p (Crc found expected) h r =
+-- what the law on the CRC says
+abbrev pub CrcFits : Type 0
+CrcFits = (bytes : List ℕ) → crc_of bytes < 2 ^ 16
+
+pub not_both : CrcFits → (b : List ℕ) (p : StreamPacket) (r : StreamRefusal) → SpellsStream p b → RefusesStream b r → ⊥
+not_both fits b p (Length n) h r = r.1 (parts p b h).whole
+not_both fits b p (Magic m) h r = r.2 (r.1 ∙ (parts p b h).magic)
+not_both fits b p (Crc found expected) h r =
     let at = parts p b h in
-    let same : found ≡ crc_of (front_bytes p) = one_number found (crc_of (front_bytes p)) r.2 (crc_fits (front_bytes p)) (r.3 ∙ at.crc) in
+    let same : found ≡ crc_of (front_bytes p) = one_number found (crc_of (front_bytes p)) r.2 (fits (front_bytes p)) (r.3 ∙ at.crc) in
     r.5 (same ∙ sym (r.4 ∙ ap crc_of at.front))
 
 pub one_refusal : (b : List ℕ) (r s : StreamRefusal) → RefusesStream b r → RefusesStream b s → r ≡ s
@@ -136,13 +139,13 @@ IsRight b r = MatchResult r (λ p. SpellsStream p b) (RefusesStream b)
 abbrev pub HasOneSpelling : Type 0
 HasOneSpelling = (p q : StreamPacket) (b : List ℕ) → SpellsStream p b → SpellsStream q b → p ≡ q
 
-pub exact_ok : HasOneSpelling → (b : List ℕ) (r : Result StreamPacket StreamRefusal) → IsRight b r → (p : StreamPacket) → (r ≡ Ok p) ↔ SpellsStream p b
-exact_ok one b (Ok q) h p = (λ e. let same : q ≡ p = cc in subst (λ (x : StreamPacket). SpellsStream x b) same h, λ s. ap Ok (one q p b h s))
-exact_ok one b (Err r) h p = (λ e. cc, λ s. absurd (not_both b p r s h))
+pub exact_ok : HasOneSpelling → CrcFits → (b : List ℕ) (r : Result StreamPacket StreamRefusal) → IsRight b r → (p : StreamPacket) → (r ≡ Ok p) ↔ SpellsStream p b
+exact_ok one fits b (Ok q) h p = (λ e. let same : q ≡ p = cc in subst (λ (x : StreamPacket). SpellsStream x b) same h, λ s. ap Ok (one q p b h s))
+exact_ok one fits b (Err r) h p = (λ e. cc, λ s. absurd (not_both fits b p r s h))
 
-pub exact_err : (b : List ℕ) (r : Result StreamPacket StreamRefusal) → IsRight b r → (s : StreamRefusal) → (r ≡ Err s) ↔ RefusesStream b s
-exact_err b (Ok q) h s = (λ e. cc, λ k. absurd (not_both b q s h k))
-exact_err b (Err r) h s = (λ e. let same : r ≡ s = cc in subst (λ (x : StreamRefusal). RefusesStream b x) same h, λ k. ap Err (one_refusal b r s h k))
+pub exact_err : CrcFits → (b : List ℕ) (r : Result StreamPacket StreamRefusal) → IsRight b r → (s : StreamRefusal) → (r ≡ Err s) ↔ RefusesStream b s
+exact_err fits b (Ok q) h s = (λ e. cc, λ k. absurd (not_both fits b q s h k))
+exact_err fits b (Err r) h s = (λ e. let same : r ≡ s = cc in subst (λ (x : StreamRefusal). RefusesStream b x) same h, λ k. ap Err (one_refusal b r s h k))
 
 -- the field gives back its number and its end bit
 pub field_of_parts : (f : ℕ) → f < 65536 → frame_field (leb 32768 f) (f % 32768) ≡ f

@@ -17,6 +17,7 @@ pub fn read(b: &[u8]) -> Result<StreamPacket, StreamRefusal>
     ensures err { (refusal : StreamRefusal) → (result ≡ Err refusal) ↔ RefusesStream b.now refusal }
 {
     laws::one_spelling();
+    m17_crc::laws::crc_has_16_bits();
     read_first(b)
 }
 

@@ -24,4 +24,6 @@ pub fn reading_is_exact()
     ensures { (bytes : List ℕ) → IsBytes bytes → HasOneReading bytes }
 {
     m17_lsd::laws::fields_are_exact();
+    m17_lsd::laws::each_28_bytes_are_link_setup_data();
+    m17_crc::laws::crc_has_16_bits();
 }

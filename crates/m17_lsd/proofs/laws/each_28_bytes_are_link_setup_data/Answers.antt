@@ -1,0 +1,5 @@
+use Rattle.m17_lsd.proofs.Reading.{each_28_bytes}
+use Rattle.m17_lsd.proofs.laws.each_28_bytes_are_link_setup_data.Goals as goal
+
+pub returns : goal.returns
+returns c = each_28_bytes c.each_six_bytes_are_an_address.ensures
