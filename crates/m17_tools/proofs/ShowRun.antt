@@ -50,9 +50,10 @@ line_ends input line text count Finished left first written written' few there s
 line_ends input line text count ReadFailed left first written written' few there shown printed h = absurd h
 line_ends input line text count (Refused place reason) left first written written' few there shown printed h =
     let refuses : RefusesLine input place reason = subst (λ (n : ℕ). RefusesLine input n reason) (sym h.0) (refuses_line input line count reason few there h.1) in
+    let shown_there : IsShownText input place text = subst (λ (n : ℕ). IsShownText input n text) (sym h.0) shown in
     record {
-      ends = refuses;
-      printed = λ before e. (text, h.2 ∙ printed before e, (refuses, subst (λ (n : ℕ). IsShownText input n text) (sym h.0) shown));
+      ends = (refuses, (text, shown_there));
+      printed = λ before e. (text, h.2 ∙ printed before e, (refuses, shown_there));
     }
 line_ends input line text count WriteFailed left first written written' few there shown printed h = record {
   ends = tt;
@@ -62,6 +63,7 @@ line_ends input line text count WriteFailed left first written written' few ther
         part.1 ∙ ap Some (append_assoc before text (take part.0 h.0)),
         (
           count + 1,
+          omega arith,
           text ++ h.0,
           drop part.0 h.0,
           shown_more input text line h.0 count shown there h.1,
@@ -110,14 +112,14 @@ long input (x ∷ held) count left first written few so_far many none =
     let size = length-append (x ∷ held) begun.0 in
     let refuses : RefusesLine input count Long = (few, line, there, content_long line 256 (omega arith)) in
     record {
-      ends = refuses;
+      ends = (refuses, (so_far.text, so_far.shown));
       printed = λ before e. (so_far.text, so_far.printed before e, (refuses, so_far.shown));
     }
 
 -- the source failed before a line was there
-pub read_failed : (input held : List ℕ) (count : ℕ) (left first written : Option (List ℕ)) → IsShownTo input count held left first written
+pub read_failed : (input held : List ℕ) (count : ℕ) (left first written : Option (List ℕ)) → count ≤ 1000000 → IsShownTo input count held left first written
     → HasNoFeed held → EndsShow ReadFailed input left first written
-read_failed input held count left first written so_far none =
+read_failed input held count left first written few so_far none =
     let at = so_far.is_at in
     let rest = so_far.is_ahead.0 in
     let taken = at.before ++ held in
@@ -131,6 +133,7 @@ read_failed input held count left first written so_far none =
         (
           count,
           length taken,
+          few,
           (let total = ap length whole in omega arith),
           so_far.is_ahead.1 ∙ ap Some (sym (ap (drop (length taken)) whole ∙ drop_at taken rest (length taken) refl)),
           subst (λ (xs : List ℕ). AreEnded xs count) (sym (ap (take (length taken)) whole ∙ take_at taken rest (length taken) refl)) (ended_same at.before held count at.ended none),
@@ -140,11 +143,11 @@ read_failed input held count left first written so_far none =
     }
 
 -- the sink failed between two lines
-pub write_failed : (input held : List ℕ) (count : ℕ) (left first written : Option (List ℕ)) → IsShownTo input count held left first written
+pub write_failed : (input held : List ℕ) (count : ℕ) (left first written : Option (List ℕ)) → count ≤ 1000000 → IsShownTo input count held left first written
     → EndsShow WriteFailed input left first written
-write_failed input held count left first written so_far = record {
+write_failed input held count left first written few so_far = record {
   ends = tt;
-  printed = λ before e. (so_far.text, so_far.printed before e, (count, so_far.text, [], so_far.shown, sym (append-nil so_far.text)));
+  printed = λ before e. (so_far.text, so_far.printed before e, (count, few, so_far.text, [], so_far.shown, sym (append-nil so_far.text)));
 }
 
 -- the whole input was shown
@@ -153,7 +156,7 @@ all_shown : (input text : List ℕ) (count : ℕ) (left first written : Option (
 all_shown input text count left first written few whole none shown printed =
     let lines : AreLineCount input count = record { whole = whole; not_large = few } in
     record {
-      ends = ((count, lines), none);
+      ends = ((count, lines, (text, shown)), none);
       printed = λ before e. (text, printed before e, (count, lines, shown));
     }
 
@@ -201,15 +204,15 @@ large input (x ∷ held) count left first written full so_far some =
     count_at input so_far.ahead count so_far.is_at ∙ ap (λ (xs : List ℕ). count + length (lines_of xs)) so_far.is_ahead.2 in
     let refuses : RefusesLine input count Large = (full, omega arith) in
     record {
-      ends = refuses;
+      ends = (refuses, (so_far.text, so_far.shown));
       printed = λ before e. (so_far.text, so_far.printed before e, (refuses, so_far.shown));
     }
 
 -- what an ending says of the input
 pub ends_finished : (input : List ℕ) (ending : Ending) (left first written : Option (List ℕ)) → EndsShow ending input left first written → ending ≡ Finished
-    → ((count : ℕ) × AreLineCount input count) × (left ≡ Some [])
+    → ((count : ℕ) × AreLineCount input count × ((text : List ℕ) × IsShownText input count text)) × (left ≡ Some [])
 ends_finished input ending left first written at_end is = subst (λ (e : Ending). EndsAt e input left) is at_end.ends
 
 pub ends_refused : (input : List ℕ) (ending : Ending) (place : ℕ) (reason : Reason) (left first written : Option (List ℕ)) → EndsShow ending input left first written
-    → ending ≡ Refused place reason → RefusesLine input place reason
+    → ending ≡ Refused place reason → RefusesLine input place reason × ((text : List ℕ) × IsShownText input place text)
 ends_refused input ending place reason left first written at_end is = subst (λ (e : Ending). EndsAt e input left) is at_end.ends

@@ -63,10 +63,10 @@ pub record IsShownTo (input : List ℕ) (count : ℕ) (held : List ℕ) (left fi
   pub shown : IsShownText input count text
   pub printed : (before : List ℕ) → first ≡ Some before → written ≡ Some (before ++ text)
 
--- what each ending says of the input
+-- what each ending says of the input, whatever the sink tells
 abbrev pub EndsAt : Ending → List ℕ → Option (List ℕ) → Type 0
-EndsAt Finished input left = ((count : ℕ) × AreLineCount input count) × (left ≡ Some [])
-EndsAt (Refused place reason) input left = RefusesLine input place reason
+EndsAt Finished input left = ((count : ℕ) × AreLineCount input count × ((text : List ℕ) × IsShownText input count text)) × (left ≡ Some [])
+EndsAt (Refused place reason) input left = RefusesLine input place reason × ((text : List ℕ) × IsShownText input place text)
 EndsAt ReadFailed input left = Unit {0}
 EndsAt WriteFailed input left = Unit {0}
 

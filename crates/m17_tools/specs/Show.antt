@@ -81,12 +81,12 @@ IsShowText input text = ((count : ℕ) × AreLineCount input count × IsShownTex
 abbrev pub AreEnded : List ℕ → ℕ → Type 0
 AreEnded bytes count = count_by (λ byte. byte == 10) bytes ≡ count
 
--- What stands written when `show` ends in each way. `rest` is what is left of the input.
+-- What stands written when `show` ends in each way, of 1,000,000 lines at the most. `rest` is what is left of the input.
 abbrev pub ShowPrints : Ending → List ℕ → Option (List ℕ) → List ℕ → Type 0
 ShowPrints Finished input rest text = (count : ℕ) × AreLineCount input count × IsShownText input count text
 ShowPrints (Refused place reason) input rest text = RefusesLine input place reason × IsShownText input place text
 -- the lines of the lines that were taken whole, each up to its line feed
-ShowPrints ReadFailed input rest text = (count taken : ℕ) × (taken ≤ length input) × (rest ≡ Some (drop taken input))
+ShowPrints ReadFailed input rest text = (count taken : ℕ) × (count ≤ 1000000) × (taken ≤ length input) × (rest ≡ Some (drop taken input))
     × AreEnded (take taken input) count × IsShownText input count text
 -- a part of the lines of some of the lines
-ShowPrints WriteFailed input rest text = (count : ℕ) × (whole after : List ℕ) × IsShownText input count whole × (whole ≡ text ++ after)
+ShowPrints WriteFailed input rest text = (count : ℕ) × (count ≤ 1000000) × (whole after : List ℕ) × IsShownText input count whole × (whole ≡ text ++ after)

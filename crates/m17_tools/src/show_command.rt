@@ -2,7 +2,7 @@ ghost use Rattle.std.specs.Prelude.{◌≡◌, ℕ, ◌<◌, ◌≤◌, List, []
 ghost use Rattle.m17_devices.specs.Faults.{HasRisen};
 ghost use Rattle.m17_tools.specs.declared.ending.Ending.{Ending};
 ghost use Rattle.m17_tools.specs.declared.ending.Reason.{Reason};
-ghost use Rattle.m17_tools.specs.Show.{AreLineCount, RefusesLine, ShowPrints};
+ghost use Rattle.m17_tools.specs.Show.{AreLineCount, IsShownText, RefusesLine, ShowPrints};
 ghost use Rattle.m17_tools.specs.Lines.{HasNoFeed, IsShownTo, EndsShow, ShowsNext};
 ghost use Rattle.m17_tools.specs.Pending.{pending};
 
@@ -24,8 +24,10 @@ pub const LINES_MAX: u64 = 1_000_000;
 /// hex `Digit`, in this order; `ReadFailed` or `WriteFailed` where a device failed. The lines before stand written.
 /// This profile.
 pub fn show<S: Source, K: Sink>(input: &mut S, out: &mut K) -> Ending
-    ensures finished { result ≡ Ending.Finished → (bytes : List ℕ) → S.left input.old ≡ Some bytes → ((count : ℕ) × AreLineCount bytes count) × (S.left input.new ≡ Some []) }
-    ensures refused { (place : ℕ) (reason : Reason) → result ≡ Ending.Refused place reason → (bytes : List ℕ) → S.left input.old ≡ Some bytes → RefusesLine bytes place reason }
+    ensures finished { result ≡ Ending.Finished → (bytes : List ℕ) → S.left input.old ≡ Some bytes →
+        ((count : ℕ) × AreLineCount bytes count × ((text : List ℕ) × IsShownText bytes count text)) × (S.left input.new ≡ Some []) }
+    ensures refused { (place : ℕ) (reason : Reason) → result ≡ Ending.Refused place reason → (bytes : List ℕ) → S.left input.old ≡ Some bytes →
+        RefusesLine bytes place reason × ((text : List ℕ) × IsShownText bytes place text) }
     ensures read_failed { result ≡ Ending.ReadFailed → HasRisen (S.faults input.old) (S.faults input.new) }
     ensures write_failed { result ≡ Ending.WriteFailed → HasRisen (K.faults out.old) (K.faults out.new) }
     ensures reads_counted { S.faults input.old ≤ S.faults input.new }

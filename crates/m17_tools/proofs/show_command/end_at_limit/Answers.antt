@@ -32,7 +32,7 @@ returns-in-Err-clause-shows g c = λ bytes first so_far.
     let same : g.K.Sink.written c.else-not-is_at_hand.out ≡ g.K.Sink.written c.args.out.now = search rules in
     let old : pending c.args.reader.now ≡ [] = sym c.pending.ensures ∙ nil_from_length c.pending.result.now (grind arith) in
     let empty : pending c.read_more.new.self ≡ [] = c.in-Err.ensures.held ∙ old in
-    read_failed bytes (pending c.read_more.new.self) 1000000 _ first _
+    read_failed bytes (pending c.read_more.new.self) 1000000 _ first _ (lit≤ tt)
     (kept bytes _ _ 1000000 _ _ first _ _ so_far
     (λ ahead before. (before.0, c.in-Err.ensures.nothing_taken ∙ before.1, before.2 ∙ ap (λ xs. xs ++ before.0) (sym c.in-Err.ensures.held))) same)
     (subst HasNoFeed (sym empty) refl)

@@ -1,4 +1,4 @@
-use Rattle.std.proofs.Common.{ℕ, List, [], take, Option, Some, refl, sym, subst}
+use Rattle.std.proofs.Common.{ℕ, List, [], take, Option, Some, refl, sym, subst, arith}
 use Rattle.m17_tools.specs.Lines.{IsShownTo, EndsShow, ShowsLine}
 use Rattle.m17_tools.specs.Pending.{pending}
 use Rattle.m17_tools.proofs.ShowRun.{kept, line_next, long, read_failed, write_failed}
@@ -27,8 +27,8 @@ returns-in-Last-clause-shows g c = λ bytes first so_far.
 
 pub returns-in-ReadFailed-clause-shows : goal.returns-in-ReadFailed-clause-shows
 returns-in-ReadFailed-clause-shows g c = λ bytes first so_far.
-    read_failed bytes _ c.args.number _ first _ (kept bytes _ _ c.args.number _ _ first _ _ so_far c.in-ReadFailed.ensures.kept c.in-ReadFailed.ensures.nothing_written) c.in-ReadFailed.ensures.found
+    read_failed bytes _ c.args.number _ first _ (omega arith) (kept bytes _ _ c.args.number _ _ first _ _ so_far c.in-ReadFailed.ensures.kept c.in-ReadFailed.ensures.nothing_written) c.in-ReadFailed.ensures.found
 
 pub returns-in-WriteFailed-clause-shows : goal.returns-in-WriteFailed-clause-shows
 returns-in-WriteFailed-clause-shows g c = λ bytes first so_far.
-    write_failed bytes _ c.args.number _ first _ (kept bytes _ _ c.args.number _ _ first _ _ so_far c.in-WriteFailed.ensures.kept c.in-WriteFailed.ensures.nothing_written)
+    write_failed bytes _ c.args.number _ first _ (omega arith) (kept bytes _ _ c.args.number _ _ first _ _ so_far c.in-WriteFailed.ensures.kept c.in-WriteFailed.ensures.nothing_written)
