@@ -3,7 +3,7 @@ ghost use Rattle.m17_devices.specs.Faults.{HasRisen};
 ghost use Rattle.m17_devices.specs.Sink.{AppendsPrefix};
 ghost use Rattle.m17_tools.specs.declared.ending.Reason.{Reason};
 ghost use Rattle.m17_tools.specs.Judge.{AreRecords, RefusesRecords, IsJudgeText, JudgePrints};
-ghost use Rattle.m17_tools.specs.Show.{AreLineCount, RefusesLine, IsShowText, ShowPrints};
+ghost use Rattle.m17_tools.specs.Show.{AreLineCount, RefusesLine, IsShownText, IsShowText, ShowPrints};
 ghost use Rattle.m17_app.specs.Run.{NamesJudge, NamesShow, AreRefused, IsStatus, StandsWritten, words_refused_line};
 
 use crate::command::{Command, command_of};
@@ -35,8 +35,10 @@ fn run_show<S: Source, K: Sink>(input: &mut S, out: &mut K) -> u8
     ensures handed_on { (result ≡ 4 → ⊥) → K.held_back out.new ≡ 0 }
     ensures read_failed { result ≡ 3 → HasRisen (S.faults input.old) (S.faults input.new) }
     ensures write_failed { result ≡ 4 → HasRisen (K.faults out.old) (K.faults out.new) }
-    ensures finished { result ≡ 0 → (bytes : List ℕ) → S.left input.old ≡ Some bytes → ((count : ℕ) × AreLineCount bytes count) × (S.left input.new ≡ Some []) }
-    ensures refused { result ≡ 1 → (bytes : List ℕ) → S.left input.old ≡ Some bytes → (place : ℕ) × (reason : Reason) × RefusesLine bytes place reason }
+    ensures finished { result ≡ 0 → (bytes : List ℕ) → S.left input.old ≡ Some bytes
+        → ((count : ℕ) × AreLineCount bytes count × ((text : List ℕ) × IsShownText bytes count text)) × (S.left input.new ≡ Some []) }
+    ensures refused { result ≡ 1 → (bytes : List ℕ) → S.left input.old ≡ Some bytes
+        → (place : ℕ) × (reason : Reason) × RefusesLine bytes place reason × ((text : List ℕ) × IsShownText bytes place text) }
     ensures text { (bytes before : List ℕ) → S.left input.old ≡ Some bytes → K.written out.old ≡ Some before →
         StandsWritten ShowPrints result bytes (S.left input.new) before (K.written out.new) }
 {
@@ -91,11 +93,12 @@ pub fn run<R, S: Source, K: Sink>(
     ensures judge_complete { NamesJudge (map string_bytes words.now) → (bytes : List ℕ) (count : ℕ) → S.left input.old ≡ Some bytes → AreRecords bytes count
         → (HasRisen (S.faults input.old) (S.faults input.new) → ⊥) → (HasRisen (K.faults out.old) (K.faults out.new) → ⊥) → (result ≡ 0) ⊎ (result ≡ 70) }
 
-    // `show`: 0 says that the input is lines of hex digits, read to its end, 1 which line is none and why.
+    // `show`: 0 says that the input is lines of hex digits, each of which is shown, read to its end; 1 which line is none
+    // and why, and that those before it are shown.
     ensures show_finished { result ≡ 0 → NamesShow (map string_bytes words.now) → (bytes : List ℕ) → S.left input.old ≡ Some bytes
-        → ((count : ℕ) × AreLineCount bytes count) × (S.left input.new ≡ Some []) }
+        → ((count : ℕ) × AreLineCount bytes count × ((text : List ℕ) × IsShownText bytes count text)) × (S.left input.new ≡ Some []) }
     ensures show_refused { result ≡ 1 → NamesShow (map string_bytes words.now) → (bytes : List ℕ) → S.left input.old ≡ Some bytes
-        → (place : ℕ) × (reason : Reason) × RefusesLine bytes place reason }
+        → (place : ℕ) × (reason : Reason) × RefusesLine bytes place reason × ((text : List ℕ) × IsShownText bytes place text) }
     // With 0 and 1 its whole text stands written, and with the others a part of it.
     ensures show_text { (result ≡ 0) ⊎ (result ≡ 1) → NamesShow (map string_bytes words.now) → (bytes before : List ℕ) → S.left input.old ≡ Some bytes → K.written out.old ≡ Some before
         → (text : List ℕ) × (K.written out.new ≡ Some (before ++ text)) × IsShowText bytes text }
