@@ -1,6 +1,6 @@
 use thiserror::Error;
 
-/// Why a text is no callsign. M17 Protocol Specification, address encoding.
+/// Why a text is no callsign: the first reason that fits, in this order. This profile.
 #[derive(Clone, Copy, Debug, PartialEq, Eq, Error)]
 pub enum CallRefusal {
     /// The text has no byte.

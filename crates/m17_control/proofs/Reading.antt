@@ -11,13 +11,14 @@ use Rattle.m17_callsign.specs.Callsign.{end_of_callsigns}
 use Rattle.m17_stream.specs.declared.packet.StreamPacket.{StreamPacket}
 use Rattle.m17_stream.specs.declared.packet.StreamRefusal.{StreamRefusal}
 use Rattle.m17_stream.specs.declared.packet.StreamRefusal.TheVariants as streams
+use Rattle.m17_stream.specs.Exact.{IsBytes}
 use Rattle.m17_stream.specs.Stream as stream
 use Rattle.m17_control.specs.declared.packet.Control.TheVariants.{Conn, Lstn, Ackn, Nack, Ping, Pong, Disc}
 use Rattle.m17_control.specs.declared.packet.Packet.{Packet}
 use Rattle.m17_control.specs.declared.packet.Packet.TheVariants as packets
 use Rattle.m17_control.specs.declared.packet.Refusal.{Refusal}
 use Rattle.m17_control.specs.declared.packet.Refusal.TheVariants.{Length, Magic, Address, Module, Crc}
-use Rattle.m17_control.specs.Exact.{IsBytes, HasOneReading}
+use Rattle.m17_control.specs.Exact.{HasOneReading}
 use Rattle.m17_control.specs.Forms.{Spells, Refuses, IsFrom, IsModule, IsLength, HasMagic, HasFrom}
 use Rattle.m17_control.proofs.Controls.{BytesAreExact, one_spelling as control_spelling}
 use Rattle.m17_control.proofs.Parts.{of_from, of_module, no_stream_magic}

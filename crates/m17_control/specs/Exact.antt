@@ -1,12 +1,8 @@
 -- What bytes are to a reader of packets: one packet, or refused for one reason, and not both.
-use Rattle.std.specs.Prelude.{◌≡◌, ◌⊎◌, ℕ, ◌<◌, ◌^◌, List, All}
+use Rattle.std.specs.Prelude.{◌≡◌, ◌⊎◌, ℕ, List}
 use Rattle.m17_control.specs.declared.packet.Packet.{Packet}
 use Rattle.m17_control.specs.declared.packet.Refusal.{Refusal}
 use Rattle.m17_control.specs.Forms.{Spells, Refuses}
-
--- each is a byte
-abbrev pub IsBytes : List ℕ → Type 0
-IsBytes bytes = All (λ byte. byte < 2 ^ 8) bytes
 
 -- The bytes spell this packet, no other one, and are not refused.
 pub record IsOnlyPacket (bytes : List ℕ) (p : Packet) : Type 0 where

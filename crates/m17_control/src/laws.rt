@@ -1,8 +1,9 @@
 //! What holds of all bytes. Each is a function without arguments, which does nothing and ensures the law.
 ghost use Rattle.std.specs.Prelude.{◌≡◌, ℕ, List};
-ghost use Rattle.m17_control.specs.Exact.{IsBytes, HasOneReading};
+ghost use Rattle.m17_control.specs.Exact.{HasOneReading};
 ghost use Rattle.m17_control.specs.Forms.{Spells};
 ghost use Rattle.m17_control.specs.declared.packet.Packet.{Packet};
+ghost use Rattle.m17_stream.specs.Exact.{IsBytes};
 
 /// Each byte list spells one packet, or is refused for one reason, and not both; and no two byte lists spell the same
 /// packet. M17 Protocol Specification, IP networking; the forms of control packets are this profile's.

@@ -20,7 +20,7 @@ frame_field last number = 32768 * (if last then 1 else 0) + number
 abbrev pub front_bytes : StreamPacket → List ℕ
 front_bytes p = magic ++ to_be_bytes w16 p.sid ++ lsd_bytes p.lsd ++ to_be_bytes w16 (frame_field p.last p.number) ++ p.payload
 
--- The packet spells the bytes: its fields fit their places, and then come the CRC of the first 52 bytes.
+-- The packet spells the bytes: its fields fit their places, and then comes the CRC of the first 52 bytes.
 pub record SpellsStream (p : StreamPacket) (bytes : List ℕ) : Type 0 where
   pub sid : p.sid < 2 ^ 16
   pub lsd : FitsFields p.lsd

@@ -42,7 +42,7 @@ pub struct StreamPacket {
     ghost numbered: { number < 32768 },
 }
 
-/// Why bytes are no stream packet. M17 Protocol Specification, IP networking.
+/// Why bytes are no stream packet: the first reason that fits, in this order. This profile.
 #[derive(Clone, Copy, Debug, PartialEq, Eq)]
 pub enum StreamRefusal {
     /// Their number, which isn't 54.
