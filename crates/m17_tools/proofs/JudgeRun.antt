@@ -180,7 +180,8 @@ pub failed_inside : (bytes : List ℕ) (count : ℕ) (rest rest' : Option (List 
 failed_inside bytes count rest rest' floor owns moment first written text room after short is_text = (
   count,
   64 * count + short.taken,
-  omega arith, omega arith,
+  omega arith,
+  omega arith,
   omega (arith, short.not_all),
   omega (arith, short.no_more, length-drop (64 * count) bytes, after.within),
   short.rest_left ∙ ap Some (drop-drop short.taken (64 * count) bytes),
