@@ -58,5 +58,5 @@ each_28_bytes six b long h =
         meta_length = length-part 14 14 b (omega arith);
       },
       four_parts (address_bytes dst.0) (address_bytes src.0) (to_be_bytes w16 (kind_in kind)) meta b long dst.2 src.2
-      (kind_in_bytes kind (length-part 12 2 b (omega arith)) (All-part 12 2 b h)) refl,
+          (kind_in_bytes kind (length-part 12 2 b (omega arith)) (All-part 12 2 b h)) refl,
     )
