@@ -16,3 +16,6 @@ pub use filling::{Filled, fill};
 pub use judge_command::{RECORDS_MAX, judge};
 pub use show_command::{LINES_MAX, show};
 pub use show_line::LINE_DIGITS;
+
+#[cfg(test)]
+mod waiting;
