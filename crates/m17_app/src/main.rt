@@ -58,4 +58,6 @@ fn words_of(rt: HostRuntime) -> Option<Vec<String>> {
 }
 
 #[cfg(test)]
+mod std_tests;
+#[cfg(test)]
 mod tests;

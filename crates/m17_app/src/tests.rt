@@ -165,7 +165,7 @@ fn each_way_to_end_has_its_status_and_last_line(rt: HostRuntime) -> Result<(), F
     let spoken = [Spoken(0, 3, 1, 0, false), Spoken(0, 4, 2, 0, false)];
     let mut cut = records(alloc, &spoken)?;
     cut.truncate(65);
-    let runs: [(&[&str], Vec<u8>, &[u64], &[u64], u8, &str); 11] = [
+    let runs: [(&[&str], Vec<u8>, &[u64], &[u64], u8, &str); 15] = [
         (
             &["judge"],
             cut,
@@ -219,6 +219,25 @@ fn each_way_to_end_has_its_status_and_last_line(rt: HostRuntime) -> Result<(), F
             1,
             "input refused at 0: odd\n",
         ),
+        // Call 2 of the sink writes the last line, which is empty, and call 3 is the flush.
+        (
+            &["judge"],
+            records(alloc, &spoken)?,
+            &[],
+            &[2],
+            4,
+            "0 opened\n1 busy 3\n",
+        ),
+        (
+            &["judge"],
+            records(alloc, &spoken)?,
+            &[],
+            &[3],
+            4,
+            "0 opened\n1 busy 3\n",
+        ),
+        (&["help"], Vec::new(alloc), &[], &[0], 4, ""),
+        (&["help"], Vec::new(alloc), &[], &[1], 4, "words refused\n"),
     ];
     for (given, input, read_fails, write_fails, status, text) in runs {
         let (answer, written) = ran(&rt, given, input, read_fails, write_fails)?;

@@ -2,7 +2,7 @@ use super::*;
 use m17_callsign::{Address, CallAddress};
 use m17_control::{Control, ModuleLetter, Packet, Refusal};
 use m17_lsd::Lsd;
-use m17_stream::StreamPacket;
+use m17_stream::{StreamPacket, StreamRefusal};
 use std::process::Abort;
 use std::test::Fail;
 
@@ -119,6 +119,29 @@ fn refusals_say_what_was_found(rt: HostRuntime) {
     for (refusal, text) in texts {
         let mut line = Line::new();
         line.refusal(&refusal);
+        assert_eq!(rt; line.bytes(), text.as_bytes());
+    }
+}
+
+#[test]
+fn refusals_of_a_stream_packet_say_what_was_found(rt: HostRuntime) {
+    let texts = [
+        (StreamRefusal::Length(53), "refused length 53"),
+        (
+            StreamRefusal::Magic([b'C', b'O', b'N', b'X']),
+            "refused magic 434F4E58",
+        ),
+        (
+            StreamRefusal::Crc {
+                found: 0,
+                expected: 0x1C31,
+            },
+            "refused crc 0000 1C31",
+        ),
+    ];
+    for (refusal, text) in texts {
+        let mut line = Line::new();
+        line.stream_refusal(&refusal);
         assert_eq!(rt; line.bytes(), text.as_bytes());
     }
 }

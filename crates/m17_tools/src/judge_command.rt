@@ -110,3 +110,6 @@ pub fn judge<S: Source, K: Sink>(
         None => Ok(look_past(input, out)),
     }
 }
+
+#[cfg(test)]
+mod tests;

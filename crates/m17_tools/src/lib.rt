@@ -18,3 +18,6 @@ pub use ending::{Ending, Reason};
 pub(crate) use filling::{Filled, fill};
 pub use judge_command::judge;
 pub use show_command::show;
+
+#[cfg(test)]
+mod waiting;

@@ -1,7 +1,6 @@
-ghost use Rattle.std.specs.Prelude.{Some};
-
 use super::*;
-use m17_devices::{BytesSink, BytesSource, Failed};
+use crate::waiting::Waiting;
+use m17_devices::{BytesSink, BytesSource};
 use std::alloc::Global;
 use std::process::Abort;
 use std::test::Fail;
@@ -31,26 +30,6 @@ fn expect(
     text: &str,
 ) -> Result<(), Fail> {
     expect_failing(rt, alloc, input, &[], &[], ending, text)
-}
-
-// A source of which each read would wait for the outside.
-#[derive(Drop)]
-struct Waiting {
-    bytes: BytesSource,
-}
-
-impl Source for Waiting {
-    ghost faults = { λ s. s.bytes.faults };
-
-    ghost left = { λ s. Some s.bytes.left };
-
-    fn read(&mut self, into: &mut [u8]) -> Result<usize, Failed> {
-        self.bytes.read(into)
-    }
-
-    fn is_at_hand(&self) -> bool {
-        false
-    }
 }
 
 fn refused(place: u64, reason: Reason) -> Ending {
@@ -148,9 +127,7 @@ fn a_device_that_fails_ends_the_run(rt: HostRuntime) -> Result<(), Fail> {
 fn lines_are_handed_on_before_more_input_is_waited_for(rt: HostRuntime) -> Result<(), Fail> {
     let alloc = rt.alloc();
     for (call, text) in [(0, ""), (1, ""), (2, "ackn\n"), (3, "ackn\nnack\n")] {
-        let mut source = Waiting {
-            bytes: BytesSource::new(b"41434B4E\n4E41434B\n".to_vec(alloc)?, Vec::new(alloc)),
-        };
+        let mut source = Waiting::new(b"41434B4E\n4E41434B\n".to_vec(alloc)?, Vec::new(alloc));
         let mut sink = BytesSink::make(alloc, 100, [call].to_vec(alloc)?)?;
         assert_eq!(rt; show(&mut source, &mut sink), Ending::WriteFailed);
         assert_eq!(rt; sink.bytes(), text.as_bytes());
