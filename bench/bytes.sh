@@ -3,13 +3,15 @@
 #
 # PROGRAM is crates/m17_app/out/m17_app where none is given; give the program itself, since a launcher's own time would
 # be in the figures. Environment: YARDSTICK, a program that takes the same words and is run in turn; REPEAT (3), rounds;
-# COUNT (1000000), records and lines. The figures are printed, and nothing is asserted of them.
+# COUNT (1000000), records and lines; COMMANDS (judge show), what is measured. The figures are printed, and nothing is
+# asserted of them.
 set -u
 
 bench=$(cd "$(dirname "$0")" && pwd)
 program=${1:-$bench/../crates/m17_app/out/m17_app}
 repeat=${REPEAT:-3}
 count=${COUNT:-1000000}
+commands=${COMMANDS:-judge show}
 scratch=$(mktemp -d) || exit 1
 trap 'rm -rf "$scratch"' EXIT
 trap 'exit 1' HUP INT TERM
@@ -99,6 +101,11 @@ echo "$count records and lines, median of $repeat rounds"
 echo
 echo '| command | input | who | wall s | million/s | peak KB | reads | writes | status |'
 echo '|---|---|---|---|---|---|---|---|---|'
-command_table judge records
-command_table show lines
+for command in $commands; do
+    case $command in
+    judge) command_table judge records ;;
+    show) command_table show lines ;;
+    *) echo "bytes.sh: there is no command $command" >&2; exit 2 ;;
+    esac
+done
 [ ! -s "$scratch/notes" ] || { echo; cat "$scratch/notes"; }
