@@ -83,9 +83,9 @@ fn look_past<S: Source, K: Sink>(input: &mut S, out: &mut K) -> Ending
 
 /// Judges records of 64 bytes, each with its moment in milliseconds (8 bytes, big-endian), its talker (2 bytes) and its
 /// stream packet (54 bytes), and writes a line for each: the verdict of the floor rule, or why the packet is refused.
-/// Each record is read, judged and printed before the next is read, as the tests show. The input is refused as `Cut` where it ends inside
-/// a record, at its length, and as `Large` where there is a byte of record 1,000,000, at 64,000,000; the lines before
-/// that stand. `NoMemory` where there is none for the talkers. This profile.
+/// Each record is read, judged and printed before the next is read, as the tests show. The input is refused as `Cut`
+/// where it ends inside a record, at its length, and as `Large` where there is a byte of record 1,000,000, at 64,000,000;
+/// the lines before that stand. `NoMemory` where there is none for the talkers. This profile.
 pub fn judge<S: Source, K: Sink>(
     alloc: Global,
     input: &mut S,
