@@ -30,6 +30,7 @@ fn end_with<K: Sink>(out: &mut K, line: &[u8], status: u8) -> u8
     ensures part { (before : List ℕ) → K.written out.old ≡ Some before → AppendsPrefix before line.now (K.written out.new) }
     ensures failed { result ≡ 4 → (status ≡ 4) ⊎ HasRisen (K.faults out.old) (K.faults out.new) }
     ensures handed_on { (result ≡ 4 → ⊥) → K.held_back out.new ≡ 0 }
+    ensures no_fault { (result ≡ 4 → ⊥) → K.faults out.new ≡ K.faults out.old }
     ensures counted { K.faults out.old ≤ K.faults out.new }
 {
     match out.write(line) {
@@ -48,6 +49,7 @@ pub fn refuse_words<K: Sink>(out: &mut K) -> u8
     ensures part { (before : List ℕ) → K.written out.old ≡ Some before → AppendsPrefix before words_refused_line (K.written out.new) }
     ensures failed { result ≡ 4 → HasRisen (K.faults out.old) (K.faults out.new) }
     ensures handed_on { (result ≡ 4 → ⊥) → K.held_back out.new ≡ 0 }
+    ensures no_fault { (result ≡ 4 → ⊥) → K.faults out.new ≡ K.faults out.old }
     ensures counted { K.faults out.old ≤ K.faults out.new }
 {
     end_with(out, b"words refused\n", WORDS_REFUSED)
@@ -60,6 +62,7 @@ pub fn conclude<K: Sink>(out: &mut K, ending: Ending) -> u8
     ensures part { (before : List ℕ) → K.written out.old ≡ Some before → AppendsPrefix before (last_line ending) (K.written out.new) }
     ensures failed { result ≡ 4 → (ending ≡ Ending.WriteFailed) ⊎ HasRisen (K.faults out.old) (K.faults out.new) }
     ensures handed_on { (result ≡ 4 → ⊥) → K.held_back out.new ≡ 0 }
+    ensures no_fault { (result ≡ 4 → ⊥) → K.faults out.new ≡ K.faults out.old }
     ensures counted { K.faults out.old ≤ K.faults out.new }
 {
     let mut line = Line::new();

@@ -18,6 +18,8 @@ fn run_judge<S: Source, K: Sink>(alloc: Global, input: &mut S, out: &mut K) -> u
     ensures read_failed { result ≡ 3 → HasRisen (S.faults input.old) (S.faults input.new) }
     ensures write_failed { result ≡ 4 → HasRisen (K.faults out.old) (K.faults out.new) }
     ensures no_memory { result ≡ 70 → (S.left input.new ≡ S.left input.old) × (K.written out.new ≡ K.written out.old) }
+    ensures no_read_fault { (result ≡ 3 → ⊥) → (result ≡ 4 → ⊥) → S.faults input.new ≡ S.faults input.old }
+    ensures no_write_fault { (result ≡ 4 → ⊥) → K.faults out.new ≡ K.faults out.old }
     ensures finished { result ≡ 0 → (bytes : List ℕ) → S.left input.old ≡ Some bytes → ((count : ℕ) × AreRecords bytes count) × (S.left input.new ≡ Some []) }
     ensures refused { result ≡ 1 → (bytes : List ℕ) → S.left input.old ≡ Some bytes → (count place : ℕ) × (reason : Reason) × RefusesRecords bytes count place reason }
     ensures text { (result ≡ 70 → ⊥) → (bytes before : List ℕ) → S.left input.old ≡ Some bytes → K.written out.old ≡ Some before →
@@ -35,6 +37,8 @@ fn run_show<S: Source, K: Sink>(input: &mut S, out: &mut K) -> u8
     ensures handed_on { (result ≡ 4 → ⊥) → K.held_back out.new ≡ 0 }
     ensures read_failed { result ≡ 3 → HasRisen (S.faults input.old) (S.faults input.new) }
     ensures write_failed { result ≡ 4 → HasRisen (K.faults out.old) (K.faults out.new) }
+    ensures no_read_fault { (result ≡ 3 → ⊥) → (result ≡ 4 → ⊥) → S.faults input.new ≡ S.faults input.old }
+    ensures no_write_fault { (result ≡ 4 → ⊥) → K.faults out.new ≡ K.faults out.old }
     ensures finished { result ≡ 0 → (bytes : List ℕ) → S.left input.old ≡ Some bytes
         → ((count : ℕ) × AreLineCount bytes count × ((text : List ℕ) × IsShownText bytes count text)) × (S.left input.new ≡ Some []) }
     ensures refused { result ≡ 1 → (bytes : List ℕ) → S.left input.old ≡ Some bytes
@@ -68,12 +72,14 @@ pub fn run<R, S: Source, K: Sink>(
     ensures words_part { AreRefused (map string_bytes words.now) → (before : List ℕ) → K.written out.old ≡ Some before → AppendsPrefix before words_refused_line (K.written out.new) }
     ensures words_untouched { AreRefused (map string_bytes words.now) → S.left input.new ≡ S.left input.old }
 
-    // What was written went out, where the sink did not fail.
+    // Where the sink did not fail, it holds nothing back of what was written.
     ensures handed_on { (result ≡ 4 → ⊥) → (result ≡ 70 → ⊥) → K.held_back out.new ≡ 0 }
 
-    // 3 and 4 have their causes.
+    // 3 and 4 come where the source and the sink failed, 4 in place of all others, and nowhere else.
     ensures read_failed { result ≡ 3 → HasRisen (S.faults input.old) (S.faults input.new) }
     ensures write_failed { result ≡ 4 → HasRisen (K.faults out.old) (K.faults out.new) }
+    ensures no_read_fault { (result ≡ 3 → ⊥) → (result ≡ 4 → ⊥) → S.faults input.new ≡ S.faults input.old }
+    ensures no_write_fault { (result ≡ 4 → ⊥) → K.faults out.new ≡ K.faults out.old }
 
     // Want of memory comes before anything was taken or written, and never in `show`.
     ensures show_takes_no_memory { NamesShow (map string_bytes words.now) → result ≡ 70 → ⊥ }

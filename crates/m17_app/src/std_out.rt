@@ -1,4 +1,4 @@
-ghost use Rattle.std.specs.Prelude.{◌≡◌, ◌+◌, ◌-◌, ◌^◌, ◌<◌, ◌≤◌, length, None, IfOk, OnErr};
+ghost use Rattle.std.specs.Prelude.{◌≡◌, ◌+◌, ◌-◌, ◌^◌, ◌<◌, ◌≤◌, length, None, IfOk, OnOk, OnErr};
 ghost use Rattle.m17_devices.specs.Faults.{HasRisen};
 
 use m17_devices::{Failed, NoMemory, Sink};
@@ -32,6 +32,7 @@ impl<'a, P: Print> StdOut<'a, P> {
     // Hands bytes on as they are, and counts a fault.
     fn hand_on(&mut self, bytes: &[u8]) -> Result<(), Failed>
         ensures failed { OnErr result (HasRisen self.old.faults self.new.faults) }
+        ensures no_fault { OnOk result (self.new.faults ≡ self.old.faults) }
         ensures counted { self.old.faults ≤ self.new.faults }
     {
         match self.to.write_all(bytes) {

@@ -20,6 +20,7 @@ pub trait Sink {
         ensures ok { OnOk result ((before : List ℕ) → written self.old ≡ Some before → written self.new ≡ Some (before ++ bytes.now)) }
         ensures err { OnErr result ((before : List ℕ) → written self.old ≡ Some before → AppendsPrefix before bytes.now (written self.new)) }
         ensures failed { OnErr result (HasRisen (faults self.old) (faults self.new)) }
+        ensures success_is_no_fault { OnOk result (faults self.new ≡ faults self.old) }
         ensures counted { faults self.old ≤ faults self.new };
 
     /// Hands on what it holds back of the bytes written. `Failed` where the device failed.
@@ -27,5 +28,6 @@ pub trait Sink {
         ensures same { written self.new ≡ written self.old }
         ensures handed_on { OnOk result (held_back self.new ≡ 0) }
         ensures failed { OnErr result (HasRisen (faults self.old) (faults self.new)) }
+        ensures success_is_no_fault { OnOk result (faults self.new ≡ faults self.old) }
         ensures counted { faults self.old ≤ faults self.new };
 }

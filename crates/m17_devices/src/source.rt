@@ -1,4 +1,4 @@
-ghost use Rattle.std.specs.Prelude.{◌≡◌, ℕ, ◌≤◌, List, length, Option, Some, IfOk, OnErr};
+ghost use Rattle.std.specs.Prelude.{◌≡◌, ℕ, ◌≤◌, List, length, Option, Some, IfOk, OnOk, OnErr};
 ghost use Rattle.m17_devices.specs.Faults.{HasRisen};
 ghost use Rattle.m17_devices.specs.Source.{Takes};
 
@@ -19,6 +19,7 @@ pub trait Source {
         ensures taken { IfOk result (λ n. (bytes : List ℕ) → left self.old ≡ Some bytes
             → Takes bytes n into.old into.new (left self.new)) }
         ensures failed { OnErr result (HasRisen (faults self.old) (faults self.new)) }
+        ensures success_is_no_fault { OnOk result (faults self.new ≡ faults self.old) }
         ensures nothing_taken { OnErr result (left self.new ≡ left self.old) }
         ensures counted { faults self.old ≤ faults self.new };
 

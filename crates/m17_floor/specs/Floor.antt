@@ -1,6 +1,5 @@
 -- The floor rule: who holds the floor of a module, and what becomes of a packet. Each definition looks back through
--- the whole list of acts. This profile; a frame number is late or ahead as in the IP networking of the M17 Protocol
--- Specification, where a sender counts frames up.
+-- the whole list of acts. This profile, the order of frame numbers included.
 use Rattle.std.specs.Prelude.{◌==◌, ◌&&◌, ℕ, zero, suc, ◌-◌, Bool, true, false, not, List, [], ◌∷◌, ◌++◌, slice_get, nat_lt, nat_le, Option, None, Some, IsTrue, unwrap_or, option_and_then, if◌then◌else◌}
 use Rattle.std.specs.Option.{option_map_or}
 use Rattle.m17_devices.specs.declared.member.Member.{Member}

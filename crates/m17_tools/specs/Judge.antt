@@ -119,7 +119,7 @@ JudgePrints (Refused place reason) input rest text = (count : ℕ) × RefusesRec
 -- the lines of the records that were taken whole
 JudgePrints ReadFailed input rest text = (count taken : ℕ) × (count ≤ 1000000) × (64 * count ≤ taken) × (taken < 64 * (count + 1)) × (taken ≤ length input)
     × (rest ≡ Some (drop taken input)) × IsTextOf input count text
--- a part of the lines of some of the records
+-- a first part of the lines of the first `count` records
 JudgePrints WriteFailed input rest text = (count : ℕ) × (whole after : List ℕ) × (count ≤ 1000000) × (64 * count ≤ length input) × IsTextOf input count whole × (whole ≡ text ++ after)
 
 -- After as many records as may come: how the look for one more byte ends, with what was left of the input and what is.

@@ -22,7 +22,7 @@ unfoldable pub lines_of : List ℕ → List (List ℕ)
 lines_of [] = []
 lines_of (byte ∷ rest) = if byte == 10 then [] ∷ lines_of rest else begin_first byte (lines_of rest)
 
--- the bytes of the last place
+-- the byte at the last place
 abbrev pub last_byte : List ℕ → ℕ
 last_byte line = slice_index line (length line - 1)
 
@@ -88,5 +88,5 @@ ShowPrints (Refused place reason) input rest text = RefusesLine input place reas
 -- the lines of the lines that were taken whole, each up to its line feed
 ShowPrints ReadFailed input rest text = (count taken : ℕ) × (count ≤ 1000000) × (taken ≤ length input) × (rest ≡ Some (drop taken input))
     × AreEnded (take taken input) count × IsShownText input count text
--- a part of the lines of some of the lines
+-- a first part of what is printed for the first `count` lines
 ShowPrints WriteFailed input rest text = (count : ℕ) × (count ≤ 1000000) × (whole after : List ℕ) × IsShownText input count whole × (whole ≡ text ++ after)

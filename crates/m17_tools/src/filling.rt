@@ -24,7 +24,9 @@ pub fn fill<S: Source, K: Sink>(input: &mut S, out: &mut K, into: &mut [u8]) -> 
         (bytes : List ℕ) → S.left input.old ≡ Some bytes → IsCutShort bytes (length into.old) (S.left input.new) }
     ensures read_failed { result ≡ Filled.ReadFailed → HasRisen (S.faults input.old) (S.faults input.new) }
     ensures write_failed { result ≡ Filled.WriteFailed → HasRisen (K.faults out.old) (K.faults out.new) }
+    ensures no_read_fault { (result ≡ Filled.ReadFailed → ⊥) → S.faults input.new ≡ S.faults input.old }
     ensures reads_counted { S.faults input.old ≤ S.faults input.new }
+    ensures no_write_fault { (result ≡ Filled.WriteFailed → ⊥) → K.faults out.new ≡ K.faults out.old }
     ensures writes_counted { K.faults out.old ≤ K.faults out.new }
     ensures nothing_written { K.written out.new ≡ K.written out.old }
 {

@@ -27,7 +27,9 @@ fn judge_records<S: Source, K: Sink>(
     ensures refused { (place : ℕ) (reason : Reason) → result ≡ Some (Ending.Refused place reason) → (bytes : List ℕ) → S.left input.old ≡ Some bytes → (count : ℕ) × RefusesRecords bytes count place reason }
     ensures read_failed { result ≡ Some Ending.ReadFailed → HasRisen (S.faults input.old) (S.faults input.new) }
     ensures write_failed { result ≡ Some Ending.WriteFailed → HasRisen (K.faults out.old) (K.faults out.new) }
+    ensures no_read_fault { (result ≡ Some Ending.ReadFailed → ⊥) → S.faults input.new ≡ S.faults input.old }
     ensures reads_counted { S.faults input.old ≤ S.faults input.new }
+    ensures no_write_fault { (result ≡ Some Ending.WriteFailed → ⊥) → K.faults out.new ≡ K.faults out.old }
     ensures writes_counted { K.faults out.old ≤ K.faults out.new }
     ensures text { (ending : Ending) → result ≡ Some ending → (bytes before : List ℕ) → S.left input.old ≡ Some bytes → K.written out.old ≡ Some before →
         (text : List ℕ) × (K.written out.new ≡ Some (before ++ text)) × JudgePrints ending bytes (S.left input.new) text }
@@ -65,7 +67,9 @@ fn look_past<S: Source, K: Sink>(input: &mut S, out: &mut K) -> Ending
     ensures looks { (left : List ℕ) → S.left input.old ≡ Some left → LooksPast result left (S.left input.new) }
     ensures read_failed { result ≡ Ending.ReadFailed → HasRisen (S.faults input.old) (S.faults input.new) }
     ensures write_failed { result ≡ Ending.WriteFailed → HasRisen (K.faults out.old) (K.faults out.new) }
+    ensures no_read_fault { (result ≡ Ending.ReadFailed → ⊥) → S.faults input.new ≡ S.faults input.old }
     ensures reads_counted { S.faults input.old ≤ S.faults input.new }
+    ensures no_write_fault { (result ≡ Ending.WriteFailed → ⊥) → K.faults out.new ≡ K.faults out.old }
     ensures writes_counted { K.faults out.old ≤ K.faults out.new }
     ensures nothing_written { K.written out.new ≡ K.written out.old }
 {
@@ -95,7 +99,9 @@ pub fn judge<S: Source, K: Sink>(
     ensures refused { (place : ℕ) (reason : Reason) → result ≡ Ok (Ending.Refused place reason) → (bytes : List ℕ) → S.left input.old ≡ Some bytes → (count : ℕ) × RefusesRecords bytes count place reason }
     ensures read_failed { result ≡ Ok Ending.ReadFailed → HasRisen (S.faults input.old) (S.faults input.new) }
     ensures write_failed { result ≡ Ok Ending.WriteFailed → HasRisen (K.faults out.old) (K.faults out.new) }
+    ensures no_read_fault { (result ≡ Ok Ending.ReadFailed → ⊥) → S.faults input.new ≡ S.faults input.old }
     ensures reads_counted { S.faults input.old ≤ S.faults input.new }
+    ensures no_write_fault { (result ≡ Ok Ending.WriteFailed → ⊥) → K.faults out.new ≡ K.faults out.old }
     ensures writes_counted { K.faults out.old ≤ K.faults out.new }
     ensures text { (ending : Ending) → result ≡ Ok ending → (bytes before : List ℕ) → S.left input.old ≡ Some bytes → K.written out.old ≡ Some before →
         (text : List ℕ) × (K.written out.new ≡ Some (before ++ text)) × JudgePrints ending bytes (S.left input.new) text }

@@ -1,8 +1,9 @@
 //! The commands on bytes: what goes in as records or lines comes out as lines. `judge` judges records of packets by the
 //! floor rule, and `show` says what the bytes of hex lines are. It promises, for the bytes that came in, the exact text
 //! that was written when a command ended, the place and the reason where the input is refused, and that a failure is told
-//! only where a device failed. Output is handed on before more input would be waited for, and memory does not grow with
-//! the input. Which command runs, the last line of a run and its status are left to the program.
+//! exactly where a device failed. Tests show that output is handed on before more input would be waited for. Only the
+//! start of `judge` has an allocator, so memory does not grow with the input. Which command runs, the last line of a run
+//! and its status are left to the program.
 #![tactic(auto)]
 
 mod ending;

@@ -1,4 +1,4 @@
-ghost use Rattle.std.specs.Prelude.{◌≡◌, ℕ, ◌+◌, ◌<◌, ◌≤◌, List, [], length, drop, Option, Some, Ok, IfOk, OnErr, MatchOption};
+ghost use Rattle.std.specs.Prelude.{◌≡◌, ℕ, ◌+◌, ◌<◌, ◌≤◌, List, [], length, drop, Option, Some, Ok, IfOk, OnOk, OnErr, MatchOption};
 ghost use Rattle.m17_devices.specs.Faults.{HasRisen};
 ghost use Rattle.m17_tools.specs.Lines.{HasNoFeed, BeginsWithLine, IsAhead, IsMoreOf};
 
@@ -94,6 +94,7 @@ impl LineReader {
         ensures failed { OnErr result (HasRisen (S.faults input.old) (S.faults input.new)) }
         ensures nothing_taken { OnErr result (S.left input.new ≡ S.left input.old) }
         ensures held { OnErr result (pending self.new ≡ pending self.old) }
+        ensures no_fault { OnOk result (S.faults input.new ≡ S.faults input.old) }
         ensures counted { S.faults input.old ≤ S.faults input.new }
     {
         self.move_to_front();
@@ -111,7 +112,9 @@ impl LineReader {
         ensures at_end { result ≡ Next.Last → (ahead : List ℕ) → IsAhead (pending self.old) (S.left input.old) ahead → S.left input.new ≡ Some [] }
         ensures read_failed { result ≡ Next.ReadFailed → HasRisen (S.faults input.old) (S.faults input.new) }
         ensures write_failed { result ≡ Next.WriteFailed → HasRisen (K.faults out.old) (K.faults out.new) }
+        ensures no_read_fault { (result ≡ Next.ReadFailed → ⊥) → S.faults input.new ≡ S.faults input.old }
         ensures reads_counted { S.faults input.old ≤ S.faults input.new }
+        ensures no_write_fault { (result ≡ Next.WriteFailed → ⊥) → K.faults out.new ≡ K.faults out.old }
         ensures writes_counted { K.faults out.old ≤ K.faults out.new }
         ensures nothing_written { K.written out.new ≡ K.written out.old }
     {

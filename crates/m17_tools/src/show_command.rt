@@ -30,7 +30,9 @@ pub fn show<S: Source, K: Sink>(input: &mut S, out: &mut K) -> Ending
         RefusesLine bytes place reason × ((text : List ℕ) × IsShownText bytes place text) }
     ensures read_failed { result ≡ Ending.ReadFailed → HasRisen (S.faults input.old) (S.faults input.new) }
     ensures write_failed { result ≡ Ending.WriteFailed → HasRisen (K.faults out.old) (K.faults out.new) }
+    ensures no_read_fault { (result ≡ Ending.ReadFailed → ⊥) → S.faults input.new ≡ S.faults input.old }
     ensures reads_counted { S.faults input.old ≤ S.faults input.new }
+    ensures no_write_fault { (result ≡ Ending.WriteFailed → ⊥) → K.faults out.new ≡ K.faults out.old }
     ensures writes_counted { K.faults out.old ≤ K.faults out.new }
     ensures text { (bytes before : List ℕ) → S.left input.old ≡ Some bytes → K.written out.old ≡ Some before →
         (text : List ℕ) × (K.written out.new ≡ Some (before ++ text)) × ShowPrints result bytes (S.left input.new) text }
@@ -54,7 +56,9 @@ fn show_lines<S: Source, K: Sink>(
         IsShownTo bytes 0 (pending reader.old) (S.left input.old) first (K.written out.old) → IsShownTo bytes 1000000 (pending reader.new) (S.left input.new) first (K.written out.new) }
     ensures read_failed { result ≡ Some Ending.ReadFailed → HasRisen (S.faults input.old) (S.faults input.new) }
     ensures write_failed { result ≡ Some Ending.WriteFailed → HasRisen (K.faults out.old) (K.faults out.new) }
+    ensures no_read_fault { (result ≡ Some Ending.ReadFailed → ⊥) → S.faults input.new ≡ S.faults input.old }
     ensures reads_counted { S.faults input.old ≤ S.faults input.new }
+    ensures no_write_fault { (result ≡ Some Ending.WriteFailed → ⊥) → K.faults out.new ≡ K.faults out.old }
     ensures writes_counted { K.faults out.old ≤ K.faults out.new }
 {
     let mut printed = Line::new();
@@ -80,7 +84,9 @@ fn show_next<S: Source, K: Sink>(
         ShowsNext bytes number first result (pending reader.new) (S.left input.new) (K.written out.new) }
     ensures read_failed { result ≡ Some Ending.ReadFailed → HasRisen (S.faults input.old) (S.faults input.new) }
     ensures write_failed { result ≡ Some Ending.WriteFailed → HasRisen (K.faults out.old) (K.faults out.new) }
+    ensures no_read_fault { (result ≡ Some Ending.ReadFailed → ⊥) → S.faults input.new ≡ S.faults input.old }
     ensures reads_counted { S.faults input.old ≤ S.faults input.new }
+    ensures no_write_fault { (result ≡ Some Ending.WriteFailed → ⊥) → K.faults out.new ≡ K.faults out.old }
     ensures writes_counted { K.faults out.old ≤ K.faults out.new }
 {
     match reader.next(input, out) {
@@ -107,6 +113,7 @@ fn show_last<K: Sink>(rest: &[u8], number: u64, printed: &mut Line, out: &mut K)
         EndsShow result bytes (Some []) first (K.written out.new) }
     ensures not_read_failed { result ≡ Ending.ReadFailed → ⊥ }
     ensures write_failed { result ≡ Ending.WriteFailed → HasRisen (K.faults out.old) (K.faults out.new) }
+    ensures no_write_fault { (result ≡ Ending.WriteFailed → ⊥) → K.faults out.new ≡ K.faults out.old }
     ensures writes_counted { K.faults out.old ≤ K.faults out.new }
 {
     if rest.is_empty() {
@@ -124,7 +131,9 @@ fn end_at_limit<S: Source, K: Sink>(reader: &mut LineReader, input: &mut S, out:
         EndsShow result bytes (S.left input.new) first (K.written out.new) }
     ensures read_failed { result ≡ Ending.ReadFailed → HasRisen (S.faults input.old) (S.faults input.new) }
     ensures write_failed { result ≡ Ending.WriteFailed → HasRisen (K.faults out.old) (K.faults out.new) }
+    ensures no_read_fault { (result ≡ Ending.ReadFailed → ⊥) → S.faults input.new ≡ S.faults input.old }
     ensures reads_counted { S.faults input.old ≤ S.faults input.new }
+    ensures no_write_fault { (result ≡ Ending.WriteFailed → ⊥) → K.faults out.new ≡ K.faults out.old }
     ensures writes_counted { K.faults out.old ≤ K.faults out.new }
 {
     let large = Ending::Refused {

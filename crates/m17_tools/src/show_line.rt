@@ -68,6 +68,7 @@ pub(crate) fn show_line<K: Sink>(
 ) -> Option<Ending>
     ensures shows { ShowsLine number line.now (K.written out.old) (K.written out.new) result }
     ensures write_failed { result ≡ Some Ending.WriteFailed → HasRisen (K.faults out.old) (K.faults out.new) }
+    ensures no_write_fault { (result ≡ Some Ending.WriteFailed → ⊥) → K.faults out.new ≡ K.faults out.old }
     ensures writes_counted { K.faults out.old ≤ K.faults out.new }
 {
     if let Err(reason) = make_line(line, printed) {

@@ -1,13 +1,13 @@
 use Rattle.std.proofs.Common.{◌≡◌, ℕ, ◌-◌, ◌≤◌, List, ◌++◌, length, take, drop, Some}
 use Rattle.m17_tools.proofs.filling.fill.Given as goal
 
--- so far so many bytes were taken, and nothing was written
+-- so far so many bytes were taken, no device failed, and nothing was written
 abbrev pub invariant-loop-have : goal.invariant-loop-have
 invariant-loop-have g l = record {
   within : l.have ≤ length l.into;
   rest : (bytes : List ℕ) → g.S.Source.left l.fn.input ≡ Some bytes → (l.have ≤ length bytes) × (l.into ≡ take l.have bytes ++ drop l.have l.initial.into) × (g.S.Source.left l.input ≡ Some (drop l.have bytes));
-  reads : g.S.Source.faults l.fn.input ≤ g.S.Source.faults l.input;
-  writes : g.K.Sink.faults l.fn.out ≤ g.K.Sink.faults l.out;
+  reads : g.S.Source.faults l.input ≡ g.S.Source.faults l.fn.input;
+  writes : g.K.Sink.faults l.out ≡ g.K.Sink.faults l.fn.out;
   written : g.K.Sink.written l.out ≡ g.K.Sink.written l.fn.out;
 }
 

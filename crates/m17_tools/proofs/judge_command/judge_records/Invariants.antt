@@ -1,12 +1,12 @@
-use Rattle.std.proofs.Common.{◌≡◌, ℕ, ◌≤◌, List, length, Some}
+use Rattle.std.proofs.Common.{◌≡◌, ℕ, List, length, Some}
 use Rattle.m17_tools.proofs.JudgeRun.{IsAfter}
 use Rattle.m17_tools.proofs.judge_command.judge_records.Given as goal
 
--- so many records of the input were judged, and no count fell
+-- so many records of the input were judged, and no device failed
 abbrev pub invariant-loop-index : goal.invariant-loop-index
 invariant-loop-index g l = record {
   after : (bytes : List ℕ) → g.S.Source.left l.fn.input ≡ Some bytes → IsAfter bytes l.index (g.S.Source.left l.input) l.table.floor l.table.owns.items l.table.moment (g.K.Sink.written l.fn.out) (g.K.Sink.written l.out);
   size : length l.record ≡ 64;
-  reads : g.S.Source.faults l.fn.input ≤ g.S.Source.faults l.input;
-  writes : g.K.Sink.faults l.fn.out ≤ g.K.Sink.faults l.out;
+  reads : g.S.Source.faults l.input ≡ g.S.Source.faults l.fn.input;
+  writes : g.K.Sink.faults l.out ≡ g.K.Sink.faults l.fn.out;
 }

@@ -1,14 +1,14 @@
-use Rattle.std.proofs.Common.{◌≡◌, ℕ, ◌-◌, ◌≤◌, List, length}
+use Rattle.std.proofs.Common.{◌≡◌, ℕ, ◌-◌, List, length}
 use Rattle.m17_tools.specs.Lines.{IsAhead}
 use Rattle.m17_tools.specs.Pending.{pending}
 use Rattle.m17_tools.proofs.line_reader.LineReader.next.Given as goal
 
--- the same is to come of the input, and nothing was written
+-- the same is to come of the input, no device failed, and nothing was written
 abbrev pub invariant-reads : goal.invariant-reads
 invariant-reads g l = record {
   kept : (ahead : List ℕ) → IsAhead (pending l.fn.self) (g.S.Source.left l.fn.input) ahead → IsAhead (pending l.self) (g.S.Source.left l.input) ahead;
-  reads : g.S.Source.faults l.fn.input ≤ g.S.Source.faults l.input;
-  writes : g.K.Sink.faults l.fn.out ≤ g.K.Sink.faults l.out;
+  reads : g.S.Source.faults l.input ≡ g.S.Source.faults l.fn.input;
+  writes : g.K.Sink.faults l.out ≡ g.K.Sink.faults l.fn.out;
   written : g.K.Sink.written l.out ≡ g.K.Sink.written l.fn.out;
 }
 
