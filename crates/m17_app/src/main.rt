@@ -1,7 +1,8 @@
 //! The program. `run` reads the words, runs their command over any source and sink, writes the last line and answers the
 //! status; it promises what was written for the bytes that came in, the cause of each status, and that the sink holds
-//! nothing back at the end. `main` hands it the standard streams and ends with its answer. `StdIn` and `StdOut` are the trusted edge:
-//! they buffer, count their faults, and tell nothing of content. What the commands print is left to `m17_tools`.
+//! nothing back at the end. `main` hands it the standard streams and ends with its answer. `StdIn` and `StdOut` are the
+//! trusted edge: they buffer, count their faults, and tell nothing of content. What the commands print is left to
+//! `m17_tools`.
 #![tactic(auto)]
 
 mod command;
