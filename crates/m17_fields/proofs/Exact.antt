@@ -1,11 +1,10 @@
 -- Numbers and the bytes of their fields give each other.
-use Rattle.std.proofs.Common.{ℕ, zero, suc, ◌≡◌, ◌+◌, ◌/◌, ◌%◌, ◌^◌, ◌<◌, List, [], ◌∷◌, ◌++◌, length, get_or, take, drop, refl, sym, ap, ◌∙◌, arith, inl, inr}
+use Rattle.std.proofs.Common.{ℕ, zero, suc, ◌≡◌, ◌/◌, ◌%◌, ◌^◌, ◌<◌, List, ◌∷◌, length, get_or, drop, refl, sym, ap, ◌∙◌, arith, inl, inr}
 use Rattle.std.proofs.lemmas.Bool.{cases_lt}
 use Rattle.std.proofs.lemmas.List.{get_or_past}
 use Rattle.std.proofs.lemmas.Nat.{be_bytes_2, be_bytes_4, be_bytes_8, from_be_bytes-to_be_bytes_2, from_be_bytes-to_be_bytes_4, from_be_bytes-to_be_bytes_8}
 use Rattle.std.specs.Int.{w16, w32, w64, to_be_bytes, from_be_bytes}
-use Rattle.std.specs.List.{All}
-use Rattle.m17_fields.specs.Fields.{be_16, be_32, be_48, be_64, IsBytes, Fields16AreExact, Fields32AreExact, Fields48AreExact, Fields64AreExact}
+use Rattle.m17_fields.specs.Fields.{be_48, IsBytes, Fields16AreExact, Fields32AreExact, Fields48AreExact, Fields64AreExact}
 
 byte_at : (b : List ℕ) → IsBytes b → (i : ℕ) → get_or b i 0 < 256
 byte_at b h i = elim (cases_lt i (length b)) [ inl k ↦ h i 0 k | inr k ↦ rw (get_or_past b i 0 k) (omega arith) ]
