@@ -2,21 +2,41 @@
 # was called and puts the built program in its place, so that no check builds anything. Part of checks/run.
 # shellcheck shell=sh
 
-# make_tree FOLDER: a copy of the tree as it is fetched, and beside it, in `tools`, what stands for rt.
+# copy_tree FOLDER: the tree as it is fetched, without what rt makes and without the edits.
+copy_tree() {
+    mkdir -p "$1" || return 1
+    for part in "$top"/*; do
+        [ "${part##*/}" = crates ] || cp -R "$part" "$1/" || return 1
+    done
+    for part in "$top"/crates/*/*; do
+        crate=${part%/*}
+        crate=$1/crates/${crate##*/}
+        case ${part##*/} in
+        out | must-fail) ;;
+        *) mkdir -p "$crate" && cp -R "$part" "$crate/" || return 1 ;;
+        esac
+    done
+}
+
+# make_tree FOLDER: a copy of the tree, and beside it, in `tools`, what stands for rt.
 make_tree() {
-    mkdir -p "$1" tools || return 1
-    (cd "$top" && find . \( -name .git -o -name out -o -name must-fail \) -prune -o -type f -print | tar -cf - -T -) |
-        tar -xf - -C "$1" || return 1
+    [ -d "$scratch/tree" ] || copy_tree "$scratch/tree" || return 1
+    cp -R "$scratch/tree" "$1" && mkdir tools || return 1
     cat >tools/rt <<END
 #!/bin/sh
+case \$1 in
+version)
+    echo "rattle-kit-of-the-checks"
+    exit
+    ;;
+esac
 echo "\$1 \${PWD##*/}" >>"$PWD/calls"
 echo "this is what rt says"
+echo "this is what rt says" >&2
 case \$1 in
-version) echo "rattle-kit-of-the-checks" ;;
 run) mkdir -p out && cp "$program" out/m17_app && exec out/m17_app judge ;;
 esac
 END
-    sed -i '/^echo "this is/s/$/ >\&2/' tools/rt
     chmod +x tools/rt
 }
 

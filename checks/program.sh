@@ -26,6 +26,7 @@ words_that_name_no_command() {
 check "words that name no command are refused, and nothing is read" words_that_name_no_command
 
 too_many_words() {
+    needs seq
     # shellcheck disable=SC2046  # one word for each number
     refused judge judge &&
         refused judge '' &&
@@ -66,6 +67,7 @@ empty_input() {
 check "an empty input gives 0 and no line; an empty line, one" empty_input
 
 more_than_a_million() {
+    needs yes
     head -c 64000001 /dev/zero | prog judge >got
     [ "$(tail -n 1 got)" = 'input refused at 64000000: large' ] || {
         tail -n 1 got
@@ -108,6 +110,7 @@ check "an output that takes nothing gives 4, also for refused words" full_disk
 
 # The program writes more than a pipe holds, to a reader that has gone.
 closed_pipe() {
+    needs yes
     head -c 1280000 /dev/zero >records
     yes 44495343 | head -n 50000 >lines
     for word in judge show; do

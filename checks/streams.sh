@@ -24,6 +24,7 @@ check "show takes lines of 256 bytes, and no longer ones" full_length_lines
 
 # A thousand times the example and a line of full length: the ends of lines come at every place of the buffers.
 many_lines() {
+    needs seq
     prog show <"$top/examples/show.hex" >shown || return 1
     { cat "$top/examples/show.hex" && digits 256 && echo; } >once
     echo 'refused length 128' >>shown
@@ -38,6 +39,7 @@ check "eleven thousand lines are shown one by one, from a file and from a pipe" 
 
 # Each record has its own number, and its line says so.
 many_records() {
+    needs seq
     for _ in $(seq 2000); do cat "$top/examples/judge.bin"; done >records
     prog judge <records >got || return 1
     cut -d ' ' -f 1 got >numbers
@@ -50,6 +52,7 @@ check "twenty-eight thousand records have a line each, from a file and from a pi
 
 # The same text comes of the same bytes, in whatever pieces a pipe brings them.
 pieces() {
+    needs seq dd
     for _ in $(seq 20); do cat "$top/examples/judge.bin"; done >judge.in
     for _ in $(seq 20); do cat "$top/examples/show.hex"; done >show.in
     for word in judge show; do
@@ -76,6 +79,7 @@ slowly() {
 }
 
 a_byte_at_a_time() {
+    needs od
     head -c 130 "$top/examples/judge.bin" >judge.in
     head -n 2 "$top/examples/show.hex" >show.in
     { digits 256 && printf '\r\n4' && echo x; } >>show.in
