@@ -88,6 +88,30 @@ failed_read() {
 }
 check "an input that cannot be read gives 3" failed_read
 
+closed_streams() {
+    prog judge >got <&-
+    [ $? -eq 3 ] && [ "$(cat got)" = 'read failed' ] || {
+        echo "with no standard input judge wrote: $(cat got)"
+        return 1
+    }
+    prog show <"$top/examples/show.hex" >&-
+    [ $? -eq 4 ]
+}
+check "no standard input gives 3, and no standard output 4" closed_streams
+
+# A pipe that does not wait: the first read gets what is there, and the next one is told to try again later.
+impatient_pipe() {
+    needs python3
+    python3 -c '
+import os, subprocess, sys
+out, into = os.pipe()
+os.write(into, b"44495343\n444")
+os.set_blocking(out, False)
+sys.exit(subprocess.run([sys.argv[1], "show"], stdin=out, timeout=60).returncode)' "$program" >got
+    [ $? -eq 3 ] && printf 'disc\nread failed\n' | cmp - got
+}
+check "a pipe that has nothing and does not wait gives 3, and what was whole is shown" impatient_pipe
+
 full_disk() {
     [ -c /dev/full ] || {
         echo "there is no /dev/full here"
