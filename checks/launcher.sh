@@ -102,6 +102,16 @@ failed_build() {
 }
 check "a build that fails ends with 70, says what rt said last, and is tried again" failed_build
 
+unwritable_tree() {
+    make_tree tree && echo >tree/crates/m17_app/out || return 1
+    with_rt tree/m17 judge >got 2>err
+    [ $? -eq 70 ] && [ ! -s got ] && [ ! -e calls ] && has err 'cannot write to' || return 1
+    rm tree/crates/m17_app/out && mkdir -p tree/crates/m17_app/out/m17.log || return 1
+    with_rt tree/m17 judge >got 2>err
+    [ $? -eq 70 ] && [ ! -s got ] && [ ! -e calls ] && has err 'cannot write to'
+}
+check "a tree that cannot be written to ends with 70, and nothing is built" unwritable_tree
+
 first_build() {
     make_tree tree || return 1
     with_rt tree/m17 judge <"$top/examples/judge.bin" >got 2>err || return 1
