@@ -1,10 +1,11 @@
 mod Frames
-mod Joins
-mod Judged
+mod InRule
 mod LastBelow
 mod Members
 mod NoPacket
 mod OneMore
+mod Openings
+mod Positions
 mod Prefix
 mod Repeats
 mod Standing

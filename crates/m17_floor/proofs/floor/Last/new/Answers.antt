@@ -1,6 +1,0 @@
-use Rattle.std.proofs.Common.{sym}
-use Rattle.m17_floor.proofs.NoPacket.{no_own_frame}
-use Rattle.m17_floor.proofs.floor.Last.new.Goals as goal
-
-pub returns-clause-stands : goal.returns-clause-stands
-returns-clause-stands c = λ places acts k h. sym (no_own_frame places acts k h)
