@@ -1,7 +1,7 @@
 -- What follows from the floor rule for every list of acts, and what one act more makes of what is
 -- looked up. This profile.
 use Rattle.std.specs.Prelude.{◌≡◌, ◌≢◌, ◌+◌, ℕ, ◌<◌, ◌≤◌, ◌⊎◌, ◌&&◌, Bool, true, false, List, [], ◌∷◌, ◌++◌, length, max, nat_lt, Option, None, Some, if◌then◌else◌}
-use Rattle.m17_devices.specs.declared.member.Member.{Member}
+use Rattle.m17_values.specs.declared.member.Member.{Member}
 use Rattle.m17_stream.specs.declared.packet.StreamPacket.{StreamPacket}
 use Rattle.m17_stream.specs.Stream.{steps_ahead, IsAhead}
 use Rattle.m17_floor.specs.declared.act.Act.{Act}

@@ -9,7 +9,7 @@ ghost use Rattle.m17_floor.specs.Rule.{incoming};
 ghost use Rattle.m17_floor.specs.Plain.{past_answered};
 
 use crate::{Act, ActKind, Floor, Last, Verdict};
-use m17_devices::Member;
+use m17_values::Member;
 use m17_stream::StreamPacket;
 use std::alloc::{AllocError, Global};
 
