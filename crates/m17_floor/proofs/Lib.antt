@@ -1,5 +1,7 @@
+mod Counted
 mod Frames
 mod InRule
+mod Joins
 mod LastBelow
 mod Members
 mod NoPacket

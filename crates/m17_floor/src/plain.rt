@@ -1,12 +1,12 @@
 //! The floor rule as it is stated, by looking back through the whole list of acts at each position. It is slow, and
 //! there to compare the fast way with. The rule beside two frames is that of the fast way; which frames these are is
 //! looked up anew each time. This profile.
-ghost use Rattle.std.specs.Prelude.{◌≡◌, ℕ, ◌&&◌, ◌<◌, ◌≤◌, take, length, Some, IfOk, IfSome, slice_get};
+ghost use Rattle.std.specs.Prelude.{◌≡◌, ℕ, ◌&&◌, ◌<◌, take, length, Some, IfOk, IfSome, slice_get};
 ghost use Rattle.m17_floor.specs.Acts.{last_below, kind_at, greatest_moment, settles, joined_at};
 ghost use Rattle.m17_floor.specs.Floor as floor;
 ghost use Rattle.m17_floor.specs.Floor.{was_admitted, floor_frame, last_own, own_frame, verdict_after, verdict_given, verdict_at};
 ghost use Rattle.m17_floor.specs.Rule.{incoming};
-ghost use Rattle.m17_floor.specs.Plain.{past_answered};
+ghost use Rattle.m17_floor.specs.Plain.{past_answered, was_answered, has_stayed};
 
 use crate::{Act, ActKind, Floor, Last, Verdict};
 use m17_values::Member;
@@ -24,9 +24,10 @@ pub fn verdicts(
         × ((n : ℕ) → n < length acts.now → slice_get verdicts.items n ≡ Some (verdict_at places acts.now n))) }
 {
     let mut verdicts = Vec::with_capacity(alloc, acts.len())?;
-    for (n, act) in acts.iter().enumerate() {
+    for _ in acts {
+        let n = verdicts.len();
         let at = moment(acts, n + 1);
-        let verdict = verdict_on(places, &acts[..n], verdicts.as_slice(), at, &act.kind);
+        let verdict = verdict_on(places, &acts[..n], verdicts.as_slice(), at, &kind(acts, n));
         verdicts.push(verdict)?;
     }
     Ok(verdicts)
@@ -74,6 +75,7 @@ fn on_packet(
 }
 
 // The floor's last frame, if its sender has been in since before it.
+#[tactic(auto, unfolding(crate::specs::Floor::floor_frame))]
 fn floor(places: u32, acts: &[Act], answered: &[Option<Verdict>]) -> Floor
     ensures { result ≡ floor_frame (past_answered places acts.now answered.now) }
 {
@@ -89,6 +91,7 @@ fn floor(places: u32, acts: &[Act], answered: &[Option<Verdict>]) -> Floor
 }
 
 // The member's last frame since its Join.
+#[tactic(auto, unfolding(crate::specs::Floor::own_frame))]
 fn own(places: u32, acts: &[Act], answered: &[Option<Verdict>], k: Member) -> Last
     ensures { result ≡ own_frame (past_answered places acts.now answered.now) k }
 {
@@ -103,7 +106,7 @@ fn own(places: u32, acts: &[Act], answered: &[Option<Verdict>], k: Member) -> La
 
 // The last admitted position.
 fn last_admitted(acts: &[Act], answered: &[Option<Verdict>]) -> Option<usize>
-    ensures found { (places : ℕ) → result ≡ floor.last_admitted (past_answered places acts.now answered.now) }
+    ensures found { result ≡ last_below (was_answered answered.now) (length acts.now) }
     ensures within { IfSome result (λ a. a < length acts.now) }
 {
     let mut a = acts.len();
@@ -143,8 +146,7 @@ fn is_own(places: u32, acts: &[Act], answered: &[Option<Verdict>], k: Member, a:
 
 // Whether the member is in at the end of the acts, by a Join below position a.
 fn is_in_since(places: u32, acts: &[Act], k: Member, a: usize) -> bool
-    ensures { (answered : List (Option Verdict)) →
-        result ≡ floor.is_in_since (past_answered places acts.now answered) k a }
+    ensures { result ≡ has_stayed places acts.now k a }
 {
     match last_join(places, acts, k) {
         Some(join) => join < a,
@@ -204,7 +206,7 @@ fn is_packet_of(k: Member, kind: &ActKind) -> bool
 
 // Whether the position is admitted.
 fn is_admitted(answered: &[Option<Verdict>], a: usize) -> bool
-    ensures { (places : ℕ) (acts : List Act) → result ≡ was_admitted (past_answered places acts answered.now) a }
+    ensures { result ≡ was_answered answered.now a }
 {
     match answered.get(a) {
         Some(Some(verdict)) => verdict.is_admitted(),
