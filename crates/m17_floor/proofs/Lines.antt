@@ -1,14 +1,13 @@
 -- What each verdict means of the lines of the table.
-use Rattle.std.proofs.Common.{◌≡◌, ◌⊎◌, ℕ, ◌+◌, ◌-◌, ◌<◌, ◌≤◌, ◌==◌, ◌&&◌, Bool, true, false, cond, List, [], ◌∷◌, Option, None, Some, nat_lt, nat_le, inl, inr, refl, ap, sym, ◌∙◌, arith}
-use Rattle.std.proofs.lemmas.Bool.{cases_Bool, false≢true, cond-true, eq-eqb, eqb-false, le-leb}
+use Rattle.std.proofs.Common.{◌≡◌, ◌⊎◌, ℕ, ◌<◌, ◌≤◌, ◌==◌, Bool, true, false, cond, List, [], ◌∷◌, Option, None, Some, nat_le, inl, inr, refl, ap, sym, ◌∙◌, arith}
+use Rattle.std.proofs.lemmas.Bool.{cases_Bool, false≢true, cond-true, eqb-false, le-leb}
 use Rattle.std.proofs.lemmas.Option.{cond_some}
-use Rattle.m17_stream.specs.declared.packet.StreamPacket.{StreamPacket}
 use Rattle.m17_stream.specs.Stream.{steps_ahead}
 use Rattle.m17_floor.specs.declared.act.Act.{Act}
 use Rattle.m17_floor.specs.declared.verdict.Verdict.{Verdict}
 use Rattle.m17_floor.specs.declared.verdict.Verdict.TheVariants.{Opened, Continued, Busy, Repeat, Late, AfterEnd, NotMember, ListenOnly}
 use Rattle.m17_floor.specs.Acts.{kind_at}
-use Rattle.m17_floor.specs.Rule.{late_from, Frame, Incoming, is_of_stream, busy, after_end, repeated, late, continued, first_fit, verdict_beside, only_if}
+use Rattle.m17_floor.specs.Rule.{late_from, Frame, Incoming, is_of_stream, after_end, repeated, late, first_fit, verdict_beside, only_if}
 use Rattle.m17_floor.specs.Floor.{not_member, listens, listen_only, admits}
 
 -- the three lines that look at the sender's own frame

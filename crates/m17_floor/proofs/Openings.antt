@@ -1,6 +1,6 @@
 -- From an opened position up to the next one.
-use Rattle.std.proofs.Common.{◌≡◌, ◌⊎◌, ℕ, zero, suc, ◌+◌, ◌-◌, ◌<◌, ◌≤◌, ◌==◌, ◌&&◌, Bool, true, false, not, cond, List, length, take, Option, None, Some, nat_lt, nat_le, inl, inr, refl, ap, sym, ◌∙◌, arith}
-use Rattle.std.proofs.lemmas.Bool.{cases_Bool, cases_order, cond-true, and_from, and_parts, and_left, lt-ltb, ltb-true, ltb-false, leb-false, eqb-true, eqb-false, not-true, not_from_false, and_right, false_from_ne_true, false≢true}
+use Rattle.std.proofs.Common.{◌≡◌, ℕ, zero, suc, ◌-◌, ◌<◌, ◌≤◌, ◌==◌, ◌&&◌, true, false, not, cond, List, length, take, Option, None, Some, nat_lt, inl, inr, refl, ap, sym, ◌∙◌, arith}
+use Rattle.std.proofs.lemmas.Bool.{cases_Bool, cases_order, cond-true, and_from, and_parts, and_left, lt-ltb, ltb-true, ltb-false, leb-false, eqb-true, eqb-false, not_from_false, false_from_ne_true, false≢true}
 use Rattle.std.proofs.lemmas.List.{length-take-le}
 use Rattle.std.specs.Option.{option_and_then}
 use Rattle.m17_values.specs.declared.member.Member.{Member}
@@ -12,9 +12,9 @@ use Rattle.m17_floor.specs.declared.act.ActKind.TheVariants.{Join, Leave, Packet
 use Rattle.m17_floor.specs.declared.verdict.Verdict.{Verdict}
 use Rattle.m17_floor.specs.declared.verdict.Verdict.TheVariants.{Opened, Continued}
 use Rattle.m17_floor.specs.Acts.{kind_at, moment_at, is_packet, is_same}
-use Rattle.m17_floor.specs.Rule.{floor_timeout_ms, stream_memory_ms, late_from, Frame, Incoming, incoming, frame_from, has_floor, is_compared, is_of_stream, only_if, verdict_by_frames}
-use Rattle.m17_floor.specs.Floor.{Past, was_admitted, joined, is_in_since, frame_of, frame_at, has_stayed, last_admitted, floor_frame, is_packet_of, last_own, own_frame, verdict_after, admits, past_at, verdict_at, IsAdmitted}
-use Rattle.m17_floor.specs.Laws.{HasStayed, NoneAdmittedBetween, IsAdmittedPacket, IsOpened, IsOneOpening, GoesOn, OpeningsAreClean, FloorsAreTakenFree}
+use Rattle.m17_floor.specs.Rule.{floor_timeout_ms, Frame, Incoming, incoming, frame_from, has_floor, is_compared, is_of_stream, only_if, verdict_by_frames}
+use Rattle.m17_floor.specs.Floor.{Past, was_admitted, joined, is_in_since, frame_of, frame_at, has_stayed, last_admitted, floor_frame, is_packet_of, last_own, own_frame, verdict_after, admits, past_at, verdict_at}
+use Rattle.m17_floor.specs.Laws.{NoneAdmittedBetween, IsAdmittedPacket, IsOpened, IsOneOpening, OpeningsAreClean, FloorsAreTakenFree}
 use Rattle.m17_floor.proofs.Frames.{stayed_at, own_test}
 use Rattle.m17_floor.proofs.InRule.{IsStayed, floor_from}
 use Rattle.m17_floor.proofs.LastBelow.{last_below_ge, last_below_is, last_below_lt, last_below_true}

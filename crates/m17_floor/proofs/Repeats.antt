@@ -1,5 +1,5 @@
 -- A packet beside its sender's last admitted frame, where that has the same number or is past it.
-use Rattle.std.proofs.Common.{◌≡◌, ◌⊎◌, ℕ, ◌+◌, ◌-◌, ◌<◌, ◌≤◌, ◌==◌, true, false, List, length, Option, Some, take, nat_lt, nat_le, inl, inr, refl, ap, sym, ◌∙◌, arith}
+use Rattle.std.proofs.Common.{◌≡◌, ◌⊎◌, ℕ, ◌-◌, ◌<◌, ◌≤◌, ◌==◌, true, false, List, length, Option, Some, take, nat_le, inl, inr, ap, sym, ◌∙◌, arith}
 use Rattle.std.proofs.lemmas.Bool.{eq-eqb, lt-ltb, and_from, false≢true}
 use Rattle.std.specs.Option.{option_and_then}
 use Rattle.m17_values.specs.declared.member.Member.{Member}

@@ -1,7 +1,6 @@
 -- What happened in a module, and what is looked up in the list of it. Positions count from 0. This profile.
 use Rattle.std.specs.Prelude.{◌==◌, ◌&&◌, ℕ, zero, suc, Bool, true, false, List, [], ◌∷◌, ◌++◌, map, take, fold, max, slice_get, nat_lt, Option, None, Some, IsSome, option_and_then, if◌then◌else◌}
 use Rattle.m17_values.specs.declared.member.Member.{Member}
-use Rattle.m17_stream.specs.declared.packet.StreamPacket.{StreamPacket}
 use Rattle.m17_floor.specs.declared.act.Act.{Act}
 use Rattle.m17_floor.specs.declared.act.ActKind.{ActKind}
 use Rattle.m17_floor.specs.declared.act.ActKind.TheVariants.{Join, Leave, Packet, Other}

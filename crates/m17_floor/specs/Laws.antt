@@ -1,11 +1,11 @@
 -- What follows from the floor rule for every list of acts, and what one act more makes of what is
 -- looked up. This profile.
-use Rattle.std.specs.Prelude.{◌≡◌, ◌≢◌, ◌+◌, ℕ, ◌<◌, ◌≤◌, ◌⊎◌, ◌&&◌, Bool, true, false, List, [], ◌∷◌, ◌++◌, length, max, nat_lt, Option, None, Some, if◌then◌else◌}
+use Rattle.std.specs.Prelude.{◌≡◌, ◌≢◌, ◌+◌, ℕ, ◌<◌, ◌≤◌, ◌⊎◌, ◌&&◌, Bool, true, false, List, [], ◌++◌, length, max, nat_lt, Option, None, Some, if◌then◌else◌}
 use Rattle.m17_values.specs.declared.member.Member.{Member}
 use Rattle.m17_stream.specs.declared.packet.StreamPacket.{StreamPacket}
 use Rattle.m17_stream.specs.Stream.{steps_ahead, IsAhead}
 use Rattle.m17_floor.specs.declared.act.Act.{Act}
-use Rattle.m17_floor.specs.declared.act.ActKind.TheVariants.{Join, Packet, Other}
+use Rattle.m17_floor.specs.declared.act.ActKind.TheVariants.{Packet, Other}
 use Rattle.m17_floor.specs.declared.verdict.Verdict.TheVariants.{Opened, NotMember, ListenOnly}
 use Rattle.m17_floor.specs.Acts.{with_act, kind_at, is_packet, moment_before, moment_at, is_join_of, settles, joined_at}
 use Rattle.m17_floor.specs.Rule.{Frame, floor_timeout_ms, stream_memory_ms, late_from}

@@ -1,6 +1,6 @@
 -- The floor rule: the verdict on a packet beside the two frames that matter, the floor's last one and
 -- the sender's own last one. This profile.
-use Rattle.std.specs.Prelude.{◌==◌, ◌&&◌, ℕ, ◌-◌, Bool, true, false, not, List, [], ◌∷◌, nat_lt, nat_le, Option, None, Some, if◌then◌else◌}
+use Rattle.std.specs.Prelude.{◌==◌, ◌&&◌, ℕ, ◌-◌, Bool, not, List, [], ◌∷◌, nat_lt, nat_le, Option, None, Some, if◌then◌else◌}
 use Rattle.m17_values.specs.declared.member.Member.{Member}
 use Rattle.m17_stream.specs.declared.packet.StreamPacket.{StreamPacket}
 use Rattle.m17_stream.specs.Stream.{steps_ahead}

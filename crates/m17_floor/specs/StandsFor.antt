@@ -7,9 +7,9 @@ use Rattle.m17_stream.specs.declared.packet.StreamPacket.{StreamPacket}
 use Rattle.m17_floor.specs.declared.act.Act.{Act}
 use Rattle.m17_floor.specs.declared.act.ActKind.TheVariants.{Join, Leave, Packet}
 use Rattle.m17_floor.specs.declared.verdict.Verdict.{Verdict}
-use Rattle.m17_floor.specs.Acts.{with_act, kind_at, is_packet, is_same, moment_before, joined_at}
+use Rattle.m17_floor.specs.Acts.{with_act, kind_at, is_packet, is_same, joined_at}
 use Rattle.m17_floor.specs.Rule.{Frame, only_if}
-use Rattle.m17_floor.specs.Floor.{Past, past_with, floor_frame, own_frame, listens, admitted_before, verdict_at}
+use Rattle.m17_floor.specs.Floor.{Past, floor_frame, own_frame, listens, admitted_before, verdict_at}
 
 -- all that happened in the module, with what was admitted of it
 abbrev pub past_of : ℕ → List Act → Past
