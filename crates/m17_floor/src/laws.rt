@@ -7,10 +7,14 @@ pub fn later_acts_change_no_verdict()
     ensures { law.LaterActsChangeNoVerdict }
 {}
 
-/// What happens later changes neither who was in before, nor any moment.
+/// What happens later changes neither who was in before, nor any moment, nor what happened; and one act more stands at the
+/// end.
 pub fn later_acts_change_nothing_before()
     ensures members { law.LaterActsChangeNoMembership }
     ensures moments { law.LaterActsChangeNoMoment }
+    ensures moments_before { law.LaterActsChangeNoMomentBefore }
+    ensures kinds { law.LaterActsChangeNoKind }
+    ensures one_more { law.KindOfOneMore }
 {}
 
 /// The moment of one act more is the greatest so far, its own included.
