@@ -10,8 +10,3 @@ pub record Buffered (D : Type 0) : Type 0 where
 abbrev pub held_then : List ℕ → Option (List ℕ) → Option (List ℕ)
 held_then held None = None
 held_then held (Some below) = Some (held ++ below)
-
--- what was sent below, where that is told, and then what is held
-abbrev pub then_held : Option (List ℕ) → List ℕ → Option (List ℕ)
-then_held None held = None
-then_held (Some below) held = Some (below ++ held)

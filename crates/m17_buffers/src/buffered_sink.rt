@@ -1,7 +1,7 @@
-ghost use Rattle.std.specs.Prelude.{◌≡◌, ℕ, ◌<◌, ◌≤◌, List, [], ◌++◌, length, take, Option, None, Some, IfOk, OnOk, OnErr};
+ghost use Rattle.std.specs.Prelude.{◌≡◌, ℕ, ◌<◌, ◌≤◌, List, [], ◌++◌, length, vec_capacity, take, drop, Option, None, Some, IfOk, OnOk, OnErr};
 ghost use Rattle.m17_io.specs.Faults.{HasCause};
 ghost use Rattle.m17_io.specs.Sink.{AppendsPrefix};
-ghost use Rattle.m17_buffers.specs.Buffered.{then_held};
+ghost use Rattle.m17_io.specs.Outlet.{followed_by};
 
 use crate::BUFFER_BYTES;
 use crate::send_all::send_all;
@@ -46,7 +46,7 @@ impl<O: Outlet + Drop> BufferedSink<O> {
 impl<O: Outlet + Drop> Sink for BufferedSink<O> {
     ghost faults = { λ b. O.faults b.device };
 
-    ghost written = { λ b. then_held (O.sent b.device) b.held };
+    ghost written = { λ b. followed_by (O.sent b.device) b.held };
 
     ghost held_back = { λ b. length b.held };
 
@@ -71,12 +71,21 @@ impl<O: Outlet + Drop> Sink for BufferedSink<O> {
     fn flush(&mut self) -> Result<(), Failed> {
         let sent = send_all(&mut self.outlet, &self.buffer);
         if sent < self.buffer.len() {
-            let rest = self.buffer.len() - sent;
-            self.buffer.copy_within(sent.., 0);
-            self.buffer.truncate(rest);
+            drop_front(&mut self.buffer, sent);
             return Err(Failed);
         }
         self.buffer.clear();
         Ok(())
     }
+}
+
+// Takes so many bytes away from the front.
+fn drop_front(bytes: &mut Vec<u8>, count: usize)
+    requires { count ≤ length bytes.old.items }
+    ensures items { bytes.new.items ≡ drop count bytes.old.items }
+    ensures capacity { vec_capacity bytes.new ≡ vec_capacity bytes.old }
+{
+    let rest = bytes.len() - count;
+    bytes.copy_within(count.., 0);
+    bytes.truncate(rest);
 }

@@ -102,9 +102,10 @@ impl<S: Source + Drop> Source for BufferedSource<S> {
         // Without room it asks nothing of the source below.
         ensures no_room { length into.old ≡ 0 → result ≡ Ok 0 }
     {
-        if self.start == self.end && !into.is_empty() {
-            self.refill()?;
+        if self.start < self.end || into.is_empty() {
+            return Ok(self.take_held(into));
         }
+        self.refill()?;
         Ok(self.take_held(into))
     }
 

@@ -1,5 +1,6 @@
-ghost use Rattle.std.specs.Prelude.{◌≡◌, ℕ, ◌<◌, ◌≤◌, List, ◌++◌, length, take, Some};
+ghost use Rattle.std.specs.Prelude.{◌≡◌, ◌<◌, ◌≤◌, length, take};
 ghost use Rattle.m17_io.specs.Faults.{HasRisen};
+ghost use Rattle.m17_io.specs.Outlet.{followed_by};
 
 use m17_io::Outlet;
 
@@ -7,8 +8,7 @@ use m17_io::Outlet;
 // failed.
 pub(crate) fn send_all<O: Outlet>(out: &mut O, bytes: &[u8]) -> usize
     ensures within { result ≤ length bytes.now }
-    ensures sent { (before : List ℕ) → O.sent out.old ≡ Some before
-        → O.sent out.new ≡ Some (before ++ take result bytes.now) }
+    ensures sent { O.sent out.new ≡ followed_by (O.sent out.old) (take result bytes.now) }
     ensures counted { O.faults out.old ≤ O.faults out.new }
     ensures failed { result < length bytes.now → HasRisen (O.faults out.old) (O.faults out.new) }
     ensures no_fault { result ≡ length bytes.now → O.faults out.new ≡ O.faults out.old }

@@ -1,11 +1,12 @@
-use Rattle.std.proofs.Common.{◌≡◌, ℕ, ◌-◌, ◌≤◌, List, ◌++◌, length, take, Some}
+use Rattle.std.proofs.Common.{◌≡◌, ℕ, ◌-◌, ◌≤◌, length, take}
+use Rattle.m17_io.specs.Outlet.{followed_by}
 use Rattle.m17_buffers.proofs.send_all.send_all.Given as goal
 
 -- so many bytes have left, and the outlet has not failed
 abbrev pub invariant-loop-done : goal.invariant-loop-done
 invariant-loop-done g l = record {
   within : l.done ≤ length l.bytes;
-  sent : (before : List ℕ) → g.O.Outlet.sent l.fn.out ≡ Some before → g.O.Outlet.sent l.out ≡ Some (before ++ take l.done l.bytes);
+  sent : g.O.Outlet.sent l.out ≡ followed_by (g.O.Outlet.sent l.fn.out) (take l.done l.bytes);
   sound : g.O.Outlet.faults l.out ≡ g.O.Outlet.faults l.fn.out;
 }
 
