@@ -34,20 +34,6 @@ pub flushed : (old new : Option (List ℕ)) (held rest : List ℕ) (n : ℕ) →
 flushed old new held rest n sent kept =
     ap (λ o. followed_by o rest) sent ∙ ap (λ ys. followed_by (followed_by old (take n held)) ys) kept ∙ followed-rest old held n
 
--- what is taken from the held bytes is taken from the front of what is left
-pub takes-held : (held below buffer filled kept : List ℕ) (n : ℕ) → n ≡ min (length buffer) (length held)
-    → filled ≡ take n held ++ drop n buffer → kept ≡ drop n held
-    → (0 < length buffer → held ≡ [] → below ≡ [])
-    → Takes (held ++ below) n buffer filled (Some (kept ++ below))
-takes-held held below buffer filled kept n count front rest at_end = record {
-  no_more = omega (arith, length-append held below);
-  filled_front = front ∙ ap (λ ys. ys ++ drop n buffer) (sym (take-append-le n held below (omega arith)));
-  rest_left = ap Some (ap (λ ys. ys ++ below) rest ∙ sym (drop-append-le n held below (omega arith)));
-  at_end = λ none room.
-      let empty : held ≡ [] = nil_from_length held (omega arith) in
-      ap (λ ys. ys ++ below) empty ∙ at_end room empty;
-}
-
 -- what is left of a part, where some is taken from its front
 pub slice_range-later : (xs : List ℕ) (a b n : ℕ) → n ≤ length (slice_range xs a b)
     → slice_range xs (a + n) b ≡ drop n (slice_range xs a b)

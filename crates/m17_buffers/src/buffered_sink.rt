@@ -1,4 +1,4 @@
-ghost use Rattle.std.specs.Prelude.{◌≡◌, ℕ, ◌<◌, ◌≤◌, List, [], ◌++◌, length, vec_capacity, take, drop, Option, None, Some, IfOk, OnOk, OnErr};
+ghost use Rattle.std.specs.Prelude.{◌≡◌, ℕ, ◌+◌, ◌<◌, ◌≤◌, List, [], ◌++◌, length, vec_capacity, take, drop, Option, None, Some, IsOk, IfOk, OnOk, OnErr};
 ghost use Rattle.m17_io.specs.Faults.{HasCause};
 ghost use Rattle.m17_io.specs.Sink.{AppendsPrefix};
 ghost use Rattle.m17_io.specs.Outlet.{followed_by};
@@ -52,7 +52,19 @@ impl<O: Outlet + Drop> Sink for BufferedSink<O> {
 
     ghost faults_fit = { λ b. O.faults_fit b.device };
 
-    fn write(&mut self, bytes: &[u8]) -> Result<(), Failed> {
+    fn write(&mut self, bytes: &[u8]) -> Result<(), Failed>
+        ensures cause { HasCause (O.faults self.old.device) (O.faults self.new.device) result }
+        ensures ok { OnOk result ((before : List ℕ)
+            → followed_by (O.sent self.old.device) self.old.held ≡ Some before
+            → followed_by (O.sent self.new.device) self.new.held ≡ Some (before ++ bytes.now)) }
+        ensures err { OnErr result ((before : List ℕ)
+            → followed_by (O.sent self.old.device) self.old.held ≡ Some before
+            → AppendsPrefix before bytes.now (followed_by (O.sent self.new.device) self.new.held)) }
+
+        // What there is room for is held, and the outlet below is asked to send nothing.
+        ensures gathers { length self.old.held + length bytes.now ≤ 65536
+            → IsOk result × (self.new.device ≡ self.old.device) }
+    {
         if bytes.len() > BUFFER_BYTES - self.buffer.len() {
             self.flush()?;
         }

@@ -99,8 +99,12 @@ impl<S: Source + Drop> Source for BufferedSource<S> {
         ensures nothing_taken { OnErr result (held_then self.new.held (S.left self.new.device)
             ≡ held_then self.old.held (S.left self.old.device)) }
 
-        // Without room it asks nothing of the source below.
-        ensures no_room { length into.old ≡ 0 → result ≡ Ok 0 }
+        // While bytes are held the source below is asked for none, so that the read does not wait.
+        ensures held_first { 0 < length self.old.held → self.new.device ≡ self.old.device }
+
+        // Nor is it for a buffer without room, which always succeeds.
+        ensures no_room { length into.old ≡ 0
+            → (result ≡ Ok 0) × (self.new.device ≡ self.old.device) }
     {
         if self.start < self.end || into.is_empty() {
             return Ok(self.take_held(into));
