@@ -24,11 +24,11 @@ impl Model for BytesOutlet {
     ghost Value = { BytesSent };
 
     ghost view = { λ s. record {
-        sent = s.bytes.items;
-        most = s.most;
-        next_call = s.next_call;
-        fails = s.fails.items;
-        faults = s.faults
+      sent = s.bytes.items;
+      most = s.most;
+      next_call = s.next_call;
+      fails = s.fails.items;
+      faults = s.faults;
     } };
 
     ghost invariant = { λ s. 0 < s.most };
@@ -42,11 +42,11 @@ impl BytesOutlet {
     pub fn new(alloc: Global, most: usize, fails: Vec<u64>) -> BytesOutlet
         requires { 0 < most }
         ensures { result ≡ record {
-            sent = [];
-            most = most;
-            next_call = 0;
-            fails = fails.items;
-            faults = 0
+          sent = [];
+          most = most;
+          next_call = 0;
+          fails = fails.items;
+          faults = 0;
         } }
     {
         BytesOutlet {
