@@ -22,7 +22,7 @@ enum Answer {
 use Answer::{Bytes, Fails, Interrupted};
 
 // The answer to the call of this number, from 0: the last one comes to all further calls.
-fn answer(answers: &[Answer], call: usize) -> Answer {
+fn answer_to(answers: &[Answer], call: usize) -> Answer {
     match answers.get(call).or(answers.last()) {
         Some(answer) => *answer,
         None => Bytes(usize::MAX),
@@ -49,7 +49,7 @@ impl Read for Halting<'_> {
     fn read(&mut self, buf: &mut [u8]) -> io::Result<usize> {
         let call = self.calls;
         self.calls = self.calls.saturating_add(1);
-        let most = match answer(self.answers, call) {
+        let most = match answer_to(self.answers, call) {
             Bytes(most) => most,
             Interrupted => return Err(Error::from(ErrorKind::Interrupted)),
             Fails(kind) => return Err(Error::from(kind)),
@@ -103,7 +103,7 @@ impl Print for Collected<'_> {
     fn write_some(&self, bytes: &[u8]) -> io::Result<usize> {
         let call = self.calls.get();
         self.calls.set(call.saturating_add(1));
-        let most = match answer(self.answers, call) {
+        let most = match answer_to(self.answers, call) {
             Bytes(most) => most,
             Interrupted => return Err(Error::from(ErrorKind::Interrupted)),
             Fails(kind) => return Err(Error::from(kind)),
@@ -176,14 +176,70 @@ fn each_status_of_the_program_comes_with_its_line(rt: HostRuntime) -> Result<(),
     let lines = b"4d31370\n".as_slice();
     let fails = [Bytes(4), Fails(ErrorKind::BrokenPipe)];
     let table = [
-        Run { words: &["show"], input: b"", reads: &all, writes: &all, status: 0, printed: b"" },
-        Run { words: &["show"], input: lines, reads: &one, writes: &one, status: 1, printed: b"input refused at 0: odd\n" },
-        Run { words: &["judge"], input: b"short", reads: &one, writes: &one, status: 1, printed: b"input refused at 5: cut\n" },
-        Run { words: &[], input: lines, reads: &all, writes: &one, status: 2, printed: b"words refused\n" },
-        Run { words: &["show", "show"], input: lines, reads: &all, writes: &all, status: 2, printed: b"words refused\n" },
-        Run { words: &["judge", ""], input: lines, reads: &all, writes: &all, status: 2, printed: b"words refused\n" },
-        Run { words: &["show"], input: lines, reads: &fails, writes: &one, status: 3, printed: b"read failed\n" },
-        Run { words: &["show"], input: lines, reads: &all, writes: &fails, status: 4, printed: b"inpu" },
+        Run {
+            words: &["show"],
+            input: b"",
+            reads: &all,
+            writes: &all,
+            status: 0,
+            printed: b"",
+        },
+        Run {
+            words: &["show"],
+            input: lines,
+            reads: &one,
+            writes: &one,
+            status: 1,
+            printed: b"input refused at 0: odd\n",
+        },
+        Run {
+            words: &["judge"],
+            input: b"short",
+            reads: &one,
+            writes: &one,
+            status: 1,
+            printed: b"input refused at 5: cut\n",
+        },
+        Run {
+            words: &[],
+            input: lines,
+            reads: &all,
+            writes: &one,
+            status: 2,
+            printed: b"words refused\n",
+        },
+        Run {
+            words: &["show", "show"],
+            input: lines,
+            reads: &all,
+            writes: &all,
+            status: 2,
+            printed: b"words refused\n",
+        },
+        Run {
+            words: &["judge", ""],
+            input: lines,
+            reads: &all,
+            writes: &all,
+            status: 2,
+            printed: b"words refused\n",
+        },
+        Run {
+            words: &["show"],
+            input: lines,
+            reads: &fails,
+            writes: &one,
+            status: 3,
+            printed: b"read failed\n",
+        },
+        Run {
+            words: &["show"],
+            input: lines,
+            reads: &all,
+            writes: &fails,
+            status: 4,
+            printed: b"inpu",
+        },
     ];
     for (i, run) in table.iter().enumerate() {
         let mut words = Vec::new(alloc);

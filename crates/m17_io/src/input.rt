@@ -51,8 +51,9 @@ impl<S: Source, K: Sink> Input<K> for S {
     }
 }
 
-/// Reads, and before it would wait for more input, the sink hands on what it holds back. The answer is that of
-/// `Source::read`, or which device failed: where that is the sink, nothing was taken. Nothing is written. This profile.
+/// Reads, and before it would wait for more input, the sink hands on what it holds back; while bytes are at hand it is
+/// left alone. The answer is that of `Source::read`, or which device failed: where that is the sink, nothing was taken.
+/// Nothing is written. This profile.
 #[inline]
 pub fn read_tied<S: Input<K>, K: Sink>(
     input: &mut S,
@@ -66,7 +67,9 @@ pub fn read_tied<S: Input<K>, K: Sink>(
         → Takes bytes n into.old into.new (S.left input.new)) }
     ensures nothing_taken { OnErr result (S.left input.new ≡ S.left input.old) }
     ensures nothing_written { K.written out.new ≡ K.written out.old }
-    ensures handed_on { (result ≡ Err Fault.Write) ⊎ MayRead (S.at_hand input.old) (K.held_back out.new) }
+    ensures handed_on { (result ≡ Err Fault.Write)
+        ⊎ MayRead (S.at_hand input.old) (K.held_back out.new) }
+    ensures left_alone { S.at_hand input.old ≡ true → out.new ≡ out.old }
 {
     if !input.has_bytes_at_hand() && out.flush().is_err() {
         return Err(Fault::Write);
