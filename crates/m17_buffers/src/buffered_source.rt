@@ -24,7 +24,10 @@ impl<S: Source + Drop> Model for BufferedSource<S> {
 
     ghost Value = { Buffered S };
 
-    ghost view = { λ s. record { held = slice_range s.buffer.items s.start s.end; device = s.source } };
+    ghost view = { λ s. record {
+      held = slice_range s.buffer.items s.start s.end;
+      device = s.source;
+    } };
 
     ghost invariant = { λ s. (s.start ≤ s.end) × (s.end ≤ length s.buffer.items)
         × (length s.buffer.items ≡ 65536) };

@@ -19,7 +19,8 @@ pub trait Outlet {
         ensures cause { HasCause (faults self.old) (faults self.new) result }
         ensures within { IfOk result (λ n. n ≤ length bytes.now) }
         ensures some { IfOk result (λ n. 0 < length bytes.now → 0 < n) }
-        ensures ok { IfOk result (λ n. sent self.new ≡ followed_by (sent self.old) (take n bytes.now)) }
+        ensures ok { IfOk result (λ n. sent self.new
+            ≡ followed_by (sent self.old) (take n bytes.now)) }
         ensures err { OnErr result (sent self.new ≡ sent self.old) };
 
     /// A count of faults is a number of 64 bits: one that stands at the greatest stays there.

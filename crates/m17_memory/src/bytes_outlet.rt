@@ -90,7 +90,8 @@ impl Outlet for BytesOutlet {
 
         // The call is counted, and so is its failure.
         ensures calls_counted { self.new.next_call ≡ min (self.old.next_call + 1) (2 ^ 64 - 1) }
-        ensures one_fault { OnErr result (self.new.faults ≡ min (self.old.faults + 1) (2 ^ 64 - 1)) }
+        ensures one_fault { OnErr result (self.new.faults
+            ≡ min (self.old.faults + 1) (2 ^ 64 - 1)) }
         ensures no_fault { OnOk result (self.new.faults ≡ self.old.faults) }
         ensures same { (self.new.fails ≡ self.old.fails) × (self.new.most ≡ self.old.most) }
     {

@@ -96,7 +96,8 @@ impl Sink for BytesSink {
 
         // The call is counted, and so is its failure.
         ensures calls_counted { self.new.next_call ≡ min (self.old.next_call + 1) (2 ^ 64 - 1) }
-        ensures one_fault { OnErr result (self.new.faults ≡ min (self.old.faults + 1) (2 ^ 64 - 1)) }
+        ensures one_fault { OnErr result (self.new.faults
+            ≡ min (self.old.faults + 1) (2 ^ 64 - 1)) }
         ensures no_fault { OnOk result (self.new.faults ≡ self.old.faults) }
         ensures same { (self.new.fails ≡ self.old.fails) × (self.new.room ≡ self.old.room) }
     {
@@ -118,7 +119,8 @@ impl Sink for BytesSink {
         ensures same { Some self.new.written ≡ Some self.old.written }
         ensures told_to_fail { IsErr result ↔ Contains self.old.fails self.old.next_call }
         ensures calls_counted { self.new.next_call ≡ min (self.old.next_call + 1) (2 ^ 64 - 1) }
-        ensures one_fault { OnErr result (self.new.faults ≡ min (self.old.faults + 1) (2 ^ 64 - 1)) }
+        ensures one_fault { OnErr result (self.new.faults
+            ≡ min (self.old.faults + 1) (2 ^ 64 - 1)) }
         ensures no_fault { OnOk result (self.new.faults ≡ self.old.faults) }
         ensures same_list { (self.new.fails ≡ self.old.fails) × (self.new.room ≡ self.old.room) }
     {
