@@ -120,20 +120,10 @@ impl Room {
     }
 
     fn packet(&mut self, m: Member, p: &StreamPacket) -> Verdict {
-        let seat = if m.place == 0 {
-            &mut self.first
+        if m.place == 0 {
+            heard(&mut self.floor, &mut self.first, self.moment, m, p)
         } else {
-            &mut self.second
-        };
-        match seat {
-            Some(seat) if seat.member == m => {
-                if seat.listens {
-                    ListenOnly
-                } else {
-                    self.floor.judge(m, self.moment, p, &mut seat.own)
-                }
-            }
-            _ => NotMember,
+            heard(&mut self.floor, &mut self.second, self.moment, m, p)
         }
     }
 
@@ -151,6 +141,28 @@ impl Room {
             ActKind::Packet { member, packet } => Some(self.packet(*member, packet)),
             _ => None,
         }
+    }
+}
+
+// The verdict on a packet that comes for this seat.
+fn heard(
+    floor: &mut Floor,
+    seat: &mut Option<Seat>,
+    moment: u64,
+    m: Member,
+    p: &StreamPacket,
+) -> Verdict {
+    match seat {
+        Some(seat) => {
+            if seat.member != m {
+                NotMember
+            } else if seat.listens {
+                ListenOnly
+            } else {
+                floor.judge(m, moment, p, &mut seat.own)
+            }
+        }
+        None => NotMember,
     }
 }
 
@@ -327,27 +339,27 @@ fn small_lists_are_judged_as_by_the_rule(rt: HostRuntime) -> Result<(), Fail> {
 }
 
 #[test]
-fn values_that_differ_in_one_field_are_unequal(rt: HostRuntime) {
+fn values_that_differ_in_one_field_are_unequal(rt: HostRuntime) -> Result<(), Fail> {
+    let alloc = rt.alloc();
     let m = member(0, 0);
-    let p = packet(1, 2, false);
-    let act = sent(5, m, p);
-    let others = [
-        sent(6, m, p),
-        sent(5, member(1, 0), p),
-        sent(5, member(0, 1), p),
-        sent(5, m, packet(2, 2, false)),
-        sent(5, m, packet(1, 3, false)),
-        sent(5, m, packet(1, 2, true)),
-        join(5, m, false),
-        leave(5, m),
-    ];
-    assert!(&rt; act == act);
-    for other in others {
-        assert!(&rt; act != other, "{other:?}");
+    let mut acts = Vec::new(alloc);
+    acts.push(sent(5, m, packet(1, 2, false)))?;
+    acts.push(sent(6, m, packet(1, 2, false)))?;
+    acts.push(sent(5, member(1, 0), packet(1, 2, false)))?;
+    acts.push(sent(5, member(0, 1), packet(1, 2, false)))?;
+    acts.push(sent(5, m, packet(2, 2, false)))?;
+    acts.push(sent(5, m, packet(1, 3, false)))?;
+    acts.push(sent(5, m, packet(1, 2, true)))?;
+    acts.push(join(5, m, false))?;
+    acts.push(join(5, m, true))?;
+    acts.push(join(5, member(1, 0), false))?;
+    acts.push(leave(5, m))?;
+    acts.push(leave(5, member(0, 1)))?;
+    for (i, one) in acts.iter().enumerate() {
+        for (j, other) in acts.iter().enumerate() {
+            assert_eq!(&rt; one == other, i == j, "{one:?} {other:?}");
+        }
     }
-    assert!(&rt; join(5, m, false) != join(5, m, true));
-    assert!(&rt; join(5, m, false) != join(5, member(1, 0), false));
-    assert!(&rt; leave(5, m) != leave(5, member(0, 1)));
     assert!(&rt;
         Busy { holder: m }
             != Busy {
@@ -356,4 +368,5 @@ fn values_that_differ_in_one_field_are_unequal(rt: HostRuntime) {
     );
     assert!(&rt; Late { last: 1 } != Late { last: 2 });
     assert!(&rt; Opened != Continued);
+    Ok(())
 }
