@@ -18,7 +18,7 @@ fn call(number: u64) -> Option<CallAddress> {
 
 fn expect_packet(rt: &impl Abort, packet: &Packet, text: &str) {
     let mut line = Line::new();
-    line.packet(packet);
+    line.push_packet(packet);
     assert_eq!(rt; line.bytes(), text.as_bytes());
 }
 
@@ -118,7 +118,7 @@ fn refusals_say_what_was_found(rt: HostRuntime) {
     ];
     for (refusal, text) in texts {
         let mut line = Line::new();
-        line.refusal(&refusal);
+        line.push_refusal(&refusal);
         assert_eq!(rt; line.bytes(), text.as_bytes());
     }
 }
@@ -141,7 +141,7 @@ fn refusals_of_a_stream_packet_say_what_was_found(rt: HostRuntime) {
     ];
     for (refusal, text) in texts {
         let mut line = Line::new();
-        line.stream_refusal(&refusal);
+        line.push_stream_refusal(&refusal);
         assert_eq!(rt; line.bytes(), text.as_bytes());
     }
 }

@@ -1,6 +1,6 @@
 use Rattle.std.proofs.Common.{◌≡◌, ◌+◌, ◌*◌, ◌++◌, length, take}
 use Rattle.m17_print.specs.Line.{hex_of}
-use Rattle.m17_print.proofs.line.Line.hex.Given as goal
+use Rattle.m17_print.proofs.line.Line.push_hex.Given as goal
 
 abbrev pub invariant-loop-byte : goal.invariant-loop-byte
 invariant-loop-byte l = record {
