@@ -1,5 +1,7 @@
 -- How a command ends, and the last line of its run. This profile.
-use Rattle.std.specs.Prelude.{ℕ, ◌≤◌, List, [], ◌∷◌, ◌++◌, length, codes, decimal}
+use Rattle.std.specs.Prelude.{◌≡◌, ℕ, List, [], ◌∷◌, ◌++◌, codes, decimal, Option, None, Some}
+use Rattle.m17_io.specs.declared.fault.Fault.{Fault}
+use Rattle.m17_io.specs.declared.fault.Fault.TheVariants.{Read, Write}
 use Rattle.m17_print.specs.declared.ending.Ending.{Ending}
 use Rattle.m17_print.specs.declared.ending.Ending.TheVariants.{Finished, Refused, ReadFailed, WriteFailed}
 
@@ -26,3 +28,20 @@ last_line words Finished = []
 last_line words (Refused place reason) = input_refused_line place (words reason)
 last_line words ReadFailed = read_failed_line
 last_line words WriteFailed = []
+
+-- the device that failed, where a command ended so
+abbrev pub failed_device : {R : Type 0} → Ending R → Option Fault
+failed_device Finished = None
+failed_device (Refused place reason) = None
+failed_device ReadFailed = Some Read
+failed_device WriteFailed = Some Write
+
+-- A command came to this ending. `says` is what an ending says of the input and of what is left of it,
+-- whatever the sink tells; `prints` is what stands written for the input then. `first` is what was written
+-- before the command, `written` what is written after it. This profile.
+pub record Comes {R : Type 0} (says : Ending R → List ℕ → Option (List ℕ) → Type 0)
+    (prints : Ending R → List ℕ → Option (List ℕ) → List ℕ → Type 0)
+    (ending : Ending R) (input : List ℕ) (left first written : Option (List ℕ)) : Type 0 where
+  pub said : says ending input left
+  pub printed : (before : List ℕ) → first ≡ Some before
+      → (text : List ℕ) × (written ≡ Some (before ++ text)) × prints ending input left text
