@@ -1,4 +1,5 @@
-pub mod Faults
-pub mod Source
-pub mod Sink
-pub mod Memory
+pub use Rattle.m17_io.specs.Faults
+pub use Rattle.m17_io.specs.Source
+pub use Rattle.m17_io.specs.Sink
+pub use Rattle.m17_io.specs.Tied
+pub use Rattle.m17_memory.specs.Memory

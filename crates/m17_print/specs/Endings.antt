@@ -5,10 +5,6 @@ use Rattle.m17_io.specs.declared.fault.Fault.TheVariants.{Read, Write}
 use Rattle.m17_print.specs.declared.ending.Ending.{Ending}
 use Rattle.m17_print.specs.declared.ending.Ending.TheVariants.{Finished, Refused, ReadFailed, WriteFailed}
 
--- how many bytes the words of a reason may have
-abbrev pub reason_room : ℕ
-reason_room = 16
-
 -- the last line of a run whose input is refused at this place, with the words of the reason
 abbrev pub input_refused_line : ℕ → List ℕ → List ℕ
 input_refused_line place reason =

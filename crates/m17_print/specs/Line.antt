@@ -6,6 +6,10 @@ use Rattle.std.specs.List.{flat_map}
 abbrev pub room : ℕ
 room = 224
 
+-- how many bytes the words of a reason may have
+abbrev pub reason_room : ℕ
+reason_room = 16
+
 -- Only the head of a line stands there: a number of up to 20 digits and its space, and a letter and its
 -- space. There is room for what the line says, whatever that is. This profile.
 abbrev pub IsBegun : List ℕ → Type 0

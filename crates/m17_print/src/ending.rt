@@ -1,6 +1,5 @@
 ghost use Rattle.std.specs.Prelude.{◌≡◌, ◌+◌, ◌≤◌, ◌++◌, [], length};
-ghost use Rattle.m17_print.specs.Line.{room};
-ghost use Rattle.m17_print.specs.Endings.{reason_room};
+ghost use Rattle.m17_print.specs.Line.{room, reason_room};
 
 use crate::Line;
 

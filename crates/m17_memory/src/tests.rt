@@ -1,4 +1,6 @@
-use crate::{BytesSink, BytesSource, Failed, Sink, Source};
+use crate::{BytesSink, BytesSource};
+use m17_io::{Sink, Source};
+use m17_values::Failed;
 use std::test::Fail;
 
 #[test]
