@@ -37,7 +37,8 @@ acts_with more = joins talkers ++ more
 
 -- the act of a record whose packet is this one: its talker sends it
 abbrev pub packet_act : List ℕ → StreamPacket → Act
-packet_act bytes packet = record { at = moment_of bytes; kind = Packet (talker (talker_of bytes)) packet }
+packet_act bytes packet = record { at = moment_of bytes; kind = Packet (talker (talker_of bytes))
+    packet }
 
 -- the act of a record whose packet is refused
 abbrev pub passed_act : List ℕ → Act
@@ -47,8 +48,8 @@ passed_act bytes = record { at = moment_of bytes; kind = Other }
 abbrev pub numbered_line : ℕ → List ℕ → List ℕ
 numbered_line n text = decimal n ++ codes " " ++ text ++ 10 ∷ []
 
--- Record n has a packet. It is an act of its talker, and its line has the verdict of the floor rule at
--- its position.
+-- Record n has a packet. It is an act of its talker, and its line has the verdict of the floor rule
+-- at its position.
 pub record IsVerdictLine (acts : List Act) (n : ℕ) (bytes line : List ℕ) : Type 0 where
   pub packet : StreamPacket
   pub spelled : SpellsStream packet (packet_of bytes)
@@ -78,12 +79,14 @@ pub record IsTextOfRecords (input : List ℕ) (count : ℕ) (text : List ℕ) : 
   pub acts_count : length more ≡ count
   pub lines : IsTextOf (HasRecordLine input more) count text
 
--- What `judge` prints for the input: the lines of its records, and where it is refused the line that
--- says so. This profile.
+-- What `judge` prints for the input: the lines of its records, and where it is refused the line
+-- that says so. This profile.
 abbrev pub IsJudgeText : List ℕ → List ℕ → Type 0
 IsJudgeText input text = ((count : ℕ) × AreRecords input count × IsTextOfRecords input count text)
-    ⊎ ((count place : ℕ) × (reason : JudgeReason) × (before : List ℕ) × RefusesRecords input count place reason
-    × IsTextOfRecords input count before × (text ≡ before ++ input_refused_line place (judge_reason_words reason)))
+    ⊎ ((count place : ℕ) × (reason : JudgeReason) × (before : List ℕ)
+        × RefusesRecords input count place reason
+    × IsTextOfRecords input count before
+        × (text ≡ before ++ input_refused_line place (judge_reason_words reason)))
 
 -- What an ending of `judge` says of the input, and of what is left of it.
 abbrev pub SaysJudge : Ending JudgeReason → List ℕ → Option (List ℕ) → Type 0
@@ -94,13 +97,16 @@ SaysJudge WriteFailed input left = Unit {0}
 
 -- What stands written when `judge` ends in each way. `left` is what is left of the input.
 abbrev pub PrintsJudge : Ending JudgeReason → List ℕ → Option (List ℕ) → List ℕ → Type 0
-PrintsJudge Finished input left text = (count : ℕ) × AreRecords input count × IsTextOfRecords input count text
+PrintsJudge Finished input left text = (count : ℕ) × AreRecords input count
+    × IsTextOfRecords input count text
 PrintsJudge (Refused place reason) input left text =
     (count : ℕ) × RefusesRecords input count place reason × IsTextOfRecords input count text
 -- the lines of the records that were taken whole
-PrintsJudge ReadFailed input left text = (count taken : ℕ) × (count ≤ most_records) × (64 * count ≤ taken)
+PrintsJudge ReadFailed input left text = (count taken : ℕ) × (count ≤ most_records)
+    × (64 * count ≤ taken)
     × (taken < 64 * (count + 1)) × (taken ≤ length input) × (left ≡ Some (drop taken input))
     × IsTextOfRecords input count text
 -- a first part of the lines of the first `count` records
-PrintsJudge WriteFailed input left text = (count : ℕ) × (whole after : List ℕ) × (count ≤ most_records)
+PrintsJudge WriteFailed input left text = (count : ℕ) × (whole after : List ℕ)
+    × (count ≤ most_records)
     × (64 * count ≤ length input) × IsTextOfRecords input count whole × (whole ≡ text ++ after)

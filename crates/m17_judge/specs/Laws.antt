@@ -5,4 +5,5 @@ use Rattle.m17_judge.specs.Judge.{IsJudgeText}
 
 -- An input has one text.
 abbrev pub OneJudgeText : Type 0
-OneJudgeText = (input a b : List ℕ) → IsBytes input → IsJudgeText input a → IsJudgeText input b → a ≡ b
+OneJudgeText = (input a b : List ℕ) → IsBytes input → IsJudgeText input a → IsJudgeText input b
+    → a ≡ b

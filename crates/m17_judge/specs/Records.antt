@@ -27,10 +27,11 @@ pub record AreRecords (input : List ℕ) (count : ℕ) : Type 0 where
   pub whole : length input ≡ 64 * count
   pub not_large : count ≤ most_records
 
--- Why the input is no list of records, and where: it ends inside record `count`, at its length; or there
--- is a byte of record 1,000,000, where that begins. This profile.
+-- Why the input is no list of records, and where: it ends inside record `count`, at its length; or
+-- there is a byte of record 1,000,000, where that begins. This profile.
 abbrev pub RefusesRecords : List ℕ → ℕ → ℕ → JudgeReason → Type 0
 RefusesRecords input count place Cut =
-    (count < most_records) × (64 * count < length input) × (length input < 64 * (count + 1)) × (place ≡ length input)
+    (count < most_records) × (64 * count < length input) × (length input < 64 * (count + 1))
+        × (place ≡ length input)
 RefusesRecords input count place Large =
     (count ≡ most_records) × (64 * count < length input) × (place ≡ 64 * count)

@@ -1,6 +1,6 @@
 ghost use Rattle.std.specs.Prelude.{◌≡◌, ℕ, ◌*◌, ◌≤◌, List, length, drop, Option, None, Some, IfOk, OnErr, IfSome, IfNone, option_and_then};
 ghost use Rattle.m17_io.specs.Faults.{HasCauses};
-ghost use Rattle.m17_print.specs.Endings.{failed_device, Comes};
+ghost use Rattle.m17_print.specs.Endings.{failed_device, Comes, Grows};
 ghost use Rattle.m17_judge.specs.Judge.{joins, talkers, SaysJudge, PrintsJudge};
 ghost use Rattle.m17_judge.specs.Records.{most_records};
 ghost use Rattle.m17_judge.specs.Run.{AreJudged, LooksPast};
@@ -31,6 +31,7 @@ fn judge_records<S: Input, K: Sink>(
         Comes SaysJudge PrintsJudge ending bytes (S.left input.new) (K.written out.old) (K.written out.new)) }
     ensures full { IfNone result ((bytes : List ℕ) → S.left input.old ≡ Some bytes →
         AreJudged bytes most_records (S.left input.new) (K.written out.old) (K.written out.new)) }
+    ensures appended { Grows (K.written out.old) (K.written out.new) }
 {
     laws::later_acts_change_no_verdict();
     let mut line = Line::new();
@@ -60,7 +61,8 @@ fn judge_records<S: Input, K: Sink>(
 fn look_past<S: Input, K: Sink>(input: &mut S, out: &mut K) -> Ending<JudgeReason>
     ensures causes { HasCauses (S.faults input.old, K.faults out.old)
         (S.faults input.new, K.faults out.new) (failed_device result) }
-    ensures looks { (left : List ℕ) → S.left input.old ≡ Some left → LooksPast result left (S.left input.new) }
+    ensures looks { (left : List ℕ) → S.left input.old ≡ Some left
+        → LooksPast result left (S.left input.new) }
     ensures nothing_written { K.written out.new ≡ K.written out.old }
 {
     let mut next = [0u8; 1];
@@ -91,6 +93,7 @@ pub fn judge<S: Input, K: Sink>(
     // What the ending says of the input holds, and what it prints stands written.
     ensures ended { IfOk result (λ ending. (bytes : List ℕ) → S.left input.old ≡ Some bytes →
         Comes SaysJudge PrintsJudge ending bytes (S.left input.new) (K.written out.old) (K.written out.new)) }
+    ensures appended { Grows (K.written out.old) (K.written out.new) }
     // Want of memory comes before the devices are touched.
     ensures untouched { OnErr result ((input.new ≡ input.old) × (out.new ≡ out.old)) }
 {

@@ -54,9 +54,11 @@ impl Table {
     #[inline]
     pub(crate) fn judge(&mut self, at: u64, place: u16, p: &StreamPacket) -> Verdict
         ensures stands { (acts : List Act) → TableStandsFor acts self.old →
-            TableStandsFor (acts ++ (record { at = at; kind = Packet (talker place) p.now }) ∷ []) self.new }
+            TableStandsFor (acts ++ (record { at = at; kind = Packet (talker place) p.now }) ∷ [])
+                self.new }
         ensures ruled { (acts : List Act) → TableStandsFor acts self.old →
-            verdict_at talkers (acts ++ (record { at = at; kind = Packet (talker place) p.now }) ∷ [])
+            verdict_at talkers (acts ++ (record { at = at; kind = Packet (talker place) p.now }) ∷
+                [])
                 (length acts) ≡ Some result }
     {
         self.moment = self.moment.max(at);
@@ -82,7 +84,8 @@ impl Table {
 // What is kept of each talker at first: nothing admitted.
 fn fresh(alloc: Global) -> Result<Vec<Last>, NoMemory>
     ensures of_all { IfOk result (λ owns. length owns.items ≡ 65536) }
-    ensures at_first { IfOk result (λ owns. (t : ℕ) (own : Option Frame) → slice_get owns.items t ≡ Some own → StandsAtFirst own) }
+    ensures at_first { IfOk result (λ owns. (t : ℕ) (own : Option Frame)
+        → slice_get owns.items t ≡ Some own → StandsAtFirst own) }
 {
     let mut owns = match Vec::with_capacity(alloc, TALKERS) {
         Ok(owns) => owns,

@@ -74,7 +74,7 @@ cut_line has_line count text line n is newest = record {
 }
 
 -- two lists of so many elements that are equal place by place
-equal_lists : {X : Type 0} (xs ys : List X) → length xs ≡ length ys
+pub equal_lists : {X : Type 0} (xs ys : List X) → length xs ≡ length ys
     → ((n : ℕ) → n < length xs → slice_get xs n ≡ slice_get ys n) → xs ≡ ys
 equal_lists [] [] size same = refl
 equal_lists [] (y ∷ ys) size same = absurd (omega arith)

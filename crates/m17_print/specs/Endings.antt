@@ -32,12 +32,17 @@ failed_device (Refused place reason) = None
 failed_device ReadFailed = Some Read
 failed_device WriteFailed = Some Write
 
--- A command came to this ending. `says` is what an ending says of the input and of what is left of it,
--- whatever the sink tells; `prints` is what stands written for the input then. `first` is what was written
--- before the command, `written` what is written after it. This profile.
+-- A command came to this ending. `says` is what an ending says of the input and of what is left of
+-- it, whatever the sink tells; `prints` is what stands written for the input then. `first` is what
+-- was written before the command, `written` what is written after it. This profile.
 pub record Comes {R : Type 0} (says : Ending R → List ℕ → Option (List ℕ) → Type 0)
     (prints : Ending R → List ℕ → Option (List ℕ) → List ℕ → Type 0)
     (ending : Ending R) (input : List ℕ) (left first written : Option (List ℕ)) : Type 0 where
   pub said : says ending input left
   pub printed : (before : List ℕ) → first ≡ Some before
       → (text : List ℕ) × (written ≡ Some (before ++ text)) × prints ending input left text
+
+-- Where the sink tells what was written, something was appended, or nothing.
+abbrev pub Grows : Option (List ℕ) → Option (List ℕ) → Type 0
+Grows first written =
+    (before : List ℕ) → first ≡ Some before → (text : List ℕ) × (written ≡ Some (before ++ text))

@@ -10,8 +10,8 @@ room = 224
 abbrev pub reason_room : ℕ
 reason_room = 16
 
--- Only the head of a line stands there: a number of up to 20 digits and its space, and a letter and its
--- space. There is room for what the line says, whatever that is. This profile.
+-- Only the head of a line stands there: a number of up to 20 digits and its space, and a letter and
+-- its space. There is room for what the line says, whatever that is. This profile.
 abbrev pub IsBegun : List ℕ → Type 0
 IsBegun line = length line ≤ 23
 
@@ -22,7 +22,8 @@ CanEnd line = length line < room
 -- a byte as two upper-case hex digits
 abbrev pub hex_digits : ℕ → List ℕ
 hex_digits byte =
-    slice_index (codes "0123456789ABCDEF") (byte / 16) ∷ slice_index (codes "0123456789ABCDEF") (byte % 16) ∷ []
+    slice_index (codes "0123456789ABCDEF") (byte / 16) ∷ slice_index (codes "0123456789ABCDEF")
+        (byte % 16) ∷ []
 
 -- bytes as upper-case hex digits, two for each
 abbrev pub hex_of : List ℕ → List ℕ

@@ -6,11 +6,13 @@ use Rattle.std.specs.List.{flat_map}
 abbrev pub joined_lines : List (List ℕ) → List ℕ
 joined_lines lines = flat_map (λ line. line) lines
 
--- The text is `count` lines, one for each item in order. `has_line` says which lines an item may have.
+-- The text is `count` lines, one for each item in order. `has_line` says which lines an item may
+-- have.
 pub record IsTextOf (has_line : ℕ → List ℕ → Type 0) (count : ℕ) (text : List ℕ) : Type 0 where
   pub lines : List (List ℕ)
   pub lines_count : length lines ≡ count
-  pub each : (n : ℕ) → n < count → (line : List ℕ) × (slice_get lines n ≡ Some line) × has_line n line
+  pub each : (n : ℕ) → n < count → (line : List ℕ) × (slice_get lines n ≡ Some line)
+      × has_line n line
   pub joined : text ≡ joined_lines lines
 
 -- The text is a first part of such a text: that is what a sink that failed may have taken of it.

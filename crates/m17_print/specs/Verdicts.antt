@@ -14,8 +14,8 @@ verdict_word AfterEnd = codes "after-end"
 verdict_word NotMember = codes "not-member"
 verdict_word ListenOnly = codes "listen-only"
 
--- A verdict's word, and what it names: the place of the holder, as in `busy 3`, or the last number, as
--- in `late 5`.
+-- A verdict's word, and what it names: the place of the holder, as in `busy 3`, or the last number,
+-- as in `late 5`.
 abbrev pub verdict_text : Verdict → List ℕ
 verdict_text (Busy holder) = codes "busy " ++ decimal holder.place
 verdict_text (Late last) = codes "late " ++ decimal last

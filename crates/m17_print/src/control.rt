@@ -40,7 +40,8 @@ impl Line {
     fn push_with_module(&mut self, word: &str, from: CallAddress, letter: ModuleLetter)
         requires word_long { length word.now ≡ 5 }
         requires fits { length self.old + 24 ≤ room }
-        ensures appended { self.new ≡ self.old ++ (word.now ++ address_text from ++ codes " " ++ letter ∷ []) }
+        ensures appended { self.new ≡ self.old ++ (word.now ++ address_text from ++ codes " " ++
+            letter ∷ []) }
         ensures longer { length self.new ≤ length self.old + 24 }
     {
         self.push_with_from(word, from);

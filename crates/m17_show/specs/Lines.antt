@@ -16,8 +16,8 @@ abbrev pub begin_first : ℕ → List (List ℕ) → List (List ℕ)
 begin_first byte [] = (byte ∷ []) ∷ []
 begin_first byte (line ∷ lines) = (byte ∷ line) ∷ lines
 
--- The lines of the input. Each ends at a line feed, or the last at the end; nothing comes after a line
--- feed at the end.
+-- The lines of the input. Each ends at a line feed, or the last at the end; nothing comes after a
+-- line feed at the end.
 unfoldable pub lines_of : List ℕ → List (List ℕ)
 lines_of [] = []
 lines_of (byte ∷ rest) = if byte == 10 then [] ∷ lines_of rest else begin_first byte (lines_of rest)
@@ -39,8 +39,8 @@ pub record AreLineCount (input : List ℕ) (count : ℕ) : Type 0 where
   pub whole : length (lines_of input) ≡ count
   pub not_large : count ≤ most_lines
 
--- what a line holds is too long; has an odd number of bytes; has a byte that is no hex digit: the first
--- that fits
+-- what a line holds is too long; has an odd number of bytes; has a byte that is no hex digit: the
+-- first that fits
 abbrev pub IsTooLong : List ℕ → Type 0
 IsTooLong content = longest_line < length content
 
@@ -48,14 +48,18 @@ abbrev pub IsOdd : List ℕ → Type 0
 IsOdd content = (length content ≤ longest_line) × (length content % 2 ≡ 1)
 
 abbrev pub HasNoHex : List ℕ → Type 0
-HasNoHex content = (length content ≤ longest_line) × (length content % 2 ≡ 0) × IsErr (decode_of content)
+HasNoHex content = (length content ≤ longest_line) × (length content % 2 ≡ 0)
+    × IsErr (decode_of content)
 
 -- Why line `count` of the input is refused: there are too many lines, or what it holds is refused.
 abbrev pub RefusesLine : List ℕ → ℕ → ShowReason → Type 0
 RefusesLine input count Large = (count ≡ most_lines) × (count < length (lines_of input))
 RefusesLine input count Long =
-    (count < most_lines) × (line : List ℕ) × (slice_get (lines_of input) count ≡ Some line) × IsTooLong (content_of line)
+    (count < most_lines) × (line : List ℕ) × (slice_get (lines_of input) count ≡ Some line)
+        × IsTooLong (content_of line)
 RefusesLine input count Odd =
-    (count < most_lines) × (line : List ℕ) × (slice_get (lines_of input) count ≡ Some line) × IsOdd (content_of line)
+    (count < most_lines) × (line : List ℕ) × (slice_get (lines_of input) count ≡ Some line)
+        × IsOdd (content_of line)
 RefusesLine input count Digit =
-    (count < most_lines) × (line : List ℕ) × (slice_get (lines_of input) count ≡ Some line) × HasNoHex (content_of line)
+    (count < most_lines) × (line : List ℕ) × (slice_get (lines_of input) count ≡ Some line)
+        × HasNoHex (content_of line)

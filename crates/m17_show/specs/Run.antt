@@ -1,6 +1,9 @@
--- Where a run of `show` stands between two lines, and what becomes of a line. No public clause cites this module.
+-- Where a run of `show` stands between two lines, and what becomes of a line. No public clause
+-- cites this module.
 use Rattle.std.specs.Prelude.{◌≡◌, ℕ, ◌+◌, List, ◌++◌, length, Option, None, Some, Result, Ok, Err}
 use Rattle.m17_io.specs.Sink.{AppendsPrefix}
+use Rattle.m17_io.specs.declared.fault.Fault.{Fault}
+use Rattle.m17_io.specs.declared.fault.Fault.TheVariants.{Write}
 use Rattle.m17_print.specs.Endings.{Comes}
 use Rattle.m17_print.specs.declared.ending.Ending.{Ending}
 use Rattle.m17_print.specs.declared.ending.Ending.TheVariants.{Refused, WriteFailed}
@@ -25,14 +28,15 @@ ComesOfLine line written written' (Ok _) = (printed : List ℕ) × IsPrintedFor 
     × ((before : List ℕ) → written ≡ Some before → written' ≡ Some (before ++ printed))
 ComesOfLine line written written' (Err (not_shown.Refused reason)) =
     RefusesContent (content_of line) reason × (written' ≡ written)
-ComesOfLine line written written' (Err not_shown.WriteFailed) = (printed : List ℕ) × IsPrintedFor line printed
+ComesOfLine line written written' (Err not_shown.WriteFailed) = (printed : List ℕ)
+    × IsPrintedFor line printed
     × ((before : List ℕ) → written ≡ Some before → AppendsPrefix before printed written')
 
--- whether a line was written, as a sink tells it
-abbrev pub written_result : Result Unit NotShown → Result Unit Unit
-written_result (Ok _) = Ok tt
-written_result (Err (not_shown.Refused reason)) = Ok tt
-written_result (Err not_shown.WriteFailed) = Err tt
+-- the device that failed, where a line was not shown
+abbrev pub failed_at_line : Result Unit NotShown → Option Fault
+failed_at_line (Ok _) = None
+failed_at_line (Err (not_shown.Refused reason)) = None
+failed_at_line (Err not_shown.WriteFailed) = Some Write
 
 -- the ending of a run in which a line of this number was not shown
 abbrev pub ending_at : ℕ → NotShown → Ending ShowReason
@@ -48,9 +52,10 @@ pub record IsAt (input : List ℕ) (count : ℕ) (rest : List ℕ) : Type 0 wher
   pub input_is : input ≡ before ++ rest
   pub ended : AreEnded before count
 
--- So many lines of the input were shown. `first` is what was written before the run, `written` what is
--- written now.
-pub record AreShown (input : List ℕ) (count : ℕ) (held : List ℕ) (left first written : Option (List ℕ)) : Type 0 where
+-- So many lines of the input were shown. `first` is what was written before the run, `written` what
+-- is written now.
+pub record AreShown (input : List ℕ) (count : ℕ) (held : List ℕ) (left first written : Option (List
+    ℕ)) : Type 0 where
   pub ahead : List ℕ
   pub is_ahead : IsAhead held left ahead
   pub is_at : IsAt input count ahead
@@ -59,6 +64,8 @@ pub record AreShown (input : List ℕ) (count : ℕ) (held : List ℕ) (left fir
   pub printed : (before : List ℕ) → first ≡ Some before → written ≡ Some (before ++ text)
 
 -- one more line was shown, or the run came to its end with it
-abbrev pub GoesOn : List ℕ → ℕ → Option (List ℕ) → Option (Ending ShowReason) → List ℕ → Option (List ℕ) → Option (List ℕ) → Type 0
+abbrev pub GoesOn : List ℕ → ℕ → Option (List ℕ) → Option (Ending ShowReason) → List ℕ
+    → Option (List ℕ) → Option (List ℕ) → Type 0
 GoesOn input count first None held left written = AreShown input (count + 1) held left first written
-GoesOn input count first (Some ending) held left written = Comes SaysShow PrintsShow ending input left first written
+GoesOn input count first (Some ending) held left written = Comes SaysShow PrintsShow ending input
+    left first written

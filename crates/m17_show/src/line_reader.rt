@@ -66,7 +66,8 @@ impl LineReader {
     // Where the first line feed stands.
     #[inline]
     fn first_feed(&self) -> Option<usize>
-        ensures { MatchOption result (HasNoFeed (pending self.now)) (BeginsWithLine (pending self.now)) }
+        ensures { MatchOption result (HasNoFeed (pending self.now)) (BeginsWithLine (pending
+            self.now)) }
     {
         memchr(b'\n', self.pending())
     }
@@ -92,7 +93,8 @@ impl LineReader {
         requires { length (pending self.old) < 8192 }
         ensures causes { HasCauses (S.faults input.old, K.faults out.old)
             (S.faults input.new, K.faults out.new) (fault_of result) }
-        ensures longer { IfOk result (λ n. length (pending self.new) ≡ length (pending self.old) + n) }
+        ensures longer { IfOk result (λ n. length (pending self.new) ≡ length (pending self.old) +
+            n) }
         ensures none { result ≡ Ok 0 → pending self.new ≡ pending self.old }
         ensures more { IfOk result (λ n. (rest : List ℕ) → S.left input.old ≡ Some rest
             → IsMoreOf rest n (pending self.old) (pending self.new) (S.left input.new)) }

@@ -1,10 +1,10 @@
 ghost use Rattle.std.specs.Prelude.{◌≡◌, ℕ, ◌<◌, List, [], Option, None, Some, IfSome, IfNone, option_and_then};
-ghost use Rattle.m17_io.specs.Faults.{HasCauses, HasCause};
-ghost use Rattle.m17_print.specs.Endings.{failed_device, Comes};
+ghost use Rattle.m17_io.specs.Faults.{HasCauses};
+ghost use Rattle.m17_print.specs.Endings.{failed_device, Comes, Grows};
 ghost use Rattle.m17_show.specs.Lines.{most_lines};
 ghost use Rattle.m17_show.specs.Reading.{HasNoFeed};
 ghost use Rattle.m17_show.specs.Show.{SaysShow, PrintsShow};
-ghost use Rattle.m17_show.specs.Run.{AreShown, GoesOn, sink_result};
+ghost use Rattle.m17_show.specs.Run.{AreShown, GoesOn};
 ghost use Rattle.m17_show.specs.Pending.{pending};
 
 use crate::ShowReason;
@@ -31,6 +31,7 @@ pub fn show<S: Input, K: Sink>(input: &mut S, out: &mut K) -> Ending<ShowReason>
     // What the ending says of the input holds, and what it prints stands written.
     ensures ended { (bytes : List ℕ) → S.left input.old ≡ Some bytes →
         Comes SaysShow PrintsShow result bytes (S.left input.new) (K.written out.old) (K.written out.new) }
+    ensures appended { Grows (K.written out.old) (K.written out.new) }
 {
     let mut reader = LineReader::new();
     match show_lines(&mut reader, input, out) {
@@ -52,7 +53,9 @@ fn show_lines<S: Input, K: Sink>(
         → Comes SaysShow PrintsShow ending bytes (S.left input.new) first (K.written out.new)) }
     ensures full { IfNone result ((bytes : List ℕ) (first : Option (List ℕ))
         → AreShown bytes 0 (pending reader.old) (S.left input.old) first (K.written out.old)
-        → AreShown bytes most_lines (pending reader.new) (S.left input.new) first (K.written out.new)) }
+        → AreShown bytes most_lines (pending reader.new) (S.left input.new) first (K.written
+            out.new)) }
+    ensures appended { Grows (K.written out.old) (K.written out.new) }
 {
     let mut printed = Line::new();
     for number in 0..LINES_MAX {
@@ -77,7 +80,9 @@ fn show_next<S: Input, K: Sink>(
         (S.faults input.new, K.faults out.new) (option_and_then failed_device result) }
     ensures goes_on { (bytes : List ℕ) (first : Option (List ℕ))
         → AreShown bytes number (pending reader.old) (S.left input.old) first (K.written out.old)
-        → GoesOn bytes number first result (pending reader.new) (S.left input.new) (K.written out.new) }
+        → GoesOn bytes number first result (pending reader.new) (S.left input.new) (K.written
+            out.new) }
+    ensures appended { Grows (K.written out.old) (K.written out.new) }
 {
     match reader.next(input, out) {
         Ok(Next::Line(size)) => {
@@ -107,11 +112,12 @@ fn show_last<K: Sink>(
 ) -> Ending<ShowReason>
     requires few { number < most_lines }
     requires no_feed { HasNoFeed rest.now }
-    ensures cause { HasCause (K.faults out.old) (K.faults out.new) (sink_result result) }
-    ensures not_read { IsNotRead result }
+    ensures causes { (reads : ℕ) → HasCauses (reads, K.faults out.old)
+        (reads, K.faults out.new) (failed_device result) }
     ensures shows { (bytes : List ℕ) (first : Option (List ℕ))
         → AreShown bytes number rest.now (Some []) first (K.written out.old)
         → Comes SaysShow PrintsShow result bytes (Some []) first (K.written out.new) }
+    ensures appended { Grows (K.written out.old) (K.written out.new) }
 {
     if rest.is_empty() {
         return Ending::Finished;
@@ -131,8 +137,10 @@ fn end_at_limit<S: Input, K: Sink>(
     ensures causes { HasCauses (S.faults input.old, K.faults out.old)
         (S.faults input.new, K.faults out.new) (failed_device result) }
     ensures shows { (bytes : List ℕ) (first : Option (List ℕ))
-        → AreShown bytes most_lines (pending reader.old) (S.left input.old) first (K.written out.old)
+        → AreShown bytes most_lines (pending reader.old) (S.left input.old) first (K.written
+            out.old)
         → Comes SaysShow PrintsShow result bytes (S.left input.new) first (K.written out.new) }
+    ensures nothing_written { K.written out.new ≡ K.written out.old }
 {
     let large = Ending::Refused {
         place: LINES_MAX,

@@ -1,8 +1,9 @@
-ghost use Rattle.std.specs.Prelude.{◌≡◌, ℕ, ◌++◌, List, Option, OnOk, IfErr, IsErr};
-ghost use Rattle.m17_io.specs.Faults.{HasCause};
+ghost use Rattle.std.specs.Prelude.{◌≡◌, ℕ, ◌++◌, List, OnOk, IfErr};
+ghost use Rattle.m17_io.specs.Faults.{HasCauses};
+ghost use Rattle.m17_print.specs.Endings.{Grows};
 ghost use Rattle.m17_print.specs.Line.{IsBegun, CanEnd};
 ghost use Rattle.m17_show.specs.Lines.{content_of};
-ghost use Rattle.m17_show.specs.Run.{RefusesContent, ComesOfLine, written_result};
+ghost use Rattle.m17_show.specs.Run.{RefusesContent, ComesOfLine, failed_at_line};
 ghost use Rattle.m17_show.specs.Show.{SaysOfBytes, IsPrintedFor};
 
 use crate::ShowReason;
@@ -29,7 +30,8 @@ fn content(line: &[u8]) -> &[u8]
 #[inline]
 fn push_reading(bytes: &[u8], printed: &mut Line)
     requires { IsBegun printed.old }
-    ensures said { (text : List ℕ) × (printed.new ≡ printed.old ++ text) × SaysOfBytes bytes.now text }
+    ensures said { (text : List ℕ) × (printed.new ≡ printed.old ++ text)
+        × SaysOfBytes bytes.now text }
     ensures ends { CanEnd printed.new }
 {
     match m17_control::decode(bytes) {
@@ -68,7 +70,9 @@ pub(crate) fn show_line<K: Sink>(
     out: &mut K,
 ) -> Result<(), NotShown>
     ensures comes { ComesOfLine line.now (K.written out.old) (K.written out.new) result }
-    ensures cause { HasCause (K.faults out.old) (K.faults out.new) (written_result result) }
+    ensures causes { (reads : ℕ) → HasCauses (reads, K.faults out.old)
+        (reads, K.faults out.new) (failed_at_line result) }
+    ensures appended { Grows (K.written out.old) (K.written out.new) }
 {
     if let Err(reason) = make_line(line, printed) {
         return Err(NotShown::Refused(reason));
