@@ -1,1 +1,6 @@
-pub mod Endings
+pub mod Statuses
+pub mod LastLines
+pub mod Concluded
+pub mod JudgeRuns
+pub mod ShowRuns
+pub mod WordsRefused

@@ -2,17 +2,18 @@
 //! status; it promises what was written for the bytes that came in, the cause of each status, and that the sink holds
 //! nothing back at the end. `main` hands it the standard streams and ends with its answer. `StdIn` and `StdOut` are the
 //! trusted edge: they buffer, count their faults, and tell nothing of content. What the commands print is left to
-//! `m17_tools`.
+//! `m17_judge` and `m17_show`.
 #![tactic(auto)]
 
 mod command;
 mod conclude;
 mod run;
+mod status;
 mod std_in;
 mod std_out;
 
-use conclude::NO_MEMORY;
 use run::run;
+use status::Status;
 use std::alloc::Global;
 use std::env;
 use std::io::ErrorKind;
@@ -28,13 +29,13 @@ fn main(rt: HostRuntime) -> ExitCode {
 fn start(rt: HostRuntime) -> u8 {
     let alloc = rt.alloc();
     let Some(words) = words_of(rt) else {
-        return NO_MEMORY;
+        return Status::NoMemory.code();
     };
     let Ok(mut input) = StdIn::make(alloc, rt.stdin()) else {
-        return NO_MEMORY;
+        return Status::NoMemory.code();
     };
     let Ok(mut out) = StdOut::make(alloc, &rt) else {
-        return NO_MEMORY;
+        return Status::NoMemory.code();
     };
     run(&rt, alloc, &words, &mut input, &mut out)
 }
