@@ -50,8 +50,9 @@ fn judge_records<S: Input, K: Sink>(
             Err(Fault::Write) => return Some(Ending::WriteFailed),
         }
         judge_record(table, index, &record, &mut line);
-        if out.write(line.bytes()).is_err() {
-            return Some(Ending::WriteFailed);
+        match out.write(line.bytes()) {
+            Ok(()) => {}
+            Err(_) => return Some(Ending::WriteFailed),
         }
     }
     None

@@ -63,11 +63,12 @@ pub(crate) fn judge_record(
         Ok(packet) => {
             let verdict = table.judge(at, record_talker(bytes), &packet);
             line.push_verdict(verdict);
+            line.push_byte(b'\n');
         }
         Err(refusal) => {
             table.pass(at);
             line.push_stream_refusal(&refusal);
+            line.push_byte(b'\n');
         }
     }
-    line.push_byte(b'\n');
 }

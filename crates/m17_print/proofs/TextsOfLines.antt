@@ -90,8 +90,8 @@ pub one_text : (has_line : ℕ → List ℕ → Type 0) (count : ℕ) (a b : Lis
     → IsTextOf has_line count a → IsTextOf has_line count b → a ≡ b
 one_text has_line count a b one is_a is_b =
     let same : is_a.lines ≡ is_b.lines = equal_lists is_a.lines is_b.lines (is_a.lines_count ∙ sym is_b.lines_count) (λ n below.
-        let within : n < count = omega (arith, is_a.lines_count) in
-        let in_a = is_a.each n within in
-        let in_b = is_b.each n within in
-        in_a.1 ∙ ap Some (one n in_a.0 in_b.0 within in_a.2 in_b.2) ∙ sym in_b.1) in
+    let within : n < count = omega (arith, is_a.lines_count) in
+    let in_a = is_a.each n within in
+    let in_b = is_b.each n within in
+    in_a.1 ∙ ap Some (one n in_a.0 in_b.0 within in_a.2 in_b.2) ∙ sym in_b.1) in
     is_a.joined ∙ ap joined_lines same ∙ sym is_b.joined

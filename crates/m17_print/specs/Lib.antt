@@ -4,6 +4,5 @@ pub mod Packets
 pub mod Verdicts
 pub mod Endings
 pub mod Texts
-
 -- for proofs alone
 pub mod Parts

@@ -23,7 +23,7 @@ CanEnd line = length line < room
 abbrev pub hex_digits : ℕ → List ℕ
 hex_digits byte =
     slice_index (codes "0123456789ABCDEF") (byte / 16) ∷ slice_index (codes "0123456789ABCDEF")
-        (byte % 16) ∷ []
+    (byte % 16) ∷ []
 
 -- bytes as upper-case hex digits, two for each
 abbrev pub hex_of : List ℕ → List ℕ

@@ -1,7 +1,7 @@
 use super::*;
 use m17_callsign::CallAddress;
-use m17_floor::Verdict;
 use m17_control::{Control, ModuleLetter, Packet, Refusal};
+use m17_floor::Verdict;
 use m17_lsd::Lsd;
 use m17_stream::{StreamPacket, StreamRefusal};
 use m17_values::{Address, Member};

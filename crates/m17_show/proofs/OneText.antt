@@ -61,7 +61,7 @@ one_first reading input count a b in_a in_b =
 
 -- what is printed was no error
 no_error : (line printed : List ℕ) → IsPrintedFor line printed → IsErr (decode_of (content_of line)) → ⊥
-no_error line printed is err = subst (λ (r : _). IsErr r) is.digits err
+no_error line printed is err = let none = rw is.digits at err in cc
 
 -- a line that is refused is not printed
 not_printed : (input : List ℕ) (n : ℕ) (reason : ShowReason) (printed : List ℕ) → n < most_lines → RefusesLine input n reason → HasPrintedLine input n printed → ⊥

@@ -1,4 +1,4 @@
-use Rattle.std.proofs.Common.{◌≡◌, ◌<◌, ℕ, List, [], length, Option, refl, sym, subst, ◌∙◌, arith}
+use Rattle.std.proofs.Common.{◌≡◌, ◌<◌, ℕ, List, [], length, Some, refl, sym, subst, ◌∙◌, arith}
 use Rattle.std.proofs.lemmas.Bool.{eqb-true}
 use Rattle.std.proofs.lemmas.List.{nil_from_length}
 use Rattle.m17_io.specs.Faults.{HasCauses}
@@ -28,5 +28,5 @@ returns-in-Err-clause-causes g c = λ reads.
 pub returns-in-Err-clause-shows : goal.returns-in-Err-clause-shows
 returns-in-Err-clause-shows g c = λ bytes first so_far.
     let some : 0 < length c.args.rest.now = grind arith in
-    subst (λ (ending : Ending ShowReason). Comes SaysShow PrintsShow ending bytes _ first (g.K.Sink.written c.show_line.new.out)) (sym c.ending_at.ensures)
-    (last_not_shown bytes c.args.rest.now c.args.number c.in-Err.not_shown _ first _ _ c.requires.few so_far c.requires.no_feed some refl c.in-Err.ensures.comes)
+    subst (λ (ending : Ending ShowReason). Comes SaysShow PrintsShow ending bytes (Some []) first (g.K.Sink.written c.show_line.new.out)) (sym c.ending_at.ensures)
+    (last_not_shown bytes c.args.rest.now c.args.number c.in-Err.not_shown (Some []) first _ _ c.requires.few so_far c.requires.no_feed some refl c.in-Err.ensures.comes)
