@@ -3,6 +3,6 @@
 //! a crate below the program names `m17_values` and `m17_io`, so that a new form in memory proves nothing there again.
 #![tactic(auto)]
 
-pub use m17_io::{Fault, Input, Sink, Source, read_tied};
-pub use m17_memory::{BytesSink, BytesSource};
+pub use m17_io::{Fault, Input, Outlet, Sink, Source, read_tied};
+pub use m17_memory::{BytesSink, BytesSource, WaitingSource};
 pub use m17_values::{Failed, Gram, Heard, Member, NoMemory, Peer};

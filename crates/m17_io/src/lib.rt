@@ -7,10 +7,12 @@
 
 mod fault;
 mod input;
+mod outlet;
 mod sink;
 mod source;
 
 pub use fault::Fault;
 pub use input::{Input, read_tied};
+pub use outlet::Outlet;
 pub use sink::Sink;
 pub use source::Source;

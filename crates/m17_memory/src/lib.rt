@@ -6,9 +6,11 @@
 
 mod bytes_sink;
 mod bytes_source;
+mod waiting_source;
 
 pub use bytes_sink::BytesSink;
 pub use bytes_source::BytesSource;
+pub use waiting_source::WaitingSource;
 
 #[cfg(test)]
 mod tests;

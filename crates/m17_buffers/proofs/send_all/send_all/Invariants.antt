@@ -1,0 +1,14 @@
+use Rattle.std.proofs.Common.{◌≡◌, ℕ, ◌-◌, ◌≤◌, length, take}
+use Rattle.m17_io.specs.Outlet.{followed_by}
+use Rattle.m17_buffers.proofs.send_all.send_all.Given as goal
+
+-- so many bytes have left, and the outlet has not failed
+abbrev pub invariant-loop-done : goal.invariant-loop-done
+invariant-loop-done g l = record {
+  within : l.done ≤ length l.bytes;
+  sent : g.O.Outlet.sent l.out ≡ followed_by (g.O.Outlet.sent l.fn.out) (take l.done l.bytes);
+  sound : g.O.Outlet.faults l.out ≡ g.O.Outlet.faults l.fn.out;
+}
+
+abbrev pub decreases-loop-done : goal.decreases-loop-done
+decreases-loop-done g l = length l.bytes - l.done

@@ -1,0 +1,24 @@
+ghost use Rattle.std.specs.Prelude.{◌≡◌, ◌<◌, ◌≤◌, length, take};
+ghost use Rattle.m17_io.specs.Faults.{HasRisen};
+ghost use Rattle.m17_io.specs.Outlet.{followed_by};
+
+use m17_io::Outlet;
+
+// Sends the bytes, and answers how many of them, from the front, have left: fewer than all only where the outlet
+// failed.
+pub(crate) fn send_all<O: Outlet>(out: &mut O, bytes: &[u8]) -> usize
+    ensures within { result ≤ length bytes.now }
+    ensures sent { O.sent out.new ≡ followed_by (O.sent out.old) (take result bytes.now) }
+    ensures counted { O.faults out.old ≤ O.faults out.new }
+    ensures failed { result < length bytes.now → HasRisen (O.faults out.old) (O.faults out.new) }
+    ensures no_fault { result ≡ length bytes.now → O.faults out.new ≡ O.faults out.old }
+{
+    let mut done = 0;
+    while done < bytes.len() {
+        match out.send(&bytes[done..]) {
+            Ok(n) => done += n,
+            Err(_) => return done,
+        }
+    }
+    done
+}
