@@ -1,146 +1,142 @@
 -- What one more act makes of the floor's frame and of each member's own.
-use Rattle.std.proofs.Common.{◌≡◌, ℕ, suc, ◌<◌, ◌&&◌, Bool, true, false, cond, List, [], ◌∷◌, ◌++◌, length, max, Option, None, Some, nat_lt, refl, ap, ◌∙◌, arith}
-use Rattle.std.proofs.lemmas.Bool.{cond-true, cond-false, lt-ltb, and_left, and_from}
+use Rattle.std.proofs.Common.{◌≡◌, ℕ, ◌<◌, ◌&&◌, Bool, true, false, not, cond, List, [], ◌∷◌, length, Option, None, Some, nat_lt, refl, ap, ◌∙◌, arith}
+use Rattle.std.proofs.lemmas.Bool.{cond-true, cond-false, lt-ltb, and_left, and_right, and_from}
+use Rattle.std.proofs.Math.Bool.{and-true}
 use Rattle.std.specs.Option.{option_and_then, option_map_or}
 use Rattle.m17_values.specs.declared.member.Member.{Member}
 use Rattle.m17_stream.specs.declared.packet.StreamPacket.{StreamPacket}
 use Rattle.m17_floor.specs.declared.act.Act.{Act}
 use Rattle.m17_floor.specs.declared.act.ActKind.{ActKind}
 use Rattle.m17_floor.specs.declared.act.ActKind.TheVariants.{Join, Leave, Packet, Other}
-use Rattle.m17_floor.specs.Acts.{last_below, kind_at, moment_before, moment_at, is_same, settles, joined_at}
-use Rattle.m17_floor.specs.Floor.{was_admitted, is_in_since, is_packet_of, last_own, admitted_before}
-use Rattle.m17_floor.specs.StandsFor.{Frame, frame_of, frame_at, has_stayed, floor_frame, own_frame}
-use Rattle.m17_floor.proofs.LastBelow.{last_below_suc, last_below_same, last_below_lt, and_then_same}
-use Rattle.m17_floor.proofs.OneMore.{with_act, moment_end, length_more, kind_end, admits_last, admitted_more, length_admitted, was_admitted_before, was_admitted_end, last_admitted_more, since_suc, since_more, SettlesNobody}
+use Rattle.m17_floor.specs.Acts.{with_act, last_below, kind_at, moment_at, is_same, settles}
+use Rattle.m17_floor.specs.Rule.{Frame, incoming, frame_from, only_if}
+use Rattle.m17_floor.specs.Floor.{Past, was_admitted, joined, is_in_since, frame_of, frame_at, has_stayed, last_admitted, floor_frame, is_packet_of, last_own, own_frame}
+use Rattle.m17_floor.specs.StandsFor.{packet_act}
+use Rattle.m17_floor.proofs.LastBelow.{last_below_suc, last_below_same, last_below_none, last_below_lt, and_then_same}
 use Rattle.m17_floor.proofs.Members.{is_same_self}
+use Rattle.m17_floor.proofs.OneMore.{grown, IsWhole, kind_end, length_more, moment_of, moment_end, was_before, was_end, last_admitted_more, since_more}
 use Rattle.m17_floor.proofs.Prefix.{kind_before, moment_at_same, joined_lt}
 
-has_stayed_more : (places : ℕ) (acts : List Act) (act : Act) (a : ℕ) (kind : ActKind) → SettlesNobody act → has_stayed places (with_act acts act) a kind ≡ has_stayed places acts a kind
-has_stayed_more places acts act a (Packet k p) h = since_more places acts act k a (h k)
-has_stayed_more places acts act a (Join k only) h = refl
-has_stayed_more places acts act a (Leave k) h = refl
-has_stayed_more places acts act a Other h = refl
+-- the act doesn't decide whether the frame's sender is in
+abbrev pub leaves_in : ActKind → Frame → Bool
+leaves_in kind frame = not (settles frame.member kind)
 
 frame_before : (acts : List Act) (act : Act) (a : ℕ) → a < length acts → frame_at (with_act acts act) a ≡ frame_at acts a
 frame_before acts act a h =
     ap (λ kind. frame_of kind (moment_at (with_act acts act) a)) (kind_before acts (act ∷ []) a h)
     ∙ ap (frame_of (kind_at acts a)) (moment_at_same acts (act ∷ []) a h)
 
-abbrev frame_there : ℕ → List Act → ℕ → Option Frame
-frame_there places acts a = cond (has_stayed places acts a (kind_at acts a)) (frame_at acts a) None
+only_if_both : (test : Frame → Bool) (frame : Frame) (b : Bool) → cond (test frame && b) (Some frame) None ≡ only_if test (cond b (Some frame) None)
+only_if_both test frame true = ap (λ c. cond c (Some frame) None) (and-true (test frame))
+only_if_both test frame false = cond-false (test frame && false) (Some frame) None (and_right (test frame) false refl)
 
-frame_there_before : (places : ℕ) (acts : List Act) (act : Act) (a : ℕ) → SettlesNobody act → a < length acts → frame_there places (with_act acts act) a ≡ frame_there places acts a
-frame_there_before places acts act a h l =
-    ap (λ kind. cond (has_stayed places (with_act acts act) a kind) (frame_at (with_act acts act) a) None) (kind_before acts (act ∷ []) a l)
-    ∙ ap (λ b. cond b (frame_at (with_act acts act) a) None) (has_stayed_more places acts act a (kind_at acts a) h)
-    ∙ ap (λ f. cond (has_stayed places acts a (kind_at acts a)) f None) (frame_before acts act a l)
+-- the frame at a position, if its sender has been in since before it
+abbrev pub stayed_at : Past → ℕ → Option Frame
+stayed_at past a = cond (has_stayed past a (kind_at past.acts a)) (frame_at past.acts a) None
 
--- the floor's frame after one more act
-floor_frame_more : (places : ℕ) (acts : List Act) (act : Act) → floor_frame places (with_act acts act) ≡ option_and_then (frame_there places (with_act acts act)) (cond (admits_last places acts act) (Some (length acts)) (last_below (was_admitted (admitted_before places acts (length acts))) (length acts)))
+stayed_kind : (past : Past) (act : Act) (b : Bool) (a at : ℕ) (kind : ActKind) → a < length past.acts → cond (has_stayed (grown past act b) a kind) (frame_of kind at) None ≡ only_if (leaves_in act.kind) (cond (has_stayed past a kind) (frame_of kind at) None)
+stayed_kind past act b a at (Packet k p) h =
+    let frame : Frame = frame_from (incoming k at p) in
+    ap (λ c. cond c (Some frame) None) (since_more past act b k a (omega arith))
+    ∙ only_if_both (leaves_in act.kind) frame (is_in_since past k a)
+stayed_kind past act b a at (Join k only) h = refl
+stayed_kind past act b a at (Leave k) h = refl
+stayed_kind past act b a at Other h = refl
+
+stayed_before : (past : Past) (act : Act) (b : Bool) (a : ℕ) → a < length past.acts → stayed_at (grown past act b) a ≡ only_if (leaves_in act.kind) (stayed_at past a)
+stayed_before past act b a h =
+    ap (λ kind. cond (has_stayed (grown past act b) a kind) (frame_at (with_act past.acts act) a) None) (kind_before past.acts (act ∷ []) a h)
+    ∙ ap (λ frame. cond (has_stayed (grown past act b) a (kind_at past.acts a)) frame None) (frame_before past.acts act a h)
+    ∙ stayed_kind past act b a (moment_at past.acts a) (kind_at past.acts a) h
+
+and_then_only_if : (test : Frame → Bool) (o : Option ℕ) (f g : ℕ → Option Frame) → ((a : ℕ) → o ≡ Some a → f a ≡ only_if test (g a)) → option_and_then f o ≡ only_if test (option_and_then g o)
+and_then_only_if test None f g h = refl
+and_then_only_if test (Some a) f g h = h a refl
+
+-- An act that isn't admitted leaves the floor's frame, unless it decides whether the frame's sender is in.
+pub floor_kept : (past : Past) (act : Act) → IsWhole past → floor_frame (grown past act false) ≡ only_if (leaves_in act.kind) (floor_frame past)
 unfolding floor_frame
-floor_frame_more places acts act =
-    ap (λ n. option_and_then (frame_there places (with_act acts act)) (last_below (was_admitted (admitted_before places (with_act acts act) n)) n)) (length_more acts act)
-    ∙ ap (option_and_then (frame_there places (with_act acts act))) (last_admitted_more places acts act)
+floor_kept past act len =
+    ap (option_and_then (stayed_at (grown past act false))) (last_admitted_more past act false len)
+    ∙ and_then_only_if (leaves_in act.kind) (last_admitted past) _ _ (λ a e. stayed_before past act false a (last_below_lt (was_admitted past) (length past.acts) a e))
 
--- An act that isn't admitted leaves the floor's frame.
-pub floor_frame_kept : (places : ℕ) (acts : List Act) (act : Act) → SettlesNobody act → admits_last places acts act ≡ false → floor_frame places (with_act acts act) ≡ floor_frame places acts
-unfolding floor_frame
-floor_frame_kept places acts act h r =
-    let last : Option ℕ = last_below (was_admitted (admitted_before places acts (length acts))) (length acts) in
-    floor_frame_more places acts act
-    ∙ ap (option_and_then (frame_there places (with_act acts act))) (cond-false (admits_last places acts act) (Some (length acts)) last r)
-    ∙ and_then_same last _ _ (λ a e. frame_there_before places acts act a h (last_below_lt (was_admitted (admitted_before places acts (length acts))) (length acts) a e))
-
--- a frame of this packet at this moment
-abbrev pub frame_from : Member → StreamPacket → ℕ → Frame
-frame_from k p at = record { member = k; sid = p.sid; number = p.number; last = p.last; at = at }
-
--- the act of a packet
-abbrev pub packet_act : ℕ → Member → StreamPacket → Act
-packet_act moment k p = record { at = moment; kind = Packet k p }
-
--- the moment of the new act, as the code has it
-abbrev pub moment_of : List Act → ℕ → ℕ
-moment_of acts moment = max (moment_before acts (length acts)) moment
-
-pub frame_end : (acts : List Act) (moment : ℕ) (k : Member) (p : StreamPacket) → frame_at (with_act acts (packet_act moment k p)) (length acts) ≡ Some (frame_from k p (moment_of acts moment))
+pub frame_end : (acts : List Act) (moment : ℕ) (k : Member) (p : StreamPacket) → frame_at (with_act acts (packet_act moment k p)) (length acts) ≡ Some (frame_from (incoming k (moment_of acts moment) p))
 frame_end acts moment k p =
     let act : Act = packet_act moment k p in
     ap (λ kind. frame_of kind (moment_at (with_act acts act) (length acts))) (kind_end acts act)
-    ∙ ap (λ at. Some (frame_from k p at)) (moment_end acts act)
+    ∙ ap (λ at. Some (frame_from (incoming k at p))) (moment_end acts act)
+
+-- one that is in has been in since before the new act
+in_since_end : (past : Past) (k : Member) (j : ℕ) → joined past k ≡ Some j → is_in_since past k (length past.acts) ≡ true
+in_since_end past k j e =
+    ap (λ o. option_map_or (λ i. nat_lt i (length past.acts)) o false) e
+    ∙ lt-ltb j (length past.acts) (joined_lt past.places past.acts k (length past.acts) j e)
 
 -- An admitted packet of one that is in becomes the floor's frame.
-pub floor_frame_admitted : (places : ℕ) (acts : List Act) (moment : ℕ) (k : Member) (p : StreamPacket) (j : ℕ) → joined_at places acts k (length acts) ≡ Some j → admits_last places acts (packet_act moment k p) ≡ true → floor_frame places (with_act acts (packet_act moment k p)) ≡ Some (frame_from k p (moment_of acts moment))
-floor_frame_admitted places acts moment k p j e r =
-    let n : ℕ = length acts in
+pub floor_admitted : (past : Past) (moment : ℕ) (k : Member) (p : StreamPacket) (j : ℕ) → IsWhole past → joined past k ≡ Some j → floor_frame (grown past (packet_act moment k p) true) ≡ Some (frame_from (incoming k (moment_of past.acts moment) p))
+unfolding floor_frame
+floor_admitted past moment k p j len e =
+    let n : ℕ = length past.acts in
     let act : Act = packet_act moment k p in
-    let longer : List Act = with_act acts act in
-    let last : Option ℕ = last_below (was_admitted (admitted_before places acts n)) n in
-    let stayed : is_in_since places longer k (length longer) n ≡ true =
-    since_more places acts act k n refl ∙ ap (λ o. option_map_or (λ i. nat_lt i n) o false) e ∙ lt-ltb j n (joined_lt places acts k n j e) in
-    floor_frame_more places acts act
-    ∙ ap (option_and_then (frame_there places longer)) (cond-true (admits_last places acts act) (Some n) last r)
-    ∙ ap (λ kind. cond (has_stayed places longer n kind) (frame_at longer n) None) (kind_end acts act)
-    ∙ cond-true (is_in_since places longer k (length longer) n) (frame_at longer n) None stayed
-    ∙ frame_end acts moment k p
+    let longer : Past = grown past act true in
+    let stayed : is_in_since longer k n ≡ true = since_more past act true k n (omega arith) ∙ in_since_end past k j e in
+    ap (option_and_then (stayed_at longer)) (last_admitted_more past act true len)
+    ∙ ap (λ kind. cond (has_stayed longer n kind) (frame_at longer.acts n) None) (kind_end past.acts act)
+    ∙ cond-true (is_in_since longer k n) (frame_at longer.acts n) None stayed
+    ∙ frame_end past.acts moment k p
 
--- the position of the member's own last frame
-last_own_more : (places : ℕ) (acts : List Act) (act : Act) (k : Member) → settles k act.kind ≡ false →
-    last_own places (with_act acts act) (admitted_before places (with_act acts act) (suc (length acts))) k (suc (length acts))
-    ≡ cond (admits_last places acts act && is_packet_of k act.kind && is_in_since places acts k (length acts) (length acts)) (Some (length acts)) (last_own places acts (admitted_before places acts (length acts)) k (length acts))
-last_own_more places acts act k h =
-    let n : ℕ = length acts in
-    let longer : List Act = with_act acts act in
-    let b : Bool = admits_last places acts act in
-    let past : List Bool = admitted_before places acts n in
-    let len : length past ≡ n = length_admitted places acts n in
-    let test : ℕ → Bool = λ a. was_admitted (past ++ b ∷ []) a && is_packet_of k (kind_at longer a) && is_in_since places longer k (suc n) a in
-    let old : ℕ → Bool = λ a. was_admitted past a && is_packet_of k (kind_at acts a) && is_in_since places acts k n a in
-    let here : test n ≡ (b && is_packet_of k act.kind && is_in_since places acts k n n) =
-    ap (λ c. c && is_packet_of k (kind_at longer n) && is_in_since places longer k (suc n) n) (was_admitted_end past b n len)
-    ∙ ap (λ kind. b && is_packet_of k kind && is_in_since places longer k (suc n) n) (kind_end acts act)
-    ∙ ap (λ c. b && is_packet_of k act.kind && c) (since_suc places acts act k n h) in
-    let below : last_below test n ≡ last_below old n =
-    last_below_same test old n
-    (λ a l.
-    ap (λ c. c && is_packet_of k (kind_at longer a) && is_in_since places longer k (suc n) a) (was_admitted_before past b a (omega arith))
-    ∙ ap (λ kind. was_admitted past a && is_packet_of k kind && is_in_since places longer k (suc n) a) (kind_before acts (act ∷ []) a l)
-    ∙ ap (λ c. was_admitted past a && is_packet_of k (kind_at acts a) && c) (since_suc places acts act k a h)) in
-    ap (λ bits. last_own places longer bits k (suc n)) (admitted_more places acts act)
-    ∙ last_below_suc test n
-    ∙ ap (λ c. cond c (Some n) (last_below test n)) here
-    ∙ ap (cond (b && is_packet_of k act.kind && is_in_since places acts k n n) (Some n)) below
+-- the position is an admitted packet of the member since its Join
+abbrev pub own_test : Past → Member → ℕ → Bool
+own_test past k a = was_admitted past a && is_packet_of k (kind_at past.acts a) && is_in_since past k a
 
-own_frame_more : (places : ℕ) (acts : List Act) (act : Act) (k : Member) → settles k act.kind ≡ false →
-    own_frame places (with_act acts act) k
-    ≡ option_and_then (frame_at (with_act acts act)) (cond (admits_last places acts act && is_packet_of k act.kind && is_in_since places acts k (length acts) (length acts)) (Some (length acts)) (last_own places acts (admitted_before places acts (length acts)) k (length acts)))
+own_before : (past : Past) (act : Act) (b : Bool) (k : Member) (a : ℕ) → IsWhole past → a < length past.acts → own_test (grown past act b) k a ≡ (was_admitted past a && is_packet_of k (kind_at past.acts a) && (not (settles k act.kind) && is_in_since past k a))
+own_before past act b k a len h =
+    ap (λ c. c && is_packet_of k (kind_at (with_act past.acts act) a) && is_in_since (grown past act b) k a) (was_before past act b a len h)
+    ∙ ap (λ kind. was_admitted past a && is_packet_of k kind && is_in_since (grown past act b) k a) (kind_before past.acts (act ∷ []) a h)
+    ∙ ap (λ c. was_admitted past a && is_packet_of k (kind_at past.acts a) && c) (since_more past act b k a (omega arith))
+
+own_end : (past : Past) (act : Act) (b : Bool) (k : Member) → IsWhole past → own_test (grown past act b) k (length past.acts) ≡ (b && is_packet_of k act.kind && (not (settles k act.kind) && is_in_since past k (length past.acts)))
+own_end past act b k len =
+    let n : ℕ = length past.acts in
+    ap (λ c. c && is_packet_of k (kind_at (with_act past.acts act) n) && is_in_since (grown past act b) k n) (was_end past act b len)
+    ∙ ap (λ kind. b && is_packet_of k kind && is_in_since (grown past act b) k n) (kind_end past.acts act)
+    ∙ ap (λ c. b && is_packet_of k act.kind && c) (since_more past act b k n (omega arith))
+
+own_more : (past : Past) (act : Act) (b : Bool) (k : Member) → last_own (grown past act b) k ≡ cond (own_test (grown past act b) k (length past.acts)) (Some (length past.acts)) (last_below (own_test (grown past act b) k) (length past.acts))
+own_more past act b k = ap (last_below (own_test (grown past act b) k)) (length_more past.acts act) ∙ last_below_suc (own_test (grown past act b) k) (length past.acts)
+
+-- An act that decides whether the member is in leaves nothing of its frame.
+pub own_settled : (past : Past) (act : Act) (b : Bool) (k : Member) → IsWhole past → settles k act.kind ≡ true → own_frame (grown past act b) k ≡ None
 unfolding own_frame
-own_frame_more places acts act k h =
-    ap (λ n. option_and_then (frame_at (with_act acts act)) (last_own places (with_act acts act) (admitted_before places (with_act acts act) n) k n)) (length_more acts act)
-    ∙ ap (option_and_then (frame_at (with_act acts act))) (last_own_more places acts act k h)
+own_settled past act b k len s =
+    let n : ℕ = length past.acts in
+    let out : (since : Bool) → (not (settles k act.kind) && since) ≡ false = λ since. ap (λ c. not c && since) s in
+    let here : own_test (grown past act b) k n ≡ false = own_end past act b k len ∙ and_right (b && is_packet_of k act.kind) _ (out (is_in_since past k n)) in
+    let below : last_below (own_test (grown past act b) k) n ≡ None =
+    last_below_none _ n (λ a l. own_before past act b k a len l ∙ and_right (was_admitted past a && is_packet_of k (kind_at past.acts a)) _ (out (is_in_since past k a))) in
+    ap (option_and_then (frame_at (with_act past.acts act))) (own_more past act b k ∙ cond-false _ (Some n) _ here ∙ below)
 
--- An act that is no admitted packet of the member leaves its frame.
-pub own_frame_kept : (places : ℕ) (acts : List Act) (act : Act) (k : Member) → settles k act.kind ≡ false → (admits_last places acts act && is_packet_of k act.kind) ≡ false → own_frame places (with_act acts act) k ≡ own_frame places acts k
+-- below the new act the member's admitted packets are the same
+own_same : (past : Past) (act : Act) (b : Bool) (k : Member) → IsWhole past → settles k act.kind ≡ false → last_below (own_test (grown past act b) k) (length past.acts) ≡ last_own past k
+own_same past act b k len s =
+    last_below_same _ _ (length past.acts)
+    (λ a l. own_before past act b k a len l ∙ ap (λ c. was_admitted past a && is_packet_of k (kind_at past.acts a) && (not c && is_in_since past k a)) s)
+
+-- An act that is no admitted packet of the member, and doesn't decide whether it is in, leaves its frame.
+pub own_kept : (past : Past) (act : Act) (b : Bool) (k : Member) → IsWhole past → settles k act.kind ≡ false → (b && is_packet_of k act.kind) ≡ false → own_frame (grown past act b) k ≡ own_frame past k
 unfolding own_frame
-own_frame_kept places acts act k h r =
-    let n : ℕ = length acts in
-    let last : Option ℕ = last_own places acts (admitted_before places acts n) k n in
-    let own : Bool = admits_last places acts act && is_packet_of k act.kind in
-    let since : Bool = is_in_since places acts k n n in
-    own_frame_more places acts act k h
-    ∙ ap (option_and_then (frame_at (with_act acts act))) (cond-false (own && since) (Some n) last (and_left own since r))
-    ∙ and_then_same last _ _ (λ a e. frame_before acts act a (last_below_lt _ n a e))
+own_kept past act b k len s r =
+    let n : ℕ = length past.acts in
+    let here : own_test (grown past act b) k n ≡ false = own_end past act b k len ∙ and_left (b && is_packet_of k act.kind) _ r in
+    ap (option_and_then (frame_at (with_act past.acts act))) (own_more past act b k ∙ cond-false _ (Some n) _ here ∙ own_same past act b k len s)
+    ∙ and_then_same (last_own past k) _ _ (λ a e. frame_before past.acts act a (last_below_lt (own_test past k) n a e))
 
 -- An admitted packet of one that is in becomes its sender's own frame.
-pub own_frame_admitted : (places : ℕ) (acts : List Act) (moment : ℕ) (k : Member) (p : StreamPacket) (j : ℕ) → joined_at places acts k (length acts) ≡ Some j → admits_last places acts (packet_act moment k p) ≡ true → own_frame places (with_act acts (packet_act moment k p)) k ≡ Some (frame_from k p (moment_of acts moment))
-own_frame_admitted places acts moment k p j e r =
-    let n : ℕ = length acts in
+pub own_admitted : (past : Past) (moment : ℕ) (k : Member) (p : StreamPacket) (j : ℕ) → IsWhole past → joined past k ≡ Some j → own_frame (grown past (packet_act moment k p) true) k ≡ Some (frame_from (incoming k (moment_of past.acts moment) p))
+unfolding own_frame
+own_admitted past moment k p j len e =
+    let n : ℕ = length past.acts in
     let act : Act = packet_act moment k p in
-    let last : Option ℕ = last_own places acts (admitted_before places acts n) k n in
-    let b : Bool = admits_last places acts act in
-    let since : is_in_since places acts k n n ≡ true =
-    ap (λ o. option_map_or (λ i. nat_lt i n) o false) e ∙ lt-ltb j n (joined_lt places acts k n j e) in
-    let passes : (b && is_same k k && is_in_since places acts k n n) ≡ true = and_from _ _ (and_from b (is_same k k) r (is_same_self k)) since in
-    own_frame_more places acts act k refl
-    ∙ ap (option_and_then (frame_at (with_act acts act))) (cond-true (b && is_same k k && is_in_since places acts k n n) (Some n) last passes)
-    ∙ frame_end acts moment k p
+    let here : own_test (grown past act true) k n ≡ true = own_end past act true k len ∙ and_from (is_same k k) (is_in_since past k n) (is_same_self k) (in_since_end past k j e) in
+    ap (option_and_then (frame_at (with_act past.acts act))) (own_more past act true k ∙ cond-true _ (Some n) _ here)
+    ∙ frame_end past.acts moment k p

@@ -1,6 +1,6 @@
 -- What `last_below` finds.
-use Rattle.std.proofs.Common.{◌≡◌, ℕ, zero, suc, ◌-◌, ◌<◌, ◌≤◌, Bool, true, false, cond, Option, None, Some, refl, ap, sym, subst, ◌∙◌, arith}
-use Rattle.std.proofs.lemmas.Bool.{cond-true, cond-false}
+use Rattle.std.proofs.Common.{◌≡◌, ℕ, zero, suc, ◌-◌, ◌<◌, ◌≤◌, Bool, true, false, cond, Option, None, Some, inl, inr, refl, ap, sym, subst, ◌∙◌, arith}
+use Rattle.std.proofs.lemmas.Bool.{cond-true, cond-false, cases_eq, false≢true}
 use Rattle.std.proofs.lemmas.Option.{same_Some, cond_some}
 use Rattle.std.specs.Option.{option_and_then}
 use Rattle.m17_floor.specs.Acts.{last_below}
@@ -80,3 +80,30 @@ passed_back test (suc k) h t =
 pub none_back : (test : ℕ → Bool) (m : ℕ) → m ≤ 0 → None ≡ last_below test m
 none_back test zero h = sym (last_below_zero test)
 none_back test (suc k) h = absurd (omega arith)
+
+ge_from_cond : (test : ℕ → Bool) (b : Bool) (n a k : ℕ) (o : Option ℕ) → b ≡ test n → (o ≡ Some a → k < n → k ≤ a) → cond b (Some n) o ≡ Some a → test k ≡ true → k < suc n → k ≤ a
+ge_from_cond test true n a k o h r e t l = omega (arith, same_Some n a e)
+ge_from_cond test false n a k o h r e t l =
+    elim (cases_eq k n) [
+      | inl here ↦ absurd (false≢true (h ∙ ap test (sym here) ∙ t))
+      | inr other ↦ r e (omega arith)
+    ]
+
+-- no position above the one that is found passes
+pub last_below_ge : (test : ℕ → Bool) (n a k : ℕ) → last_below test n ≡ Some a → test k ≡ true → k < n → k ≤ a
+unfolding last_below
+last_below_ge test zero a k e t l = absurd (omega arith)
+last_below_ge test (suc n) a k e t l = ge_from_cond test (test n) n a k (last_below test n) refl (λ f m. last_below_ge test n a k f t m) e t l
+
+-- the position that passes, where none between it and n does
+pub last_below_is : (test : ℕ → Bool) (n a : ℕ) → a < n → test a ≡ true → ((m : ℕ) → a < m → m < n → test m ≡ false) → last_below test n ≡ Some a
+unfolding last_below
+last_below_is test zero a l t h = absurd (omega arith)
+last_below_is test (suc n) a l t h =
+    elim (cases_eq a n) [
+      | inl here ↦ let e : test n ≡ true = ap test (sym here) ∙ t in cond-true (test n) (Some n) (last_below test n) e ∙ ap Some (sym here)
+      | inr other ↦
+          let below : a < n = omega arith in
+          let e : test n ≡ false = h n below (omega arith) in
+          cond-false (test n) (Some n) (last_below test n) e ∙ last_below_is test n a below t (λ m p q. h m p (omega arith))
+    ]

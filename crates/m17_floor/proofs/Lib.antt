@@ -1,10 +1,14 @@
+mod Counted
 mod Frames
+mod InRule
 mod Joins
-mod Judged
 mod LastBelow
+mod Lines
 mod Members
 mod NoPacket
 mod OneMore
+mod Openings
+mod Positions
 mod Prefix
 mod Repeats
 mod Standing

@@ -1,5 +1,5 @@
 -- One membership and another.
-use Rattle.std.proofs.Common.{◌≡◌, ℕ, ap, ◌∙◌, true, refl, eqb}
+use Rattle.std.proofs.Common.{◌≡◌, ℕ, ap, sym, ◌∙◌, true, refl, eqb}
 use Rattle.std.proofs.lemmas.Bool.{and_from, and_parts, eq-eqb, eqb-true}
 use Rattle.m17_values.specs.declared.member.Member.{Member}
 use Rattle.m17_floor.specs.Acts.{is_same}
@@ -14,3 +14,6 @@ same_from_is_same a b h =
     let generation : a.generation ≡ b.generation = eqb-true _ _ parts.1 in
     let make : ℕ → ℕ → Member = λ x y. record { place = x; generation = y } in
     ap (λ x. make x a.generation) place ∙ ap (make b.place) generation
+
+pub is_same_from : (a b : Member) → a ≡ b → is_same a b ≡ true
+is_same_from a b e = ap (is_same a) (sym e) ∙ is_same_self a

@@ -1,14 +1,13 @@
--- What is looked up in the list of acts of a module. Positions count from 0. This profile.
-use Rattle.std.specs.Prelude.{◌==◌, ◌&&◌, ℕ, zero, suc, Bool, false, List, map, take, fold, max, slice_get, nat_lt, Option, None, Some, IsSome, option_and_then, if◌then◌else◌}
+-- What happened in a module, and what is looked up in the list of it. Positions count from 0. This profile.
+use Rattle.std.specs.Prelude.{◌==◌, ◌&&◌, ℕ, zero, suc, Bool, true, false, List, [], ◌∷◌, ◌++◌, map, take, fold, max, slice_get, nat_lt, Option, None, Some, IsSome, option_and_then, if◌then◌else◌}
 use Rattle.m17_values.specs.declared.member.Member.{Member}
 use Rattle.m17_floor.specs.declared.act.Act.{Act}
 use Rattle.m17_floor.specs.declared.act.ActKind.{ActKind}
-use Rattle.m17_floor.specs.declared.act.ActKind.TheVariants.{Join, Leave, Other}
+use Rattle.m17_floor.specs.declared.act.ActKind.TheVariants.{Join, Leave, Packet, Other}
 
--- the greatest position below n that passes the test
-unfoldable pub last_below : (ℕ → Bool) → ℕ → Option ℕ
-last_below test zero = None
-last_below test (suc n) = if test n then Some n else last_below test n
+-- the list, and then one act more
+abbrev pub with_act : List Act → Act → List Act
+with_act acts act = acts ++ act ∷ []
 
 -- what happened at a position; nothing of note past the end
 abbrev pub kind_or_other : Option Act → ActKind
@@ -17,6 +16,11 @@ kind_or_other (Some act) = act.kind
 
 abbrev pub kind_at : List Act → ℕ → ActKind
 kind_at acts n = kind_or_other (slice_get acts n)
+
+-- the act is a packet
+abbrev pub is_packet : ActKind → Bool
+is_packet (Packet k p) = true
+is_packet _ = false
 
 -- the greatest of the moments of these acts, and 0 where there are none
 abbrev pub greatest_moment : List Act → ℕ
@@ -39,20 +43,32 @@ abbrev pub is_join_of : Member → ActKind → Bool
 is_join_of k (Join member listens) = is_same member k
 is_join_of k _ = false
 
--- the act decides whether the member is in: a Join at its place, or a Leave of it
+-- the act decides whether the member is in: a Join at its place, its own too, or a Leave of it
 abbrev pub settles : Member → ActKind → Bool
 settles k (Join member listens) = member.place == k.place
 settles k (Leave member) = is_same member k
 settles k _ = false
 
--- The position of the Join by which the member is in before position n: the last one below n that decides whether it
--- is in, where that is its Join and its place is one of the module's places.
+-- the greatest position below n that passes the test
+unfoldable pub last_below : (ℕ → Bool) → ℕ → Option ℕ
+last_below test zero = None
+last_below test (suc n) = if test n then Some n else last_below test n
+
+-- The position of the Join by which the member is in before position n: the last one below n that
+-- decides whether it is in, where that is its Join and its place is one of the module's places.
 unfoldable pub joined_at : ℕ → List Act → Member → ℕ → Option ℕ
 joined_at places acts k n =
     if nat_lt k.place places
-    then option_and_then (λ j. if is_join_of k (kind_at acts j) then Some j else None) (last_below (λ j. settles k (kind_at acts j)) n)
+    then option_and_then (λ j. if is_join_of k (kind_at acts j) then Some j else None)
+        (last_below (λ j. settles k (kind_at acts j)) n)
     else None
 
 -- the member is in before position n
 abbrev pub IsMember : ℕ → List Act → Member → ℕ → Type 0
 IsMember places acts k n = IsSome (joined_at places acts k n)
+
+-- the act is a Join to listen only
+abbrev pub listens : ActKind → Bool
+listens (Join member listens_only) = listens_only
+listens _ = false
+

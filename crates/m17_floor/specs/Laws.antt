@@ -1,63 +1,235 @@
--- What a longer list of acts leaves as it was, and who may speak. This profile.
-use Rattle.std.specs.Prelude.{◌≡◌, ◌≢◌, ℕ, ◌<◌, ◌≤◌, ◌⊎◌, Some, true, false, List, [], ◌∷◌, ◌++◌, length}
+-- What follows from the floor rule for every list of acts, and what one act more makes of what is
+-- looked up. This profile.
+use Rattle.std.specs.Prelude.{◌≡◌, ◌≢◌, ◌+◌, ℕ, ◌<◌, ◌≤◌, ◌⊎◌, ◌&&◌, Bool, true, false, List, [], ◌++◌, length, max, nat_lt, Option, None, Some, if◌then◌else◌}
 use Rattle.m17_values.specs.declared.member.Member.{Member}
 use Rattle.m17_stream.specs.declared.packet.StreamPacket.{StreamPacket}
-use Rattle.m17_stream.specs.Stream.{steps_ahead}
+use Rattle.m17_stream.specs.Stream.{steps_ahead, IsAhead}
 use Rattle.m17_floor.specs.declared.act.Act.{Act}
-use Rattle.m17_floor.specs.declared.act.ActKind.TheVariants.{Join, Packet, Other}
-use Rattle.m17_floor.specs.Acts.{kind_at}
-use Rattle.m17_floor.specs.Floor.{is_in_since, time_since, last_own, admitted_before, verdict_at, IsAdmitted}
-use Rattle.m17_floor.specs.StandsFor.{MaySpeak, KeepsStanding}
+use Rattle.m17_floor.specs.declared.act.ActKind.TheVariants.{Packet, Other}
+use Rattle.m17_floor.specs.declared.verdict.Verdict.TheVariants.{Opened, NotMember, ListenOnly}
+use Rattle.m17_floor.specs.Acts.{with_act, kind_at, is_packet, moment_before, moment_at, is_join_of, settles, joined_at}
+use Rattle.m17_floor.specs.Rule.{Frame, floor_timeout_ms, stream_memory_ms, late_from}
+use Rattle.m17_floor.specs.Floor.{listens, admits, verdict_at, IsAdmitted, admitted_count}
+use Rattle.m17_floor.specs.StandsFor.{FloorStandsFor, MaySpeak, join_act, leave_act, packet_act, MemberKeepsStanding, KeepsStanding}
 
--- What happens later changes no verdict.
+-- What happens later changes no verdict, ..
 abbrev pub LaterActsChangeNoVerdict : Type 0
 LaterActsChangeNoVerdict =
-    (places : ℕ) (acts more : List Act) (n : ℕ) → n < length acts → verdict_at places (acts ++ more) n ≡ verdict_at places acts n
+    (places : ℕ) (acts more : List Act) (n : ℕ) → n < length acts →
+    verdict_at places (acts ++ more) n ≡ verdict_at places acts n
 
--- An act that is no Join, Leave or Packet changes nothing of what is kept.
+-- .. not who was in before, ..
+abbrev pub LaterActsChangeNoMembership : Type 0
+LaterActsChangeNoMembership =
+    (places : ℕ) (acts more : List Act) (k : Member) (n : ℕ) → n ≤ length acts →
+    joined_at places (acts ++ more) k n ≡ joined_at places acts k n
+
+-- .. and no moment.
+abbrev pub LaterActsChangeNoMoment : Type 0
+LaterActsChangeNoMoment =
+    (acts more : List Act) (n : ℕ) → n < length acts → moment_at (acts ++ more) n ≡ moment_at acts n
+
+-- After one act more the moment is that of the act, if it is greater than the moment before.
+abbrev pub MomentOfOneMore : Type 0
+MomentOfOneMore =
+    (acts : List Act) (act : Act) →
+    moment_at (with_act acts act) (length acts) ≡ max (moment_before acts (length acts)) act.at
+
+abbrev pub MomentAfterOneMore : Type 0
+MomentAfterOneMore =
+    (acts : List Act) (act : Act) →
+    moment_before (with_act acts act) (length (with_act acts act))
+    ≡ max (moment_before acts (length acts)) act.at
+
+-- Who is in after one act more: by this act, if it is its Join at one of the places; not, if the act is
+-- a Leave of it or another Join at its place; else as before.
+abbrev pub joined_with : ℕ → List Act → Act → Member → Option ℕ
+joined_with places acts act k =
+    if settles k act.kind
+    then (if is_join_of k act.kind && nat_lt k.place places then Some (length acts) else None)
+    else joined_at places acts k (length acts)
+
+abbrev pub MembershipOfOneMore : Type 0
+MembershipOfOneMore =
+    (places : ℕ) (acts : List Act) (act : Act) (k : Member) →
+    joined_at places (with_act acts act) k (length (with_act acts act)) ≡ joined_with places acts act k
+
+-- At each place at most one member is in.
+abbrev pub OneMemberAtAPlace : Type 0
+OneMemberAtAPlace =
+    (places : ℕ) (acts : List Act) (n : ℕ) (k m : Member) (i j : ℕ) → k.place ≡ m.place →
+    joined_at places acts k n ≡ Some i → joined_at places acts m n ≡ Some j → k ≡ m
+
+-- No act without a packet has a verdict.
+abbrev pub OnlyPacketsHaveVerdicts : Type 0
+OnlyPacketsHaveVerdicts =
+    (places : ℕ) (acts : List Act) (n : ℕ) → is_packet (kind_at acts n) ≡ false →
+    verdict_at places acts n ≡ None
+
+-- A packet of one that is not in gets not-member, ..
+abbrev pub StrangersGetNotMember : Type 0
+StrangersGetNotMember =
+    (places : ℕ) (acts : List Act) (n : ℕ) (k : Member) (p : StreamPacket) →
+    kind_at acts n ≡ Packet k p → joined_at places acts k n ≡ None →
+    verdict_at places acts n ≡ Some NotMember
+
+-- .. and one of a member that joined to listen only gets listen-only.
+abbrev pub ListenersGetListenOnly : Type 0
+ListenersGetListenOnly =
+    (places : ℕ) (acts : List Act) (n : ℕ) (k : Member) (p : StreamPacket) (j : ℕ) →
+    kind_at acts n ≡ Packet k p → joined_at places acts k n ≡ Some j →
+    listens (kind_at acts j) ≡ true → verdict_at places acts n ≡ Some ListenOnly
+
+-- One act more is counted where it is admitted; of no acts none is.
+abbrev pub CountOfOneMore : Type 0
+CountOfOneMore =
+    (places : ℕ) (acts : List Act) (act : Act) →
+    admitted_count places (with_act acts act)
+    ≡ admitted_count places acts
+      + (if admits (verdict_at places (with_act acts act) (length acts)) then 1 else 0)
+
+abbrev pub CountOfNone : Type 0
+CountOfNone = (places : ℕ) → admitted_count places [] ≡ 0
+
+-- An act that is no Join, Leave or packet changes nothing of what is kept.
 abbrev pub OtherActsChangeNothing : Type 0
 OtherActsChangeNothing =
-    (places : ℕ) (acts : List Act) (act : Act) → act.kind ≡ Other → KeepsStanding places acts (acts ++ act ∷ [])
+    (places : ℕ) (acts : List Act) (act : Act) → act.kind ≡ Other →
+    KeepsStanding places acts (with_act acts act)
+
+-- Nor does a packet of one that may not speak, ..
+abbrev pub UnheardPacketsChangeNothing : Type 0
+UnheardPacketsChangeNothing =
+    (places : ℕ) (acts : List Act) (at : ℕ) (k : Member) (p : StreamPacket) → ¬ MaySpeak places acts k →
+    KeepsStanding places acts (with_act acts (packet_act at k p))
+
+-- .. a Leave of one that is not in, ..
+abbrev pub LeavesOfStrangersChangeNothing : Type 0
+LeavesOfStrangersChangeNothing =
+    (places : ℕ) (acts : List Act) (at : ℕ) (m : Member) → joined_at places acts m (length acts) ≡ None →
+    KeepsStanding places acts (with_act acts (leave_act at m))
+
+-- .. or a Join at a place that is none of the module's.
+abbrev pub JoinsPastThePlacesChangeNothing : Type 0
+JoinsPastThePlacesChangeNothing =
+    (places : ℕ) (acts : List Act) (at : ℕ) (k : Member) (listens_only : Bool) → places ≤ k.place →
+    KeepsStanding places acts (with_act acts (join_act at k listens_only))
+
+-- A Leave changes nothing of what is kept of the others, ..
+abbrev pub LeavesLeaveOthers : Type 0
+LeavesLeaveOthers =
+    (places : ℕ) (acts : List Act) (at : ℕ) (m k : Member) → k ≢ m →
+    MemberKeepsStanding places acts (with_act acts (leave_act at m)) k
+
+-- .. nor a Join of what is kept of those at other places.
+abbrev pub JoinsLeaveOthers : Type 0
+JoinsLeaveOthers =
+    (places : ℕ) (acts : List Act) (at : ℕ) (m : Member) (listens_only : Bool) (k : Member) →
+    k.place ≢ m.place → MemberKeepsStanding places acts (with_act acts (join_act at m listens_only)) k
+
+-- A Join at a place where nobody is in leaves the floor as it is.
+abbrev pub JoinsAtAFreePlaceLeaveTheFloor : Type 0
+JoinsAtAFreePlaceLeaveTheFloor =
+    (places : ℕ) (acts : List Act) (at : ℕ) (m : Member) (listens_only : Bool) (floor : Option Frame) →
+    ((k : Member) → k.place ≡ m.place → joined_at places acts k (length acts) ≡ None) →
+    FloorStandsFor places acts floor →
+    FloorStandsFor places (with_act acts (join_act at m listens_only)) floor
 
 -- the list, and then this member joins to speak at this moment
 abbrev pub then_joins : List Act → Member → ℕ → List Act
-then_joins acts k at =
-    let act : Act = record { at = at; kind = Join k false } in acts ++ act ∷ []
+then_joins acts k at = with_act acts (join_act at k false)
 
 -- Who joins one of the module's places, and not to listen only, may speak.
 abbrev pub WhoJoinsMaySpeak : Type 0
-WhoJoinsMaySpeak = (places : ℕ) (acts : List Act) (k : Member) (at : ℕ) → k.place < places → MaySpeak places (then_joins acts k at) k
+WhoJoinsMaySpeak =
+    (places : ℕ) (acts : List Act) (k : Member) (at : ℕ) → k.place < places →
+    MaySpeak places (then_joins acts k at) k
 
 -- A Join at another place takes no leave to speak away.
 abbrev pub OthersStillMaySpeak : Type 0
 OthersStillMaySpeak =
-    (places : ℕ) (acts : List Act) (k : Member) (at : ℕ) (m : Member) → m.place ≢ k.place → MaySpeak places acts m → MaySpeak places (then_joins acts k at) m
+    (places : ℕ) (acts : List Act) (k : Member) (at : ℕ) (m : Member) → m.place ≢ k.place →
+    MaySpeak places acts m → MaySpeak places (then_joins acts k at) m
 
--- At n the member's last admitted frame since its Join is this one, and less than 10,000 ms went by since.
-pub record IsLastOwn (places : ℕ) (acts : List Act) (n : ℕ) (k : Member) (frame : StreamPacket) : Type 0 where
-  pub position : ℕ
-  pub is_last : last_own places acts (admitted_before places acts n) k n ≡ Some position
-  pub frame_is : kind_at acts position ≡ Packet k frame
-  pub recent : time_since acts position n < 10000
+-- the position is a packet of this member, and admitted
+pub record IsAdmittedPacket (places : ℕ) (acts : List Act) (n : ℕ) (k : Member) (p : StreamPacket) : Type 0 where
+  pub packet_is : kind_at acts n ≡ Packet k p
+  pub admitted : IsAdmitted places acts n
+
+-- the position is admitted, and opened the floor
+abbrev pub IsOpened : ℕ → List Act → ℕ → Type 0
+IsOpened places acts n = verdict_at places acts n ≡ Some Opened
+
+-- no position between the two is admitted
+abbrev pub NoneAdmittedBetween : ℕ → List Act → ℕ → ℕ → Type 0
+NoneAdmittedBetween places acts a n = (m : ℕ) → a < m → m < n → ¬ IsAdmitted places acts m
+
+-- the member has been in before position n since before position a
+abbrev pub HasStayed : ℕ → List Act → Member → ℕ → ℕ → Type 0
+HasStayed places acts k a n = (j : ℕ) × (joined_at places acts k n ≡ Some j) × (j < a)
+
+-- From position o, which was opened, up to position n no other was opened.
+pub record IsOneOpening (places : ℕ) (acts : List Act) (o n : ℕ) : Type 0 where
+  pub opened : IsOpened places acts o
+  pub no_other : (m : ℕ) → o < m → m ≤ n → ¬ IsOpened places acts m
+
+-- The two packets are of one member and stream id, and the first doesn't end the stream. If none was
+-- admitted between the two, the second's number is ahead of the first's.
+pub record GoesOn (places : ℕ) (acts : List Act) (a n : ℕ) (k m : Member) (p q : StreamPacket) : Type 0 where
+  pub same_member : m ≡ k
+  pub same_stream : q.sid ≡ p.sid
+  pub not_ended : p.last ≡ false
+  pub ahead : NoneAdmittedBetween places acts a n → IsAhead q.number p.number
+
+-- From an opened position up to the next one, all that is admitted is one stream of one member, with
+-- numbers that go ahead, and nothing after its end.
+abbrev pub OpeningsAreClean : Type 0
+OpeningsAreClean =
+    (places : ℕ) (acts : List Act) (o a n : ℕ) (k m : Member) (p q : StreamPacket) →
+    IsOneOpening places acts o n → o ≤ a → a < n →
+    IsAdmittedPacket places acts a k p → IsAdmittedPacket places acts n m q →
+    GoesOn places acts a n k m p q
+
+-- Where a position is opened, the admitted frame before it, if there is one, had the end bit, or its
+-- member has left since, or 1,600 ms or more went by.
+abbrev pub FloorsAreTakenFree : Type 0
+FloorsAreTakenFree =
+    (places : ℕ) (acts : List Act) (a n : ℕ) (k : Member) (p : StreamPacket) →
+    IsOpened places acts n → a < n → IsAdmittedPacket places acts a k p → NoneAdmittedBetween places acts a n →
+    (p.last ≡ true)
+    ⊎ ((¬ HasStayed places acts k a n) ⊎ (moment_at acts a + floor_timeout_ms ≤ moment_at acts n))
+
+-- At n the member's last admitted frame since its Join is at position a, and less than 10,000 ms old.
+pub record IsLastOwn (places : ℕ) (acts : List Act) (n a : ℕ) (k : Member) (frame : StreamPacket) : Type 0 where
+  pub earlier : a < n
+  pub frame_is : IsAdmittedPacket places acts a k frame
+  pub since_join : HasStayed places acts k a n
+  pub none_later : (m : ℕ) (p : StreamPacket) → a < m → m < n → ¬ IsAdmittedPacket places acts m k p
+  pub recent : moment_at acts n < moment_at acts a + stream_memory_ms
 
 -- The frame ended its stream, or is 0 to 16,384 numbers past this one.
 abbrev pub HasPassed : StreamPacket → ℕ → Type 0
-HasPassed frame number = (frame.last ≡ true) ⊎ (steps_ahead frame.number number ≤ 16384)
+HasPassed frame number = (frame.last ≡ true) ⊎ (steps_ahead frame.number number ≤ late_from)
 
--- A packet isn't admitted while its sender's last admitted frame is of its stream, less than 10,000 ms old, and has
--- passed its number.
+-- A packet isn't admitted while its sender's last admitted frame is of its stream, less than 10,000 ms
+-- old, and has passed its number.
 abbrev pub PassedNumbersAreNotAdmitted : Type 0
 PassedNumbersAreNotAdmitted =
-    (places : ℕ) (acts : List Act) (n : ℕ) (k : Member) (packet last : StreamPacket) → kind_at acts n ≡ Packet k packet → IsLastOwn places acts n k last → last.sid ≡ packet.sid → HasPassed last packet.number → ¬ IsAdmitted places acts n
+    (places : ℕ) (acts : List Act) (n b : ℕ) (k : Member) (packet last : StreamPacket) →
+    kind_at acts n ≡ Packet k packet → IsLastOwn places acts n b k last → last.sid ≡ packet.sid →
+    HasPassed last packet.number → ¬ IsAdmitted places acts n
 
 -- The packet at position a was admitted since the Join by which the member is in at position n.
 pub record WasAdmittedSince (places : ℕ) (acts : List Act) (n a : ℕ) (k : Member) (packet : StreamPacket) : Type 0 where
-  pub packet_is : kind_at acts a ≡ Packet k packet
   pub earlier : a < n
-  pub admitted : IsAdmitted places acts a
-  pub since_join : is_in_since places acts k n a ≡ true
+  pub packet_is : IsAdmittedPacket places acts a k packet
+  pub since_join : HasStayed places acts k a n
 
 -- So neither is one with the stream id and number of a packet that was admitted since its sender's Join.
 abbrev pub RepeatsAreNotAdmitted : Type 0
 RepeatsAreNotAdmitted =
-    (places : ℕ) (acts : List Act) (n a : ℕ) (k : Member) (packet copied last : StreamPacket) → kind_at acts n ≡ Packet k packet → WasAdmittedSince places acts n a k copied → copied.sid ≡ packet.sid → copied.number ≡ packet.number → IsLastOwn places acts n k last → last.sid ≡ packet.sid → HasPassed last packet.number → ¬ IsAdmitted places acts n
+    (places : ℕ) (acts : List Act) (n a b : ℕ) (k : Member) (packet copied last : StreamPacket) →
+    kind_at acts n ≡ Packet k packet → WasAdmittedSince places acts n a k copied →
+    copied.sid ≡ packet.sid → copied.number ≡ packet.number →
+    IsLastOwn places acts n b k last → last.sid ≡ packet.sid → HasPassed last packet.number →
+    ¬ IsAdmitted places acts n

@@ -1,27 +1,84 @@
-//! What the floor rule promises of every list of acts. Each function has no body: its clause is the law. This profile.
-ghost use Rattle.m17_floor.specs.Laws.{LaterActsChangeNoVerdict, OtherActsChangeNothing, WhoJoinsMaySpeak, OthersStillMaySpeak, PassedNumbersAreNotAdmitted, RepeatsAreNotAdmitted};
+//! What the floor rule promises of every list of acts, and what one act more makes of what is looked up in it. Each
+//! function has no body: its clause is the law. This profile.
+ghost use Rattle.m17_floor.specs.Laws as law;
 
 /// What happens later changes no verdict.
 pub fn later_acts_change_no_verdict()
-    ensures { LaterActsChangeNoVerdict }
+    ensures { law.LaterActsChangeNoVerdict }
 {}
 
-/// An act that is no Join, Leave or Packet changes nothing of what is kept, and nobody's leave to speak.
+/// What happens later changes neither who was in before, nor any moment.
+pub fn later_acts_change_nothing_before()
+    ensures members { law.LaterActsChangeNoMembership }
+    ensures moments { law.LaterActsChangeNoMoment }
+{}
+
+/// The moment of one act more is the greatest so far, its own included.
+pub fn the_greatest_moment_counts()
+    ensures here { law.MomentOfOneMore }
+    ensures after { law.MomentAfterOneMore }
+{}
+
+/// Who is in after one act more; and that at each place it is one member at most.
+pub fn one_member_at_a_place()
+    ensures after_one_more { law.MembershipOfOneMore }
+    ensures one { law.OneMemberAtAPlace }
+{}
+
+/// Only packets have verdicts; a packet of one that is not in gets not-member, and one of a member that joined to listen
+/// only gets listen-only.
+pub fn only_speakers_are_heard()
+    ensures packets { law.OnlyPacketsHaveVerdicts }
+    ensures strangers { law.StrangersGetNotMember }
+    ensures listeners { law.ListenersGetListenOnly }
+{}
+
+/// The number of admitted positions, one act more at a time.
+pub fn admitted_positions_are_counted()
+    ensures none { law.CountOfNone }
+    ensures one_more { law.CountOfOneMore }
+{}
+
+/// An act that is no Join, Leave or packet changes nothing of what is kept, and nobody's leave to speak.
 pub fn other_acts_change_nothing()
-    ensures { OtherActsChangeNothing }
+    ensures { law.OtherActsChangeNothing }
+{}
+
+/// Nor does a packet of one that may not speak, a Leave of one that is not in, or a Join past the module's places.
+pub fn strangers_change_nothing()
+    ensures packets { law.UnheardPacketsChangeNothing }
+    ensures leaves { law.LeavesOfStrangersChangeNothing }
+    ensures joins { law.JoinsPastThePlacesChangeNothing }
+{}
+
+/// A Leave changes nothing of what is kept of the others, and a Join nothing of what is kept of those at other places. A
+/// Join at a place where nobody is in leaves the floor as it is.
+pub fn comings_and_goings_leave_others()
+    ensures leaves { law.LeavesLeaveOthers }
+    ensures joins { law.JoinsLeaveOthers }
+    ensures floor { law.JoinsAtAFreePlaceLeaveTheFloor }
 {}
 
 /// Who joins one of the module's places, and not to listen only, may speak; a Join at another place takes that from
 /// nobody.
 pub fn who_joins_may_speak()
-    ensures joined { WhoJoinsMaySpeak }
-    ensures others { OthersStillMaySpeak }
+    ensures joined { law.WhoJoinsMaySpeak }
+    ensures others { law.OthersStillMaySpeak }
 {}
 
-/// A packet isn't admitted while its sender's last admitted frame is of its stream, less than 10,000 ms old, and either
-/// ended the stream or is 0 to 16,384 numbers past it. Under the same conditions no packet is admitted that has the stream
-/// id and number of one that was admitted since its sender's Join, as a copy has that the network made.
+/// From an opened position up to the next one, all that is admitted is one stream of one member, with numbers that go
+/// ahead, and nothing after its end. And a floor is opened only where it was free: the admitted frame before had the end
+/// bit, or its member has left since, or 1,600 ms or more went by.
+pub fn openings_are_clean()
+    ensures clean { law.OpeningsAreClean }
+    ensures free { law.FloorsAreTakenFree }
+{}
+
+/// A packet isn't admitted while its sender's last admitted frame since its Join is of its stream, less than 10,000 ms
+/// old, and either ended the stream or is 0 to 16,384 numbers past it. Under the same conditions no packet is admitted
+/// that has the stream id and number of one that was admitted since its sender's Join, as a copy has that the network
+/// made.
 pub fn repeats_are_not_admitted()
-    ensures passed { PassedNumbersAreNotAdmitted }
-    ensures repeats { RepeatsAreNotAdmitted }
+    ensures passed { law.PassedNumbersAreNotAdmitted }
+    ensures repeats { law.RepeatsAreNotAdmitted }
 {}

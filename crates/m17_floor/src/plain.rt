@@ -1,11 +1,14 @@
 //! The floor rule as it is stated, by looking back through the whole list of acts at each position. It is slow, and
-//! there to compare the fast way with. This profile.
-ghost use Rattle.std.specs.Prelude.{◌≡◌, ℕ, ◌==◌, ◌&&◌, ◌<◌, ◌≤◌, map, take, length, Some, IfOk, IfSome, slice_get};
+//! there to compare the fast way with. The rule beside two frames is that of the fast way; which frames these are is
+//! looked up anew each time. This profile.
+ghost use Rattle.std.specs.Prelude.{◌≡◌, ℕ, ◌&&◌, ◌<◌, take, length, Some, IfOk, IfSome, slice_get};
 ghost use Rattle.m17_floor.specs.Acts.{last_below, kind_at, greatest_moment, settles, joined_at};
 ghost use Rattle.m17_floor.specs.Floor as floor;
-ghost use Rattle.m17_floor.specs.Floor.{was_admitted, holder_at, last_own, own_at, by_own, by_holder, by_membership, verdict_given, verdict_at, listens, admits};
+ghost use Rattle.m17_floor.specs.Floor.{was_admitted, floor_frame, last_own, own_frame, verdict_after, verdict_given, verdict_at};
+ghost use Rattle.m17_floor.specs.Rule.{incoming};
+ghost use Rattle.m17_floor.specs.Plain.{past_answered, was_answered, has_stayed};
 
-use crate::{Act, ActKind, FLOOR_TIMEOUT_MS, STREAM_MEMORY_MS, Verdict};
+use crate::{Act, ActKind, Floor, Last, Verdict};
 use m17_values::Member;
 use m17_stream::StreamPacket;
 use std::alloc::{AllocError, Global};
@@ -17,128 +20,99 @@ pub fn verdicts(
     places: u32,
     acts: &[Act],
 ) -> Result<Vec<Option<Verdict>>, AllocError>
-    ensures { IfOk result (λ verdicts. (length verdicts.items ≡ length acts.now) × ((n : ℕ) → n < length acts.now → slice_get verdicts.items n ≡ Some (verdict_at places acts.now n))) }
+    ensures { IfOk result (λ verdicts. (length verdicts.items ≡ length acts.now)
+        × ((n : ℕ) → n < length acts.now → slice_get verdicts.items n ≡ Some (verdict_at places acts.now n))) }
 {
     let mut verdicts = Vec::with_capacity(alloc, acts.len())?;
     for _ in acts {
-        let verdict = verdict_on(places, acts, verdicts.as_slice());
+        let n = verdicts.len();
+        let at = moment(acts, n + 1);
+        let verdict = verdict_on(places, &acts[..n], verdicts.as_slice(), at, &kind(acts, n));
         verdicts.push(verdict)?;
     }
     Ok(verdicts)
 }
 
-// The verdict on the act after those that have verdicts.
+// The verdict on what happens after these acts, at this moment.
 #[tactic(auto, unfolding(crate::specs::Floor::verdict_given))]
-fn verdict_on(places: u32, acts: &[Act], past: &[Option<Verdict>]) -> Option<Verdict>
-    requires { length past.now < length acts.now }
-    ensures { result ≡ verdict_given places acts.now (map admits past.now) (length past.now) (kind_at acts.now (length past.now)) }
+fn verdict_on(
+    places: u32,
+    acts: &[Act],
+    answered: &[Option<Verdict>],
+    at: u64,
+    kind: &ActKind,
+) -> Option<Verdict>
+    ensures { result ≡ verdict_given (past_answered places acts.now answered.now) at kind.now }
 {
-    match kind(acts, past.len()) {
-        ActKind::Packet { member, packet } => Some(on_packet(places, acts, past, member, &packet)),
+    match kind {
+        ActKind::Packet { member, packet } => {
+            Some(on_packet(places, acts, answered, *member, at, packet))
+        }
         _ => None,
     }
 }
 
-// The verdict on a packet: by the sender's membership, by the holder, and by the sender's own frame.
+// The verdict on a packet: by the sender's membership, and then beside the two frames that are looked up.
 fn on_packet(
     places: u32,
     acts: &[Act],
-    past: &[Option<Verdict>],
+    answered: &[Option<Verdict>],
     k: Member,
+    at: u64,
     p: &StreamPacket,
 ) -> Verdict
-    requires { length past.now < length acts.now }
-    ensures { result ≡ by_membership places acts.now (map admits past.now) (length past.now) k p.now (joined_at places acts.now k (length past.now)) }
+    ensures { result ≡ verdict_after (past_answered places acts.now answered.now) (incoming k at p.now) }
 {
-    let Some(join) = last_join(places, acts, k, past.len()) else {
+    let Some(join) = last_join(places, acts, k) else {
         return Verdict::NotMember;
     };
     if let ActKind::Join { listens: true, .. } = kind(acts, join) {
         return Verdict::ListenOnly;
     }
-    let Some(position) = holder(places, acts, past) else {
-        return beside_own(places, acts, past, k, p, Verdict::Opened);
-    };
-    match &kind(acts, position) {
-        ActKind::Packet { member, packet } if *member != k || packet.sid != p.sid => Verdict::Busy {
-            holder: *member,
-        },
-        _ => beside_own(places, acts, past, k, p, Verdict::Continued),
-    }
+    let floor = floor(places, acts, answered);
+    let own = own(places, acts, answered, k);
+    floor.verdict(k, at, p, &own)
 }
 
-// The verdict on a packet that the floor allows, beside the sender's own frame.
-fn beside_own(
-    places: u32,
-    acts: &[Act],
-    past: &[Option<Verdict>],
-    k: Member,
-    p: &StreamPacket,
-    admitted: Verdict,
-) -> Verdict
-    requires { length past.now < length acts.now }
-    ensures { result ≡ by_own acts.now admitted p.now.number (own_at places acts.now (map admits past.now) k p.now.sid (length past.now)) }
+// The floor's last frame, if its sender has been in since before it.
+#[tactic(auto, unfolding(crate::specs::Floor::floor_frame))]
+fn floor(places: u32, acts: &[Act], answered: &[Option<Verdict>]) -> Floor
+    ensures { result ≡ floor_frame (past_answered places acts.now answered.now) }
 {
-    let Some(position) = own(places, acts, past, k, p.sid) else {
-        return admitted;
+    let Some(position) = last_admitted(acts, answered) else {
+        return Floor::new();
     };
     match kind(acts, position) {
-        ActKind::Packet { packet, .. } => {
-            if packet.last {
-                Verdict::AfterEnd
-            } else if p.number == packet.number {
-                Verdict::Repeat
-            } else if (u32::from(p.number) + 65_536 - u32::from(packet.number)) % 32_768 >= 16_384 {
-                Verdict::Late {
-                    last: packet.number,
-                }
-            } else {
-                admitted
-            }
+        ActKind::Packet { member, packet } if is_in_since(places, acts, member, position) => {
+            Floor::of(member, moment(acts, position + 1), &packet)
         }
-        _ => admitted,
+        _ => Floor::new(),
     }
 }
 
-// The position of the frame that holds the floor.
-fn holder(places: u32, acts: &[Act], past: &[Option<Verdict>]) -> Option<usize>
-    requires { length past.now < length acts.now }
-    ensures { result ≡ holder_at places acts.now (map admits past.now) (length past.now) }
+// The member's last frame since its Join.
+#[tactic(auto, unfolding(crate::specs::Floor::own_frame))]
+fn own(places: u32, acts: &[Act], answered: &[Option<Verdict>], k: Member) -> Last
+    ensures { result ≡ own_frame (past_answered places acts.now answered.now) k }
 {
-    let position = last_admitted(past)?;
+    let Some(position) = last_of(places, acts, answered, k) else {
+        return Last::new();
+    };
     match kind(acts, position) {
-        ActKind::Packet { member, packet }
-            if !packet.last
-                && age(acts, position, past.len()) < FLOOR_TIMEOUT_MS
-                && is_in_since(places, acts, member, past.len(), position) => { Some(position) }
-        _ => None,
-    }
-}
-
-// The position of the sender's own frame that a packet of this stream is compared with.
-fn own(places: u32, acts: &[Act], past: &[Option<Verdict>], k: Member, sid: u16) -> Option<usize>
-    requires { length past.now < length acts.now }
-    ensures { result ≡ own_at places acts.now (map admits past.now) k sid (length past.now) }
-{
-    let position = last_of(places, acts, past, k)?;
-    match kind(acts, position) {
-        ActKind::Packet { packet, .. }
-            if packet.sid == sid && age(acts, position, past.len()) < STREAM_MEMORY_MS => Some(
-            position,
-        ),
-        _ => None,
+        ActKind::Packet { member, packet } => Last::of(member, moment(acts, position + 1), &packet),
+        _ => Last::new(),
     }
 }
 
 // The last admitted position.
-fn last_admitted(past: &[Option<Verdict>]) -> Option<usize>
-    ensures found { result ≡ last_below (was_admitted (map admits past.now)) (length past.now) }
-    ensures within { IfSome result (λ a. a < length past.now) }
+fn last_admitted(acts: &[Act], answered: &[Option<Verdict>]) -> Option<usize>
+    ensures found { result ≡ last_below (was_answered answered.now) (length acts.now) }
+    ensures within { IfSome result (λ a. a < length acts.now) }
 {
-    let mut a = past.len();
+    let mut a = acts.len();
     while a > 0 {
         a -= 1;
-        if is_admitted(past, a) {
+        if is_admitted(answered, a) {
             return Some(a);
         }
     }
@@ -146,14 +120,14 @@ fn last_admitted(past: &[Option<Verdict>]) -> Option<usize>
 }
 
 // The position of the member's last admitted packet since its Join.
-fn last_of(places: u32, acts: &[Act], past: &[Option<Verdict>], k: Member) -> Option<usize>
-    ensures found { result ≡ last_own places acts.now (map admits past.now) k (length past.now) }
-    ensures within { IfSome result (λ a. a < length past.now) }
+fn last_of(places: u32, acts: &[Act], answered: &[Option<Verdict>], k: Member) -> Option<usize>
+    ensures found { result ≡ last_own (past_answered places acts.now answered.now) k }
+    ensures within { IfSome result (λ a. a < length acts.now) }
 {
-    let mut a = past.len();
+    let mut a = acts.len();
     while a > 0 {
         a -= 1;
-        if is_own(places, acts, past, k, a) {
+        if is_own(places, acts, answered, k, a) {
             return Some(a);
         }
     }
@@ -161,44 +135,45 @@ fn last_of(places: u32, acts: &[Act], past: &[Option<Verdict>], k: Member) -> Op
 }
 
 // Whether the position is an admitted packet of the member since its Join.
-fn is_own(places: u32, acts: &[Act], past: &[Option<Verdict>], k: Member, a: usize) -> bool
-    ensures { result ≡ (was_admitted (map admits past.now) a && floor.is_packet_of k (kind_at acts.now a) && floor.is_in_since places acts.now k (length past.now) a) }
+fn is_own(places: u32, acts: &[Act], answered: &[Option<Verdict>], k: Member, a: usize) -> bool
+    ensures { let past = past_answered places acts.now answered.now in
+        result ≡ (was_admitted past a && floor.is_packet_of k (kind_at acts.now a) && floor.is_in_since past k a) }
 {
-    is_admitted(past, a)
+    is_admitted(answered, a)
         && is_packet_of(k, &kind(acts, a))
-        && is_in_since(places, acts, k, past.len(), a)
+        && is_in_since(places, acts, k, a)
 }
 
-// Whether the member is in before position n, by a Join below position a.
-fn is_in_since(places: u32, acts: &[Act], k: Member, n: usize, a: usize) -> bool
-    ensures { result ≡ floor.is_in_since places acts.now k n a }
+// Whether the member is in at the end of the acts, by a Join below position a.
+fn is_in_since(places: u32, acts: &[Act], k: Member, a: usize) -> bool
+    ensures { result ≡ has_stayed places acts.now k a }
 {
-    match last_join(places, acts, k, n) {
+    match last_join(places, acts, k) {
         Some(join) => join < a,
         None => false,
     }
 }
 
-// The position of the Join by which the member is in before position n.
+// The position of the Join by which the member is in at the end of the acts.
 #[tactic(auto, unfolding(crate::specs::Acts::joined_at))]
-fn last_join(places: u32, acts: &[Act], k: Member, n: usize) -> Option<usize>
-    ensures { result ≡ joined_at places acts.now k n }
+fn last_join(places: u32, acts: &[Act], k: Member) -> Option<usize>
+    ensures { result ≡ joined_at places acts.now k (length acts.now) }
 {
     if k.place >= places {
         return None;
     }
-    let position = last_settling(acts, k, n)?;
+    let position = last_settling(acts, k)?;
     match kind(acts, position) {
         ActKind::Join { member, .. } if member == k => Some(position),
         _ => None,
     }
 }
 
-// The last position below n of an act that decides whether the member is in.
-fn last_settling(acts: &[Act], k: Member, n: usize) -> Option<usize>
-    ensures { result ≡ last_below (λ j. settles k (kind_at acts.now j)) n }
+// The last position of an act that decides whether the member is in.
+fn last_settling(acts: &[Act], k: Member) -> Option<usize>
+    ensures { result ≡ last_below (λ j. settles k (kind_at acts.now j)) (length acts.now) }
 {
-    let mut j = n;
+    let mut j = acts.len();
     while j > 0 {
         j -= 1;
         if is_settling(k, &kind(acts, j)) {
@@ -230,10 +205,10 @@ fn is_packet_of(k: Member, kind: &ActKind) -> bool
 }
 
 // Whether the position is admitted.
-fn is_admitted(past: &[Option<Verdict>], a: usize) -> bool
-    ensures { result ≡ was_admitted (map admits past.now) a }
+fn is_admitted(answered: &[Option<Verdict>], a: usize) -> bool
+    ensures { result ≡ was_answered answered.now a }
 {
-    match past.get(a) {
+    match answered.get(a) {
         Some(Some(verdict)) => verdict.is_admitted(),
         _ => false,
     }
@@ -247,15 +222,6 @@ fn kind(acts: &[Act], n: usize) -> ActKind
         Some(act) => act.kind,
         None => ActKind::Other,
     }
-}
-
-// The milliseconds that went by from the moment of position a to that of position n.
-fn age(acts: &[Act], a: usize, n: usize) -> u64
-    requires early { a < length acts.now }
-    requires late { n < length acts.now }
-    ensures { result ≡ floor.time_since acts.now a n }
-{
-    moment(acts, n + 1).saturating_sub(moment(acts, a + 1))
 }
 
 // The greatest moment of the first n acts.

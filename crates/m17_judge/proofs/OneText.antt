@@ -3,9 +3,11 @@ use Rattle.std.proofs.Common.{◌≡◌, ◌⊎◌, ℕ, ◌+◌, ◌*◌, ◌<�
 use Rattle.std.proofs.lemmas.Option.{slice_get-get_or}
 use Rattle.std.proofs.lemmas.List.{get_or-append-add}
 use Rattle.std.proofs.lemmas.List.Elements.{All-take, All-drop}
+use Rattle.m17_fields.specs.Fields.{IsBytes}
+use Rattle.m17_fields.specs.Reading.{IsOnlyValue, IsOnlyRefusal, HasOneReading}
 use Rattle.m17_stream.specs.declared.packet.StreamPacket.{StreamPacket}
 use Rattle.m17_stream.specs.declared.packet.StreamRefusal.{StreamRefusal}
-use Rattle.m17_stream.specs.Exact.{IsBytes, IsOnlyPacket, IsOnlyRefusal, HasOneReading}
+use Rattle.m17_stream.specs.Laws.{ReadingIsExact}
 use Rattle.m17_stream.specs.Stream.{SpellsStream, RefusesStream}
 use Rattle.m17_floor.specs.declared.act.Act.{Act}
 use Rattle.m17_floor.specs.declared.verdict.Verdict.{Verdict}
@@ -22,9 +24,15 @@ use Rattle.m17_judge.specs.Laws.{OneJudgeText}
 use Rattle.m17_judge.specs.Records.{record_at, packet_of, AreRecords, RefusesRecords}
 use Rattle.m17_judge.proofs.Joins.{length-joins}
 
--- each list of bytes has one reading as a stream packet
-abbrev pub EachHasOneReading : Type 0
-EachHasOneReading = (bytes : List ℕ) → IsBytes bytes → HasOneReading bytes
+-- bytes as a stream packet: the only one, or refused for the only reason
+abbrev IsOnlyPacket : List ℕ → StreamPacket → Type 0
+IsOnlyPacket bytes p = IsOnlyValue SpellsStream RefusesStream bytes p
+
+abbrev IsOnlyReason : List ℕ → StreamRefusal → Type 0
+IsOnlyReason bytes r = IsOnlyRefusal SpellsStream RefusesStream bytes r
+
+abbrev HasReading : List ℕ → Type 0
+HasReading bytes = HasOneReading SpellsStream RefusesStream bytes
 
 -- the act of a record
 act_of_packet : (acts : List Act) (n : ℕ) (bytes line : List ℕ) (p : StreamPacket) → IsOnlyPacket (packet_of bytes) p → IsRecordLine acts n bytes line
@@ -32,12 +40,12 @@ act_of_packet : (acts : List Act) (n : ℕ) (bytes line : List ℕ) (p : StreamP
 act_of_packet acts n bytes line p only (inl j) = j.act ∙ ap (λ (q : StreamPacket). Some (packet_act bytes q)) (only.no_other j.packet j.spelled)
 act_of_packet acts n bytes line p only (inr t) = absurd (only.no_refusal t.refusal t.refused)
 
-act_of_refusal : (acts : List Act) (n : ℕ) (bytes line : List ℕ) (r : StreamRefusal) → IsOnlyRefusal (packet_of bytes) r → IsRecordLine acts n bytes line
+act_of_refusal : (acts : List Act) (n : ℕ) (bytes line : List ℕ) (r : StreamRefusal) → IsOnlyReason (packet_of bytes) r → IsRecordLine acts n bytes line
     → slice_get acts (talkers + n) ≡ Some (passed_act bytes)
-act_of_refusal acts n bytes line r only (inl j) = absurd (only.no_packet j.packet j.spelled)
+act_of_refusal acts n bytes line r only (inl j) = absurd (only.no_value j.packet j.spelled)
 act_of_refusal acts n bytes line r only (inr t) = t.act
 
-same_act : (a b : List Act) (n : ℕ) (bytes line other : List ℕ) → HasOneReading (packet_of bytes) → IsRecordLine a n bytes line → IsRecordLine b n bytes other
+same_act : (a b : List Act) (n : ℕ) (bytes line other : List ℕ) → HasReading (packet_of bytes) → IsRecordLine a n bytes line → IsRecordLine b n bytes other
     → slice_get a (talkers + n) ≡ slice_get b (talkers + n)
 same_act a b n bytes line other (inl (p, only)) in_a in_b = act_of_packet a n bytes line p only in_a ∙ sym (act_of_packet b n bytes other p only in_b)
 same_act a b n bytes line other (inr (r, only)) in_a in_b = act_of_refusal a n bytes line r only in_a ∙ sym (act_of_refusal b n bytes other r only in_b)
@@ -59,18 +67,18 @@ one_verdict_line acts n bytes a b in_a in_b =
     let same : in_a.verdict ≡ in_b.verdict = ap (λ (o : Option Verdict). unwrap_or o in_a.verdict) (sym in_a.ruled ∙ in_b.ruled) in
     in_a.text ∙ ap (λ (v : Verdict). numbered_line n (verdict_text v)) same ∙ sym in_b.text
 
-one_refusal_line : (acts : List Act) (n : ℕ) (bytes a b : List ℕ) (r : StreamRefusal) → IsOnlyRefusal (packet_of bytes) r → IsRefusalLine acts n bytes a → IsRefusalLine acts n bytes b → a ≡ b
+one_refusal_line : (acts : List Act) (n : ℕ) (bytes a b : List ℕ) (r : StreamRefusal) → IsOnlyReason (packet_of bytes) r → IsRefusalLine acts n bytes a → IsRefusalLine acts n bytes b → a ≡ b
 one_refusal_line acts n bytes a b r only in_a in_b =
     let same : in_a.refusal ≡ in_b.refusal = only.no_other in_a.refusal in_a.refused ∙ sym (only.no_other in_b.refusal in_b.refused) in
     in_a.text ∙ ap (λ (x : StreamRefusal). numbered_line n (stream_refusal_text x)) same ∙ sym in_b.text
 
 -- over the same acts a record has one line
-one_line : (acts : List Act) (n : ℕ) (bytes a b : List ℕ) → HasOneReading (packet_of bytes) → IsRecordLine acts n bytes a → IsRecordLine acts n bytes b → a ≡ b
+one_line : (acts : List Act) (n : ℕ) (bytes a b : List ℕ) → HasReading (packet_of bytes) → IsRecordLine acts n bytes a → IsRecordLine acts n bytes b → a ≡ b
 one_line acts n bytes a b reading (inl x) (inl y) = one_verdict_line acts n bytes a b x y
 one_line acts n bytes a b (inl (p, only)) (inl x) (inr y) = absurd (only.no_refusal y.refusal y.refused)
-one_line acts n bytes a b (inr (r, only)) (inl x) (inr y) = absurd (only.no_packet x.packet x.spelled)
+one_line acts n bytes a b (inr (r, only)) (inl x) (inr y) = absurd (only.no_value x.packet x.spelled)
 one_line acts n bytes a b (inl (p, only)) (inr x) y = absurd (only.no_refusal x.refusal x.refused)
-one_line acts n bytes a b (inr (r, only)) (inr x) (inl y) = absurd (only.no_packet y.packet y.spelled)
+one_line acts n bytes a b (inr (r, only)) (inr x) (inl y) = absurd (only.no_value y.packet y.spelled)
 one_line acts n bytes a b (inr (r, only)) (inr x) (inr y) = one_refusal_line acts n bytes a b r only x y
 
 -- the packet of a record is bytes
@@ -78,7 +86,7 @@ packet_bytes : (input : List ℕ) (n : ℕ) → IsBytes input → IsBytes (packe
 packet_bytes input n are = All-drop (λ (byte : ℕ). byte < 2 ^ 8) 10 (record_at input n) (All-take (λ (byte : ℕ). byte < 2 ^ 8) 64 _ (All-drop (λ (byte : ℕ). byte < 2 ^ 8) (64 * n) input are))
 
 -- so many records have one list of acts, and one text
-one_list : EachHasOneReading → (input : List ℕ) (count : ℕ) (a b : List ℕ) → IsBytes input → (in_a : IsTextOfRecords input count a) → (in_b : IsTextOfRecords input count b) → in_a.more ≡ in_b.more
+one_list : ReadingIsExact → (input : List ℕ) (count : ℕ) (a b : List ℕ) → IsBytes input → (in_a : IsTextOfRecords input count a) → (in_b : IsTextOfRecords input count b) → in_a.more ≡ in_b.more
 one_list reading input count a b are in_a in_b =
     equal_lists in_a.more in_b.more (in_a.acts_count ∙ sym in_b.acts_count) (λ n below.
         let within : n < count = omega (arith, in_a.acts_count) in
@@ -88,7 +96,7 @@ one_list reading input count a b are in_a in_b =
         ∙ same_act (acts_with in_a.more) (acts_with in_b.more) n (record_at input n) x.0 y.0 (reading _ (packet_bytes input n are)) x.2 y.2
         ∙ after_joins in_b.more n (omega (arith, in_b.acts_count)))
 
-one_of_records : EachHasOneReading → (input : List ℕ) (count : ℕ) (a b : List ℕ) → IsBytes input → IsTextOfRecords input count a → IsTextOfRecords input count b → a ≡ b
+one_of_records : ReadingIsExact → (input : List ℕ) (count : ℕ) (a b : List ℕ) → IsBytes input → IsTextOfRecords input count a → IsTextOfRecords input count b → a ≡ b
 one_of_records reading input count a b are in_a in_b =
     let same = one_list reading input count a b are in_a in_b in
     one_text (HasRecordLine input in_a.more) count a b
@@ -111,7 +119,7 @@ one_refusal input m n p q Cut Large x y = absurd (omega (arith, x.0, x.2, y.0, y
 one_refusal input m n p q Large Cut x y = absurd (omega (arith, x.0, x.1, y.0, y.2))
 one_refusal input m n p q Large Large x y = (x.0 ∙ sym y.0, omega (arith, x.0, x.2, y.0, y.2), refl)
 
-pub one_judge_text : EachHasOneReading → OneJudgeText
+pub one_judge_text : ReadingIsExact → OneJudgeText
 one_judge_text reading input a b are (inl (m, are_a, is_a)) (inl (n, are_b, is_b)) =
     let same : m ≡ n = omega (arith, are_a.whole, are_b.whole) in
     one_of_records reading input n a b are (subst (λ (k : ℕ). IsTextOfRecords input k a) same is_a) is_b

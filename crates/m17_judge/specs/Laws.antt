@@ -1,6 +1,6 @@
 -- What holds of every input of `judge`. This profile.
 use Rattle.std.specs.Prelude.{◌≡◌, ℕ, List}
-use Rattle.m17_stream.specs.Exact.{IsBytes}
+use Rattle.m17_fields.specs.Fields.{IsBytes}
 use Rattle.m17_judge.specs.Judge.{IsJudgeText}
 
 -- An input has one text.

@@ -3,7 +3,8 @@ use Rattle.std.specs.Prelude.{◌≡◌, ℕ, ◌+◌, ◌<◌, List, [], ◌∷
 use Rattle.m17_values.specs.declared.member.Member.{Member}
 use Rattle.m17_floor.specs.declared.act.Act.{Act}
 use Rattle.m17_floor.specs.Acts.{moment_before}
-use Rattle.m17_floor.specs.StandsFor.{Frame, FloorStandsFor, OwnStandsFor, MaySpeak, HasNoPacket}
+use Rattle.m17_floor.specs.Rule.{Frame}
+use Rattle.m17_floor.specs.StandsFor.{FloorStandsFor, OwnStandsFor, MaySpeak, HasNoPacket}
 use Rattle.m17_judge.specs.Judge.{talkers, talker, IsRecordLine}
 
 -- what is kept of the talkers: the floor, a frame of each of them, and the greatest moment so far

@@ -5,10 +5,11 @@ use Rattle.std.proofs.lemmas.List.Elements.{All-from_get_or}
 use Rattle.std.proofs.lemmas.Bool.{cases_lt}
 use Rattle.hex.specs.Hex.{decode_of}
 use Rattle.hex.proofs.HexLemmas.{decode_of-ok, decode_of-same}
-use Rattle.m17_stream.specs.Exact.{IsBytes}
+use Rattle.m17_fields.specs.Fields.{IsBytes}
+use Rattle.m17_fields.specs.Reading.{IsOnlyValue, IsOnlyRefusal, HasOneReading}
 use Rattle.m17_control.specs.declared.packet.Packet.{Packet}
 use Rattle.m17_control.specs.declared.packet.Refusal.{Refusal}
-use Rattle.m17_control.specs.Exact.{IsOnlyPacket, IsOnlyRefusal, HasOneReading}
+use Rattle.m17_control.specs.Forms.{Spells, Refuses}
 use Rattle.m17_print.specs.Endings.{input_refused_line}
 use Rattle.m17_print.specs.Packets.{packet_text, refusal_text}
 use Rattle.m17_print.proofs.TextsOfLines.{one_text}
@@ -19,20 +20,27 @@ use Rattle.m17_show.specs.Lines.{most_lines, lines_of, content_of, AreLineCount,
 use Rattle.m17_show.specs.Show.{SaysOfBytes, IsPrintedFor, HasPrintedLine, IsTextOfFirst, IsShowText}
 use Rattle.m17_show.specs.Laws.{OneShowText}
 
+-- bytes as a packet: the only one, or refused for the only reason
+abbrev IsOnlyPacket : List ℕ → Packet → Type 0
+IsOnlyPacket bytes p = IsOnlyValue Spells Refuses bytes p
+
+abbrev IsOnlyReason : List ℕ → Refusal → Type 0
+IsOnlyReason bytes r = IsOnlyRefusal Spells Refuses bytes r
+
 -- each list of bytes has one reading
 abbrev pub EachHasOneReading : Type 0
-EachHasOneReading = (bytes : List ℕ) → IsBytes bytes → HasOneReading bytes
+EachHasOneReading = (bytes : List ℕ) → IsBytes bytes → HasOneReading Spells Refuses bytes
 
 -- what is said of bytes that spell a packet, and of bytes that are refused
 said_of_packet : (bytes text : List ℕ) (p : Packet) → IsOnlyPacket bytes p → SaysOfBytes bytes text → text ≡ packet_text p
 said_of_packet bytes text p only (inl (q, spells, is)) = is ∙ ap packet_text (only.no_other q spells)
 said_of_packet bytes text p only (inr (r, refuses, is)) = absurd (only.no_refusal r refuses)
 
-said_of_refusal : (bytes text : List ℕ) (r : Refusal) → IsOnlyRefusal bytes r → SaysOfBytes bytes text → text ≡ refusal_text r
-said_of_refusal bytes text r only (inl (q, spells, is)) = absurd (only.no_packet q spells)
+said_of_refusal : (bytes text : List ℕ) (r : Refusal) → IsOnlyReason bytes r → SaysOfBytes bytes text → text ≡ refusal_text r
+said_of_refusal bytes text r only (inl (q, spells, is)) = absurd (only.no_value q spells)
 said_of_refusal bytes text r only (inr (other, refuses, is)) = is ∙ ap refusal_text (only.no_other other refuses)
 
-one_said : (bytes a b : List ℕ) → HasOneReading bytes → SaysOfBytes bytes a → SaysOfBytes bytes b → a ≡ b
+one_said : (bytes a b : List ℕ) → HasOneReading Spells Refuses bytes → SaysOfBytes bytes a → SaysOfBytes bytes b → a ≡ b
 one_said bytes a b (inl (p, only)) in_a in_b = said_of_packet bytes a p only in_a ∙ sym (said_of_packet bytes b p only in_b)
 one_said bytes a b (inr (r, only)) in_a in_b = said_of_refusal bytes a r only in_a ∙ sym (said_of_refusal bytes b r only in_b)
 

@@ -5,4 +5,4 @@ pub returns-clause-passed : goal.returns-clause-passed
 returns-clause-passed c = passed_is_refused
 
 pub returns-clause-repeats : goal.returns-clause-repeats
-returns-clause-repeats c = λ places acts n a k p copied last is earlier sid number own own_sid past. passed_is_refused places acts n k p last is own own_sid past
+returns-clause-repeats c = λ places acts n a b k p copied last is earlier sid number own own_sid past. passed_is_refused places acts n b k p last is own own_sid past

@@ -1,6 +1,10 @@
 use Rattle.std.proofs.Common.{sym}
+use Rattle.m17_floor.proofs.Joins.{joined_anew}
 use Rattle.m17_floor.proofs.NoPacket.{no_own_frame}
 use Rattle.m17_floor.proofs.floor.Last.new.Goals as goal
 
 pub returns-clause-stands : goal.returns-clause-stands
 returns-clause-stands c = λ places acts k h. sym (no_own_frame places acts k h)
+
+pub returns-clause-joined : goal.returns-clause-joined
+returns-clause-joined c = λ places acts at k only. sym (joined_anew places acts at k only)
