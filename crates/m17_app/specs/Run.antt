@@ -57,7 +57,7 @@ abbrev pub EndsWithLast : {R : Type 0} → (R → List ℕ) → Status → Outsi
 EndsWithLast {R} words status before after = status ≢ WriteFailed → status ≢ NoMemory
     → (first : List ℕ) → before.written ≡ Some first
     → (e : Ending R) × (text : List ℕ) × (status ≡ status_of e)
-        × (after.written ≡ Some (first ++ text ++ last_line words e))
+    × (after.written ≡ Some (first ++ text ++ last_line words e))
 
 -- What a run of `judge` promises.
 pub record RunsJudge (status : Status) (before after : Outside) : Type 0 where
@@ -88,11 +88,11 @@ pub record RunsShow (status : Status) (before after : Outside) : Type 0 where
   -- the input is lines of hex digits, each of which is shown, read to its end
   pub finished : status ≡ Finished → (input : List ℕ) → before.left ≡ Some input
       → ((count : ℕ) × AreLineCount input count
-          × ((text : List ℕ) × IsTextOfFirst input count text)) × (after.left ≡ Some [])
+      × ((text : List ℕ) × IsTextOfFirst input count text)) × (after.left ≡ Some [])
   -- which line is none and why, and that those before it are shown
   pub refused : status ≡ InputRefused → (input : List ℕ) → before.left ≡ Some input
       → (place : ℕ) × (reason : ShowReason) × RefusesLine input place reason
-          × ((text : List ℕ) × IsTextOfFirst input place text)
+      × ((text : List ℕ) × IsTextOfFirst input place text)
   -- its whole text stands written, or else a part of it and of the last line
   pub text : IsWhole status → (input first : List ℕ) → before.left ≡ Some input
       → before.written ≡ Some first
@@ -104,7 +104,7 @@ pub record RunsShow (status : Status) (before after : Outside) : Type 0 where
   pub complete : (input : List ℕ) → before.left ≡ Some input
       → ((place : ℕ) (reason : ShowReason) → ¬ RefusesLine input place reason)
       → ¬ HasRisen before.reads after.reads → ¬ HasRisen before.writes after.writes
-          → status ≡ Finished
+      → status ≡ Finished
   pub no_words : status ≢ WordsRefused
   pub takes_no_memory : status ≢ NoMemory
 

@@ -12,9 +12,9 @@ use std::alloc::Global;
 fn run_judge<S: Source, K: Sink>(alloc: Global, input: &mut S, out: &mut K) -> Status
     ensures { RunsJudge result
         (outside (S.left input.old) (S.faults input.old)
-            (K.written out.old) (K.faults out.old) (K.held_back out.old))
+        (K.written out.old) (K.faults out.old) (K.held_back out.old))
         (outside (S.left input.new) (S.faults input.new)
-            (K.written out.new) (K.faults out.new) (K.held_back out.new)) }
+        (K.written out.new) (K.faults out.new) (K.held_back out.new)) }
 {
     match m17_judge::judge(alloc, input, out) {
         Ok(ending) => conclude(out, &ending),
@@ -26,9 +26,9 @@ fn run_judge<S: Source, K: Sink>(alloc: Global, input: &mut S, out: &mut K) -> S
 fn run_show<S: Source, K: Sink>(input: &mut S, out: &mut K) -> Status
     ensures { RunsShow result
         (outside (S.left input.old) (S.faults input.old)
-            (K.written out.old) (K.faults out.old) (K.held_back out.old))
+        (K.written out.old) (K.faults out.old) (K.held_back out.old))
         (outside (S.left input.new) (S.faults input.new)
-            (K.written out.new) (K.faults out.new) (K.held_back out.new)) }
+        (K.written out.new) (K.faults out.new) (K.held_back out.new)) }
 {
     let ending = m17_show::show(input, out);
     conclude(out, &ending)
@@ -38,9 +38,9 @@ fn run_show<S: Source, K: Sink>(input: &mut S, out: &mut K) -> Status
 fn run_nothing<S: Source, K: Sink>(_input: &S, out: &mut K) -> Status
     ensures { RefusesWords result
         (outside (S.left _input.now) (S.faults _input.now)
-            (K.written out.old) (K.faults out.old) (K.held_back out.old))
+        (K.written out.old) (K.faults out.old) (K.held_back out.old))
         (outside (S.left _input.now) (S.faults _input.now)
-            (K.written out.new) (K.faults out.new) (K.held_back out.new)) }
+        (K.written out.new) (K.faults out.new) (K.held_back out.new)) }
 {
     refuse_words(out)
 }
@@ -60,20 +60,20 @@ pub fn run<R, S: Source, K: Sink>(
     ensures judge { NamesJudge (map string_bytes words.now)
         → Tells result (λ status. RunsJudge status
         (outside (S.left input.old) (S.faults input.old)
-            (K.written out.old) (K.faults out.old) (K.held_back out.old))
+        (K.written out.old) (K.faults out.old) (K.held_back out.old))
         (outside (S.left input.new) (S.faults input.new)
-            (K.written out.new) (K.faults out.new) (K.held_back out.new))) }
+        (K.written out.new) (K.faults out.new) (K.held_back out.new))) }
     ensures show { NamesShow (map string_bytes words.now) → Tells result (λ status. RunsShow status
         (outside (S.left input.old) (S.faults input.old)
-            (K.written out.old) (K.faults out.old) (K.held_back out.old))
+        (K.written out.old) (K.faults out.old) (K.held_back out.old))
         (outside (S.left input.new) (S.faults input.new)
-            (K.written out.new) (K.faults out.new) (K.held_back out.new))) }
+        (K.written out.new) (K.faults out.new) (K.held_back out.new))) }
     ensures refused { AreRefused (map string_bytes words.now)
         → Tells result (λ status. RefusesWords status
         (outside (S.left input.old) (S.faults input.old)
-            (K.written out.old) (K.faults out.old) (K.held_back out.old))
+        (K.written out.old) (K.faults out.old) (K.held_back out.old))
         (outside (S.left input.new) (S.faults input.new)
-            (K.written out.new) (K.faults out.new) (K.held_back out.new))) }
+        (K.written out.new) (K.faults out.new) (K.held_back out.new))) }
 {
     let status = match command_of(words) {
         Some(Command::Judge) => run_judge(alloc, input, out),

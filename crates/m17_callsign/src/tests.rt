@@ -77,10 +77,7 @@ fn each_refusal_says_what_is_wrong(rt: HostRuntime) -> Result<(), Fail> {
             CallRefusal::Long(10),
             "a callsign has at most 9 letters, and this has 10 bytes",
         ),
-        (
-            CallRefusal::Letter(3),
-            "no letter of callsigns at byte 3",
-        ),
+        (CallRefusal::Letter(3), "no letter of callsigns at byte 3"),
         (
             CallRefusal::TrailingSpace,
             "a callsign does not end in a space",

@@ -94,7 +94,7 @@ next_judged law bytes count kept kept' rest rest' first written buffer bytes' li
       stands = subst (λ (acts : List Act). TableStandsFor acts kept') (acts_more after.more step.0) step.1;
       lines = same_lines (HasRecordLine bytes after.more) (HasRecordLine bytes (after.more ++ step.0 ∷ [])) count after.text
           (λ n one below old. subst (λ (acts : List Act). IsRecordLine acts n (record_at bytes n) one) (acts_more after.more step.0)
-              (line_longer law (acts_with after.more) (step.0 ∷ []) n (record_at bytes n) one old)) after.lines;
+          (line_longer law (acts_with after.more) (step.0 ∷ []) n (record_at bytes n) one old)) after.lines;
       newest = subst (λ (xs : List ℕ). IsRecordLine (acts_with (after.more ++ step.0 ∷ [])) count xs line) (record_filled bytes buffer bytes' count rest' size filled)
           (subst (λ (acts : List Act). IsRecordLine acts count bytes' line) (acts_more after.more step.0) step.2);
     }

@@ -89,12 +89,12 @@ packet_bytes input n are = All-drop (λ (byte : ℕ). byte < 2 ^ 8) 10 (record_a
 one_list : ReadingIsExact → (input : List ℕ) (count : ℕ) (a b : List ℕ) → IsBytes input → (in_a : IsTextOfRecords input count a) → (in_b : IsTextOfRecords input count b) → in_a.more ≡ in_b.more
 one_list reading input count a b are in_a in_b =
     equal_lists in_a.more in_b.more (in_a.acts_count ∙ sym in_b.acts_count) (λ n below.
-        let within : n < count = omega (arith, in_a.acts_count) in
-        let x = in_a.lines.each n within in
-        let y = in_b.lines.each n within in
-        sym (after_joins in_a.more n below)
-        ∙ same_act (acts_with in_a.more) (acts_with in_b.more) n (record_at input n) x.0 y.0 (reading _ (packet_bytes input n are)) x.2 y.2
-        ∙ after_joins in_b.more n (omega (arith, in_b.acts_count)))
+    let within : n < count = omega (arith, in_a.acts_count) in
+    let x = in_a.lines.each n within in
+    let y = in_b.lines.each n within in
+    sym (after_joins in_a.more n below)
+    ∙ same_act (acts_with in_a.more) (acts_with in_b.more) n (record_at input n) x.0 y.0 (reading _ (packet_bytes input n are)) x.2 y.2
+    ∙ after_joins in_b.more n (omega (arith, in_b.acts_count)))
 
 one_of_records : ReadingIsExact → (input : List ℕ) (count : ℕ) (a b : List ℕ) → IsBytes input → IsTextOfRecords input count a → IsTextOfRecords input count b → a ≡ b
 one_of_records reading input count a b are in_a in_b =

@@ -37,8 +37,11 @@ acts_with more = joins talkers ++ more
 
 -- the act of a record whose packet is this one: its talker sends it
 abbrev pub packet_act : List ℕ → StreamPacket → Act
-packet_act bytes packet = record { at = moment_of bytes; kind = Packet (talker (talker_of bytes))
-    packet }
+packet_act bytes packet = record {
+  at = moment_of bytes;
+  kind = Packet (talker (talker_of bytes))
+      packet;
+}
 
 -- the act of a record whose packet is refused
 abbrev pub passed_act : List ℕ → Act
@@ -84,9 +87,9 @@ pub record IsTextOfRecords (input : List ℕ) (count : ℕ) (text : List ℕ) : 
 abbrev pub IsJudgeText : List ℕ → List ℕ → Type 0
 IsJudgeText input text = ((count : ℕ) × AreRecords input count × IsTextOfRecords input count text)
     ⊎ ((count place : ℕ) × (reason : JudgeReason) × (before : List ℕ)
-        × RefusesRecords input count place reason
+    × RefusesRecords input count place reason
     × IsTextOfRecords input count before
-        × (text ≡ before ++ input_refused_line place (judge_reason_words reason)))
+    × (text ≡ before ++ input_refused_line place (judge_reason_words reason)))
 
 -- What an ending of `judge` says of the input, and of what is left of it.
 abbrev pub SaysJudge : Ending JudgeReason → List ℕ → Option (List ℕ) → Type 0

@@ -2,7 +2,6 @@ pub mod Reasons
 pub mod Records
 pub mod Judge
 pub mod Laws
-
 -- for proofs alone
 pub mod Fill
 pub mod Table

@@ -32,6 +32,6 @@ pub record AreRecords (input : List ℕ) (count : ℕ) : Type 0 where
 abbrev pub RefusesRecords : List ℕ → ℕ → ℕ → JudgeReason → Type 0
 RefusesRecords input count place Cut =
     (count < most_records) × (64 * count < length input) × (length input < 64 * (count + 1))
-        × (place ≡ length input)
+    × (place ≡ length input)
 RefusesRecords input count place Large =
     (count ≡ most_records) × (64 * count < length input) × (place ≡ 64 * count)

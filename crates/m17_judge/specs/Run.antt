@@ -9,12 +9,12 @@ use Rattle.m17_judge.specs.Records.{most_records}
 
 -- So many records of the input were taken and judged. `first` is what was written before the run.
 pub record AreJudged (input : List ℕ) (count : ℕ) (left first written : Option (List ℕ)) : Type 0
-    where
-  pub within : 64 * count ≤ length input
-  pub rest_left : left ≡ Some (drop (64 * count) input)
-  pub text : List ℕ
-  pub is_text : IsTextOfRecords input count text
-  pub printed : (before : List ℕ) → first ≡ Some before → written ≡ Some (before ++ text)
+  where
+    pub within : 64 * count ≤ length input
+    pub rest_left : left ≡ Some (drop (64 * count) input)
+    pub text : List ℕ
+    pub is_text : IsTextOfRecords input count text
+    pub printed : (before : List ℕ) → first ≡ Some before → written ≡ Some (before ++ text)
 
 -- After as many records as may come: how the look for one more byte ends, with what was left of the
 -- input and what is.

@@ -31,4 +31,4 @@ abbrev pub JudgesRecord : ℕ → List ℕ → Kept → Kept → List ℕ → Ty
 JudgesRecord n bytes kept kept' line = (acts : List Act) → length acts ≡ talkers + n
     → TableStandsFor acts kept →
     (act : Act) × TableStandsFor (acts ++ act ∷ []) kept'
-        × IsRecordLine (acts ++ act ∷ []) n bytes line
+    × IsRecordLine (acts ++ act ∷ []) n bytes line

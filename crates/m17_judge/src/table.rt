@@ -55,11 +55,11 @@ impl Table {
     pub(crate) fn judge(&mut self, at: u64, place: u16, p: &StreamPacket) -> Verdict
         ensures stands { (acts : List Act) → TableStandsFor acts self.old →
             TableStandsFor (acts ++ (record { at = at; kind = Packet (talker place) p.now }) ∷ [])
-                self.new }
+            self.new }
         ensures ruled { (acts : List Act) → TableStandsFor acts self.old →
             verdict_at talkers (acts ++ (record { at = at; kind = Packet (talker place) p.now }) ∷
-                [])
-                (length acts) ≡ Some result }
+            [])
+            (length acts) ≡ Some result }
     {
         self.moment = self.moment.max(at);
         let sender = Member {

@@ -55,7 +55,7 @@ one_printed reading line a b in_a in_b =
     let small = (decode_of-ok (content_of line) in_b.bytes in_b.digits).3 in
     let are_bytes : IsBytes in_b.bytes = All-from_get_or (λ (byte : ℕ). byte < 2 ^ 8) in_b.bytes 0 (λ i _. small i) in
     let text : in_a.text ≡ in_b.text = one_said in_b.bytes in_a.text in_b.text (reading in_b.bytes are_bytes)
-        (subst (λ (bytes : List ℕ). SaysOfBytes bytes in_a.text) same in_a.said) in_b.said in
+    (subst (λ (bytes : List ℕ). SaysOfBytes bytes in_a.text) same in_a.said) in_b.said in
     in_a.printed_is ∙ ap (λ xs. xs ++ 10 ∷ []) text ∙ sym in_b.printed_is
 
 one_line : EachHasOneReading → (input : List ℕ) (n : ℕ) (a b : List ℕ) → HasPrintedLine input n a → HasPrintedLine input n b → a ≡ b

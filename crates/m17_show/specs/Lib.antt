@@ -2,7 +2,6 @@ pub mod Reasons
 pub mod Lines
 pub mod Show
 pub mod Laws
-
 -- for proofs alone
 pub mod Reading
 pub mod Pending

@@ -56,10 +56,10 @@ abbrev pub RefusesLine : List ℕ → ℕ → ShowReason → Type 0
 RefusesLine input count Large = (count ≡ most_lines) × (count < length (lines_of input))
 RefusesLine input count Long =
     (count < most_lines) × (line : List ℕ) × (slice_get (lines_of input) count ≡ Some line)
-        × IsTooLong (content_of line)
+    × IsTooLong (content_of line)
 RefusesLine input count Odd =
     (count < most_lines) × (line : List ℕ) × (slice_get (lines_of input) count ≡ Some line)
-        × IsOdd (content_of line)
+    × IsOdd (content_of line)
 RefusesLine input count Digit =
     (count < most_lines) × (line : List ℕ) × (slice_get (lines_of input) count ≡ Some line)
-        × HasNoHex (content_of line)
+    × HasNoHex (content_of line)

@@ -43,13 +43,13 @@ abbrev pub IsShowText : List ℕ → List ℕ → Type 0
 IsShowText input text = ((count : ℕ) × AreLineCount input count × IsTextOfFirst input count text)
     ⊎ ((place : ℕ) × (reason : ShowReason) × (before : List ℕ) × RefusesLine input place reason
     × IsTextOfFirst input place before
-        × (text ≡ before ++ input_refused_line place (show_reason_words reason)))
+    × (text ≡ before ++ input_refused_line place (show_reason_words reason)))
 
 -- What an ending of `show` says of the input, and of what is left of it.
 abbrev pub SaysShow : Ending ShowReason → List ℕ → Option (List ℕ) → Type 0
 SaysShow Finished input left =
     ((count : ℕ) × AreLineCount input count × ((text : List ℕ) × IsTextOfFirst input count text))
-        × (left ≡ Some [])
+    × (left ≡ Some [])
 SaysShow (Refused place reason) input left =
     RefusesLine input place reason × ((text : List ℕ) × IsTextOfFirst input place text)
 SaysShow ReadFailed input left = Unit {0}
@@ -66,7 +66,7 @@ PrintsShow (Refused place reason) input left text = RefusesLine input place reas
 PrintsShow ReadFailed input left text = (count taken : ℕ) × (count ≤ most_lines)
     × (taken ≤ length input)
     × (left ≡ Some (drop taken input)) × AreEnded (take taken input) count
-        × IsTextOfFirst input count text
+    × IsTextOfFirst input count text
 -- a first part of what is printed for the first `count` lines
 PrintsShow WriteFailed input left text =
     (count : ℕ) × (count ≤ most_lines) × BeginsTextOf (HasPrintedLine input) count text

@@ -54,7 +54,7 @@ fn show_lines<S: Input, K: Sink>(
     ensures full { IfNone result ((bytes : List ℕ) (first : Option (List ℕ))
         → AreShown bytes 0 (pending reader.old) (S.left input.old) first (K.written out.old)
         → AreShown bytes most_lines (pending reader.new) (S.left input.new) first (K.written
-            out.new)) }
+        out.new)) }
     ensures appended { Grows (K.written out.old) (K.written out.new) }
 {
     let mut printed = Line::new();
@@ -81,18 +81,17 @@ fn show_next<S: Input, K: Sink>(
     ensures goes_on { (bytes : List ℕ) (first : Option (List ℕ))
         → AreShown bytes number (pending reader.old) (S.left input.old) first (K.written out.old)
         → GoesOn bytes number first result (pending reader.new) (S.left input.new) (K.written
-            out.new) }
+        out.new) }
     ensures appended { Grows (K.written out.old) (K.written out.new) }
 {
     match reader.next(input, out) {
-        Ok(Next::Line(size)) => {
-            let shown = show_line(&reader.pending()[..size], printed, out);
-            reader.take(size + 1);
-            match shown {
-                Ok(()) => None,
-                Err(not_shown) => Some(not_shown.ending_at(number)),
+        Ok(Next::Line(size)) => match show_line(&reader.pending()[..size], printed, out) {
+            Ok(()) => {
+                reader.take(size + 1);
+                None
             }
-        }
+            Err(not_shown) => Some(not_shown.ending_at(number)),
+        },
         Ok(Next::Long) => Some(Ending::Refused {
             place: number,
             reason: ShowReason::Long,
@@ -138,7 +137,7 @@ fn end_at_limit<S: Input, K: Sink>(
         (S.faults input.new, K.faults out.new) (failed_device result) }
     ensures shows { (bytes : List ℕ) (first : Option (List ℕ))
         → AreShown bytes most_lines (pending reader.old) (S.left input.old) first (K.written
-            out.old)
+        out.old)
         → Comes SaysShow PrintsShow result bytes (S.left input.new) first (K.written out.new) }
     ensures nothing_written { K.written out.new ≡ K.written out.old }
 {

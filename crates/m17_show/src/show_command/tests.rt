@@ -126,7 +126,10 @@ fn a_device_that_fails_ends_the_run(rt: HostRuntime) -> Result<(), Fail> {
 fn lines_are_handed_on_before_more_input_is_waited_for(rt: HostRuntime) -> Result<(), Fail> {
     let alloc = rt.alloc();
     for (call, text) in [(0, ""), (1, ""), (2, "ackn\n"), (3, "ackn\nnack\n")] {
-        let mut source = WaitingSource::new(b"41434B4E\n4E41434B\n".to_vec(alloc)?, Vec::new(alloc));
+        let mut source = WaitingSource::new(
+            b"41434B4E\n4E41434B\n".to_vec(alloc)?,
+            Vec::new(alloc),
+        );
         let mut sink = BytesSink::make(alloc, 100, [call].to_vec(alloc)?)?;
         assert_eq!(rt; show(&mut source, &mut sink), Ending::WriteFailed);
         assert_eq!(rt; sink.bytes(), text.as_bytes());

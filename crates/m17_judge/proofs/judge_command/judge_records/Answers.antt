@@ -51,10 +51,31 @@ pub returns-clause-appended : goal.returns-clause-appended
 returns-clause-appended g c = c.loop-index.invariant.appended
 
 pub returns-in-Err-clause-ended : goal.returns-in-Err-clause-ended
-returns-in-Err-clause-ended g c = ?
+returns-in-Err-clause-ended g c = λ bytes told.
+    let after = c.loop-index.invariant.after bytes told in
+    let whole : c.in-Ok-eq64.field-0 ≡ 64 = omega arith in
+    let filled = subst (λ (n : ℕ). IsFilled (drop (64 * c.loop-index.index) bytes) n c.loop-index.record c.fill.new.into (g.S.Input.left c.fill.new.input)) whole (c.in-Ok-eq64.ensures.filled (drop (64 * c.loop-index.index) bytes) after.rest_left) in
+    let next = next_judged c.later_acts_change_no_verdict.ensures bytes c.loop-index.index _ _ _ _ _ _ c.loop-index.record c.fill.new.into c.judge_record.new.line after c.loop-index.invariant.size filled c.judge_record.ensures in
+    line_failed bytes c.loop-index.index _ _ (g.K.Sink.written c.args.out.now) (g.K.Sink.written c.fill.new.out) (g.K.Sink.written c.write.new.self) after.text c.judge_record.new.line (omega arith) next
+    (λ before told_now. c.in-Ok-eq64.ensures.nothing_written ∙ after.printed before told_now)
+    (λ before told_now. rw (← c.bytes.ensures.value) (c.in-Err.ensures.err before told_now))
 
 pub returns-in-Err-clause-appended : goal.returns-in-Err-clause-appended
-returns-in-Err-clause-appended g c = ?
+returns-in-Err-clause-appended g c =
+    grows_then _ _ _ c.loop-index.invariant.appended (grows_then _ _ _ (grows_none _ _ c.in-Ok-eq64.ensures.nothing_written) (grows_part _ _ _ c.in-Err.ensures.err))
 
 pub loop-index-preserved : goal.loop-index-preserved
-loop-index-preserved g c = ?
+loop-index-preserved g c = record {
+  after = λ bytes told.
+      let after = c.loop-index.invariant.after bytes told in
+      let whole : c.in-Ok-eq64.field-0 ≡ 64 = omega arith in
+      let filled = subst (λ (n : ℕ). IsFilled (drop (64 * c.loop-index.index) bytes) n c.loop-index.record c.fill.new.into (g.S.Input.left c.fill.new.input)) whole (c.in-Ok-eq64.ensures.filled (drop (64 * c.loop-index.index) bytes) after.rest_left) in
+      let next = next_judged c.later_acts_change_no_verdict.ensures bytes c.loop-index.index _ _ _ _ _ _ c.loop-index.record c.fill.new.into c.judge_record.new.line after c.loop-index.invariant.size filled c.judge_record.ensures in
+      one_more bytes c.loop-index.index _ _ (g.K.Sink.written c.args.out.now) (g.K.Sink.written c.fill.new.out) (g.K.Sink.written c.write.new.self) after.text c.judge_record.new.line next
+      (λ before told_now. c.in-Ok-eq64.ensures.nothing_written ∙ after.printed before told_now)
+      (λ before told_now. c.in-Ok-write.ensures.ok before told_now ∙ ap (λ xs. Some (before ++ xs)) c.bytes.ensures.value);
+  appended = grows_then _ _ _ c.loop-index.invariant.appended (grows_then _ _ _ (grows_none _ _ c.in-Ok-eq64.ensures.nothing_written) (grows_line _ _ _ c.in-Ok-write.ensures.ok));
+  size = c.fill.auto.into ∙ c.loop-index.invariant.size;
+  reads = c.in-Ok-eq64.ensures.causes.no_read_fault (λ e. cc) ∙ c.loop-index.invariant.reads;
+  writes = c.in-Ok-write.ensures.cause.no_fault ∙ c.in-Ok-eq64.ensures.causes.no_write_fault (λ e. cc) ∙ c.loop-index.invariant.writes;
+}
