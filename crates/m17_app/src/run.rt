@@ -57,6 +57,8 @@ pub fn run<R, S: Source, K: Sink>(
 ) -> u8
     // No other status comes.
     ensures status { IsStatus result }
+    // 2 comes where the words name no command, and nowhere else.
+    ensures taken { result ≡ 2 → AreRefused (map string_bytes words.now) }
     ensures judge { NamesJudge (map string_bytes words.now)
         → Tells result (λ status. RunsJudge status
         (outside (S.left input.old) (S.faults input.old)
@@ -75,10 +77,9 @@ pub fn run<R, S: Source, K: Sink>(
         (outside (S.left input.new) (S.faults input.new)
         (K.written out.new) (K.faults out.new) (K.held_back out.new))) }
 {
-    let status = match command_of(words) {
-        Some(Command::Judge) => run_judge(alloc, input, out),
-        Some(Command::Show) => run_show(input, out),
-        None => run_nothing(input, out),
-    };
-    status.code()
+    match command_of(words) {
+        Some(Command::Judge) => run_judge(alloc, input, out).code(),
+        Some(Command::Show) => run_show(input, out).code(),
+        None => run_nothing(input, out).code(),
+    }
 }

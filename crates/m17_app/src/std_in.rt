@@ -1,49 +1,38 @@
-ghost use Rattle.std.specs.Prelude.{◌≡◌, ℕ, IfOk, ◌+◌, ◌-◌, ◌^◌, ◌<◌, ◌≤◌, length, None};
+ghost use Rattle.std.specs.Prelude.{◌≡◌, ℕ, ◌-◌, ◌^◌, ◌≤◌, min, false, length, None, Some, List, IfOk};
+ghost use Rattle.std.specs.Io.KnownBytes.{ReadConsumes};
 
-use m17_devices::{Failed, NoMemory, Source};
-use std::alloc::Global;
-use std::io::{ErrorKind, Read};
+use crate::interruption::is_fault;
+use m17_io::Source;
+use m17_values::Failed;
+use std::io::Read;
 
-const BUFFER_BYTES: usize = 65_536;
-
-/// A reader, as standard input, as a source: buffered, so that a system call serves many records.
+/// A reader, as standard input, as a source: each read of it is one of the reader's. The trusted edge: what the reader
+/// gives is not told, nor whether it waits.
 #[derive(Drop)]
 pub struct StdIn<R: Read + Drop> {
     reader: R,
-    buffer: Vec<u8>,
-    start: usize,
-    end: usize,
     faults: u64,
-    ghost within: { (start ≤ end) × (end ≤ length buffer.items) },
 }
 
 impl<R: Read + Drop> StdIn<R> {
-    /// A source over a reader, with nothing read. `NoMemory` where there is none for its buffer.
-    pub fn make(alloc: Global, reader: R) -> Result<StdIn<R>, NoMemory>
-        ensures { IfOk result (λ s. s.faults ≡ 0) }
+    /// A source over a reader.
+    pub fn new(reader: R) -> StdIn<R>
+        ensures { result ≡ record { reader = reader; faults = 0 } }
     {
-        match vec![in alloc; 0u8; BUFFER_BYTES] {
-            Ok(buffer) => Ok(StdIn {
-                reader,
-                buffer,
-                start: 0,
-                end: 0,
-                faults: 0,
-            }),
-            Err(_) => Err(NoMemory),
-        }
+        StdIn { reader, faults: 0 }
     }
 }
 
-// Fills the buffer by one call of the reader, which is called again where a signal interrupted it.
-fn refill<R: Read>(reader: &mut R, buffer: &mut [u8]) -> Result<usize, Failed>
-    ensures { (n : ℕ) → result ≡ Ok n → n ≤ length buffer.old }
+// Reads by one call of the reader, which is made again where a signal interrupted it, however often.
+fn read_once<R: Read>(reader: &mut R, into: &mut [u8]) -> Result<usize, Failed>
+    ensures within { IfOk result (λ n. n ≤ length into.old) }
+    ensures bytes { ReadConsumes (R.remaining reader.old) (R.remaining reader.new) result into.new }
 {
     for _ in 0..u64::MAX {
-        match reader.read(buffer) {
+        match reader.read(into) {
             Ok(n) => return Ok(n),
             Err(e) => {
-                if e.kind() != ErrorKind::Interrupted {
+                if is_fault(e.kind()) {
                     return Err(Failed);
                 }
             }
@@ -53,32 +42,27 @@ fn refill<R: Read>(reader: &mut R, buffer: &mut [u8]) -> Result<usize, Failed>
 }
 
 impl<R: Read + Drop> Source for StdIn<R> {
-    ghost faults = { λ s. s.faults };
+    ghost use Rattle.std.proofs.Math.Nat.{min-le_right};
+
+    ghost faults = { λ s. min s.faults (2 ^ 64 - 1) };
 
     ghost left = { λ _. None };
 
+    ghost at_hand = { λ _. false };
+
+    ghost faults_fit = { λ s. min-le_right s.faults (2 ^ 64 - 1) };
+
     fn read(&mut self, into: &mut [u8]) -> Result<usize, Failed> {
-        if self.start == self.end {
-            match refill(&mut self.reader, &mut self.buffer) {
-                Ok(n) => {
-                    self.start = 0;
-                    self.end = n;
-                }
-                Err(failed) => {
-                    self.faults = self.faults.saturating_add(1);
-                    return Err(failed);
-                }
+        match read_once(&mut self.reader, into) {
+            Ok(n) => Ok(n),
+            Err(failed) => {
+                self.faults = self.faults.saturating_add(1);
+                Err(failed)
             }
         }
-        let at_hand = &self.buffer[self.start..self.end];
-        let n = at_hand.len().min(into.len());
-        into[..n].copy_from_slice(&at_hand[..n]);
-        self.start += n;
-        Ok(n)
     }
 
-    #[inline]
     fn is_at_hand(&self) -> bool {
-        self.start < self.end
+        false
     }
 }

@@ -1,84 +1,63 @@
-ghost use Rattle.std.specs.Prelude.{◌≡◌, ◌+◌, ◌-◌, ◌^◌, ◌<◌, ◌≤◌, length, None, IfOk, OnOk, OnErr};
-ghost use Rattle.m17_devices.specs.Faults.{HasRisen};
+ghost use Rattle.std.specs.Prelude.{◌≡◌, ℕ, ◌-◌, ◌^◌, ◌<◌, ◌≤◌, min, length, None, IfOk};
 
-use m17_devices::{Failed, NoMemory, Sink};
-use std::alloc::Global;
+use crate::interruption::is_fault;
+use m17_io::Outlet;
+use m17_values::Failed;
 
-const BUFFER_BYTES: usize = 65_536;
-
-/// What prints, as standard output, as a sink: buffered, and handed on by `flush` or where the buffer is full.
+/// What prints, as standard output, as an outlet: each send is one write. The trusted edge: what has left is not told.
 #[derive(Drop)]
 pub struct StdOut<'a, P: Print> {
     to: &'a P,
-    buffer: Vec<u8>,
     faults: u64,
 }
 
 impl<'a, P: Print> StdOut<'a, P> {
-    /// A sink over what prints. `NoMemory` where there is none for its buffer.
-    pub fn make(alloc: Global, to: &'a P) -> Result<StdOut<'a, P>, NoMemory>
-        ensures { IfOk result (λ s. s.faults ≡ 0) }
+    /// An outlet over what prints.
+    pub fn new(to: &'a P) -> StdOut<'a, P>
+        ensures { result.faults ≡ 0 }
     {
-        match Vec::with_capacity(alloc, BUFFER_BYTES) {
-            Ok(buffer) => Ok(StdOut {
-                to,
-                buffer,
-                faults: 0,
-            }),
-            Err(_) => Err(NoMemory),
-        }
-    }
-
-    // Hands bytes on as they are, and counts a fault.
-    fn hand_on(&mut self, bytes: &[u8]) -> Result<(), Failed>
-        ensures failed { OnErr result (HasRisen self.old.faults self.new.faults) }
-        ensures no_fault { OnOk result (self.new.faults ≡ self.old.faults) }
-        ensures counted { self.old.faults ≤ self.new.faults }
-    {
-        match self.to.write_all(bytes) {
-            Ok(()) => Ok(()),
-            Err(_) => {
-                self.faults = self.faults.saturating_add(1);
-                Err(Failed)
-            }
-        }
+        StdOut { to, faults: 0 }
     }
 }
 
-impl<P: Print> Sink for StdOut<'_, P> {
-    ghost faults = { λ s. s.faults };
-
-    ghost written = { λ _. None };
-
-    ghost held_back = { λ s. length s.buffer.items };
-
-    fn write(&mut self, bytes: &[u8]) -> Result<(), Failed> {
-        if bytes.len() > BUFFER_BYTES.saturating_sub(self.buffer.len()) {
-            self.flush()?;
-        }
-        if bytes.len() > BUFFER_BYTES {
-            return self.hand_on(bytes);
-        }
-        match self.buffer.extend_from_slice(bytes) {
-            Ok(()) => Ok(()),
-            Err(_) => {
-                self.faults = self.faults.saturating_add(1);
-                Err(Failed)
+// Writes some of the bytes by one call, which is made again where a signal interrupted it, however often. A call that
+// writes none of them, where there are some, is a fault.
+fn write_once<P: Print>(to: &P, bytes: &[u8]) -> Result<usize, Failed>
+    ensures within { IfOk result (λ n. n ≤ length bytes.now) }
+    ensures some { IfOk result (λ n. 0 < length bytes.now → 0 < n) }
+{
+    if bytes.is_empty() {
+        return Ok(0);
+    }
+    for _ in 0..u64::MAX {
+        match to.write_some(bytes) {
+            Ok(0) => return Err(Failed),
+            Ok(n) => return Ok(n),
+            Err(e) => {
+                if is_fault(e.kind()) {
+                    return Err(Failed);
+                }
             }
         }
     }
+    Err(Failed)
+}
 
-    fn flush(&mut self) -> Result<(), Failed> {
-        if self.buffer.is_empty() {
-            return Ok(());
-        }
-        let written = self.to.write_all(&self.buffer);
-        self.buffer.clear();
-        match written {
-            Ok(()) => Ok(()),
-            Err(_) => {
+impl<P: Print> Outlet for StdOut<'_, P> {
+    ghost use Rattle.std.proofs.Math.Nat.{min-le_right};
+
+    ghost faults = { λ s. min s.faults (2 ^ 64 - 1) };
+
+    ghost sent = { λ _. None };
+
+    ghost faults_fit = { λ s. min-le_right s.faults (2 ^ 64 - 1) };
+
+    fn send(&mut self, bytes: &[u8]) -> Result<usize, Failed> {
+        match write_once(self.to, bytes) {
+            Ok(n) => Ok(n),
+            Err(failed) => {
                 self.faults = self.faults.saturating_add(1);
-                Err(Failed)
+                Err(failed)
             }
         }
     }

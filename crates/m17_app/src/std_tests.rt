@@ -1,43 +1,58 @@
-//! The trusted edge: which bytes pass through the standard streams, and how they fail. No clause says that.
+//! The trusted edge: what one read and one write of the system are made of, and the program on a reader and on what
+//! prints. That bytes pass through whole is told by no clause here, since the system tells nothing of content.
 use crate::std_in::StdIn;
 use crate::std_out::StdOut;
-use m17_devices::{Failed, Sink, Source};
+use crate::streams::run_on;
+use m17_io::{Outlet, Source};
+use m17_values::Failed;
 use std::alloc::Global;
 use std::cell::{Cell, RefCell};
 use std::fmt::Display;
 use std::io::{self, Error, ErrorKind, Read};
-use std::process::Abort;
 use std::test::Fail;
 
-const BUFFER_BYTES: usize = 65_536;
-
-// Bytes that count up from 0 to 250, over and over: 251 divides no size here, so a piece lost or moved shows.
-fn numbered(alloc: Global, len: usize) -> Result<Vec<u8>, Fail> {
-    let mut bytes = Vec::with_capacity(alloc, len)?;
-    for i in 0..len {
-        bytes.push((i % 251) as u8)?;
-    }
-    Ok(bytes)
+// What the system answers to one call.
+#[derive(Clone, Copy)]
+enum Answer {
+    Bytes(usize),
+    Interrupted,
+    Fails(ErrorKind),
 }
 
-// A reader whose first call gives 1 byte, whose second is interrupted, whose third gives 7, whose fourth fails, and
-// whose others give what there is room for.
+use Answer::{Bytes, Fails, Interrupted};
+
+// The answer to the call of this number, from 0: the last one comes to all further calls.
+fn answer(answers: &[Answer], call: usize) -> Answer {
+    match answers.get(call).or(answers.last()) {
+        Some(answer) => *answer,
+        None => Bytes(usize::MAX),
+    }
+}
+
+// A reader of these bytes that answers so.
 #[derive(Drop)]
 struct Halting<'a> {
     left: &'a [u8],
-    calls: u64,
+    answers: &'a [Answer],
+    calls: usize,
+}
+
+fn halting<'a>(left: &'a [u8], answers: &'a [Answer]) -> Halting<'a> {
+    Halting {
+        left,
+        answers,
+        calls: 0,
+    }
 }
 
 impl Read for Halting<'_> {
     fn read(&mut self, buf: &mut [u8]) -> io::Result<usize> {
         let call = self.calls;
         self.calls = self.calls.saturating_add(1);
-        let most = match call {
-            0 => 1,
-            1 => return Err(Error::from(ErrorKind::Interrupted)),
-            2 => 7,
-            3 => return Err(Error::from(ErrorKind::BrokenPipe)),
-            _ => buf.len(),
+        let most = match answer(self.answers, call) {
+            Bytes(most) => most,
+            Interrupted => return Err(Error::from(ErrorKind::Interrupted)),
+            Fails(kind) => return Err(Error::from(kind)),
         };
         let n = most.min(buf.len()).min(self.left.len());
         let (given, left) = self.left.split_at(n);
@@ -47,81 +62,23 @@ impl Read for Halting<'_> {
     }
 }
 
-// Reads to the end by a buffer of this size, and hands back the bytes, and how many of them came before each failure.
-fn read_all<S: Source>(
-    alloc: Global,
-    source: &mut S,
-    size: usize,
-) -> Result<(Vec<u8>, Vec<usize>), Fail> {
-    let mut buffer = vec![in alloc; 0u8; size]?;
-    let mut bytes = Vec::new(alloc);
-    let mut failures = Vec::new(alloc);
-    for _ in 0..u64::MAX {
-        match source.read(&mut buffer) {
-            Ok(0) => break,
-            Ok(n) => bytes.extend_from_slice(buffer.get(..n).ok_or("too many bytes")?)?,
-            Err(Failed) => failures.push(bytes.len())?,
-        }
-    }
-    Ok((bytes, failures))
-}
-
-#[test]
-fn every_byte_read_comes_once_and_in_order(rt: HostRuntime) -> Result<(), Fail> {
-    let alloc = rt.alloc();
-    let bytes = numbered(alloc, 2 * BUFFER_BYTES + 108)?;
-    for size in [1, 64, 70_000] {
-        let reader = Halting {
-            left: &bytes,
-            calls: 0,
-        };
-        let mut input = StdIn::make(alloc, reader)?;
-        let (read, failures) = read_all(alloc, &mut input, size)?;
-        assert!(rt; read == bytes, "by {size}");
-        assert_eq!(rt; failures.as_slice(), [8].as_slice(), "by {size}");
-    }
-    Ok(())
-}
-
-#[test]
-fn bytes_are_at_hand_while_they_are_in_the_buffer(rt: HostRuntime) -> Result<(), Fail> {
-    let reader = Halting {
-        left: b"abcdefgh",
-        calls: 0,
-    };
-    let mut input = StdIn::make(rt.alloc(), reader)?;
-    let mut one = [0u8; 1];
-    let mut seen = Vec::new(rt.alloc());
-    seen.push(input.is_at_hand())?;
-    for _ in 0..9 {
-        let _ = input.read(&mut one);
-        seen.push(input.is_at_hand())?;
-    }
-    // Before all, after the piece of one byte, after each byte of the piece of seven, and after the failed read.
-    let expected = [
-        false, false, true, true, true, true, true, true, false, false,
-    ];
-    assert_eq!(rt; seen.as_slice(), expected.as_slice());
-    Ok(())
-}
-
-// What prints into memory, and fails at the call of this number, from 0.
+// What prints into memory, and answers so.
 #[derive(Drop)]
-struct Collected {
+struct Collected<'a> {
     bytes: RefCell<Vec<u8>>,
-    calls: Cell<u64>,
-    fails: u64,
+    answers: &'a [Answer],
+    calls: Cell<usize>,
 }
 
-impl Collected {
-    fn new(alloc: Global, fails: u64) -> Collected {
-        Collected {
-            bytes: RefCell::new(Vec::new(alloc)),
-            calls: Cell::new(0),
-            fails,
-        }
+fn collected<'a>(alloc: Global, answers: &'a [Answer]) -> Collected<'a> {
+    Collected {
+        bytes: RefCell::new(Vec::new(alloc)),
+        answers,
+        calls: Cell::new(0),
     }
+}
 
+impl Collected<'_> {
     fn holds(&self, bytes: &[u8]) -> bool {
         match self.bytes.try_borrow() {
             Ok(held) => held.as_slice() == bytes,
@@ -130,7 +87,7 @@ impl Collected {
     }
 }
 
-impl Print for Collected {
+impl Print for Collected<'_> {
     fn print<D: Display + Drop>(&self, _value: D) -> io::Result<()> {
         Ok(())
     }
@@ -139,70 +96,104 @@ impl Print for Collected {
         Ok(())
     }
 
-    fn write_all(&self, bytes: &[u8]) -> io::Result<()> {
+    fn write_all(&self, _bytes: &[u8]) -> io::Result<()> {
+        Err(Error::from(ErrorKind::Unsupported))
+    }
+
+    fn write_some(&self, bytes: &[u8]) -> io::Result<usize> {
         let call = self.calls.get();
         self.calls.set(call.saturating_add(1));
+        let most = match answer(self.answers, call) {
+            Bytes(most) => most,
+            Interrupted => return Err(Error::from(ErrorKind::Interrupted)),
+            Fails(kind) => return Err(Error::from(kind)),
+        };
+        let n = most.min(bytes.len());
         match self.bytes.try_borrow_mut() {
-            Ok(mut held) if call != self.fails => Ok(held.extend_from_slice(bytes)?),
-            _ => Err(Error::from(ErrorKind::BrokenPipe)),
+            Ok(mut held) => held.extend_from_slice(&bytes[..n])?,
+            Err(_) => return Err(Error::from(ErrorKind::Other)),
         }
+        Ok(n)
     }
 }
 
-// The buffer has room for 655 lines of 100 bytes, and not for the next.
+// However often a signal interrupts a call it is made again, and each other kind of error is a fault, at once.
 #[test]
-fn lines_go_out_at_a_full_buffer_and_at_a_flush(rt: HostRuntime) -> Result<(), Fail> {
+fn interruptions_pass_and_other_errors_are_faults(rt: HostRuntime) -> Result<(), Fail> {
     let alloc = rt.alloc();
-    let bytes = numbered(alloc, 70_000)?;
-    let first = bytes.get(..65_500).ok_or("too few bytes")?;
-    let to = Collected::new(alloc, u64::MAX);
-    let mut out = StdOut::make(alloc, &to)?;
-    for (i, line) in bytes.as_slice().chunks(100).enumerate() {
-        out.write(line)?;
-        let expected = if i < 655 { b"".as_slice() } else { first };
-        assert!(rt; to.holds(expected), "after line {i}");
+    let mut answers = Vec::new(alloc);
+    for _ in 0..1000 {
+        answers.push(Interrupted)?;
     }
-    out.flush()?;
-    assert!(rt; to.holds(&bytes));
+    answers.push(Bytes(3))?;
+    let mut into = [0u8; 8];
+    let mut input = StdIn::new(halting(b"abcde", &answers));
+    assert_eq!(rt; input.read(&mut into), Ok(3));
+    assert!(rt; !input.is_at_hand());
+    let to = collected(alloc, &answers);
+    assert_eq!(rt; StdOut::new(&to).send(b"abcde"), Ok(3));
+    assert!(rt; to.holds(b"abc"));
+    for kind in [
+        ErrorKind::BrokenPipe,
+        ErrorKind::WouldBlock,
+        ErrorKind::TimedOut,
+        ErrorKind::UnexpectedEof,
+        ErrorKind::StorageFull,
+        ErrorKind::OutOfMemory,
+        ErrorKind::Other,
+    ] {
+        let fails = [Interrupted, Fails(kind), Bytes(8)];
+        let mut input = StdIn::new(halting(b"abcde", &fails));
+        assert_eq!(rt; input.read(&mut into), Err(Failed));
+        assert_eq!(rt; input.read(&mut into), Ok(5));
+        let to = collected(alloc, &fails);
+        let mut out = StdOut::new(&to);
+        assert_eq!(rt; out.send(b"abcde"), Err(Failed));
+        assert_eq!(rt; out.send(b"abcde"), Ok(5));
+        assert!(rt; to.holds(b"abcde"));
+    }
+    let to = collected(alloc, &[Bytes(0)]);
+    assert_eq!(rt; StdOut::new(&to).send(b"abcde"), Err(Failed));
+    assert_eq!(rt; StdOut::new(&to).send(b""), Ok(0));
     Ok(())
 }
 
-#[test]
-fn a_write_longer_than_the_buffer_keeps_its_place(rt: HostRuntime) -> Result<(), Fail> {
-    let alloc = rt.alloc();
-    let bytes = numbered(alloc, 70_000)?;
-    let to = Collected::new(alloc, u64::MAX);
-    let mut out = StdOut::make(alloc, &to)?;
-    out.write(b"before")?;
-    out.write(&bytes)?;
-    out.write(b"after")?;
-    out.flush()?;
-    let mut expected = b"before".to_vec(alloc)?;
-    expected.extend_from_slice(&bytes)?;
-    expected.extend_from_slice(b"after")?;
-    assert!(rt; to.holds(&expected));
-    Ok(())
+// The program's words, its reader's bytes and answers, its printer's answers, and then its status and what it printed.
+#[derive(Drop)]
+struct Run<'a> {
+    words: &'a [&'a str],
+    input: &'a [u8],
+    reads: &'a [Answer],
+    writes: &'a [Answer],
+    status: u8,
+    printed: &'a [u8],
 }
 
 #[test]
-fn a_failure_to_hand_on_is_told_once(rt: HostRuntime) -> Result<(), Fail> {
+fn each_status_of_the_program_comes_with_its_line(rt: HostRuntime) -> Result<(), Fail> {
     let alloc = rt.alloc();
-    let long = numbered(alloc, 70_000)?;
-    let to = Collected::new(alloc, 0);
-    let mut out = StdOut::make(alloc, &to)?;
-    out.write(b"lost")?;
-    assert_eq!(rt; out.flush(), Err(Failed));
-    assert_eq!(rt; out.flush(), Ok(()));
-    out.write(b"kept")?;
-    out.flush()?;
-    assert!(rt; to.holds(b"kept"));
-    // A write fails where what it has to hand on before itself does, and where it is handed on itself.
-    for written in [b"held".as_slice(), b""] {
-        let to = Collected::new(alloc, 0);
-        let mut out = StdOut::make(alloc, &to)?;
-        out.write(written)?;
-        assert_eq!(rt; out.write(&long), Err(Failed));
-        assert!(rt; to.holds(b""));
+    let (one, all) = ([Bytes(1)], [Bytes(usize::MAX)]);
+    let lines = b"4d31370\n".as_slice();
+    let fails = [Bytes(4), Fails(ErrorKind::BrokenPipe)];
+    let table = [
+        Run { words: &["show"], input: b"", reads: &all, writes: &all, status: 0, printed: b"" },
+        Run { words: &["show"], input: lines, reads: &one, writes: &one, status: 1, printed: b"input refused at 0: odd\n" },
+        Run { words: &["judge"], input: b"short", reads: &one, writes: &one, status: 1, printed: b"input refused at 5: cut\n" },
+        Run { words: &[], input: lines, reads: &all, writes: &one, status: 2, printed: b"words refused\n" },
+        Run { words: &["show", "show"], input: lines, reads: &all, writes: &all, status: 2, printed: b"words refused\n" },
+        Run { words: &["judge", ""], input: lines, reads: &all, writes: &all, status: 2, printed: b"words refused\n" },
+        Run { words: &["show"], input: lines, reads: &fails, writes: &one, status: 3, printed: b"read failed\n" },
+        Run { words: &["show"], input: lines, reads: &all, writes: &fails, status: 4, printed: b"inpu" },
+    ];
+    for (i, run) in table.iter().enumerate() {
+        let mut words = Vec::new(alloc);
+        for word in run.words {
+            words.push(String::from_str(alloc, word)?)?;
+        }
+        let to = collected(alloc, run.writes);
+        let status = run_on(&rt, alloc, &words, halting(run.input, run.reads), &to);
+        assert_eq!(rt; status, run.status, "run {i}");
+        assert!(rt; to.holds(run.printed), "run {i}");
     }
     Ok(())
 }

@@ -41,7 +41,7 @@ slice_range-later xs a b n within =
     let size : n ≤ b - a = omega (arith, length-take (b - a) (drop a xs)) in
     let sum : b - a ≡ n + (b - (a + n)) = omega arith in
     ap (take (b - (a + n))) (sym (drop-drop n a xs)) ∙ sym (drop-take n (b - (a + n)) (drop a xs))
-        ∙ sym (ap (λ m. drop n (take m (drop a xs))) sum)
+    ∙ sym (ap (λ m. drop n (take m (drop a xs))) sum)
 
 -- what a read put at the front of the buffer is held, and the rest is left below
 pub refilled : (bytes old into more : List ℕ) (size n : ℕ) (rest : Option (List ℕ)) → n ≤ size → n ≤ length into

@@ -41,6 +41,13 @@ impl<O: Outlet + Drop> BufferedSink<O> {
             Err(_) => Err(NoMemory),
         }
     }
+
+    /// The outlet below.
+    pub fn outlet(&self) -> &O
+        ensures { result.now ≡ self.now.device }
+    {
+        &self.outlet
+    }
 }
 
 impl<O: Outlet + Drop> Sink for BufferedSink<O> {

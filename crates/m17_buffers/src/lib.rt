@@ -14,3 +14,5 @@ pub use buffered_source::BufferedSource;
 /// How many bytes a buffer has room for. This profile.
 pub const BUFFER_BYTES: usize = 65_536;
 
+#[cfg(test)]
+mod tests;

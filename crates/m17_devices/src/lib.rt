@@ -4,5 +4,5 @@
 #![tactic(auto)]
 
 pub use m17_io::{Fault, Input, Outlet, Sink, Source, read_tied};
-pub use m17_memory::{BytesSink, BytesSource, WaitingSource};
+pub use m17_memory::{BytesOutlet, BytesSink, BytesSource, WaitingSource};
 pub use m17_values::{Failed, Gram, Heard, Member, NoMemory, Peer};

@@ -16,3 +16,11 @@ pub record BytesKept : Type 0 where
   pub next_call : ℕ
   pub fails : List ℕ
   pub faults : ℕ
+
+-- an outlet in memory: the bytes sent, how many it takes at a time at most, and the rest as for a source
+pub record BytesSent : Type 0 where
+  pub sent : List ℕ
+  pub most : ℕ
+  pub next_call : ℕ
+  pub fails : List ℕ
+  pub faults : ℕ

@@ -24,11 +24,11 @@ impl Model for BytesSink {
     ghost Value = { BytesKept };
 
     ghost view = { λ s. record {
-        written = s.bytes.items;
-        room = s.room;
-        next_call = s.next_call;
-        fails = s.fails.items;
-        faults = s.faults
+      written = s.bytes.items;
+      room = s.room;
+      next_call = s.next_call;
+      fails = s.fails.items;
+      faults = s.faults;
     } };
 
     ghost invariant = { λ s. (length s.bytes.items ≤ s.room) × (s.room ≤ vec_capacity s.bytes) };
@@ -42,11 +42,11 @@ impl BytesSink {
     /// the room, and never for a room of 0.
     pub fn make(alloc: Global, room: usize, fails: Vec<u64>) -> Result<BytesSink, NoMemory>
         ensures made { IfOk result (λ sink. sink ≡ record {
-            written = [];
-            room = room;
-            next_call = 0;
-            fails = fails.items;
-            faults = 0
+          written = [];
+          room = room;
+          next_call = 0;
+          fails = fails.items;
+          faults = 0;
         }) }
         ensures no_room { room ≡ 0 → IsOk result }
     {

@@ -23,10 +23,10 @@ impl Model for BytesSource {
     ghost Value = { BytesLeft };
 
     ghost view = { λ s. record {
-        left = drop s.place s.bytes.items;
-        next_call = s.next_call;
-        fails = s.fails.items;
-        faults = s.faults
+      left = drop s.place s.bytes.items;
+      next_call = s.next_call;
+      fails = s.fails.items;
+      faults = s.faults;
     } };
 
     ghost invariant = { λ s. s.place ≤ length s.bytes.items };
@@ -38,10 +38,10 @@ impl BytesSource {
     /// A source of these bytes. `fails` lists the numbers of calls, from 0, that are to fail.
     pub fn new(bytes: Vec<u8>, fails: Vec<u64>) -> BytesSource
         ensures { result ≡ record {
-            left = bytes.items;
-            next_call = 0;
-            fails = fails.items;
-            faults = 0
+          left = bytes.items;
+          next_call = 0;
+          fails = fails.items;
+          faults = 0;
         } }
     {
         BytesSource {

@@ -16,10 +16,10 @@ impl WaitingSource {
     /// A source of these bytes. `fails` lists the numbers of calls, from 0, that are to fail.
     pub fn new(bytes: Vec<u8>, fails: Vec<u64>) -> WaitingSource
         ensures { result.bytes ≡ record {
-            left = bytes.items;
-            next_call = 0;
-            fails = fails.items;
-            faults = 0
+          left = bytes.items;
+          next_call = 0;
+          fails = fails.items;
+          faults = 0;
         } }
     {
         WaitingSource {

@@ -14,4 +14,4 @@ returns-clause-same g c =
     let sent = rw c.deref.ensures.value at c.send_all-sent.ensures.sent in
     let all : length c.self.inside.buffer.items ≤ c.send_all-sent.result = omega arith in
     rw (← c.self.view_is) (flushed _ _ c.self.inside.buffer.items _ c.send_all-sent.result sent
-        (c.clear.ensures.items ∙ sym (drop_all c.send_all-sent.result c.self.inside.buffer.items all)))
+    (c.clear.ensures.items ∙ sym (drop_all c.send_all-sent.result c.self.inside.buffer.items all)))

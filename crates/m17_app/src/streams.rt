@@ -1,0 +1,34 @@
+ghost use Rattle.std.specs.Prelude.{◌≡◌, ◌⊎◌, map, string_bytes};
+ghost use Rattle.m17_app.specs.Status.{IsStatus};
+ghost use Rattle.m17_app.specs.Run.{AreRefused};
+
+use crate::run::run;
+use crate::status::Status;
+use crate::std_in::StdIn;
+use crate::std_out::StdOut;
+use m17_buffers::{BufferedSink, BufferedSource};
+use std::alloc::Global;
+use std::io::Read;
+
+/// Runs the program on a reader and on what prints, both buffered. `NoMemory` also where there is none for the buffers.
+pub fn run_on<H, R: Read + Drop, P: Print>(
+    rt: &H,
+    alloc: Global,
+    words: &[String],
+    reader: R,
+    to: &P,
+) -> u8
+    ensures status { IsStatus result }
+    // The words that name no command are refused, and no others.
+    ensures refused { AreRefused (map string_bytes words.now)
+        → (result ≡ 2) ⊎ (result ≡ 4) ⊎ (result ≡ 70) }
+    ensures taken { result ≡ 2 → AreRefused (map string_bytes words.now) }
+{
+    let Ok(mut input) = BufferedSource::make(alloc, StdIn::new(reader)) else {
+        return Status::NoMemory.code();
+    };
+    let Ok(mut out) = BufferedSink::make(alloc, StdOut::new(to)) else {
+        return Status::NoMemory.code();
+    };
+    run(rt, alloc, words, &mut input, &mut out)
+}
