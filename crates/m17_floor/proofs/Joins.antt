@@ -23,12 +23,13 @@ joined_speaks places acts k at h =
     let act : Act = join_act at k false in
     let n : ℕ = length acts in
     let here : (is_same k k && nat_lt k.place places) ≡ true = and_from _ _ (is_same_self k) (lt-ltb _ _ h) in
-    let place : (k.place == k.place) ≡ true = eq-eqb k.place k.place refl in
-    (n,
-    membership_more places acts act k
-    ∙ cond-true (k.place == k.place) (cond (is_same k k && nat_lt k.place places) (Some n) None) (joined_at places acts k n) place
-    ∙ cond-true (is_same k k && nat_lt k.place places) (Some n) None here,
-    ap listens (kind_end acts act))
+    let place : (k.place == k.place) ≡ true = eq-eqb k.place k.place refl in (
+      n,
+      membership_more places acts act k
+          ∙ cond-true (k.place == k.place) (cond (is_same k k && nat_lt k.place places) (Some n) None) (joined_at places acts k n) place
+          ∙ cond-true (is_same k k && nat_lt k.place places) (Some n) None here,
+      ap listens (kind_end acts act),
+    )
 
 -- Nothing is kept of one that has just joined.
 pub joined_anew : (places : ℕ) (acts : List Act) (at : ℕ) (k : Member) (only : Bool) → own_frame (past_of places (with_act acts (join_act at k only))) k ≡ None

@@ -40,7 +40,6 @@ passed_number number passed hx hy h =
       | inr other ↦ inr (le-leb _ _ (late_from_past number passed hx hy h (eqb-false number passed other)))
     ]
 
-
 -- The first two lines let no packet in.
 pub first_refused : (acts : List Act) (o : Option ℕ) (v : Verdict) → admits (Some v) ≡ false → admits (Some (first_fit (not_member o ∷ listen_only acts o ∷ []) v)) ≡ false
 first_refused acts None v h = refl
