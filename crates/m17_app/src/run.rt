@@ -35,11 +35,11 @@ fn run_show<S: Source, K: Sink>(input: &mut S, out: &mut K) -> Status
 }
 
 // Ends a run whose words are refused.
-fn run_nothing<S: Source, K: Sink>(_input: &S, out: &mut K) -> Status
+fn run_nothing<S: Source, K: Sink>(input: &S, out: &mut K) -> Status
     ensures { RefusesWords result
-        (outside (S.left _input.now) (S.faults _input.now)
+        (outside (S.left input.now) (S.faults input.now)
         (K.written out.old) (K.faults out.old) (K.held_back out.old))
-        (outside (S.left _input.now) (S.faults _input.now)
+        (outside (S.left input.now) (S.faults input.now)
         (K.written out.new) (K.faults out.new) (K.held_back out.new)) }
 {
     refuse_words(out)

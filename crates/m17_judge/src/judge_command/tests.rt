@@ -73,3 +73,21 @@ fn want_of_memory_comes_before_a_byte_is_read_or_written(rt: HostRuntime) -> Res
     }
     Ok(())
 }
+
+#[test]
+fn endings_that_differ_are_unequal(rt: HostRuntime) {
+    let refused = |place, reason| Ending::Refused { place, reason };
+    let endings = [
+        Ending::Finished,
+        refused(0, JudgeReason::Cut),
+        refused(1, JudgeReason::Cut),
+        refused(0, JudgeReason::Large),
+        Ending::ReadFailed,
+        Ending::WriteFailed,
+    ];
+    for (i, one) in endings.iter().enumerate() {
+        for (j, other) in endings.iter().enumerate() {
+            assert_eq!(rt; one == other, i == j, "{i} and {j}");
+        }
+    }
+}

@@ -161,3 +161,18 @@ fn lines_are_shown_over_the_end_of_a_buffer(rt: HostRuntime) -> Result<(), Fail>
         whole.as_str(),
     )
 }
+
+#[test]
+fn reasons_that_differ_are_unequal(rt: HostRuntime) {
+    let reasons = [
+        ShowReason::Large,
+        ShowReason::Long,
+        ShowReason::Odd,
+        ShowReason::Digit,
+    ];
+    for (i, one) in reasons.iter().enumerate() {
+        for (j, other) in reasons.iter().enumerate() {
+            assert_eq!(rt; one == other, i == j, "{i} and {j}");
+        }
+    }
+}
