@@ -1,5 +1,6 @@
 -- A run of `show`, line by line: how it goes on, and how it comes to each end.
 use Rattle.std.proofs.Common.{◌≡◌, ℕ, ◌+◌, ◌<◌, ◌≤◌, List, [], ◌∷◌, ◌++◌, length, take, drop, slice_get, Option, None, Some, Result, Ok, Err, unwrap_or, refl, sym, ap, subst, ◌∙◌, arith, append_assoc, length-append}
+use Rattle.std.specs.Prelude.{IfSome}
 use Rattle.std.proofs.lemmas.List.{append-nil, take_at, drop_at}
 use Rattle.m17_io.specs.Faults.{HasCauses}
 use Rattle.m17_print.specs.Endings.{failed_device, Comes}
@@ -13,7 +14,7 @@ use Rattle.m17_show.specs.declared.not_shown.NotShown.TheVariants as not_shown
 use Rattle.m17_show.specs.Lines.{most_lines, lines_of, content_of, AreEnded, AreLineCount, RefusesLine}
 use Rattle.m17_show.specs.Reading.{HasNoFeed, BeginsWithLine, IsAhead}
 use Rattle.m17_show.specs.Show.{IsPrintedFor, HasPrintedLine, IsTextOfFirst, SaysShow, PrintsShow}
-use Rattle.m17_show.specs.Run.{RefusesContent, ComesOfLine, failed_at_line, ending_at, IsAt, AreShown}
+use Rattle.m17_show.specs.Run.{RefusesContent, ComesOfLine, failed_at_line, ending_at, IsAt, AreShown, GoesOn}
 use Rattle.m17_show.proofs.Feeds.{ended_same, lines_of-line, lines_of-last, lines_of-begun, lines_of-none, some_line}
 use Rattle.m17_show.proofs.LinesSoFar.{at_start, line_at, count_at, held_line, at_more, content_long}
 
@@ -218,3 +219,10 @@ large input (x ∷ held) count left first written full so_far some =
 pub failed_at : (number : ℕ) (why : NotShown) (before after : ℕ × ℕ) → HasCauses before after (failed_at_line (Err why)) → HasCauses before after (failed_device (ending_at number why))
 failed_at number (not_shown.Refused reason) before after causes = causes
 failed_at number not_shown.WriteFailed before after causes = causes
+
+-- the ending with which the next line comes, if it does
+pub goes_to_end : (outcome : Option (Ending ShowReason)) (number : ℕ) (held held' : List ℕ) (left left' written written' : Option (List ℕ))
+    → ((bytes : List ℕ) (first : Option (List ℕ)) → AreShown bytes 0 held left first written → GoesOn bytes number first outcome held' left' written')
+    → IfSome outcome (λ ending. (bytes : List ℕ) (first : Option (List ℕ)) → AreShown bytes 0 held left first written → Comes SaysShow PrintsShow ending bytes left' first written')
+goes_to_end None number held held' left left' written written' goes = tt
+goes_to_end (Some ending) number held held' left left' written written' goes = goes
