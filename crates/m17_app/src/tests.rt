@@ -1,9 +1,6 @@
 //! What no clause says: the worked runs of the commands, over devices in memory.
 use crate::run::run;
-use m17_callsign::Address;
 use m17_devices::{BytesSink, BytesSource};
-use m17_lsd::Lsd;
-use m17_stream::StreamPacket;
 use std::alloc::{AllocError, Global};
 use std::test::Fail;
 
@@ -11,32 +8,12 @@ use std::test::Fail;
 #[derive(Clone, Copy, Debug)]
 struct Spoken(u64, u16, u16, u16, bool);
 
-// The packet of AB1CD to all, with everything else zero.
-fn packet(sid: u16, number: u16, last: bool) -> [u8; 54] {
-    let src = match Address::new(0x9f_dd51) {
-        Some(src) => src,
-        None => Address::broadcast(),
-    };
-    m17_stream::write(&StreamPacket {
-        sid,
-        lsd: Lsd {
-            dst: Address::broadcast(),
-            src,
-            kind: 5,
-            meta: [0; 14],
-        },
-        number: number % 32_768,
-        last,
-        payload: [0; 16],
-    })
-}
-
 fn records(alloc: Global, spoken: &[Spoken]) -> Result<Vec<u8>, AllocError> {
     let mut input = Vec::new(alloc);
     for Spoken(at, talker, sid, number, last) in spoken.iter().copied() {
         input.extend_from_slice(&at.to_be_bytes())?;
         input.extend_from_slice(&talker.to_be_bytes())?;
-        input.extend_from_slice(&packet(sid, number, last))?;
+        input.extend_from_slice(&m17_stream::write(&m17_samples::frame(sid, number, last)))?;
     }
     Ok(input)
 }

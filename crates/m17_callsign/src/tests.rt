@@ -67,3 +67,25 @@ fn a_refusal_says_how_long_the_text_is(rt: HostRuntime) -> Result<(), Fail> {
     );
     Ok(())
 }
+
+#[test]
+fn each_refusal_says_what_is_wrong(rt: HostRuntime) -> Result<(), Fail> {
+    let alloc = rt.alloc();
+    let texts = [
+        (CallRefusal::Empty, "a callsign has at least one letter"),
+        (
+            CallRefusal::Long(10),
+            "a callsign has at most 9 letters, and this has 10 bytes",
+        ),
+        (CallRefusal::Letter(3), "no letter of callsigns at byte 3"),
+        (
+            CallRefusal::TrailingSpace,
+            "a callsign does not end in a space",
+        ),
+    ];
+    for (refusal, text) in texts {
+        let said = format!(in alloc; "{refusal}")?;
+        assert_eq!(rt; said.as_str(), text);
+    }
+    Ok(())
+}

@@ -1,4 +1,8 @@
 pub mod Line
 pub mod Refused
 pub mod Packets
+pub mod Verdicts
+pub mod Endings
+pub mod Texts
+-- for proofs alone
 pub mod Parts

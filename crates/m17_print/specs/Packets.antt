@@ -1,5 +1,5 @@
--- The printed text of addresses and packets. M17 Protocol Specification, address encoding and IP networking; the
--- words are this profile's.
+-- The printed text of addresses and packets. M17 Protocol Specification, address encoding and IP
+-- networking; the words are this profile's.
 use Rattle.std.specs.Prelude.{◌==◌, ℕ, ◌-◌, ◌^◌, List, [], ◌∷◌, ◌++◌, codes, decimal, nat_le, nat_lt, ◌&&◌, None, Some, if◌then◌else◌}
 use Rattle.std.specs.Int.{w16, to_be_bytes}
 use Rattle.m17_callsign.specs.AddressBytes.{address_bytes}

@@ -12,7 +12,8 @@ ends_text lsd = codes " dst " ++ address_text lsd.dst ++ codes " src " ++ addres
 
 -- TYPE, as hex digits and in words
 abbrev pub type_field_text : ℕ → List ℕ
-type_field_text kind = codes " type " ++ hex_of (to_be_bytes w16 kind) ++ codes " " ++ text_of_type kind
+type_field_text kind = codes " type " ++ hex_of (to_be_bytes w16 kind) ++ codes " " ++ text_of_type
+    kind
 
 -- a field that is printed as hex digits alone, after its name
 abbrev pub hex_field_text : List ℕ → List ℕ → List ℕ
@@ -20,4 +21,5 @@ hex_field_text name bytes = name ++ hex_of bytes
 
 -- the number of a frame, and its end bit
 abbrev pub number_text : ℕ → Bool → List ℕ
-number_text number last = codes " number " ++ decimal number ++ codes " last " ++ (if last then codes "1" else codes "0")
+number_text number last = codes " number " ++ decimal number ++ codes " last " ++ (if last then
+    codes "1" else codes "0")

@@ -13,7 +13,8 @@ magic_text magic = codes "refused magic " ++ hex_of magic
 
 -- the field that was found, and the CRC that was expected
 abbrev pub crc_text : ℕ → ℕ → List ℕ
-crc_text found expected = codes "refused crc " ++ hex_of (to_be_bytes w16 found) ++ codes " " ++ hex_of (to_be_bytes w16 expected)
+crc_text found expected = codes "refused crc " ++ hex_of (to_be_bytes w16 found) ++ codes " " ++
+    hex_of (to_be_bytes w16 expected)
 
 -- why bytes are no stream packet
 abbrev pub stream_refusal_text : StreamRefusal → List ℕ

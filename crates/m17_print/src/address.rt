@@ -8,15 +8,15 @@ use m17_callsign::{Address, text, to_bytes};
 impl Line {
     /// Appends an address: its callsign, as in `AB1CD`; `broadcast`; or else its 12 hex digits, as in `000000000000`.
     /// M17 Protocol Specification, address encoding; the words are this profile's.
-    pub fn address(&mut self, address: Address)
+    pub fn push_address(&mut self, address: Address)
         requires { length self.old + 12 ≤ room }
         ensures appended { self.new ≡ self.old ++ address_text address }
         ensures longer { length self.new ≤ length self.old + 12 }
     {
         match text(address) {
-            Some(callsign) => self.text(callsign.as_str()),
-            None if address == Address::broadcast() => self.text("broadcast"),
-            None => self.hex(&to_bytes(address)),
+            Some(callsign) => self.push_text(callsign.as_str()),
+            None if address == Address::broadcast() => self.push_text("broadcast"),
+            None => self.push_hex(&to_bytes(address)),
         }
     }
 }

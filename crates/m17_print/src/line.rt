@@ -53,7 +53,7 @@ impl Line {
 
     /// Appends a byte.
     #[inline]
-    pub fn byte(&mut self, byte: u8)
+    pub fn push_byte(&mut self, byte: u8)
         requires { length self.old < room }
         ensures { self.new ≡ self.old ++ byte ∷ [] }
     {
@@ -62,7 +62,7 @@ impl Line {
 
     /// Appends a text.
     #[inline]
-    pub fn text(&mut self, text: &str)
+    pub fn push_text(&mut self, text: &str)
         requires { length self.old + length text.now ≤ room }
         ensures appended { self.new ≡ self.old ++ text.now }
         ensures longer { length self.new ≡ length self.old + length text.now }
@@ -72,7 +72,7 @@ impl Line {
 
     /// Appends a number in decimal, without leading zeros.
     #[inline]
-    pub fn number(&mut self, number: u64)
+    pub fn push_number(&mut self, number: u64)
         requires { length self.old + 20 ≤ room }
         ensures appended { self.new ≡ self.old ++ decimal number }
         ensures longer { length self.new ≤ length self.old + 20 }
@@ -84,19 +84,19 @@ impl Line {
     }
 
     /// Appends bytes as upper-case hex digits, two for each.
-    pub fn hex(&mut self, bytes: &[u8])
+    pub fn push_hex(&mut self, bytes: &[u8])
         requires { length self.old + 2 * length bytes.now ≤ room }
         ensures appended { self.new ≡ self.old ++ hex_of bytes.now }
         ensures longer { length self.new ≡ length self.old + 2 * length bytes.now }
     {
         for byte in bytes {
-            self.hex_byte(*byte);
+            self.push_hex_byte(*byte);
         }
     }
 
     // Appends one byte as two hex digits.
     #[inline]
-    fn hex_byte(&mut self, byte: u8)
+    fn push_hex_byte(&mut self, byte: u8)
         requires { length self.old + 2 ≤ room }
         ensures { self.new ≡ self.old ++ hex_digits byte }
     {

@@ -1,31 +1,23 @@
 use super::*;
-use m17_callsign::{Address, CallAddress};
+use m17_callsign::CallAddress;
 use m17_control::{Control, ModuleLetter, Packet, Refusal};
+use m17_floor::Verdict;
 use m17_lsd::Lsd;
 use m17_stream::{StreamPacket, StreamRefusal};
+use m17_values::{Address, Member};
 use std::process::Abort;
 use std::test::Fail;
 
-/// `AB1CD`.
-const AB1CD: u64 = 0x9F_DD51;
-
-/// `N0CALL`.
-const N0CALL: u64 = 0x4B13_D106;
-
-fn call(number: u64) -> Option<CallAddress> {
-    CallAddress::new(Address::new(number)?)
-}
-
 fn expect_packet(rt: &impl Abort, packet: &Packet, text: &str) {
     let mut line = Line::new();
-    line.packet(packet);
+    line.push_packet(packet);
     assert_eq!(rt; line.bytes(), text.as_bytes());
 }
 
 #[test]
 fn control_packets_are_a_word_and_their_fields(rt: HostRuntime) -> Result<(), Fail> {
-    let from = call(AB1CD).ok_or("no callsign")?;
-    let other = call(N0CALL).ok_or("no callsign")?;
+    let from = CallAddress::new(m17_samples::ab1cd()).ok_or("no callsign")?;
+    let other = CallAddress::new(m17_samples::n0call()).ok_or("no callsign")?;
     let a = ModuleLetter::new(b'A').ok_or("no module")?;
     let z = ModuleLetter::new(b'Z').ok_or("no module")?;
     let texts = [
@@ -52,21 +44,9 @@ fn control_packets_are_a_word_and_their_fields(rt: HostRuntime) -> Result<(), Fa
 
 #[test]
 fn stream_packets_have_all_their_fields(rt: HostRuntime) -> Result<(), Fail> {
-    let opening = StreamPacket {
-        sid: 0x1234,
-        lsd: Lsd {
-            dst: Address::broadcast(),
-            src: Address::new(AB1CD).ok_or("no address")?,
-            kind: 0x0005,
-            meta: [0; 14],
-        },
-        number: 5,
-        last: false,
-        payload: [0; 16],
-    };
     expect_packet(
         &rt,
-        &Packet::Stream(opening),
+        &Packet::Stream(m17_samples::frame(0x1234, 5, false)),
         "stream 1234 dst broadcast src AB1CD type 0005 stream voice enc 0 sub 0 can 0 meta 0000000000000000000000000000 number 5 last 0 payload 00000000000000000000000000000000",
     );
     let closing = StreamPacket {
@@ -118,7 +98,7 @@ fn refusals_say_what_was_found(rt: HostRuntime) {
     ];
     for (refusal, text) in texts {
         let mut line = Line::new();
-        line.refusal(&refusal);
+        line.push_refusal(&refusal);
         assert_eq!(rt; line.bytes(), text.as_bytes());
     }
 }
@@ -141,7 +121,66 @@ fn refusals_of_a_stream_packet_say_what_was_found(rt: HostRuntime) {
     ];
     for (refusal, text) in texts {
         let mut line = Line::new();
-        line.stream_refusal(&refusal);
+        line.push_stream_refusal(&refusal);
         assert_eq!(rt; line.bytes(), text.as_bytes());
+    }
+}
+
+// A reason of some command.
+#[derive(Drop)]
+struct Because;
+
+impl Reason for Because {
+    ghost use Rattle.std.specs.Prelude.{codes};
+
+    ghost words = { λ _. codes "because" };
+
+    fn push_to(&self, line: &mut Line) {
+        line.push_text("because");
+    }
+}
+
+#[test]
+fn a_last_line_says_where_and_why_or_that_the_source_failed(rt: HostRuntime) {
+    let texts = [
+        (Ending::Finished, ""),
+        (
+            Ending::Refused {
+                place: 18_446_744_073_709_551_615,
+                reason: Because,
+            },
+            "input refused at 18446744073709551615: because\n",
+        ),
+        (Ending::ReadFailed, "read failed\n"),
+        (Ending::WriteFailed, ""),
+    ];
+    let mut line = Line::new();
+    for (ending, text) in texts {
+        line.make_last(&ending);
+        assert_eq!(rt; line.bytes(), text.as_bytes());
+    }
+}
+
+#[test]
+fn verdicts_are_a_word_and_what_they_name(rt: HostRuntime) {
+    let holder = Member {
+        place: 3,
+        generation: 7,
+    };
+    let texts = [
+        (Verdict::Opened, "opened", "opened"),
+        (Verdict::Continued, "continued", "continued"),
+        (Verdict::Busy { holder }, "busy", "busy 3"),
+        (Verdict::Repeat, "repeat", "repeat"),
+        (Verdict::Late { last: 5 }, "late", "late 5"),
+        (Verdict::AfterEnd, "after-end", "after-end"),
+        (Verdict::NotMember, "not-member", "not-member"),
+        (Verdict::ListenOnly, "listen-only", "listen-only"),
+    ];
+    for (verdict, word, text) in texts {
+        let mut line = Line::new();
+        line.push_verdict(verdict);
+        assert_eq!(rt; line.bytes(), text.as_bytes());
+        assert_eq!(rt; verdict_word(verdict), word);
     }
 }

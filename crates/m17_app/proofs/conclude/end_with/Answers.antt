@@ -1,15 +1,16 @@
-use Rattle.std.proofs.Common.{◌≡◌, ◌++◌, Some, length, take, sym, ap, ◌∙◌, arith}
-use Rattle.std.proofs.lemmas.List.{take_all}
+use Rattle.m17_app.proofs.LastLines.{handed_on, not_handed_on, not_written}
 use Rattle.m17_app.proofs.conclude.end_with.Goals as goal
 
-pub returns-in-Ok-flush-clause-part : goal.returns-in-Ok-flush-clause-part
-returns-in-Ok-flush-clause-part g c = λ before told.
-    let line = c.args.line.now in
-    let whole : take (length line) line ≡ line = take_all (length line) line (omega arith) in
-    (length line, c.flush.ensures.same ∙ c.in-Ok.ensures.ok before told ∙ ap (λ xs. Some (before ++ xs)) (sym whole))
+pub returns-in-Ok-flush : goal.returns-in-Ok-flush
+returns-in-Ok-flush g c = λ left reads.
+    handed_on c.args.line.now c.args.status left reads _ _ _ _ _ _ _ _ c.in-Ok.ensures.ok c.flush.ensures.same
+    c.in-Ok.ensures.cause.no_fault c.in-Ok-flush.ensures.cause.no_fault c.in-Ok-flush.ensures.handed_on
 
-pub returns-in-Err-flush-clause-part : goal.returns-in-Err-flush-clause-part
-returns-in-Err-flush-clause-part g c = λ before told.
-    let line = c.args.line.now in
-    let whole : take (length line) line ≡ line = take_all (length line) line (omega arith) in
-    (length line, c.flush.ensures.same ∙ c.in-Ok.ensures.ok before told ∙ ap (λ xs. Some (before ++ xs)) (sym whole))
+pub returns-in-Err-flush : goal.returns-in-Err-flush
+returns-in-Err-flush g c = λ left reads.
+    not_handed_on c.args.line.now c.args.status left reads _ _ _ _ _ _ _ _ c.in-Ok.ensures.ok c.flush.ensures.same
+    c.in-Ok.ensures.cause.no_fault c.in-Err-flush.ensures.cause.failed c.flush.ensures.cause.counted
+
+pub returns-in-Err : goal.returns-in-Err
+returns-in-Err g c = λ left reads.
+    not_written c.args.line.now c.args.status left reads _ _ _ _ _ _ c.in-Err.ensures.err c.in-Err.ensures.cause.failed c.write.ensures.cause.counted

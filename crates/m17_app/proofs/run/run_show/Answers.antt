@@ -1,14 +1,9 @@
-use Rattle.m17_tools.specs.Show.{ShowPrints}
-use Rattle.m17_app.proofs.Endings.{is_refused, concluded}
+use Rattle.m17_app.specs.Status.{Outside, outside}
+use Rattle.m17_app.proofs.ShowRuns.{ran}
 use Rattle.m17_app.proofs.run.run_show.Goals as goal
 
-pub returns-clause-refused : goal.returns-clause-refused
-returns-clause-refused g c = λ one bytes told.
-    let named = is_refused c.show-ending.result c.conclude.result c.conclude.ensures.answer one in
-    let r = c.show-ending.ensures.refused named.0 named.1 named.2 bytes told in
-    (named.0, named.1, r.0, r.1)
-
-pub returns-clause-text : goal.returns-clause-text
-returns-clause-text g c = λ bytes before told told_written.
-    let text = c.show-ending.ensures.text bytes before told told_written in
-    concluded ShowPrints c.show-ending.result c.conclude.result bytes _ before text.0 _ _ c.conclude.ensures.answer text.1 text.2 c.conclude.ensures.whole c.conclude.ensures.part
+pub returns : goal.returns
+returns g c =
+    let mid : Outside = outside (g.S.Source.left c.show-ending.new.input) (g.S.Source.faults c.show-ending.new.input)
+        (g.K.Sink.written c.show-ending.new.out) (g.K.Sink.faults c.show-ending.new.out) (g.K.Sink.held_back c.show-ending.new.out) in
+    ran c.show-ending.result c.conclude.result _ mid _ c.show-ending.ensures.ended c.show-ending.ensures.causes c.show-ending.ensures.appended (c.conclude.ensures mid.left mid.reads)

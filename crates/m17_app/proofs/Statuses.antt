@@ -1,0 +1,65 @@
+-- The status of an ending, and which device an ending tells of.
+use Rattle.std.proofs.Common.{◌≡◌, ◌≢◌, ◌⊎◌, ℕ, Option, Some, refl, sym, ◌∙◌, inl, inr}
+use Rattle.m17_io.specs.declared.fault.Fault.TheVariants.{Read, Write}
+use Rattle.m17_print.specs.Endings.{failed_device}
+use Rattle.m17_print.specs.declared.ending.Ending.{Ending}
+use Rattle.m17_print.specs.declared.ending.Ending.TheVariants as endings
+use Rattle.m17_app.specs.declared.status.Status.{Status}
+use Rattle.m17_app.specs.declared.status.Status.TheVariants.{Finished, InputRefused, WordsRefused, ReadFailed, WriteFailed, NoMemory}
+use Rattle.m17_app.specs.Status.{status_of}
+
+-- a status is that of a failed write, or another
+pub is_write_failed : (status : Status) → (status ≡ WriteFailed) ⊎ (status ≢ WriteFailed)
+is_write_failed Finished = inr (λ e. cc)
+is_write_failed InputRefused = inr (λ e. cc)
+is_write_failed WordsRefused = inr (λ e. cc)
+is_write_failed ReadFailed = inr (λ e. cc)
+is_write_failed WriteFailed = inl refl
+is_write_failed NoMemory = inr (λ e. cc)
+
+-- one that isn't is the status that was given
+pub own_status : (own status : Status) → (status ≡ own) ⊎ (status ≡ WriteFailed) → status ≢ WriteFailed → status ≡ own
+own_status own status (inl h) other = h
+own_status own status (inr h) other = absurd (other h)
+
+pub read_told : {R : Type 0} (ending : Ending R) → status_of ending ≡ ReadFailed → failed_device ending ≡ Some Read
+read_told endings.Finished e = cc
+read_told (endings.Refused place reason) e = cc
+read_told endings.ReadFailed e = refl
+read_told endings.WriteFailed e = cc
+
+pub read_failed : {R : Type 0} (ending : Ending R) → failed_device ending ≡ Some Read → status_of ending ≡ ReadFailed
+read_failed endings.Finished e = cc
+read_failed (endings.Refused place reason) e = cc
+read_failed endings.ReadFailed e = refl
+read_failed endings.WriteFailed e = cc
+
+pub write_told : {R : Type 0} (ending : Ending R) → status_of ending ≡ WriteFailed → failed_device ending ≡ Some Write
+write_told endings.Finished e = cc
+write_told (endings.Refused place reason) e = cc
+write_told endings.ReadFailed e = cc
+write_told endings.WriteFailed e = refl
+
+pub write_failed : {R : Type 0} (ending : Ending R) → failed_device ending ≡ Some Write → status_of ending ≡ WriteFailed
+write_failed endings.Finished e = cc
+write_failed (endings.Refused place reason) e = cc
+write_failed endings.ReadFailed e = cc
+write_failed endings.WriteFailed e = refl
+
+-- no ending tells of memory, or of words
+pub no_memory : {R : Type 0} (ending : Ending R) → status_of ending ≢ NoMemory
+no_memory endings.Finished e = cc
+no_memory (endings.Refused place reason) e = cc
+no_memory endings.ReadFailed e = cc
+no_memory endings.WriteFailed e = cc
+
+pub no_words : {R : Type 0} (ending : Ending R) → status_of ending ≢ WordsRefused
+no_words endings.Finished e = cc
+no_words (endings.Refused place reason) e = cc
+no_words endings.ReadFailed e = cc
+no_words endings.WriteFailed e = cc
+
+-- nor does a run of a command
+pub never : (other own status : Status) → (status ≡ own) ⊎ (status ≡ WriteFailed) → own ≢ other → WriteFailed ≢ other → status ≢ other
+never other own status (inl h) not_own not_write e = not_own (sym h ∙ e)
+never other own status (inr h) not_own not_write e = not_write (sym h ∙ e)

@@ -1,0 +1,8 @@
+pub mod Causes
+pub mod FillSteps
+pub mod Joins
+pub mod Standing
+pub mod RecordLines
+pub mod JudgeRun
+pub mod JudgeEnd
+pub mod OneText

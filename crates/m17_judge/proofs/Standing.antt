@@ -1,0 +1,67 @@
+-- The table of talkers goes on standing for the acts, one more at a time.
+use Rattle.std.proofs.Common.{◌≡◌, ◌≢◌, ℕ, ◌<◌, ◌⊎◌, List, [], ◌∷◌, ◌++◌, length, max, slice_get, slice_set, get_or, Option, Some, refl, sym, ap, subst, ◌∙◌, arith, inl, inr}
+use Rattle.std.proofs.lemmas.Option.{slice_get_within, get_or_from_slice_get, slice_get-get_or, slice_get_read}
+use Rattle.std.proofs.lemmas.List.{get_or-set_other, get_or-set_same, length-set}
+use Rattle.std.proofs.lemmas.Bool.{cases_eq}
+use Rattle.m17_values.specs.declared.member.Member.{Member}
+use Rattle.m17_stream.specs.declared.packet.StreamPacket.{StreamPacket}
+use Rattle.m17_floor.specs.declared.act.Act.{Act}
+use Rattle.m17_floor.specs.declared.act.ActKind.TheVariants.{Packet, Other}
+use Rattle.m17_floor.specs.declared.verdict.Verdict.{Verdict}
+use Rattle.m17_floor.specs.Acts.{moment_before}
+use Rattle.m17_floor.specs.Laws.{OtherActsChangeNothing}
+use Rattle.m17_floor.specs.Rule.{Frame}
+use Rattle.m17_floor.specs.StandsFor.{FloorStandsFor, OwnStandsFor, MaySpeak, IsJudged}
+use Rattle.m17_judge.specs.Judge.{talker, talkers}
+use Rattle.m17_judge.specs.Table.{Kept, TableStandsFor}
+use Rattle.m17_judge.proofs.Joins.{moment_more}
+
+-- after a write at one place, what stands at a place is what was written, or what stood there at another place
+set_cases : {X : Type 0} (xs : List X) (at : ℕ) (y : X) (t : ℕ) (x : X) → at < length xs → slice_get (slice_set xs at y) t ≡ Some x → ((t ≡ at) × (x ≡ y)) ⊎ ((t ≢ at) × (slice_get xs t ≡ Some x))
+set_cases xs at y t x within e =
+    let inside : t < length (slice_set xs at y) = slice_get_within (slice_set xs at y) t x e in
+    let found = sym (get_or_from_slice_get (slice_set xs at y) t x x e) in
+    elim (cases_eq t at) [
+      | inl same ↦ inl (same, found ∙ ap (λ (k : ℕ). get_or (slice_set xs at y) k x) same ∙ get_or-set_same xs at y x within)
+      | inr other ↦ inr (other, slice_get-get_or xs t x (omega (arith, length-set xs at y)) ∙ ap Some (sym (get_or-set_other xs at t y x other) ∙ sym found))
+    ]
+
+-- a talker's packet that was judged
+pub judged_more : (acts : List Act) (act : Act) (t : ℕ) (verdict : Verdict) (kept : Kept) (floor' own' : Option Frame)
+    → t < length kept.owns → TableStandsFor acts kept → IsJudged talkers acts act (talker t) verdict floor' own'
+    → TableStandsFor (acts ++ act ∷ []) (record { floor = floor'; owns = slice_set kept.owns t own'; moment = max kept.moment act.at })
+judged_more acts act t verdict kept floor' own' within stands judged = record {
+  floor_stands = judged.floor_stands;
+  each_stands = λ k own at_place. elim (set_cases kept.owns t own' k own within at_place) [
+    | inl p ↦ subst (λ (m : ℕ). OwnStandsFor talkers (acts ++ act ∷ []) (talker m) own) (sym p.0) (p.1 ∙ judged.own_stands)
+    | inr p ↦ judged.others_stand (talker k) own (λ same. p.0 (ap (λ (m : Member). m.place) same)) (stands.each_stands k own p.1)
+  ];
+  all_may_speak = λ k below. judged.speakers (talker k) (stands.all_may_speak k below);
+  moment_is = ap (λ m. max m act.at) stands.moment_is ∙ sym (moment_more acts act);
+}
+
+-- a moment that came with nothing that matters to the floor
+pub passed_more : OtherActsChangeNothing → (acts : List Act) (at : ℕ) (kept : Kept) → TableStandsFor acts kept
+    → TableStandsFor (acts ++ (record { at = at; kind = Other }) ∷ []) (record kept { moment = max kept.moment at })
+passed_more law acts at kept stands =
+    let act : Act = record { at = at; kind = Other } in
+    let keeps = law talkers acts act refl in
+    record {
+      floor_stands = keeps.floor kept.floor stands.floor_stands;
+      each_stands = λ k own at_place. keeps.own (talker k) own (stands.each_stands k own at_place);
+      all_may_speak = λ k below. keeps.speakers (talker k) (stands.all_may_speak k below);
+      moment_is = ap (λ m. max m at) stands.moment_is ∙ sym (moment_more acts act);
+    }
+
+-- a talker's packet is judged by the floor rule of these acts
+pub ruled_at : (acts : List Act) (at t q : ℕ) (p : StreamPacket) (verdict : Verdict) (kept : Kept) (floor' own own' : Option Frame) (moment' : ℕ)
+    → q ≡ t → own ≡ get_or kept.owns t own → t < length kept.owns → t < talkers → moment' ≡ max kept.moment at → TableStandsFor acts kept
+    → ((places : ℕ) (before : List Act) (m : ℕ) → FloorStandsFor places before kept.floor → OwnStandsFor places before (talker q) own → MaySpeak places before (talker q)
+    → moment' ≡ max (moment_before before (length before)) m → IsJudged places before (record { at = m; kind = Packet (talker q) p }) (talker q) verdict floor' own')
+    → IsJudged talkers acts (record { at = at; kind = Packet (talker t) p }) (talker t) verdict floor' own'
+ruled_at acts at t q p verdict kept floor' own own' moment' same read within below later stands rule =
+    let slot : slice_get kept.owns t ≡ Some own = slice_get_read kept.owns (length kept.owns) t own refl within read in
+    let its_own : OwnStandsFor talkers acts (talker q) own = subst (λ (k : ℕ). OwnStandsFor talkers acts (talker k) own) (sym same) (stands.each_stands t own slot) in
+    let speaks : MaySpeak talkers acts (talker q) = subst (λ (k : ℕ). MaySpeak talkers acts (talker k)) (sym same) (stands.all_may_speak t below) in
+    let now : moment' ≡ max (moment_before acts (length acts)) at = later ∙ ap (λ m. max m at) stands.moment_is in
+    subst (λ (k : ℕ). IsJudged talkers acts (record { at = at; kind = Packet (talker k) p }) (talker k) verdict floor' own') same (rule talkers acts at stands.floor_stands its_own speaks now)

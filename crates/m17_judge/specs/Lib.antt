@@ -1,0 +1,8 @@
+pub mod Reasons
+pub mod Records
+pub mod Judge
+pub mod Laws
+-- for proofs alone
+pub mod Fill
+pub mod Table
+pub mod Run

@@ -1,0 +1,112 @@
+ghost use Rattle.std.specs.Prelude.{◌≡◌, ℕ, ◌*◌, ◌≤◌, List, length, drop, Option, None, Some, IfOk, OnErr, IfSome, IfNone, option_and_then};
+ghost use Rattle.m17_io.specs.Faults.{HasCauses};
+ghost use Rattle.m17_print.specs.Endings.{failed_device, Comes, Grows};
+ghost use Rattle.m17_judge.specs.Judge.{joins, talkers, SaysJudge, PrintsJudge};
+ghost use Rattle.m17_judge.specs.Records.{most_records};
+ghost use Rattle.m17_judge.specs.Run.{AreJudged, LooksPast};
+ghost use Rattle.m17_judge.specs.Table.{TableStandsFor};
+
+use crate::judging::{RECORD_BYTES, judge_record};
+use crate::table::Table;
+use crate::{JudgeReason, fill};
+use m17_floor::laws;
+use m17_io::{Fault, Input, Sink};
+use m17_print::{Ending, Line};
+use m17_values::NoMemory;
+use std::alloc::Global;
+
+/// How many records `judge` takes.
+pub const RECORDS_MAX: u64 = 1_000_000;
+
+// Judges the records one by one. `None` where as many as may come have come.
+fn judge_records<S: Input, K: Sink>(
+    table: &mut Table,
+    input: &mut S,
+    out: &mut K,
+) -> Option<Ending<JudgeReason>>
+    requires { TableStandsFor (joins talkers) table.old }
+    ensures causes { HasCauses (S.faults input.old, K.faults out.old)
+        (S.faults input.new, K.faults out.new) (option_and_then failed_device result) }
+    ensures ended { IfSome result (λ ending. (bytes : List ℕ) → S.left input.old ≡ Some bytes →
+        Comes SaysJudge PrintsJudge ending bytes (S.left input.new) (K.written out.old) (K.written out.new)) }
+    ensures full { IfNone result ((bytes : List ℕ) → S.left input.old ≡ Some bytes →
+        AreJudged bytes most_records (S.left input.new) (K.written out.old) (K.written out.new)) }
+    ensures appended { Grows (K.written out.old) (K.written out.new) }
+{
+    laws::later_acts_change_no_verdict();
+    let mut line = Line::new();
+    let mut record = [0u8; RECORD_BYTES];
+    for index in 0..RECORDS_MAX {
+        match fill(input, out, &mut record) {
+            Ok(RECORD_BYTES) => {}
+            Ok(0) => return Some(Ending::Finished),
+            Ok(n) => {
+                return Some(Ending::Refused {
+                    place: 64 * index + n as u64,
+                    reason: JudgeReason::Cut,
+                });
+            }
+            Err(Fault::Read) => return Some(Ending::ReadFailed),
+            Err(Fault::Write) => return Some(Ending::WriteFailed),
+        }
+        judge_record(table, index, &record, &mut line);
+        match out.write(line.bytes()) {
+            Ok(()) => {}
+            Err(_) => return Some(Ending::WriteFailed),
+        }
+    }
+    None
+}
+
+// Looks whether there is a byte past the last record that may come.
+fn look_past<S: Input, K: Sink>(input: &mut S, out: &mut K) -> Ending<JudgeReason>
+    ensures causes { HasCauses (S.faults input.old, K.faults out.old)
+        (S.faults input.new, K.faults out.new) (failed_device result) }
+    ensures looks { (left : List ℕ) → S.left input.old ≡ Some left
+        → LooksPast result left (S.left input.new) }
+    ensures nothing_written { K.written out.new ≡ K.written out.old }
+{
+    let mut next = [0u8; 1];
+    match fill(input, out, &mut next) {
+        Ok(0) => Ending::Finished,
+        Ok(_) => Ending::Refused {
+            place: 64 * RECORDS_MAX,
+            reason: JudgeReason::Large,
+        },
+        Err(Fault::Read) => Ending::ReadFailed,
+        Err(Fault::Write) => Ending::WriteFailed,
+    }
+}
+
+/// Judges records of 64 bytes, each with its moment in milliseconds (8 bytes, big-endian), its talker (2 bytes) and its
+/// stream packet (54 bytes), and writes a line for each: the verdict of the floor rule, or why the packet is refused.
+/// Each record is read, judged and printed before the next is read, as the tests show. The input is refused as `Cut`
+/// where it ends inside a record, at its length, and as `Large` where there is a byte of record 1,000,000, at 64,000,000;
+/// the lines before that stand. `NoMemory` where there is none for the talkers. This profile.
+pub fn judge<S: Input, K: Sink>(
+    alloc: Global,
+    input: &mut S,
+    out: &mut K,
+) -> Result<Ending<JudgeReason>, NoMemory>
+    // A device is told to have failed exactly where its count of faults rose.
+    ensures causes { IfOk result (λ ending. HasCauses (S.faults input.old, K.faults out.old)
+        (S.faults input.new, K.faults out.new) (failed_device ending)) }
+    // What the ending says of the input holds, and what it prints stands written.
+    ensures ended { IfOk result (λ ending. (bytes : List ℕ) → S.left input.old ≡ Some bytes →
+        Comes SaysJudge PrintsJudge ending bytes (S.left input.new) (K.written out.old) (K.written out.new)) }
+    ensures appended { Grows (K.written out.old) (K.written out.new) }
+    // Want of memory comes before the devices are touched.
+    ensures untouched { OnErr result ((input.new ≡ input.old) × (out.new ≡ out.old)) }
+{
+    let mut table = match Table::make(alloc) {
+        Ok(table) => table,
+        Err(no_memory) => return Err(no_memory),
+    };
+    match judge_records(&mut table, input, out) {
+        Some(ending) => Ok(ending),
+        None => Ok(look_past(input, out)),
+    }
+}
+
+#[cfg(test)]
+mod tests;

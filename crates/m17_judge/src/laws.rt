@@ -1,0 +1,10 @@
+//! What holds of every input of `judge`. Each is a function without arguments, which does nothing and ensures the law.
+ghost use Rattle.m17_judge.specs.Laws.{OneJudgeText};
+
+/// An input has one text. This profile.
+#[inline]
+pub fn one_judge_text()
+    ensures { OneJudgeText }
+{
+    m17_stream::laws::reading_is_exact();
+}

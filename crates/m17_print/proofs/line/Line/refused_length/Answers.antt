@@ -1,5 +1,0 @@
-use Rattle.std.proofs.Common.{append_assoc, refl}
-use Rattle.m17_print.proofs.line.Line.refused_length.Goals as goal
-
-pub returns-clause-appended : goal.returns-clause-appended
-returns-clause-appended c = rw (c.number.ensures.appended, c.text.ensures.appended, append_assoc) refl

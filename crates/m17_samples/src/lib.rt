@@ -1,0 +1,53 @@
+//! Sample addresses and packets for tests, and nothing else: crates above name it in their tests alone. It promises what
+//! each sample is; what is done with it is the test's.
+#![tactic(auto)]
+
+ghost use Rattle.std.specs.Prelude.{◌≡◌, ◌%◌};
+
+use m17_lsd::Lsd;
+use m17_stream::StreamPacket;
+use m17_values::Address;
+
+/// The address of `AB1CD`.
+pub fn ab1cd() -> Address
+    ensures { result ≡ 0x9FDD51 }
+{
+    match Address::new(0x9F_DD51) {
+        Some(address) => address,
+        None => unreachable!(),
+    }
+}
+
+/// The address of `N0CALL`.
+pub fn n0call() -> Address
+    ensures { result ≡ 0x4B13D106 }
+{
+    match Address::new(0x4B13_D106) {
+        Some(address) => address,
+        None => unreachable!(),
+    }
+}
+
+/// A voice frame of `AB1CD` to everyone, of this stream, with this number (of 15 bits) and this end bit; META and the
+/// payload are zero.
+pub fn frame(sid: u16, number: u16, last: bool) -> StreamPacket
+    ensures sid { result.sid ≡ sid }
+    ensures number { result.number ≡ number % 32768 }
+    ensures last { result.last ≡ last }
+{
+    StreamPacket {
+        sid,
+        lsd: Lsd {
+            dst: Address::broadcast(),
+            src: ab1cd(),
+            kind: 5,
+            meta: [0; 14],
+        },
+        number: number % 32_768,
+        last,
+        payload: [0; 16],
+    }
+}
+
+#[cfg(test)]
+mod tests;

@@ -1,0 +1,30 @@
+use crate::ShowReason;
+use m17_print::Ending;
+
+/// Why a line was not shown.
+#[derive(Clone, Copy, Debug, PartialEq, Eq)]
+pub(crate) enum NotShown {
+    /// The line is refused.
+    Refused(ShowReason),
+    /// The sink failed.
+    WriteFailed,
+}
+
+impl NotShown {
+    ghost use Rattle.std.specs.Prelude.{◌≡◌};
+    ghost use Rattle.m17_show.specs.Run.{ending_at};
+
+    /// The ending of a run in which the line of this number was not shown.
+    #[inline]
+    pub(crate) fn ending_at(self, number: u64) -> Ending<ShowReason>
+        ensures { result ≡ ending_at number self }
+    {
+        match self {
+            NotShown::Refused(reason) => Ending::Refused {
+                place: number,
+                reason,
+            },
+            NotShown::WriteFailed => Ending::WriteFailed,
+        }
+    }
+}
