@@ -7,7 +7,11 @@ use m17_io::{Fault, Input, Sink, read_tied};
 
 /// Fills a buffer from the source, and answers how many bytes came: fewer than it has room for only at the end of the
 /// input. Before it would wait for more input, the sink hands on what was written.
-pub fn fill<S: Input, K: Sink>(input: &mut S, out: &mut K, into: &mut [u8]) -> Result<usize, Fault>
+pub fn fill<S: Input<K>, K: Sink>(
+    input: &mut S,
+    out: &mut K,
+    into: &mut [u8],
+) -> Result<usize, Fault>
     ensures causes { HasCauses (S.faults input.old, K.faults out.old)
         (S.faults input.new, K.faults out.new) (fault_of result) }
     ensures within { IfOk result (λ n. n ≤ length into.old) }

@@ -19,7 +19,7 @@ use std::alloc::Global;
 pub const RECORDS_MAX: u64 = 1_000_000;
 
 // Judges the records one by one. `None` where as many as may come have come.
-fn judge_records<S: Input, K: Sink>(
+fn judge_records<S: Input<K>, K: Sink>(
     table: &mut Table,
     input: &mut S,
     out: &mut K,
@@ -59,7 +59,7 @@ fn judge_records<S: Input, K: Sink>(
 }
 
 // Looks whether there is a byte past the last record that may come.
-fn look_past<S: Input, K: Sink>(input: &mut S, out: &mut K) -> Ending<JudgeReason>
+fn look_past<S: Input<K>, K: Sink>(input: &mut S, out: &mut K) -> Ending<JudgeReason>
     ensures causes { HasCauses (S.faults input.old, K.faults out.old)
         (S.faults input.new, K.faults out.new) (failed_device result) }
     ensures looks { (left : List ℕ) → S.left input.old ≡ Some left
@@ -83,7 +83,7 @@ fn look_past<S: Input, K: Sink>(input: &mut S, out: &mut K) -> Ending<JudgeReaso
 /// Each record is read, judged and printed before the next is read, as the tests show. The input is refused as `Cut`
 /// where it ends inside a record, at its length, and as `Large` where there is a byte of record 1,000,000, at 64,000,000;
 /// the lines before that stand. `NoMemory` where there is none for the talkers. This profile.
-pub fn judge<S: Input, K: Sink>(
+pub fn judge<S: Input<K>, K: Sink>(
     alloc: Global,
     input: &mut S,
     out: &mut K,

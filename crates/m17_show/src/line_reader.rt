@@ -85,7 +85,7 @@ impl LineReader {
 
     /// Reads once more from the source, and answers how many bytes came: none only at the end of the input. Before it
     /// would wait for them, the sink hands on what was written.
-    pub(crate) fn read_more<S: Input, K: Sink>(
+    pub(crate) fn read_more<S: Input<K>, K: Sink>(
         &mut self,
         input: &mut S,
         out: &mut K,
@@ -110,7 +110,7 @@ impl LineReader {
     }
 
     /// Finds the next line. It reads only while no line feed is there.
-    pub(crate) fn next<S: Input, K: Sink>(
+    pub(crate) fn next<S: Input<K>, K: Sink>(
         &mut self,
         input: &mut S,
         out: &mut K,

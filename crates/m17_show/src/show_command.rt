@@ -24,7 +24,7 @@ pub const LINES_MAX: u64 = 1_000_000;
 /// `Large` (line 1,000,000), `Long` (more than 256 bytes), `Odd` (an odd number of bytes) or that has a byte that is no
 /// hex `Digit`, in this order; `ReadFailed` or `WriteFailed` where a device failed. The lines before stand written.
 /// This profile.
-pub fn show<S: Input, K: Sink>(input: &mut S, out: &mut K) -> Ending<ShowReason>
+pub fn show<S: Input<K>, K: Sink>(input: &mut S, out: &mut K) -> Ending<ShowReason>
     // A device is told to have failed exactly where its count of faults rose.
     ensures causes { HasCauses (S.faults input.old, K.faults out.old)
         (S.faults input.new, K.faults out.new) (failed_device result) }
@@ -41,7 +41,7 @@ pub fn show<S: Input, K: Sink>(input: &mut S, out: &mut K) -> Ending<ShowReason>
 }
 
 // Shows the lines one by one. `None` where as many as may come have come.
-fn show_lines<S: Input, K: Sink>(
+fn show_lines<S: Input<K>, K: Sink>(
     reader: &mut LineReader,
     input: &mut S,
     out: &mut K,
@@ -68,7 +68,7 @@ fn show_lines<S: Input, K: Sink>(
 }
 
 // Shows the next line. The ending, where the run comes to its end with it.
-fn show_next<S: Input, K: Sink>(
+fn show_next<S: Input<K>, K: Sink>(
     reader: &mut LineReader,
     number: u64,
     printed: &mut Line,
@@ -128,7 +128,7 @@ fn show_last<K: Sink>(
 }
 
 // Ends a run that has shown as many lines as may come: a single byte more is too much.
-fn end_at_limit<S: Input, K: Sink>(
+fn end_at_limit<S: Input<K>, K: Sink>(
     reader: &mut LineReader,
     input: &mut S,
     out: &mut K,
