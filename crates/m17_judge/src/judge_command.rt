@@ -1,4 +1,4 @@
-ghost use Rattle.std.specs.Prelude.{◌≡◌, ℕ, ◌*◌, ◌≤◌, List, length, drop, Option, None, Some, IfOk, OnErr, IfSome, IfNone, option_and_then};
+ghost use Rattle.std.specs.Prelude.{◌≡◌, ℕ, ◌*◌, List, Option, None, Some, IfOk, OnErr, IfSome, IfNone, option_and_then};
 ghost use Rattle.m17_io.specs.Faults.{HasCauses};
 ghost use Rattle.m17_print.specs.Endings.{failed_device, Comes, Grows};
 ghost use Rattle.m17_judge.specs.Judge.{joins, talkers, SaysJudge, PrintsJudge};
