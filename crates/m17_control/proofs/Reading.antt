@@ -4,11 +4,9 @@ use Rattle.std.proofs.lemmas.Bool.{cases_eq, cases_lt, cases_Bool, false≢true}
 use Rattle.std.proofs.lemmas.List.{length-take, length-drop, take_all}
 use Rattle.std.proofs.lemmas.List.Elements.{All-take, All-drop}
 use Rattle.std.proofs.lemmas.Slice.Eq.{bytes_eq-Decides}
-use Rattle.std.specs.List.{All}
 use Rattle.std.specs.Str.{bytes_eq}
 use Rattle.m17_callsign.specs.AddressBytes.{address_bytes}
 use Rattle.m17_callsign.specs.Callsign.{end_of_callsigns}
-use Rattle.m17_stream.specs.declared.packet.StreamPacket.{StreamPacket}
 use Rattle.m17_stream.specs.declared.packet.StreamRefusal.{StreamRefusal}
 use Rattle.m17_stream.specs.declared.packet.StreamRefusal.TheVariants as streams
 use Rattle.m17_fields.specs.Fields.{IsBytes, Fields48AreExact}

@@ -24,10 +24,25 @@ LaterActsChangeNoMembership =
     (places : ℕ) (acts more : List Act) (k : Member) (n : ℕ) → n ≤ length acts →
     joined_at places (acts ++ more) k n ≡ joined_at places acts k n
 
--- .. and no moment.
+-- .. no moment, neither at a position nor before it, ..
 abbrev pub LaterActsChangeNoMoment : Type 0
 LaterActsChangeNoMoment =
     (acts more : List Act) (n : ℕ) → n < length acts → moment_at (acts ++ more) n ≡ moment_at acts n
+
+abbrev pub LaterActsChangeNoMomentBefore : Type 0
+LaterActsChangeNoMomentBefore =
+    (acts more : List Act) (n : ℕ) → n ≤ length acts →
+    moment_before (acts ++ more) n ≡ moment_before acts n
+
+-- .. and not what happened.
+abbrev pub LaterActsChangeNoKind : Type 0
+LaterActsChangeNoKind =
+    (acts more : List Act) (n : ℕ) → n < length acts → kind_at (acts ++ more) n ≡ kind_at acts n
+
+-- One act more stands at the end.
+abbrev pub KindOfOneMore : Type 0
+KindOfOneMore =
+    (acts : List Act) (act : Act) → kind_at (with_act acts act) (length acts) ≡ act.kind
 
 -- After one act more the moment is that of the act, if it is greater than the moment before.
 abbrev pub MomentOfOneMore : Type 0

@@ -2,8 +2,8 @@
 //! leaves included, and promises that `Floor::judge` and `Floor::left`, which keep one frame and one more for each
 //! member, give that rule's verdicts. `laws` has what follows from the rule alone, and what one act more makes of what
 //! is looked up; `plain` is the rule as it is stated, slow, to compare with. The table of verdicts is
-//! `specs/Rule.antt`; which frames it looks at, for a whole list, is `specs/Floor.antt`; what the small state stands for
-//! is `specs/StandsFor.antt`.
+//! `specs/Rule.antt`; which frames it looks at, for a whole list, is `specs/Floor.antt`; what the small state stands
+//! for is `specs/StandsFor.antt`.
 //! Who is a member, and to whom a packet goes, is left to the crates above.
 #![tactic(auto)]
 

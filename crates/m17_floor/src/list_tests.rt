@@ -252,6 +252,7 @@ fn a_place_that_is_taken_over_frees_the_floor(rt: HostRuntime) -> Result<(), Fai
 // A number below `below`, which is not 0, from the upper bits of a state that goes round.
 fn drawn(state: &mut u64, below: u64) -> u64
     requires { 0 < below }
+    ensures { result < below }
 {
     *state = state
         .wrapping_mul(6_364_136_223_846_793_005)
@@ -259,8 +260,8 @@ fn drawn(state: &mut u64, below: u64) -> u64
     (*state >> 33) % below
 }
 
-// One of a few acts: four members at two places, and one past them; two streams; numbers that repeat, go round and stand
-// half way round; steps in time up to and past each limit, and back.
+// One of a few acts: four members at two places, and two past them; two streams; numbers that repeat, go round and
+// stand half way round.
 fn some_act(state: &mut u64, at: u64) -> Act {
     let who = member(drawn(state, 5) as u32 / 2, drawn(state, 2));
     let numbers = [0, 1, 2, 16_383, 16_384, 32_767];

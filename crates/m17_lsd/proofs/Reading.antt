@@ -1,12 +1,10 @@
 -- Each 28 bytes are link setup data, and no two of them have the same bytes.
-use Rattle.std.proofs.Common.{◌≡◌, ℕ, ◌+◌, ◌≤◌, ◌<◌, ◌^◌, List, [], ◌++◌, length, take, drop, refl, sym, ap, ◌∙◌, arith}
-use Rattle.std.proofs.lemmas.List.{append_assoc, length-take, length-drop, take_all, take_at, drop_at, length-append}
+use Rattle.std.proofs.Common.{◌≡◌, ℕ, ◌+◌, ◌≤◌, ◌<◌, ◌^◌, List, ◌++◌, length, take, drop, refl, arith}
+use Rattle.std.proofs.lemmas.List.{length-take, length-drop, take_all}
 use Rattle.std.proofs.lemmas.List.Elements.{All-take, All-drop}
 use Rattle.std.proofs.Math.Seq.{take-add}
 use Rattle.m17_fields.specs.Fields.{be_16, be_48, field_at, IsBytes, Fields16AreExact, Fields48AreExact}
-use Rattle.m17_lsd.specs.declared.lsd.Lsd.{Lsd}
-use Rattle.m17_lsd.specs.Lsd.{FitsFields, lsd_bytes}
-use Rattle.m17_lsd.specs.Laws.{FieldsAreExact, Each28BytesAreLinkSetupData}
+use Rattle.m17_lsd.specs.Laws.{Each28BytesAreLinkSetupData}
 
 bytes-part : (n k : ℕ) (b : List ℕ) → IsBytes b → IsBytes (field_at n k b)
 bytes-part n k b h = All-take (λ byte. byte < 2 ^ 8) k (drop n b) (All-drop (λ byte. byte < 2 ^ 8) n b h)

@@ -6,8 +6,6 @@ use Rattle.std.proofs.lemmas.List.Elements.{All-take, All-drop}
 use Rattle.std.proofs.lemmas.Nat.{mod_below}
 use Rattle.std.proofs.lemmas.Slice.Eq.{bytes_eq-Decides}
 use Rattle.m17_fields.specs.Fields.{be_16, field_at, IsBytes, Fields16AreExact}
-use Rattle.m17_fields.specs.Reading.{HasOneReading}
-use Rattle.std.specs.List.{All}
 use Rattle.std.specs.Str.{bytes_eq}
 use Rattle.m17_crc.specs.Crc.{crc_of}
 use Rattle.m17_lsd.specs.declared.lsd.Lsd.{Lsd}
