@@ -1,12 +1,12 @@
 -- A command that came to its ending, and then its last line.
-use Rattle.std.proofs.Common.{◌≡◌, ◌≢◌, ◌⊎◌, ℕ, ◌≤◌, List, [], ◌++◌, take, drop, Option, Some, refl, sym, ap, subst, ◌∙◌, arith, append_assoc, inl, inr}
+use Rattle.std.proofs.Common.{◌≡◌, ◌≢◌, ℕ, ◌≤◌, List, [], ◌++◌, take, drop, Option, Some, refl, sym, ap, subst, ◌∙◌, arith, append_assoc, inl, inr}
 use Rattle.std.proofs.lemmas.List.{append-nil, take-append-drop}
 use Rattle.m17_io.specs.Faults.{HasRisen, HasCauses}
 use Rattle.m17_print.specs.Endings.{last_line, failed_device, Grows}
 use Rattle.m17_print.specs.declared.ending.Ending.{Ending}
 use Rattle.m17_print.specs.declared.ending.Ending.TheVariants as endings
 use Rattle.m17_app.specs.declared.status.Status.{Status}
-use Rattle.m17_app.specs.declared.status.Status.TheVariants.{Finished, InputRefused, WordsRefused, ReadFailed, WriteFailed, NoMemory}
+use Rattle.m17_app.specs.declared.status.Status.TheVariants.{ReadFailed, WriteFailed, NoMemory}
 use Rattle.m17_app.specs.Status.{status_of, Outside, HasCause, WritesLast}
 use Rattle.m17_app.specs.Run.{Stands, EndsWithLast}
 use Rattle.m17_app.proofs.Statuses.{is_write_failed, own_status, read_told, read_failed, write_told, write_failed, no_memory, never}

@@ -1,5 +1,5 @@
 -- A run of `judge`, from its ending to what it promises.
-use Rattle.std.proofs.Common.{◌≡◌, ◌≢◌, ◌⊎◌, ℕ, ◌+◌, ◌*◌, ◌<◌, ◌≤◌, List, [], ◌++◌, length, Option, Some, refl, sym, ap, subst, ◌∙◌, arith, inl, inr}
+use Rattle.std.proofs.Common.{◌≡◌, ◌≢◌, ◌⊎◌, ℕ, ◌+◌, List, [], ◌++◌, Option, Some, refl, sym, subst, ◌∙◌, arith, inl, inr}
 use Rattle.std.proofs.lemmas.List.{append-nil}
 use Rattle.m17_io.specs.Faults.{HasRisen, HasCauses}
 use Rattle.m17_print.specs.Endings.{last_line, failed_device, Comes, Grows}
@@ -14,7 +14,7 @@ use Rattle.m17_app.specs.declared.status.Status.{Status}
 use Rattle.m17_app.specs.declared.status.Status.TheVariants.{Finished, InputRefused, WordsRefused, ReadFailed, WriteFailed, NoMemory}
 use Rattle.m17_app.specs.Status.{status_of, Outside, HasCause, WritesLast}
 use Rattle.m17_app.specs.Run.{IsWhole, RunsJudge}
-use Rattle.m17_app.proofs.Statuses.{own_status, no_memory, no_words, never}
+use Rattle.m17_app.proofs.Statuses.{own_status, no_words, never}
 use Rattle.m17_app.proofs.Concluded.{counts, cause_of, stands_of, last_of, whole_of}
 
 -- what an ending says of the input, by its status

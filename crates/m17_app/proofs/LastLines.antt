@@ -1,12 +1,11 @@
 -- A last line that was written, or was not.
-use Rattle.std.proofs.Common.{◌≡◌, ◌≢◌, ◌⊎◌, ℕ, ◌≤◌, List, ◌++◌, length, take, Option, Some, refl, sym, ap, ◌∙◌, arith, inl, inr}
+use Rattle.std.proofs.Common.{◌≡◌, ℕ, ◌≤◌, List, ◌++◌, length, Option, Some, refl, sym, ap, ◌∙◌, arith, inl, inr}
 use Rattle.std.proofs.lemmas.List.{take_all}
 use Rattle.m17_io.specs.Faults.{HasRisen}
 use Rattle.m17_io.specs.Sink.{AppendsPrefix}
 use Rattle.m17_app.specs.declared.status.Status.{Status}
 use Rattle.m17_app.specs.declared.status.Status.TheVariants.{WriteFailed}
 use Rattle.m17_app.specs.Status.{outside, WritesLast}
-use Rattle.m17_app.proofs.Statuses.{is_write_failed}
 
 -- all of a line is a first part of it
 whole_line : (line : List ℕ) (written written' : Option (List ℕ)) → ((xs : List ℕ) → written ≡ Some xs → written' ≡ Some (xs ++ line))

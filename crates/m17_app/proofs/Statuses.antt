@@ -1,5 +1,5 @@
 -- The status of an ending, and which device an ending tells of.
-use Rattle.std.proofs.Common.{◌≡◌, ◌≢◌, ◌⊎◌, ℕ, Option, Some, refl, sym, ◌∙◌, inl, inr}
+use Rattle.std.proofs.Common.{◌≡◌, ◌≢◌, ◌⊎◌, Some, refl, sym, ◌∙◌, inl, inr}
 use Rattle.m17_io.specs.declared.fault.Fault.TheVariants.{Read, Write}
 use Rattle.m17_print.specs.Endings.{failed_device}
 use Rattle.m17_print.specs.declared.ending.Ending.{Ending}

@@ -1,5 +1,5 @@
 -- A run whose words are refused.
-use Rattle.std.proofs.Common.{◌≡◌, ℕ, arith, inl, inr}
+use Rattle.std.proofs.Common.{arith, inl, inr}
 use Rattle.m17_print.specs.Endings.{words_refused_line}
 use Rattle.m17_app.specs.declared.status.Status.{Status}
 use Rattle.m17_app.specs.declared.status.Status.TheVariants.{WordsRefused, ReadFailed, NoMemory}

@@ -1,4 +1,4 @@
-ghost use Rattle.std.specs.Prelude.{◌≡◌, ◌↔◌, map, string_bytes, Some, None};
+ghost use Rattle.std.specs.Prelude.{◌≡◌, map, string_bytes, Some, None};
 ghost use Rattle.m17_app.specs.Run.{NamesJudge, NamesShow, AreRefused};
 
 /// What the words ask for.

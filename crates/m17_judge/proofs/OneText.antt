@@ -1,5 +1,5 @@
 -- An input of `judge` has one text.
-use Rattle.std.proofs.Common.{◌≡◌, ◌⊎◌, ℕ, ◌+◌, ◌*◌, ◌<◌, ◌≤◌, ◌^◌, List, [], ◌∷◌, ◌++◌, length, slice_get, get_or, Option, Some, unwrap_or, refl, sym, ap, subst, ◌∙◌, arith, inl, inr, length-append}
+use Rattle.std.proofs.Common.{◌≡◌, ℕ, ◌+◌, ◌*◌, ◌<◌, ◌^◌, List, [], ◌∷◌, ◌++◌, length, slice_get, get_or, Option, Some, unwrap_or, refl, sym, ap, subst, ◌∙◌, arith, inl, inr, length-append}
 use Rattle.std.proofs.lemmas.Option.{slice_get-get_or}
 use Rattle.std.proofs.lemmas.List.{get_or-append-add}
 use Rattle.std.proofs.lemmas.List.Elements.{All-take, All-drop}
@@ -19,7 +19,7 @@ use Rattle.m17_print.proofs.TextsOfLines.{equal_lists, one_text}
 use Rattle.m17_judge.specs.declared.reason.JudgeReason.{JudgeReason}
 use Rattle.m17_judge.specs.declared.reason.JudgeReason.TheVariants.{Cut, Large}
 use Rattle.m17_judge.specs.Reasons.{judge_reason_words}
-use Rattle.m17_judge.specs.Judge.{joins, talkers, acts_with, packet_act, passed_act, numbered_line, IsVerdictLine, IsRefusalLine, IsRecordLine, HasRecordLine, IsTextOfRecords, IsJudgeText}
+use Rattle.m17_judge.specs.Judge.{joins, talkers, acts_with, packet_act, passed_act, numbered_line, IsVerdictLine, IsRefusalLine, IsRecordLine, HasRecordLine, IsTextOfRecords}
 use Rattle.m17_judge.specs.Laws.{OneJudgeText}
 use Rattle.m17_judge.specs.Records.{record_at, packet_of, AreRecords, RefusesRecords}
 use Rattle.m17_judge.proofs.Joins.{length-joins}

@@ -1,5 +1,5 @@
 -- The line of one more record.
-use Rattle.std.proofs.Common.{◌≡◌, ℕ, ◌+◌, List, [], ◌∷◌, ◌++◌, length, slice_get, Some, codes, decimal, sym, ap, ◌∙◌, arith, inl, inr}
+use Rattle.std.proofs.Common.{◌≡◌, ℕ, ◌+◌, List, [], ◌∷◌, ◌++◌, length, Some, codes, decimal, sym, ap, ◌∙◌, inl, inr}
 use Rattle.m17_stream.specs.declared.packet.StreamPacket.{StreamPacket}
 use Rattle.m17_stream.specs.declared.packet.StreamRefusal.{StreamRefusal}
 use Rattle.m17_stream.specs.Stream.{SpellsStream, RefusesStream}

@@ -1,4 +1,4 @@
-ghost use Rattle.std.specs.Prelude.{◌≡◌, ℕ, ◌*◌, ◌≤◌, List, length, drop, Option, None, Some, IfOk, OnErr, IfSome, IfNone, option_and_then};
+ghost use Rattle.std.specs.Prelude.{◌≡◌, ℕ, ◌*◌, List, Option, None, Some, IfOk, OnErr, IfSome, IfNone, option_and_then};
 ghost use Rattle.m17_io.specs.Faults.{HasCauses};
 ghost use Rattle.m17_print.specs.Endings.{failed_device, Comes, Grows};
 ghost use Rattle.m17_judge.specs.Judge.{joins, talkers, SaysJudge, PrintsJudge};
@@ -28,9 +28,11 @@ fn judge_records<S: Input<K>, K: Sink>(
     ensures causes { HasCauses (S.faults input.old, K.faults out.old)
         (S.faults input.new, K.faults out.new) (option_and_then failed_device result) }
     ensures ended { IfSome result (λ ending. (bytes : List ℕ) → S.left input.old ≡ Some bytes →
-        Comes SaysJudge PrintsJudge ending bytes (S.left input.new) (K.written out.old) (K.written out.new)) }
+        Comes SaysJudge PrintsJudge ending bytes (S.left input.new)
+        (K.written out.old) (K.written out.new)) }
     ensures full { IfNone result ((bytes : List ℕ) → S.left input.old ≡ Some bytes →
-        AreJudged bytes most_records (S.left input.new) (K.written out.old) (K.written out.new)) }
+        AreJudged bytes most_records (S.left input.new)
+        (K.written out.old) (K.written out.new)) }
     ensures appended { Grows (K.written out.old) (K.written out.new) }
 {
     laws::later_acts_change_no_verdict();
@@ -93,7 +95,8 @@ pub fn judge<S: Input<K>, K: Sink>(
         (S.faults input.new, K.faults out.new) (failed_device ending)) }
     // What the ending says of the input holds, and what it prints stands written.
     ensures ended { IfOk result (λ ending. (bytes : List ℕ) → S.left input.old ≡ Some bytes →
-        Comes SaysJudge PrintsJudge ending bytes (S.left input.new) (K.written out.old) (K.written out.new)) }
+        Comes SaysJudge PrintsJudge ending bytes (S.left input.new)
+        (K.written out.old) (K.written out.new)) }
     ensures appended { Grows (K.written out.old) (K.written out.new) }
     // Want of memory comes before the devices are touched.
     ensures untouched { OnErr result ((input.new ≡ input.old) × (out.new ≡ out.old)) }

@@ -1,4 +1,4 @@
-ghost use Rattle.std.specs.Prelude.{◌≡◌, ℕ, ◌≤◌, List, ◌++◌, length, codes, decimal};
+ghost use Rattle.std.specs.Prelude.{◌≡◌, ◌++◌, codes, decimal};
 ghost use Rattle.m17_print.specs.Line.{IsBegun};
 ghost use Rattle.m17_judge.specs.Records.{moment_of, talker_of, packet_of};
 ghost use Rattle.m17_judge.specs.Table.{JudgesRecord};

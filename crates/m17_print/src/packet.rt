@@ -40,7 +40,8 @@ impl Line {
     fn push_hex_field(&mut self, name: &str, bytes: &[u8])
         requires { length self.old + length name.now + 2 * length bytes.now ≤ room }
         ensures appended { self.new ≡ self.old ++ hex_field_text name.now bytes.now }
-        ensures longer { length self.new ≡ length self.old + length name.now + 2 * length bytes.now }
+        ensures longer { length self.new
+            ≡ length self.old + length name.now + 2 * length bytes.now }
     {
         self.push_text(name);
         self.push_hex(bytes);

@@ -63,7 +63,8 @@ impl Line {
     // Appends the refusal of an address. Of a number that has more than 48 bits the low ones are printed.
     fn push_refused_address(&mut self, number: u64)
         requires { IsBegun self.old }
-        ensures appended { self.new ≡ self.old ++ (codes "refused address " ++ address_text number) }
+        ensures appended { self.new
+            ≡ self.old ++ (codes "refused address " ++ address_text number) }
         ensures ends { CanEnd self.new }
     {
         self.push_text("refused address ");

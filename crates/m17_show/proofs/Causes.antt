@@ -1,5 +1,5 @@
 -- Counts of faults over several calls.
-use Rattle.std.proofs.Common.{◌≡◌, ℕ, Option, None, Some, refl, sym, ap, subst, ◌∙◌, arith}
+use Rattle.std.proofs.Common.{◌≡◌, ℕ, Option, None, refl, ◌∙◌, arith}
 use Rattle.m17_io.specs.declared.fault.Fault.{Fault}
 use Rattle.m17_io.specs.Faults.{HasCauses}
 

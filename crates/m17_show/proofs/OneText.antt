@@ -1,5 +1,5 @@
 -- An input of `show` has one text.
-use Rattle.std.proofs.Common.{◌≡◌, ◌⊎◌, ℕ, ◌<◌, ◌≤◌, ◌%◌, ◌^◌, List, [], ◌∷◌, ◌++◌, length, slice_get, get_or, Option, Some, Result, Ok, IsErr, unwrap_or, refl, sym, ap, subst, ◌∙◌, arith, inl, inr, All}
+use Rattle.std.proofs.Common.{◌≡◌, ℕ, ◌<◌, ◌≤◌, ◌^◌, List, [], ◌∷◌, ◌++◌, slice_get, Option, Some, IsErr, unwrap_or, refl, sym, ap, subst, ◌∙◌, arith, inl, inr}
 use Rattle.std.proofs.lemmas.Option.{slice_get_within}
 use Rattle.std.proofs.lemmas.List.Elements.{All-from_get_or}
 use Rattle.std.proofs.lemmas.Bool.{cases_lt}
@@ -17,7 +17,7 @@ use Rattle.m17_show.specs.declared.reason.ShowReason.{ShowReason}
 use Rattle.m17_show.specs.declared.reason.ShowReason.TheVariants.{Large, Long, Odd, Digit}
 use Rattle.m17_show.specs.Reasons.{show_reason_words}
 use Rattle.m17_show.specs.Lines.{most_lines, lines_of, content_of, AreLineCount, IsTooLong, IsOdd, HasNoHex, RefusesLine}
-use Rattle.m17_show.specs.Show.{SaysOfBytes, IsPrintedFor, HasPrintedLine, IsTextOfFirst, IsShowText}
+use Rattle.m17_show.specs.Show.{SaysOfBytes, IsPrintedFor, HasPrintedLine, IsTextOfFirst}
 use Rattle.m17_show.specs.Laws.{OneShowText}
 
 -- bytes as a packet: the only one, or refused for the only reason

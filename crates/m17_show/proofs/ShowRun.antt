@@ -1,5 +1,5 @@
 -- A run of `show`, line by line: how it goes on, and how it comes to each end.
-use Rattle.std.proofs.Common.{◌≡◌, ℕ, ◌+◌, ◌<◌, ◌≤◌, List, [], ◌∷◌, ◌++◌, length, take, drop, slice_get, Option, None, Some, Result, Ok, Err, unwrap_or, refl, sym, ap, subst, ◌∙◌, arith, append_assoc, length-append}
+use Rattle.std.proofs.Common.{◌≡◌, ℕ, ◌+◌, ◌<◌, ◌≤◌, List, [], ◌∷◌, ◌++◌, length, take, drop, slice_get, Option, None, Some, Ok, Err, unwrap_or, refl, sym, ap, subst, ◌∙◌, arith, append_assoc, length-append}
 use Rattle.std.specs.Prelude.{IfSome}
 use Rattle.std.proofs.lemmas.List.{append-nil, take_at, drop_at}
 use Rattle.m17_io.specs.Faults.{HasCauses}
@@ -13,7 +13,7 @@ use Rattle.m17_show.specs.declared.not_shown.NotShown.{NotShown}
 use Rattle.m17_show.specs.declared.not_shown.NotShown.TheVariants as not_shown
 use Rattle.m17_show.specs.Lines.{most_lines, lines_of, content_of, AreEnded, AreLineCount, RefusesLine}
 use Rattle.m17_show.specs.Reading.{HasNoFeed, BeginsWithLine, IsAhead}
-use Rattle.m17_show.specs.Show.{IsPrintedFor, HasPrintedLine, IsTextOfFirst, SaysShow, PrintsShow}
+use Rattle.m17_show.specs.Show.{HasPrintedLine, IsTextOfFirst, SaysShow, PrintsShow}
 use Rattle.m17_show.specs.Run.{RefusesContent, ComesOfLine, failed_at_line, ending_at, IsAt, AreShown, GoesOn}
 use Rattle.m17_show.proofs.Feeds.{ended_same, lines_of-line, lines_of-last, lines_of-begun, lines_of-none, some_line}
 use Rattle.m17_show.proofs.LinesSoFar.{at_start, line_at, count_at, held_line, at_more, content_long}

@@ -1,5 +1,3 @@
-ghost use Rattle.std.specs.Prelude.{◌≡◌, ◌+◌, ◌≤◌, ◌++◌, length};
-
 use m17_print::{Line, Reason};
 
 /// Why `show` refuses its input. This profile.

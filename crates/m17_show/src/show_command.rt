@@ -30,7 +30,8 @@ pub fn show<S: Input<K>, K: Sink>(input: &mut S, out: &mut K) -> Ending<ShowReas
         (S.faults input.new, K.faults out.new) (failed_device result) }
     // What the ending says of the input holds, and what it prints stands written.
     ensures ended { (bytes : List ℕ) → S.left input.old ≡ Some bytes →
-        Comes SaysShow PrintsShow result bytes (S.left input.new) (K.written out.old) (K.written out.new) }
+        Comes SaysShow PrintsShow result bytes (S.left input.new)
+        (K.written out.old) (K.written out.new) }
     ensures appended { Grows (K.written out.old) (K.written out.new) }
 {
     let mut reader = LineReader::new();

@@ -1,5 +1,5 @@
-use Rattle.std.proofs.Common.{refl, sym, ◌∙◌}
-use Rattle.m17_app.proofs.Codes.{is_words_refused, not_both}
+use Rattle.std.proofs.Common.{sym, ◌∙◌}
+use Rattle.m17_app.proofs.Codes.{is_words_refused}
 use Rattle.m17_app.proofs.run.run.Goals as goal
 
 pub returns-in-Some-Judge-clause-status : goal.returns-in-Some-Judge-clause-status

@@ -1,4 +1,4 @@
-use Rattle.std.proofs.Common.{rules, ◌≡◌, ◌<◌, [], ◌++◌, length, Ok, refl, sym, ap, subst, ◌∙◌, arith, lit≤}
+use Rattle.std.proofs.Common.{◌≡◌, ◌<◌, [], ◌++◌, length, Ok, refl, sym, ap, subst, ◌∙◌, arith, lit≤}
 use Rattle.std.proofs.lemmas.List.{nil_from_length}
 use Rattle.m17_show.specs.Lines.{most_lines}
 use Rattle.m17_show.specs.Reading.{HasNoFeed}

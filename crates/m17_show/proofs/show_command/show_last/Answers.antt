@@ -1,8 +1,7 @@
-use Rattle.std.proofs.Common.{◌≡◌, ◌<◌, ℕ, List, [], length, Some, refl, sym, subst, ◌∙◌, arith}
+use Rattle.std.proofs.Common.{◌≡◌, ◌<◌, [], length, Some, refl, sym, subst, ◌∙◌, arith}
 use Rattle.std.proofs.lemmas.Bool.{eqb-true}
 use Rattle.std.proofs.lemmas.List.{nil_from_length}
 use Rattle.m17_io.specs.Faults.{HasCauses}
-use Rattle.m17_io.specs.declared.fault.Fault.{Fault}
 use Rattle.m17_print.specs.Endings.{failed_device, Comes}
 use Rattle.m17_print.specs.declared.ending.Ending.{Ending}
 use Rattle.m17_show.specs.declared.reason.ShowReason.{ShowReason}

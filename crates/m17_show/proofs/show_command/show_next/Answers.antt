@@ -1,4 +1,4 @@
-use Rattle.std.proofs.Common.{ℕ, List, [], take, Option, Some, Ok, Err, refl, sym, ap, subst, arith}
+use Rattle.std.proofs.Common.{ℕ, List, [], take, Option, Some, Ok, Err, sym, ap, subst, arith}
 use Rattle.m17_io.specs.Faults.{HasCauses}
 use Rattle.m17_print.specs.Endings.{failed_device, Comes}
 use Rattle.m17_print.specs.declared.ending.Ending.{Ending}
