@@ -1,0 +1,16 @@
+//! Lanes: bounded queues between threads whose contents are known.
+#![tactic(auto)]
+
+mod bell;
+mod lane;
+mod popper;
+mod pusher;
+mod rule;
+
+pub use bell::{Announced, Bell};
+pub use popper::Popper;
+pub use pusher::Pusher;
+
+/// There was no memory for what was asked. This profile.
+#[derive(Clone, Copy, Debug, PartialEq, Eq)]
+pub struct NoMemory;
