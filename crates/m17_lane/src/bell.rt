@@ -1,7 +1,7 @@
 //! The bell of a consumer: where it sleeps, and what its producers ring.
 
-use crate::NoMemory;
 use crossbeam_utils::sync::{EventCount, Key};
+use m17_values::NoMemory;
 use std::alloc::Global;
 use std::sync::{Arc, Wait};
 

@@ -10,7 +10,3 @@ mod rule;
 pub use bell::{Announced, Bell};
 pub use popper::Popper;
 pub use pusher::Pusher;
-
-/// There was no memory for what was asked. This profile.
-#[derive(Clone, Copy, Debug, PartialEq, Eq)]
-pub struct NoMemory;
