@@ -1,5 +1,5 @@
 -- What contracts see in the ends of a lane and in its trail.
-use Rattle.std.specs.Prelude.{◌≡◌, ℕ, suc, List, [], ◌∷◌, ◌++◌}
+use Rattle.std.specs.Prelude.{◌≡◌, ℕ, zero, suc, List, [], ◌∷◌, ◌++◌}
 use Rattle.atomic_table.specs.Seated.{TableId}
 use Rattle.m17_lane.specs.Orders.{IsShuffle}
 
@@ -68,11 +68,11 @@ module _ {T : Type 0} where
     refused = [];
   }
 
-  -- The pushers number k, k + 1, .. of a new lane, in this order.
+  -- The pushers number 0 to n - 1 of a new lane, in this order.
   -- This profile.
-  abbrev pub AreNew : PopEnd T → ℕ → List (PushEnd T) → Type 0
-  AreNew q k [] = Unit {0}
-  AreNew q k (p ∷ ps) = (p ≡ new_pusher q k) × AreNew q (suc k) ps
+  abbrev pub new_pushers : PopEnd T → ℕ → List (PushEnd T)
+  new_pushers q zero = []
+  new_pushers q (suc n) = new_pushers q n ++ new_pusher q n ∷ []
 
   -- Each of these pushers is of this lane.
   -- This profile.
