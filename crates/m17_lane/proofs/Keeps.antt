@@ -219,9 +219,9 @@ module _ {T : Type 0} where
       let mine = h.fits pass v at in let read = mine.reads refl in let know = mine.knows (omega arith) in
       let made : m ≡ h.made = read.2 in
       let moved : (j q : ℕ) (l : List T) → (h.seat q ≡ j) × (l ≡ part q h.order) × (q < h.made) → (seat q ≡ j) × (l ≡ part q h.order) × (q < m + 1) =
-          λ j q l k. (let lt = k.2 in next_else h.seat m (length vs) q (λ is. omega arith) ∙ k.0, k.1, let lt = k.2 in omega arith) in
+      λ j q l k. (let lt = k.2 in next_else h.seat m (length vs) q (λ is. omega arith) ∙ k.0, k.1, let lt = k.2 in omega arith) in
       let move : (j : ℕ) (ls : List (ℕ × List T)) → EachLog (λ q l. (h.seat q ≡ j) × (l ≡ part q h.order) × (q < h.made)) ls → EachLog (λ q l. (seat q ≡ j) × (l ≡ part q h.order) × (q < m + 1)) ls =
-          λ j ls e. logs_map (λ q l. (h.seat q ≡ j) × (l ≡ part q h.order) × (q < h.made)) (λ q l. (seat q ≡ j) × (l ≡ part q h.order) × (q < m + 1)) ls (moved j) e in
+      λ j ls e. logs_map (λ q l. (h.seat q ≡ j) × (l ≡ part q h.order) × (q < h.made)) (λ q l. (seat q ≡ j) × (l ≡ part q h.order) × (q < m + 1)) ls (moved j) e in
       record {
         order = h.order;
         got = h.got;
@@ -240,8 +240,8 @@ module _ {T : Type 0} where
             inl (sym is),
           )
           | no isnt ↦
-            let c = covers_snoc h.seat h.made vs new (covers_set h.seat h.made views pass v w at (λ q has. has) h.covered) p (omega arith) in
-            (c.0, ap (λ i. get_elem? (vs ++ new ∷ []) i) (next_else h.seat m (length vs) p isnt) ∙ c.1, c.2)
+              let c = covers_snoc h.seat h.made vs new (covers_set h.seat h.made views pass v w at (λ q has. has) h.covered) p (omega arith) in
+              (c.0, ap (λ i. get_elem? (vs ++ new ∷ []) i) (next_else h.seat m (length vs) p isnt) ∙ c.1, c.2)
         ];
         last = last_snoc h.order vs new (last_set h.order views pass v w at (λ e. e) h.last);
         fits = each_snoc (Fits h.order h.got seat h.reader h.producers (m + 1)) vs new
@@ -254,22 +254,22 @@ module _ {T : Type 0} where
               apart = ((λ (x : ⊥). x), tt);
             })
             (each_set (Fits h.order h.got seat h.reader h.producers (m + 1)) views pass w
-                (record {
-                  logs = move pass logs mine.logs;
-                  reads = λ _. (read.0, read.1, refl);
-                  knows = λ _. know;
-                  idles = λ e. absurd (omega arith);
-                  begins = mine.begins;
-                  apart = mine.apart;
-                })
-                (λ j u other e. let f = h.fits j u e in record {
-                  logs = move j u.logs f.logs;
-                  reads = λ r. absurd (other ((f.reads r).0 ∙ sym read.0));
-                  knows = f.knows;
-                  idles = f.idles;
-                  begins = f.begins;
-                  apart = f.apart;
-                }));
+            (record {
+              logs = move pass logs mine.logs;
+              reads = λ _. (read.0, read.1, refl);
+              knows = λ _. know;
+              idles = λ e. absurd (omega arith);
+              begins = mine.begins;
+              apart = mine.apart;
+            })
+            (λ j u other e. let f = h.fits j u e in record {
+              logs = move j u.logs f.logs;
+              reads = λ r. absurd (other ((f.reads r).0 ∙ sym read.0));
+              knows = f.knows;
+              idles = f.idles;
+              begins = f.begins;
+              apart = f.apart;
+            }));
       }
 
   merge : (pass k n m : ℕ) (logs : List (ℕ × List T)) (got : List T) (seen : List (ℕ × T)) (refused : List (List T)) (other : ℕ) (u : Hand T) → 0 < k → Merges Rule pass (popper k n m logs got seen refused) other u (popper (k + u.parts) n m (u.logs ++ logs) got (longer seen u.seen) (u.refused ++ refused)) idle
@@ -285,29 +285,29 @@ module _ {T : Type 0} where
       let Log : ℕ → ℕ → List T → Type 0 = λ j q l. (h.seat q ≡ j) × (l ≡ part q h.order) × (q < h.made) in
       let New : ℕ → ℕ → List T → Type 0 = λ j q l. (seat q ≡ j) × (l ≡ part q h.order) × (q < h.made) in
       let keep : (j : ℕ) → j ≢ other → (ls : List (ℕ × List T)) → EachLog (Log j) ls → EachLog (New j) ls =
-          λ j far ls e. logs_map (Log j) (New j) ls (λ q l x. (moved_else other pass h.seat q (λ is. far (sym x.0 ∙ is)) ∙ x.0, x.1, x.2)) e in
+      λ j far ls e. logs_map (Log j) (New j) ls (λ q l x. (moved_else other pass h.seat q (λ is. far (sym x.0 ∙ is)) ∙ x.0, x.1, x.2)) e in
       let come : EachLog (New pass) u.logs =
-          logs_map (Log other) (New pass) u.logs (λ q l x. (moved_same other pass h.seat q x.0, x.1, x.2)) theirs.logs in
+      logs_map (Log other) (New pass) u.logs (λ q l x. (moved_same other pass h.seat q x.0, x.1, x.2)) theirs.logs in
       let Far : ℕ → Hand T → Type 0 = λ j y. j ≢ other → Fits h.order h.got seat h.reader h.producers h.made j y in
       let far : AllFit Far vs = each_set Far views pass w
-          (λ _. record {
-            logs = logs_append (New pass) u.logs logs come (keep pass (λ is. two (sym is)) logs mine.logs);
-            reads = λ _. read;
-            knows = λ _. mine.knows some_part;
-            idles = λ e. absurd (omega arith);
-            begins = longer_begins seen u.seen h.order mine.begins theirs.begins;
-            apart = apart_append u.logs logs theirs.apart mine.apart (λ p x y.
-                let a = log_at (Log other) p u.logs theirs.logs x in let b = log_at (Log pass) p logs mine.logs y in
-                two (sym a.1.0 ∙ b.1.0));
-          })
-          (λ j y _ e apart. let f = h.fits j y e in record {
-            logs = keep j apart y.logs f.logs;
-            reads = f.reads;
-            knows = f.knows;
-            idles = f.idles;
-            begins = f.begins;
-            apart = f.apart;
-          }) in
+      (λ _. record {
+        logs = logs_append (New pass) u.logs logs come (keep pass (λ is. two (sym is)) logs mine.logs);
+        reads = λ _. read;
+        knows = λ _. mine.knows some_part;
+        idles = λ e. absurd (omega arith);
+        begins = longer_begins seen u.seen h.order mine.begins theirs.begins;
+        apart = apart_append u.logs logs theirs.apart mine.apart (λ p x y.
+            let a = log_at (Log other) p u.logs theirs.logs x in let b = log_at (Log pass) p logs mine.logs y in
+            two (sym a.1.0 ∙ b.1.0));
+      })
+      (λ j y _ e apart. let f = h.fits j y e in record {
+        logs = keep j apart y.logs f.logs;
+        reads = f.reads;
+        knows = f.knows;
+        idles = f.idles;
+        begins = f.begins;
+        apart = f.apart;
+      }) in
       record {
         order = h.order;
         got = h.got;
@@ -373,7 +373,7 @@ module _ {T : Type 0} where
       let v : Hand T = popper (2 ^ 32) n m logs got seen refused in
       let mine = h.fits pass v at in let read = mine.reads refl in
       let none : (j : ℕ) (u : Hand T) → j ≢ pass → get_elem? views j ≡ some u → u.parts ≡ 0 =
-          λ j u other e. (let t = parts_two views j pass u v e at other in let s = h.shared in omega arith) in
+      λ j u other e. (let t = parts_two views j pass u v e at other in let s = h.shared in omega arith) in
       let all : (p : ℕ) → p < h.made → HasLog p logs = λ p lt. let c = h.covered p lt in elim (ℕ_discrete (h.seat p) pass) [
         | yes is ↦ subst (λ (y : Hand T). HasLog p y.logs) (same_at views (h.seat p) pass c.0 v is c.1 at) c.2
         | no isnt ↦ absurd (subst (λ ls. HasLog p ls) ((h.fits (h.seat p) c.0 c.1).idles (none (h.seat p) c.0 isnt c.1)).0 c.2)
@@ -382,8 +382,8 @@ module _ {T : Type 0} where
       let saw : seen ≡ h.order = elim (ℕ_discrete l.0 pass) [
         | yes is ↦ sym (ap (λ (y : Hand T). y.seen) (same_at views l.0 pass l.1 v is l.2 at)) ∙ l.3
         | no isnt ↦
-          let empty : [] ≡ h.order = sym ((h.fits l.0 l.1 l.2).idles (none l.0 l.1 isnt l.2)).1 ∙ l.3 in
-          let front = mine.begins in no_more seen h.order front.0 front.1 (sym empty) ∙ empty
+            let empty : [] ≡ h.order = sym ((h.fits l.0 l.1 l.2).idles (none l.0 l.1 isnt l.2)).1 ∙ l.3 in
+            let front = mine.begins in no_more seen h.order front.0 front.1 (sym empty) ∙ empty
       ] in
       subst (λ o. IsWhole logs got o items) (sym saw) (record {
         shuffle = record {
@@ -412,7 +412,7 @@ module _ {T : Type 0} where
   pub declares : (pass : ℕ) (v : Hand T) → IsPopper v → v.parts ≡ 2 ^ 32 → Forks Rule pass v (declared_by v) idle
   declares pass v is all =
       let form : v ≡ popper (2 ^ 32) v.producers v.made v.logs v.got v.seen v.refused =
-          is ∙ ap (λ k. popper k v.producers v.made v.logs v.got v.seen v.refused) all in
+      is ∙ ap (λ k. popper k v.producers v.made v.logs v.got v.seen v.refused) all in
       subst (λ u. Forks Rule pass u (declared_by u) idle) (sym form) (declare pass v.producers v.made v.logs v.got v.seen v.refused)
 
   pub hires : (pass : ℕ) (v : Hand T) → IsPopper v → 1 < v.parts → v.made < v.producers → Forks Rule pass v (hired_by v) (pusher v.producers v.made [] [] [])
@@ -426,7 +426,7 @@ module _ {T : Type 0} where
   pub wholes : (pass : ℕ) (v : Hand T) → IsPopper v → v.parts ≡ 2 ^ 32 → Learns Rule pass v (λ items. IsWhole v.logs v.got v.seen items)
   wholes pass v is all =
       let form : v ≡ popper (2 ^ 32) v.producers v.made v.logs v.got v.seen v.refused =
-          is ∙ ap (λ k. popper k v.producers v.made v.logs v.got v.seen v.refused) all in
+      is ∙ ap (λ k. popper k v.producers v.made v.logs v.got v.seen v.refused) all in
       subst (λ (u : Hand T). Learns Rule pass u (λ items. IsWhole u.logs u.got u.seen items)) (sym form) (whole pass v.producers v.made v.logs v.got v.seen v.refused)
 
   -- with all parts, what is popped is the next item of the order

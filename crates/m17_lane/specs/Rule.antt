@@ -3,6 +3,7 @@ use Rattle.std.specs.Prelude.{◌≡◌, ◌==◌, ℕ, ◌+◌, ◌^◌, ◌-�
 use mathlib.Core.Option.{some}
 use lib.ListN.{get_elem?}
 use Rattle.m17_lane.specs.declared.rule.Hand.{Hand}
+use Rattle.m17_lane.specs.Ends.{PushEnd}
 use Rattle.m17_lane.specs.Orders.{items_of, part, EachLog, HasLog, Apart}
 
 module _ {A : Type 0} where
@@ -90,6 +91,11 @@ module _ {T : Type 0} where
   abbrev pub joined_to : Hand T → Hand T → Hand T
   joined_to v u =
       popper (v.parts + u.parts) v.producers v.made (u.logs ++ v.logs) v.got (longer v.seen u.seen) (u.refused ++ v.refused)
+
+  -- a pusher's lists and its part have come back to the popper's view
+  abbrev pub with_back : Hand T → PushEnd T → List (ℕ × T) → Hand T
+  with_back v p seen =
+      popper (v.parts + 1) v.producers v.made ((p.number, p.pushed) ∷ v.logs) v.got seen (p.refused ∷ v.refused)
 
   abbrev pub parts_of : List (Hand T) → ℕ
   parts_of [] = 0

@@ -66,10 +66,7 @@ pub fn make_with<T: Drop>(
 }
 
 /// A lane of one producer, with a bell of its own. This profile.
-pub fn make_one<T: Drop>(
-    alloc: Global,
-    capacity: u32,
-) -> Result<(Pusher<T>, Popper<T>), NoMemory>
+pub fn make_one<T: Drop>(alloc: Global, capacity: u32) -> Result<(Pusher<T>, Popper<T>), NoMemory>
     requires { 0 < capacity }
     ensures popper { IfOk result (λ r. r.1 ≡ new_popper r.1.lane capacity 1) }
     ensures pusher { IfOk result (λ r. r.0 ≡ new_pusher r.1 0) }

@@ -27,7 +27,7 @@ impl<T> Model for Popper<T> {
 
     ghost Value = { PopEnd T };
 
-    ghost view = { λ p. record { lane = p.pass.table_id; capacity = ruled_capacity (arc_value p.lane).line; producers = (knows p.pass).producers; popped = (knows p.pass).got; } };
+    ghost view = { λ p. record { lane = p.pass.table_id; capacity = ruled_capacity (arc_value p.lane).line; producers = (knows p.pass).producers; popped = (knows p.pass).got } };
 
     ghost invariant = { λ p. IsPassOf (arc_value p.lane).line p.pass × (knows p.pass ≡ popper (knows p.pass).parts (knows p.pass).producers (knows p.pass).producers [] (knows p.pass).got (knows p.pass).seen []) × ((knows p.pass).parts + (knows p.pass).producers ≡ 2 ^ 32) × (0 < (knows p.pass).parts) };
 }

@@ -29,7 +29,7 @@ impl<T> Model for Pusher<T> {
 
     ghost Value = { PushEnd T };
 
-    ghost view = { λ p. record { lane = p.pass.table_id; capacity = ruled_capacity (arc_value p.lane).line; producers = (knows p.pass).producers; number = first_number (knows p.pass).logs; pushed = first_log (knows p.pass).logs; refused = first_refused (knows p.pass).refused; } };
+    ghost view = { λ p. record { lane = p.pass.table_id; capacity = ruled_capacity (arc_value p.lane).line; producers = (knows p.pass).producers; number = first_number (knows p.pass).logs; pushed = first_log (knows p.pass).logs; refused = first_refused (knows p.pass).refused } };
 
     ghost invariant = { λ p. IsPassOf (arc_value p.lane).line p.pass × IsPusher (knows p.pass) };
 }
