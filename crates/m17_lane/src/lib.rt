@@ -8,6 +8,8 @@ mod making;
 mod popper;
 mod pusher;
 mod rule;
+#[cfg(test)]
+mod tests;
 mod trail;
 
 pub use bell::{Announced, Bell};
