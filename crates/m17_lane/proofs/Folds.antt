@@ -1,7 +1,7 @@
 -- The laws on whole lanes: of one producer, and of several as a shuffle.
-use Rattle.std.proofs.Common.{◌≡◌, ◌≢◌, ◌==◌, ℕ, zero, suc, ◌+◌, ◌<◌, ◌≤◌, ◌⊎◌, inl, inr, ⊎_elim, cond, List, [], ◌∷◌, ◌++◌, length, All, subst, sym, refl, ap, ◌∙◌, eq-eqb, ne_eqb, arith}
+use Rattle.std.proofs.Common.{◌≡◌, ◌==◌, ℕ, zero, suc, ◌+◌, ◌<◌, ◌≤◌, ◌⊎◌, inl, inr, ⊎_elim, cond, List, [], ◌∷◌, length, All, subst, sym, refl, ap, ◌∙◌, eq-eqb, ne_eqb, arith}
 use native.Mathlib.Decide.{ℕ_discrete}
-use Rattle.m17_lane.specs.Orders.{items_of, part, EachLog, HasLog, EachKnown, Apart, IsShuffle, IsWhole, picked, EachRow}
+use Rattle.m17_lane.specs.Orders.{items_of, part, EachLog, HasLog, EachKnown, Apart, picked, EachRow}
 use Rattle.m17_lane.specs.Laws.{OneProducerKeepsOrder, OrderIsAShuffle}
 
 module _ {T : Type 0} where

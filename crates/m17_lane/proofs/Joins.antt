@@ -1,11 +1,11 @@
 -- Pushers that come back to the popper's pass.
-use Rattle.std.proofs.Common.{◌≡◌, ℕ, ◌+◌, ◌^◌, ◌<◌, List, [], ◌∷◌, ◌++◌, length, subst, sym, refl, ap, ◌∙◌, append_assoc, length-append, arith}
+use Rattle.std.proofs.Common.{◌≡◌, ◌+◌, ◌^◌, ◌<◌, List, [], ◌∷◌, ◌++◌, length, subst, sym, refl, ap, ◌∙◌, append_assoc, length-append, arith}
 use Rattle.atomic_table.specs.Seated.{TableId}
 use Rattle.m17_lane.specs.declared.rule.Hand.{Hand}
 use Rattle.m17_lane.specs.Ends.{PushEnd, AreOf, logs_of, refused_of}
 use Rattle.m17_lane.specs.Orders.{items_of, IsWhole}
 use Rattle.m17_lane.proofs.Folds.{one_producer}
-use Rattle.m17_lane.specs.Rule.{longer, popper, pusher, first_number, first_log, first_refused, IsPusher, IsPopper, joined_to, with_back}
+use Rattle.m17_lane.specs.Rule.{longer, popper, first_number, first_log, first_refused, IsPusher, IsPopper, joined_to, with_back}
 
 module _ {T : Type 0} where
   pub back_is : (v u w : Hand T) (p : PushEnd T) → IsPusher u → p.number ≡ first_number u.logs → p.pushed ≡ first_log u.logs → p.refused ≡ first_refused u.refused → w ≡ joined_to v u → w ≡ with_back v p w.seen

@@ -1,14 +1,14 @@
 -- Each step of a lane keeps its rule, and what a pass learns from the rule. Stated for views in their own form, and then for
 -- the view that a function has.
-use Rattle.std.proofs.Common.{◌≡◌, ◌≢◌, ◌==◌, ℕ, zero, suc, ◌+◌, ◌-◌, ◌^◌, ◌<◌, ◌≤◌, inl, inr, ⊎_elim, Bool, true, false, true≢false, cond, List, [], ◌∷◌, ◌++◌, length, set, subst, sym, refl, ap, ◌∙◌, append_assoc, length-append, eq-eqb, ne_eqb, arith}
+use Rattle.std.proofs.Common.{◌≡◌, ◌≢◌, ◌==◌, ℕ, zero, suc, ◌+◌, ◌-◌, ◌^◌, ◌<◌, ◌≤◌, inl, inr, true≢false, cond, List, [], ◌∷◌, ◌++◌, length, set, subst, sym, refl, ap, ◌∙◌, append_assoc, length-append, eq-eqb, ne_eqb, arith}
 use mathlib.Core.Option.{some, some-injective, some-ne-none}
 use native.Mathlib.Decide.{ℕ_discrete}
 use lib.ListN.{get_elem?}
 use Rattle.crossbeam_queue.specs.Fifo.{Pushes, Pops, Forks, Merges, Learns}
-use Rattle.crossbeam_queue.proofs.Lists.{at_set, at_longer, at_last, set_here, set_else}
+use Rattle.crossbeam_queue.proofs.Lists.{at_last, set_here, set_else}
 use Rattle.m17_lane.specs.declared.rule.Hand.{Hand}
-use Rattle.m17_lane.specs.Orders.{items_of, part, EachLog, HasLog, EachKnown, Apart, IsWhole}
-use Rattle.m17_lane.specs.Rule.{IsPrefix, longer, pusher, popper, idle, first_number, first_log, first_refused, IsPusher, IsPopper, put_in, got_by, refuse, declared_by, hired_by, joined_to, parts_of, EachFrom, Fits, Covers, Last, AllFit, IsLane}
+use Rattle.m17_lane.specs.Orders.{items_of, part, EachLog, HasLog, IsWhole}
+use Rattle.m17_lane.specs.Rule.{longer, pusher, popper, idle, first_number, first_log, first_refused, IsPusher, IsPopper, put_in, got_by, refuse, declared_by, hired_by, joined_to, Fits, AllFit, IsLane}
 use Rattle.m17_lane.proofs.Lists.{below, no_more, prefix_self, prefix_more, longer_begins, longer_left, longer_right, items_snoc, part_snoc_same, part_snoc_other, from_snoc, from_wider, part_above, part_only, logs_map, logs_append, has_append, apart_append, log_at, all_known}
 use Rattle.m17_lane.proofs.Views.{parts_set, parts_snoc, parts_two, each_set, each_snoc, same_at, covers_set, last_set, covers_snoc, last_snoc}
 

@@ -1,7 +1,6 @@
 -- Lists: orders and their parts, first parts of lists, and places in them.
 use Rattle.std.proofs.Common.{◌≡◌, ◌≢◌, ◌==◌, ℕ, zero, suc, ◌+◌, ◌<◌, ◌≤◌, ◌⊎◌, inl, inr, ⊎_elim, Bool, true, false, cond, nat_le, List, [], ◌∷◌, ◌++◌, length, subst, sym, refl, ap, ◌∙◌, append_assoc, append-nil, length-append, eq-eqb, ne_eqb, leb-true, leb-false, arith}
 use mathlib.Core.Option.{some, some-injective, some-ne-none}
-use native.Mathlib.Decide.{ℕ_discrete}
 use lib.ListN.{get_elem?}
 use Rattle.m17_lane.specs.Orders.{items_of, part, EachLog, HasLog, EachKnown, Apart}
 use Rattle.m17_lane.specs.Rule.{IsPrefix, longer, EachFrom}

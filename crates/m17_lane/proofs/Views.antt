@@ -1,9 +1,9 @@
 -- The views of all passes: their parts, and what a change of one view leaves.
-use Rattle.std.proofs.Common.{◌≡◌, ◌≢◌, ℕ, zero, suc, ◌+◌, ◌<◌, ◌≤◌, inl, inr, ⊎_elim, List, [], ◌∷◌, ◌++◌, length, set, subst, sym, refl, ap, ◌∙◌, arith}
+use Rattle.std.proofs.Common.{◌≡◌, ◌≢◌, ℕ, zero, suc, ◌+◌, ◌≤◌, ⊎_elim, List, [], ◌∷◌, ◌++◌, length, set, subst, sym, refl, ap, ◌∙◌, arith}
 use mathlib.Core.Option.{some, some-injective, some-ne-none}
 use native.Mathlib.Decide.{ℕ_discrete}
 use lib.ListN.{get_elem?}
-use Rattle.crossbeam_queue.proofs.Lists.{at_set, at_longer, at_last, set_here, set_else}
+use Rattle.crossbeam_queue.proofs.Lists.{at_set, at_longer, set_here, set_else}
 use Rattle.m17_lane.specs.declared.rule.Hand.{Hand}
 use Rattle.m17_lane.specs.Orders.{HasLog}
 use Rattle.m17_lane.specs.Rule.{parts_of, Covers, Last, AllFit}

@@ -1,7 +1,6 @@
 -- What contracts see in the ends of a lane and in its trail.
 use Rattle.std.specs.Prelude.{◌≡◌, ℕ, zero, suc, List, [], ◌∷◌, ◌++◌}
 use Rattle.atomic_table.specs.Seated.{TableId}
-use Rattle.m17_lane.specs.Orders.{IsShuffle}
 
 -- A pusher: its lane, how many items that holds, how many producers it has, which of them this is, and what was pushed.
 -- `refused` has the items that came back. This profile.

@@ -1,5 +1,5 @@
 -- The order of a lane: all that was pushed, in the order of the queue, each item with the number of its producer.
-use Rattle.std.specs.Prelude.{◌≡◌, ◌≢◌, ◌==◌, ℕ, suc, List, [], ◌∷◌, ◌++◌, cond, ◌⊎◌}
+use Rattle.std.specs.Prelude.{◌≡◌, ◌==◌, ℕ, suc, List, [], ◌∷◌, ◌++◌, cond, ◌⊎◌}
 
 module _ {T : Type 0} where
   -- The items of an order, without their producers.
@@ -47,7 +47,8 @@ module _ {T : Type 0} where
 
   -- All of a lane at one moment: the order is a shuffle of the lists, and what was popped stands in it before the rest.
   -- This profile.
-  pub record IsWhole (logs : List (ℕ × List T)) (popped : List T) (order : List (ℕ × T)) (rest : List T) : Type 0 where
+  pub record IsWhole (logs : List (ℕ × List T)) (popped : List T) (order : List (ℕ × T))
+      (rest : List T) : Type 0 where
     pub shuffle : IsShuffle logs order
     pub queued : items_of order ≡ popped ++ rest
 

@@ -1,5 +1,5 @@
 -- The rule of a lane, for proofs alone: what the queue holds, and what each pass knows.
-use Rattle.std.specs.Prelude.{◌≡◌, ◌==◌, ℕ, ◌+◌, ◌^◌, ◌-◌, ◌<◌, ◌≤◌, Bool, true, false, cond, nat_le, List, [], ◌∷◌, ◌++◌, length}
+use Rattle.std.specs.Prelude.{◌≡◌, ℕ, ◌+◌, ◌^◌, ◌-◌, ◌<◌, ◌≤◌, true, false, cond, nat_le, List, [], ◌∷◌, ◌++◌, length}
 use mathlib.Core.Option.{some}
 use lib.ListN.{get_elem?}
 use Rattle.m17_lane.specs.declared.rule.Hand.{Hand}
@@ -66,7 +66,8 @@ module _ {T : Type 0} where
   first_refused (l ∷ ls) = l
 
   abbrev pub IsPusher : Hand T → Type 0
-  IsPusher v = v ≡ pusher v.producers (first_number v.logs) (first_log v.logs) v.seen (first_refused v.refused)
+  IsPusher v = v
+      ≡ pusher v.producers (first_number v.logs) (first_log v.logs) v.seen (first_refused v.refused)
 
   abbrev pub IsPopper : Hand T → Type 0
   IsPopper v = v ≡ popper v.parts v.producers v.made v.logs v.got v.seen v.refused
@@ -74,13 +75,16 @@ module _ {T : Type 0} where
   -- after a push of x the view has it in its list, and knows the whole order
   abbrev pub put_in : Hand T → T → List (ℕ × T) → Hand T
   put_in v x seen =
-      pusher v.producers (first_number v.logs) (first_log v.logs ++ x ∷ []) seen (first_refused v.refused)
+      pusher v.producers (first_number v.logs) (first_log v.logs ++ x ∷ []) seen
+      (first_refused v.refused)
 
   abbrev pub got_by : Hand T → T → Hand T
   got_by v x = popper v.parts v.producers v.made v.logs (v.got ++ x ∷ []) v.seen v.refused
 
   abbrev pub refuse : Hand T → List T → Hand T
-  refuse v xs = pusher v.producers (first_number v.logs) (first_log v.logs) v.seen (first_refused v.refused ++ xs)
+  refuse v xs =
+      pusher v.producers (first_number v.logs) (first_log v.logs) v.seen
+      (first_refused v.refused ++ xs)
 
   abbrev pub declared_by : Hand T → Hand T
   declared_by v = popper v.parts (v.producers + 1) v.made v.logs v.got v.seen v.refused
@@ -90,12 +94,14 @@ module _ {T : Type 0} where
 
   abbrev pub joined_to : Hand T → Hand T → Hand T
   joined_to v u =
-      popper (v.parts + u.parts) v.producers v.made (u.logs ++ v.logs) v.got (longer v.seen u.seen) (u.refused ++ v.refused)
+      popper (v.parts + u.parts) v.producers v.made (u.logs ++ v.logs) v.got
+      (longer v.seen u.seen) (u.refused ++ v.refused)
 
   -- a pusher's lists and its part have come back to the popper's view
   abbrev pub with_back : Hand T → PushEnd T → List (ℕ × T) → Hand T
   with_back v p seen =
-      popper (v.parts + 1) v.producers v.made ((p.number, p.pushed) ∷ v.logs) v.got seen (p.refused ∷ v.refused)
+      popper (v.parts + 1) v.producers v.made ((p.number, p.pushed) ∷ v.logs) v.got seen
+      (p.refused ∷ v.refused)
 
   abbrev pub parts_of : List (Hand T) → ℕ
   parts_of [] = 0
@@ -107,7 +113,8 @@ module _ {T : Type 0} where
   EachFrom n (e ∷ es) = (e.0 < n) × EachFrom n es
 
   -- what the view v of a pass has to do with the order, what was popped, and the pass that holds each producer's list
-  pub record Fits (order : List (ℕ × T)) (got : List T) (seat : ℕ → ℕ) (reader producers made pass : ℕ) (v : Hand T) : Type 0 where
+  pub record Fits (order : List (ℕ × T)) (got : List T) (seat : ℕ → ℕ)
+      (reader producers made pass : ℕ) (v : Hand T) : Type 0 where
     pub logs : EachLog (λ p l. (seat p ≡ pass) × (l ≡ part p order) × (p < made)) v.logs
     pub reads : v.pops ≡ true → (pass ≡ reader) × (v.got ≡ got) × (v.made ≡ made)
     pub knows : 0 < v.parts → v.producers ≡ producers
@@ -116,7 +123,8 @@ module _ {T : Type 0} where
     pub apart : Apart v.logs
 
   abbrev pub Covers : (ℕ → ℕ) → ℕ → List (Hand T) → Type 0
-  Covers seat made views = (p : ℕ) → p < made → (v : Hand T) × (get_elem? views (seat p) ≡ some v) × HasLog p v.logs
+  Covers seat made views =
+      (p : ℕ) → p < made → (v : Hand T) × (get_elem? views (seat p) ≡ some v) × HasLog p v.logs
 
   abbrev pub Last : List (ℕ × T) → List (Hand T) → Type 0
   Last order views = (pass : ℕ) × (v : Hand T) × (get_elem? views pass ≡ some v) × (v.seen ≡ order)

@@ -27,8 +27,11 @@ pub fn put<T, R: Wait>(
     requires pass { IsPassOf lane.now.line pass.old }
     requires pusher { IsPusher (view pass.old) }
     ensures pass { IsSamePass pass.old pass.new }
-    ensures ok { MatchResult result (λ _. view pass.new ≡ put_in (view pass.old) item (view pass.new).seen) (λ back. (back ≡ item) × (view pass.new ≡ view pass.old)) }
-    ensures full { IfErr result (λ _. (view pass.old).producers ≡ 1 → ruled_capacity lane.now.line ≤ length (first_log (view pass.old).logs)) }
+    ensures ok { MatchResult result
+        (λ _. view pass.new ≡ put_in (view pass.old) item (view pass.new).seen)
+        (λ back. (back ≡ item) × (view pass.new ≡ view pass.old)) }
+    ensures full { IfErr result (λ _. (view pass.old).producers ≡ 1
+        → ruled_capacity lane.now.line ≤ length (first_log (view pass.old).logs)) }
 {
     let answer = lane.line.push_as::<Puts, R>(rt, pass, item);
     if answer.is_ok() {
@@ -51,7 +54,9 @@ pub fn put_or_rest<T, R: Wait>(
     requires pass { IsPassOf lane.now.line pass.old }
     requires pusher { IsPusher (view pass.old) }
     ensures pass { IsSamePass pass.old pass.new }
-    ensures ok { MatchResult result (λ _. view pass.new ≡ put_in (view pass.old) item (view pass.new).seen) (λ back. (back ≡ item) × (view pass.new ≡ view pass.old)) }
+    ensures ok { MatchResult result
+        (λ _. view pass.new ≡ put_in (view pass.old) item (view pass.new).seen)
+        (λ back. (back ≡ item) × (view pass.new ≡ view pass.old)) }
 {
     let key = lane.drained.prepare_wait();
     let answer = put(rt, lane, pass, item);
@@ -66,7 +71,8 @@ pub fn get<T, R: Wait>(rt: &R, lane: &Lane<T>, pass: &mut Pass<T, Hand<T>>) -> O
     requires pass { IsPassOf lane.now.line pass.old }
     requires popper { IsPopper (view pass.old) }
     ensures pass { IsSamePass pass.old pass.new }
-    ensures some { MatchOption result (view pass.new ≡ view pass.old) (λ x. view pass.new ≡ got_by (view pass.old) x) }
+    ensures some { MatchOption result (view pass.new ≡ view pass.old)
+        (λ x. view pass.new ≡ got_by (view pass.old) x) }
 {
     let item = lane.line.pop_as::<Gets, R>(rt, pass);
     if item.is_some() {
@@ -81,7 +87,8 @@ pub fn get_or_rest<T, R: Wait>(rt: &R, lane: &Lane<T>, pass: &mut Pass<T, Hand<T
     requires pass { IsPassOf lane.now.line pass.old }
     requires popper { IsPopper (view pass.old) }
     ensures pass { IsSamePass pass.old pass.new }
-    ensures some { MatchOption result (view pass.new ≡ view pass.old) (λ x. view pass.new ≡ got_by (view pass.old) x) }
+    ensures some { MatchOption result (view pass.new ≡ view pass.old)
+        (λ x. view pass.new ≡ got_by (view pass.old) x) }
 {
     let announced = lane.filled.announce();
     let item = get(rt, lane, pass);

@@ -1,5 +1,5 @@
 //! How lanes are made.
-ghost use Rattle.std.specs.Prelude.{◌≡◌, ◌<◌, ◌+◌, ◌^◌, ◌-◌, [], length, IfOk};
+ghost use Rattle.std.specs.Prelude.{◌≡◌, ◌<◌, ◌+◌, ◌^◌, ◌-◌, [], length, IfOk, OnOk};
 ghost use Rattle.std.specs.Arc.{arc_value};
 ghost use Rattle.crossbeam_queue.specs.Passes.{view as knows, IsPassOf, IsSamePass, ruled_capacity};
 ghost use Rattle.m17_lane.specs.Ends.{new_popper, new_pusher, new_pushers};
@@ -115,8 +115,11 @@ fn hire_all<T: Drop>(
     requires declared { knows pass.old ≡ popper (2 ^ 32) producers 0 [] [] [] [] }
     ensures pass { IsSamePass pass.old pass.new }
     ensures count { IfOk result (λ r. length r.items ≡ producers) }
-    ensures pushers { IfOk result (λ r. r.items ≡ new_pushers (new_popper pass.old.table_id (ruled_capacity (arc_value lane.now).line) producers) producers) }
-    ensures popper { IfOk result (λ r. (knows pass.new ≡ popper (2 ^ 32 - producers) producers producers [] [] [] [])) }
+    ensures pushers { let capacity = ruled_capacity (arc_value lane.now).line in
+        IfOk result (λ r. r.items
+        ≡ new_pushers (new_popper pass.old.table_id capacity producers) producers) }
+    ensures popper { OnOk result (knows pass.new
+        ≡ popper (2 ^ 32 - producers) producers producers [] [] [] []) }
 {
     let Ok(mut pushers) = Vec::with_capacity(alloc, producers as usize) else {
         return Err(NoMemory);

@@ -27,15 +27,26 @@ impl<T> Model for Popper<T> {
 
     ghost Value = { PopEnd T };
 
-    ghost view = { λ p. record { lane = p.pass.table_id; capacity = ruled_capacity (arc_value p.lane).line; producers = (knows p.pass).producers; popped = (knows p.pass).got } };
+    ghost view = { λ p. record {
+      lane = p.pass.table_id;
+      capacity = ruled_capacity (arc_value p.lane).line;
+      producers = (knows p.pass).producers;
+      popped = (knows p.pass).got;
+    } };
 
-    ghost invariant = { λ p. IsPassOf (arc_value p.lane).line p.pass × (knows p.pass ≡ popper (knows p.pass).parts (knows p.pass).producers (knows p.pass).producers [] (knows p.pass).got (knows p.pass).seen []) × ((knows p.pass).parts + (knows p.pass).producers ≡ 2 ^ 32) × (0 < (knows p.pass).parts) };
+    // All pushers are made, none has come back, and each has one part.
+    ghost invariant = { λ p. let v = knows p.pass in
+        IsPassOf (arc_value p.lane).line p.pass
+        × (v ≡ popper v.parts v.producers v.producers [] v.got v.seen [])
+        × (v.parts + v.producers ≡ 2 ^ 32)
+        × (0 < v.parts) };
 }
 
 impl<T> Popper<T> {
     /// The oldest item of the lane, or None where the lane is empty; it never waits for an item. This profile.
     pub fn try_pop<R: Wait>(&mut self, rt: &R) -> Option<T>
-        ensures { MatchOption result (self.new ≡ self.old) (λ x. self.new ≡ popped_from self.old x) }
+        ensures { MatchOption result (self.new ≡ self.old)
+            (λ x. self.new ≡ popped_from self.old x) }
     {
         get(rt, &self.lane, &mut self.pass)
     }
@@ -61,7 +72,8 @@ impl<T> Popper<T> {
     }
 
     fn pop_or_rest<R: Wait>(&mut self, rt: &R) -> Option<T>
-        ensures { MatchOption result (self.new ≡ self.old) (λ x. self.new ≡ popped_from self.old x) }
+        ensures { MatchOption result (self.new ≡ self.old)
+            (λ x. self.new ≡ popped_from self.old x) }
     {
         get_or_rest(rt, &self.lane, &mut self.pass)
     }

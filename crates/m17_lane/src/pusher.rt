@@ -29,7 +29,14 @@ impl<T> Model for Pusher<T> {
 
     ghost Value = { PushEnd T };
 
-    ghost view = { λ p. record { lane = p.pass.table_id; capacity = ruled_capacity (arc_value p.lane).line; producers = (knows p.pass).producers; number = first_number (knows p.pass).logs; pushed = first_log (knows p.pass).logs; refused = first_refused (knows p.pass).refused } };
+    ghost view = { λ p. record {
+      lane = p.pass.table_id;
+      capacity = ruled_capacity (arc_value p.lane).line;
+      producers = (knows p.pass).producers;
+      number = first_number (knows p.pass).logs;
+      pushed = first_log (knows p.pass).logs;
+      refused = first_refused (knows p.pass).refused;
+    } };
 
     ghost invariant = { λ p. IsPassOf (arc_value p.lane).line p.pass × IsPusher (knows p.pass) };
 }
@@ -39,8 +46,10 @@ impl<T> Pusher<T> {
     /// that is handed back counts as refused, and the lane is as it was. In a lane of one producer that happens only
     /// after at least `capacity` pushes. This profile.
     pub fn try_push<R: Wait>(&mut self, rt: &R, item: T) -> Result<(), T>
-        ensures pushed { MatchResult result (λ _. self.new ≡ pushed_to self.old item) (λ back. (back ≡ item) × (self.new ≡ refused_by self.old item)) }
-        ensures full { IfErr result (λ _. self.old.producers ≡ 1 → self.old.capacity ≤ length self.old.pushed) }
+        ensures pushed { MatchResult result (λ _. self.new ≡ pushed_to self.old item)
+            (λ back. (back ≡ item) × (self.new ≡ refused_by self.old item)) }
+        ensures full { IfErr result (λ _. self.old.producers ≡ 1
+            → self.old.capacity ≤ length self.old.pushed) }
     {
         match self.offer(rt, item) {
             Ok(()) => Ok(()),
@@ -74,14 +83,17 @@ impl<T> Pusher<T> {
     }
 
     fn offer<R: Wait>(&mut self, rt: &R, item: T) -> Result<(), T>
-        ensures pushed { MatchResult result (λ _. self.new ≡ pushed_to self.old item) (λ back. (back ≡ item) × (self.new ≡ self.old)) }
-        ensures full { IfErr result (λ _. self.old.producers ≡ 1 → self.old.capacity ≤ length self.old.pushed) }
+        ensures pushed { MatchResult result (λ _. self.new ≡ pushed_to self.old item)
+            (λ back. (back ≡ item) × (self.new ≡ self.old)) }
+        ensures full { IfErr result (λ _. self.old.producers ≡ 1
+            → self.old.capacity ≤ length self.old.pushed) }
     {
         put(rt, &self.lane, &mut self.pass, item)
     }
 
     fn offer_or_rest<R: Wait>(&mut self, rt: &R, item: T) -> Result<(), T>
-        ensures { MatchResult result (λ _. self.new ≡ pushed_to self.old item) (λ back. (back ≡ item) × (self.new ≡ self.old)) }
+        ensures { MatchResult result (λ _. self.new ≡ pushed_to self.old item)
+            (λ back. (back ≡ item) × (self.new ≡ self.old)) }
     {
         put_or_rest(rt, &self.lane, &mut self.pass, item)
     }

@@ -1,7 +1,6 @@
 //! The rule of a lane's queue: what each pass knows, and what its steps tell. These types are for the proofs alone; no
 //! value of them is made, and a pass takes no bytes.
-ghost use Rattle.std.specs.Prelude.{◌≡◌, ◌+◌, ◌++◌, ◌∷◌, ◌^◌, ◌≤◌, [], ℕ, List, length};
-ghost use Rattle.m17_lane.specs.Rule.{popper, IsLane};
+ghost use Rattle.std.specs.Prelude.{List};
 
 use crossbeam_queue::RuledArrayQueue;
 use crossbeam_queue::protocol::{Join, Lesson, Outcome, Protocol, Split};
@@ -77,7 +76,8 @@ impl<T> Outcome<T, Hand<T>> for Leaves {
     ghost use Rattle.m17_lane.specs.Orders.{items_of};
     ghost use Rattle.m17_lane.specs.Rule.{got_by};
 
-    ghost then = { λ v x w. (w ≡ got_by v x) × ((rest : List T) × (items_of v.seen ≡ v.got ++ x ∷ rest)) };
+    ghost then = { λ v x w. (w ≡ got_by v x)
+        × ((rest : List T) × (items_of v.seen ≡ v.got ++ x ∷ rest)) };
 }
 
 impl<T> Lesson<T, Hand<T>> for Leaves {

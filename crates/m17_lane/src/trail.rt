@@ -33,17 +33,26 @@ impl<T> Model for Trail<T> {
 
     ghost Value = { TrailEnd T };
 
-    ghost view = { λ t. record { order = (knows t.pass).seen; popped = (knows t.pass).got; logs = (knows t.pass).logs; refused = (knows t.pass).refused } };
+    ghost view = { λ t. record {
+      order = (knows t.pass).seen;
+      popped = (knows t.pass).got;
+      logs = (knows t.pass).logs;
+      refused = (knows t.pass).refused;
+    } };
 
-    ghost invariant = { λ t. IsPassOf (arc_value t.lane).line t.pass × IsPopper (knows t.pass) × ((knows t.pass).parts ≡ 2 ^ 32) };
+    ghost invariant = { λ t. IsPassOf (arc_value t.lane).line t.pass
+        × IsPopper (knows t.pass)
+        × ((knows t.pass).parts ≡ 2 ^ 32) };
 }
 
 impl<T> Trail<T> {
     /// The next item that was pushed and not popped, in the order of the queue. None exactly where all is popped. This
     /// profile.
     pub fn left<R: Wait>(&mut self, rt: &R) -> Option<T>
-        ensures left { MatchOption result (self.new ≡ self.old) (λ x. self.new ≡ left_of self.old x) }
-        ensures all_popped { MatchOption result (items_of self.old.order ≡ self.old.popped) (λ x. (rest : List T) × (items_of self.old.order ≡ self.old.popped ++ x ∷ rest)) }
+        ensures left { MatchOption result (self.new ≡ self.old)
+            (λ x. self.new ≡ left_of self.old x) }
+        ensures all_popped { MatchOption result (items_of self.old.order ≡ self.old.popped)
+            (λ x. (rest : List T) × (items_of self.old.order ≡ self.old.popped ++ x ∷ rest)) }
     {
         let lane = &self.lane;
         lane.line.pop_as::<Leaves, R>(rt, &mut self.pass)
