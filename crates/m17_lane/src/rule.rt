@@ -1,6 +1,6 @@
 //! The rule of a lane's queue: what each pass knows, and what its steps tell. These types are for the proofs alone; no
 //! value of them is made, and a pass takes no bytes.
-ghost use Rattle.std.specs.Prelude.{List};
+ghost use Rattle.std.specs.Prelude.{◌≡◌, List};
 
 use crossbeam_queue::RuledArrayQueue;
 use crossbeam_queue::protocol::{Join, Lesson, Outcome, Protocol, Split};
