@@ -1,0 +1,5 @@
+mod Lists
+mod Views
+mod Keeps
+mod Folds
+mod Joins

@@ -1,0 +1,4 @@
+pub mod Orders
+pub mod Ends
+pub mod Laws
+pub mod Rule

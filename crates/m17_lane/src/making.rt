@@ -1,0 +1,135 @@
+//! How lanes are made.
+ghost use Rattle.std.specs.Prelude.{◌≡◌, ◌<◌, ◌+◌, ◌^◌, ◌-◌, [], length, IfOk, OnOk};
+ghost use Rattle.std.specs.Arc.{arc_value};
+ghost use Rattle.crossbeam_queue.specs.Passes.{view as knows, IsPassOf, IsSamePass, ruled_capacity};
+ghost use Rattle.m17_lane.specs.Ends.{new_popper, new_pusher, new_pushers};
+ghost use Rattle.m17_lane.specs.Rule.{popper};
+
+use crate::bell::Bell;
+use crate::lane::Lane;
+use crate::popper::Popper;
+use crate::pusher::Pusher;
+use crate::rule::{Declare, Hand, Hire, Line};
+use crossbeam_queue::Pass;
+use crossbeam_utils::sync::EventCount;
+use m17_values::NoMemory;
+use std::alloc::Global;
+use std::sync::Arc;
+
+/// A lane for that many producers, which holds that many items, with a bell of its own: the pushers, numbered from 0 on
+/// in the order of the answer, and the popper. `NoMemory` where there is none for it; nothing else is refused. This
+/// profile.
+pub fn make<T: Drop>(
+    alloc: Global,
+    producers: u32,
+    capacity: u32,
+) -> Result<(Vec<Pusher<T>>, Popper<T>), NoMemory>
+    requires producers { 0 < producers }
+    requires capacity { 0 < capacity }
+    ensures count { IfOk result (λ r. length r.0.items ≡ producers) }
+    ensures popper { IfOk result (λ r. r.1 ≡ new_popper r.1.lane capacity producers) }
+    ensures pushers { IfOk result (λ r. r.0.items ≡ new_pushers r.1 producers) }
+{
+    let bell = Bell::make(alloc)?;
+    make_with(alloc, &bell, producers, capacity)
+}
+
+/// `make` with a bell that other lanes ring too, so that one thread can wait for all of them: see `Bell`. This profile.
+pub fn make_with<T: Drop>(
+    alloc: Global,
+    bell: &Bell,
+    producers: u32,
+    capacity: u32,
+) -> Result<(Vec<Pusher<T>>, Popper<T>), NoMemory>
+    requires producers { 0 < producers }
+    requires capacity { 0 < capacity }
+    ensures count { IfOk result (λ r. length r.0.items ≡ producers) }
+    ensures popper { IfOk result (λ r. r.1 ≡ new_popper r.1.lane capacity producers) }
+    ensures pushers { IfOk result (λ r. r.0.items ≡ new_pushers r.1 producers) }
+{
+    let filled = bell.share()?;
+    let Ok((line, mut pass)) = Line::ruled(alloc, capacity as usize) else {
+        return Err(NoMemory);
+    };
+    declare_all(&line, &mut pass, producers);
+    let drained = EventCount::new();
+    let lane = Lane {
+        line,
+        filled,
+        drained,
+    };
+    let Ok(lane) = Arc::new(alloc, lane) else {
+        return Err(NoMemory);
+    };
+    let pushers = hire_all(alloc, &lane, &mut pass, producers)?;
+    Ok((pushers, Popper { lane, pass }))
+}
+
+/// A lane of one producer, with a bell of its own. This profile.
+pub fn make_one<T: Drop>(alloc: Global, capacity: u32) -> Result<(Pusher<T>, Popper<T>), NoMemory>
+    requires { 0 < capacity }
+    ensures popper { IfOk result (λ r. r.1 ≡ new_popper r.1.lane capacity 1) }
+    ensures pusher { IfOk result (λ r. r.0 ≡ new_pusher r.1 0) }
+{
+    let bell = Bell::make(alloc)?;
+    make_one_with(alloc, &bell, capacity)
+}
+
+/// `make_one` with a bell that other lanes ring too. This profile.
+pub fn make_one_with<T: Drop>(
+    alloc: Global,
+    bell: &Bell,
+    capacity: u32,
+) -> Result<(Pusher<T>, Popper<T>), NoMemory>
+    requires { 0 < capacity }
+    ensures popper { IfOk result (λ r. r.1 ≡ new_popper r.1.lane capacity 1) }
+    ensures pusher { IfOk result (λ r. r.0 ≡ new_pusher r.1 0) }
+{
+    let (mut pushers, popper) = make_with(alloc, bell, 1, capacity)?;
+    match pushers.pop() {
+        Some(pusher) => Ok((pusher, popper)),
+        None => unreachable!(),
+    }
+}
+
+// Tells the pass of a new queue how many producers there will be, so that each pusher's pass knows it.
+fn declare_all<T>(line: &Line<T>, pass: &mut Pass<T, Hand<T>>, producers: u32)
+    requires pass { IsPassOf line.now pass.old }
+    requires new { knows pass.old ≡ popper (2 ^ 32) 0 0 [] [] [] [] }
+    ensures pass { IsSamePass pass.old pass.new }
+    ensures declared { knows pass.new ≡ popper (2 ^ 32) producers 0 [] [] [] [] }
+{
+    for _declared in 0..producers {
+        let _ = line.another::<Declare>(pass);
+    }
+}
+
+// Splits a pusher's pass off for each producer. The queue is counted once more for each pusher.
+fn hire_all<T: Drop>(
+    alloc: Global,
+    lane: &Arc<Lane<T>, Global>,
+    pass: &mut Pass<T, Hand<T>>,
+    producers: u32,
+) -> Result<Vec<Pusher<T>>, NoMemory>
+    requires pass { IsPassOf (arc_value lane.now).line pass.old }
+    requires declared { knows pass.old ≡ popper (2 ^ 32) producers 0 [] [] [] [] }
+    ensures pass { IsSamePass pass.old pass.new }
+    ensures count { IfOk result (λ r. length r.items ≡ producers) }
+    ensures pushers { let capacity = ruled_capacity (arc_value lane.now).line in
+        IfOk result (λ r. r.items
+        ≡ new_pushers (new_popper pass.old.table_id capacity producers) producers) }
+    ensures popper { OnOk result (knows pass.new
+        ≡ popper (2 ^ 32 - producers) producers producers [] [] [] []) }
+{
+    let Ok(mut pushers) = Vec::with_capacity(alloc, producers as usize) else {
+        return Err(NoMemory);
+    };
+    for _hired in 0..producers {
+        let Ok(lane) = Arc::try_clone(lane) else {
+            return Err(NoMemory);
+        };
+        let pass = lane.line.another::<Hire>(pass);
+        pushers.push_reserved(Pusher { lane, pass });
+    }
+    Ok(pushers)
+}

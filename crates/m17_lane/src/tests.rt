@@ -1,0 +1,364 @@
+//! What no clause says: that calls go through with ample memory, that an end can go to another thread, that the lane had
+//! no room or no item when a call says so, that sleepers are woken, and that an item is dropped once.
+ghost use Rattle.std.specs.Prelude.{◌≡◌, ◌<◌, ◌+◌, ◌^◌};
+ghost use Rattle.m17_lane.specs.Ends.{pushed_to, popped_from};
+
+use super::*;
+use std::alloc::Global;
+use std::sync::Wait;
+use std::sync::atomic::{AtomicU64, Ordering};
+use std::test::Fail;
+use std::thread;
+use std::thread::Threads;
+use std::time::{Clock, Duration};
+
+// One thread pushes an item by an end that it owns, another pops one; both ends come back.
+fn pass_on<T: Drop + Send, R: Threads + Wait + Sync>(
+    rt: &R,
+    pusher: Pusher<T>,
+    popper: Popper<T>,
+    item: T,
+) -> (Pusher<T>, (Popper<T>, T))
+    ensures pushed { result.0 ≡ pushed_to pusher item }
+    ensures popped { result.1.0 ≡ popped_from popper result.1.1 }
+{
+    thread::join(
+        rt,
+        move || -> Pusher<T>
+            ensures { result ≡ pushed_to pusher item }
+        { push_one(rt, pusher, item) },
+        move || -> (Popper<T>, T)
+            ensures { result.0 ≡ popped_from popper result.1 }
+        { pop_one(rt, popper) },
+    )
+}
+
+fn push_one<T, R: Wait>(rt: &R, end: Pusher<T>, item: T) -> Pusher<T>
+    ensures { result ≡ pushed_to end item }
+{
+    let mut end = end;
+    end.push_waiting(rt, item);
+    end
+}
+
+fn pop_one<T, R: Wait>(rt: &R, end: Popper<T>) -> (Popper<T>, T)
+    ensures { result.0 ≡ popped_from end result.1 }
+{
+    let mut end = end;
+    let item = end.pop_waiting(rt);
+    (end, item)
+}
+
+// Pushes `count` numbers from `from` on.
+fn push_numbers<R: Wait>(rt: &R, end: Pusher<u32>, from: u32, count: u32) -> Pusher<u32>
+    requires { from + count < 2 ^ 32 }
+    ensures { result.lane ≡ end.lane }
+{
+    let mut end = end;
+    for i in 0..count {
+        end.push_waiting(rt, from + i);
+    }
+    end
+}
+
+// Tries the numbers from 1 to below `end`, and says how many were taken.
+fn try_numbers<R: Wait>(rt: &R, pusher: Pusher<u32>, end: u32) -> (Pusher<u32>, u32)
+    ensures { result.0.lane ≡ pusher.lane }
+{
+    let mut pusher = pusher;
+    let mut taken = 0u32;
+    for i in 1..end {
+        if pusher.try_push(rt, i).is_ok() {
+            taken = taken.saturating_add(1);
+        }
+    }
+    (pusher, taken)
+}
+
+// Pops `count` numbers, at rest between two of them for that many microseconds. The answer is how many of them were not
+// the next of their thousand.
+fn pop_numbers<R: Wait + Clock>(
+    rt: &R,
+    end: Popper<u32>,
+    count: u32,
+    rest: u64,
+) -> (Popper<u32>, u32)
+    ensures lane { result.0.lane ≡ end.lane }
+    ensures producers { result.0.producers ≡ end.producers }
+{
+    let mut end = end;
+    let mut next = [0u32; 3];
+    let mut wrong = 0u32;
+    for _popped in 0..count {
+        let number = end.pop_waiting(rt);
+        let row = (number / 1000 % 3) as usize;
+        if number % 1000 != next[row] {
+            wrong = wrong.saturating_add(1);
+        }
+        next[row] = number % 1000 + 1;
+        if rest > 0 {
+            thread::sleep(rt, Duration::from_micros(rest));
+        }
+    }
+    (end, wrong)
+}
+
+type Three = (Pusher<u32>, Pusher<u32>, Pusher<u32>);
+
+// Three threads push their thousand, from 0, 1000 and 2000 on, and this one pops all.
+fn three_thousand<R: Threads + Wait + Clock + Sync>(
+    rt: &R,
+    ends: Three,
+    popper: Popper<u32>,
+    each: u32,
+    rest: u64,
+) -> (Three, (Popper<u32>, u32))
+    requires { each < 1001 }
+    ensures first { result.0.0.lane ≡ ends.0.lane }
+    ensures second { result.0.1.lane ≡ ends.1.lane }
+    ensures third { result.0.2.lane ≡ ends.2.lane }
+    ensures lane { result.1.0.lane ≡ popper.lane }
+    ensures producers { result.1.0.producers ≡ popper.producers }
+{
+    let (a, b, c) = ends;
+    let ((a, (b, c)), popped) = thread::join(
+        rt,
+        move || -> (Pusher<u32>, (Pusher<u32>, Pusher<u32>))
+            requires { each < 1001 }
+            ensures { (result.0.lane ≡ a.lane)
+                × (result.1.0.lane ≡ b.lane) × (result.1.1.lane ≡ c.lane) }
+        {
+            thread::join(
+                rt,
+                move || -> Pusher<u32>
+                    requires { each < 1001 }
+                    ensures { result.lane ≡ a.lane }
+                { push_numbers(rt, a, 0, each) },
+                move || -> (Pusher<u32>, Pusher<u32>)
+                    requires { each < 1001 }
+                    ensures { (result.0.lane ≡ b.lane) × (result.1.lane ≡ c.lane) }
+                {
+                    thread::join(
+                        rt,
+                        move || -> Pusher<u32>
+                            requires { each < 1001 }
+                            ensures { result.lane ≡ b.lane }
+                        { push_numbers(rt, b, 1000, each) },
+                        move || -> Pusher<u32>
+                            requires { each < 1001 }
+                            ensures { result.lane ≡ c.lane }
+                        { push_numbers(rt, c, 2000, each) },
+                    )
+                },
+            )
+        },
+        move || -> (Popper<u32>, u32)
+            requires { each < 1001 }
+            ensures { (result.0.lane ≡ popper.lane) × (result.0.producers ≡ popper.producers) }
+        { pop_numbers(rt, popper, 3 * each, rest) },
+    );
+    ((a, b, c), popped)
+}
+
+#[test]
+fn a_full_lane_gives_the_item_back(rt: HostRuntime) -> Result<(), Fail> {
+    let (mut pushers, mut popper) = make(rt.alloc(), 2, 1)?;
+    let mut second = pushers.pop().expect(&rt, "two pushers");
+    let mut first = pushers.pop().expect(&rt, "two pushers");
+    assert_eq!(rt; first.try_push(&rt, 7), Ok(()));
+    assert_eq!(rt; second.try_push(&rt, 8), Err(8));
+    assert_eq!(rt; popper.try_pop(&rt), Some(7));
+    assert_eq!(rt; popper.try_pop(&rt), None);
+    assert_eq!(rt; second.try_push(&rt, 9), Ok(()));
+    assert_eq!(rt; popper.try_pop(&rt), Some(9));
+    Ok(())
+}
+
+#[test]
+fn what_is_left_comes_out_of_the_trail(rt: HostRuntime) -> Result<(), Fail> {
+    let (pusher, popper) = make_one(rt.alloc(), 3)?;
+    let (pusher, taken) = try_numbers(&rt, pusher, 5);
+    assert_eq!(rt; taken, 3);
+    let (popper, item) = pop_one(&rt, popper);
+    assert_eq!(rt; item, 1);
+    let mut trail = finish_one(pusher, popper);
+    assert_eq!(rt; (trail.left(&rt), trail.left(&rt)), (Some(2), Some(3)));
+    assert_eq!(rt; (trail.left(&rt), trail.left(&rt)), (None, None));
+    Ok(())
+}
+
+#[test]
+fn an_end_goes_to_another_thread_and_comes_back(rt: HostRuntime) -> Result<(), Fail> {
+    let (pusher, popper) = make_one(rt.alloc(), 1)?;
+    let (pusher, (popper, item)) = pass_on(&rt, pusher, popper, 5u8);
+    assert_eq!(rt; item, 5);
+    let mut trail = finish_one(pusher, popper);
+    assert_eq!(rt; trail.left(&rt), None);
+    Ok(())
+}
+
+#[test]
+fn each_producers_numbers_come_in_its_order(rt: HostRuntime) -> Result<(), Fail> {
+    for (capacity, each, rest) in [(4, 1000, 0), (1, 50, 300)] {
+        let (mut pushers, popper) = make(rt.alloc(), 3, capacity)?;
+        let third = pushers.pop().expect(&rt, "three pushers");
+        let second = pushers.pop().expect(&rt, "three pushers");
+        let first = pushers.pop().expect(&rt, "three pushers");
+        let ends = (first, second, third);
+        let (ends, (popper, wrong)) = three_thousand(&rt, ends, popper, each, rest);
+        assert_eq!(rt; wrong, 0, "at capacity {capacity}");
+        pushers.push(ends.0)?;
+        pushers.push(ends.1)?;
+        pushers.push(ends.2)?;
+        let mut trail = finish(pushers, popper);
+        assert_eq!(rt; trail.left(&rt), None, "at capacity {capacity}");
+    }
+    Ok(())
+}
+
+// Pushes a number by each end in turn, with a rest before each, so that the consumer is asleep when it comes.
+fn ring_in_turn<R: Wait + Clock>(rt: &R, ends: Three, rounds: u32) {
+    let (mut a, mut b, mut c) = ends;
+    for i in 0..rounds {
+        thread::sleep(rt, Duration::from_millis(2));
+        a.push_waiting(rt, i);
+        thread::sleep(rt, Duration::from_millis(2));
+        b.push_waiting(rt, i);
+        thread::sleep(rt, Duration::from_millis(2));
+        c.push_waiting(rt, i);
+    }
+}
+
+type Poppers = (Popper<u32>, Popper<u32>, Popper<u32>);
+
+// Takes `count` numbers from three lanes of one bell, asleep while all three are empty. The answer is how many it took.
+fn take_from_three<R: Wait>(rt: &R, bell: &Bell, ends: Poppers, count: u32) -> u32 {
+    let (mut a, mut b, mut c) = ends;
+    let mut taken = 0u32;
+    for _ in rt.forever() {
+        if taken >= count {
+            break;
+        }
+        let announced = bell.announce();
+        let tried = (a.try_pop(rt), b.try_pop(rt), c.try_pop(rt));
+        match tried {
+            (None, None, None) => announced.sleep(rt),
+            (first, second, third) => {
+                let found = u32::from(first.is_some())
+                    + u32::from(second.is_some())
+                    + u32::from(third.is_some());
+                taken = taken.saturating_add(found);
+            }
+        }
+    }
+    taken
+}
+
+#[test]
+fn one_bell_wakes_the_consumer_of_three_lanes(rt: HostRuntime) -> Result<(), Fail> {
+    let bell = Bell::make(rt.alloc())?;
+    let (a, from_a) = make_one_with(rt.alloc(), &bell, 1)?;
+    let (b, from_b) = make_one_with(rt.alloc(), &bell, 1)?;
+    let (c, from_c) = make_one_with(rt.alloc(), &bell, 1)?;
+    let ends = (a, b, c);
+    let poppers = (from_a, from_b, from_c);
+    let shared = &bell;
+    let lend = &rt;
+    let (_, taken) = thread::join(
+        lend,
+        move || ring_in_turn(lend, ends, 100),
+        move || take_from_three(lend, shared, poppers, 300),
+    );
+    assert_eq!(rt; taken, 300);
+    Ok(())
+}
+
+// Pushes bursts of a thousand numbers, and rests after each until the other thread says that it has them.
+fn send_bursts<R: Wait>(rt: &R, end: Pusher<u32>, answers: Popper<u32>, bursts: u32) -> u32 {
+    let mut end = end;
+    let mut answers = answers;
+    let mut wrong = 0u32;
+    for burst in 0..bursts {
+        for i in 0..1000 {
+            end.push_waiting(rt, i);
+        }
+        if answers.pop_waiting(rt) != burst {
+            wrong = wrong.saturating_add(1);
+        }
+    }
+    wrong
+}
+
+fn take_bursts<R: Wait + Clock>(
+    rt: &R,
+    end: Popper<u32>,
+    answers: Pusher<u32>,
+    bursts: u32,
+) -> u32 {
+    let mut end = end;
+    let mut answers = answers;
+    let mut wrong = 0u32;
+    for burst in 0..bursts {
+        for i in 0..1000 {
+            if end.pop_waiting(rt) != i {
+                wrong = wrong.saturating_add(1);
+            }
+        }
+        // Now both are at rest: the one sleeps here, and the other on its empty lane.
+        thread::sleep(rt, Duration::from_millis(2));
+        answers.push_waiting(rt, burst);
+    }
+    wrong
+}
+
+// A missed wake-up leaves both threads asleep for ever, and the test is then stopped as too long.
+#[test]
+fn two_hundred_thousand_items_in_bursts_arrive(rt: HostRuntime) -> Result<(), Fail> {
+    let (pusher, popper) = make_one(rt.alloc(), 16)?;
+    let (answers, answered) = make_one(rt.alloc(), 1)?;
+    let lend = &rt;
+    let wrong = thread::join(
+        lend,
+        move || send_bursts(lend, pusher, answered, 200),
+        move || take_bursts(lend, popper, answers, 200),
+    );
+    assert_eq!(rt; wrong, (0, 0));
+    Ok(())
+}
+
+// An item that counts itself when it is dropped.
+struct Counted<'a>(&'a AtomicU64);
+
+impl Drop for Counted<'_> {
+    fn drop(self) {
+        let Counted(dropped) = self;
+        dropped.fetch_add(1, Ordering::SeqCst);
+    }
+}
+
+#[test]
+fn an_item_is_dropped_once(rt: HostRuntime) -> Result<(), Fail> {
+    let dropped = AtomicU64::new(0);
+    let (mut pusher, mut popper) = make_one(rt.alloc(), 1)?;
+    assert!(rt; pusher.try_push(&rt, Counted(&dropped)).is_ok());
+    let back = pusher.try_push(&rt, Counted(&dropped));
+    assert_eq!(rt;
+        dropped.load(Ordering::SeqCst),
+        0,
+        "the refused item came back"
+    );
+    drop(back);
+    assert_eq!(rt; dropped.load(Ordering::SeqCst), 1);
+    drop(popper.try_pop(&rt));
+    assert_eq!(rt; dropped.load(Ordering::SeqCst), 2);
+    assert!(rt; pusher.try_push(&rt, Counted(&dropped)).is_ok());
+    drop(pusher);
+    assert_eq!(rt;
+        dropped.load(Ordering::SeqCst),
+        2,
+        "one item is in the lane"
+    );
+    drop(popper);
+    assert_eq!(rt; dropped.load(Ordering::SeqCst), 3);
+    Ok(())
+}
