@@ -1,0 +1,10 @@
+-- what callers need
+pub mod Sightings
+pub mod Seat
+pub mod Run
+pub mod Closing
+-- for the rule and the proofs alone
+pub mod Notes
+pub mod Rule
+pub mod SeatModel
+pub mod EndModel

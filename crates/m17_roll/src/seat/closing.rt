@@ -1,0 +1,9 @@
+use super::RollSeat;
+
+pub struct RollEnd {
+    seat: RollSeat,
+}
+
+pub fn close(seats: Vec<RollSeat>) -> RollEnd {
+    unreachable!()
+}
