@@ -1,0 +1,5 @@
+mod Weighing
+mod Marks
+mod Steps
+mod Claiming
+mod Seats

@@ -1,5 +1,5 @@
 -- The seats of a roll brought together again, and what is shown then. This profile.
-use Rattle.std.specs.Prelude.{◌≡◌, ℕ, ◌+◌, ◌<◌, List, [], ◌∷◌, ◌++◌, map, length, slice_index, sum_by}
+use Rattle.std.specs.Prelude.{◌≡◌, ℕ, ◌+◌, ◌<◌, List, [], ◌∷◌, ◌++◌, map, length}
 use Rattle.std.specs.List.{All, Contains}
 use Rattle.atomic_table.specs.Seated.{TableId}
 use Rattle.m17_devices.specs.declared.member.Member.{Member}
@@ -38,4 +38,5 @@ EveryPlaceStands words claimed =
 -- stands among the claimed members.
 pub record IsEnded (e : EndView) : Type 0 where
   pub run : IsRollRun e.words e.claimed e.given
-  pub refused_when_full : 0 < sum_by length e.refused → EveryPlaceStands e.words e.claimed
+  pub refused_when_full :
+    (asker : ℕ) (others : List ℕ) → Contains e.refused (asker ∷ others) → EveryPlaceStands e.words e.claimed

@@ -1,5 +1,5 @@
 -- What a seat knows, and what each kind of step adds to it.
-use Rattle.std.specs.Prelude.{ℕ, ◌+◌, ◌-◌, List, [], ◌∷◌, ◌++◌, length, sum_by}
+use Rattle.std.specs.Prelude.{ℕ, ◌+◌, ◌-◌, List, [], ◌∷◌, ◌++◌, length}
 use Rattle.m17_roll.specs.declared.rule.Notes.{Notes}
 use Rattle.m17_roll.specs.Sightings.{sighting, member}
 
@@ -37,6 +37,11 @@ joined v w = record {
   refused = v.refused; finished = w.refused ∷ v.finished; seen = v.seen
 }
 
+-- how many askers stand in these lists
+abbrev pub length_of : List (List ℕ) → ℕ
+length_of [] = 0
+length_of (who ∷ lists) = length who + length_of lists
+
 -- how many askers were refused, by the seat and by those that were joined to it
 abbrev pub refusals : Notes → ℕ
-refusals v = length v.refused + sum_by length v.finished
+refusals v = length v.refused + length_of v.finished

@@ -1,5 +1,5 @@
 -- The rule that every step on the table keeps, and what each kind of step tells its seat.
-use Rattle.std.specs.Prelude.{◌≡◌, ◌≢◌, ℕ, zero, suc, ◌+◌, ◌*◌, ◌/◌, ◌<◌, ◌≤◌, List, [], ◌∷◌, ◌++◌, length, slice_index, sum_by}
+use Rattle.std.specs.Prelude.{◌≡◌, ◌≢◌, ℕ, zero, suc, ◌+◌, ◌*◌, ◌/◌, ◌<◌, ◌≤◌, List, [], ◌∷◌, ◌++◌, length, slice_index}
 use Rattle.std.specs.List.{All, Contains}
 use mathlib.Core.Option.{some}
 use lib.ListN.{get_elem?}
@@ -12,7 +12,13 @@ use Rattle.m17_roll.specs.Notes.{sees, claiming, giving, missing, refusing, refu
 
 -- the weights of the members, added up
 abbrev pub weigh : (ℕ → ℕ → ℕ) → List Member → ℕ
-weigh h ms = sum_by (λ m. h m.place m.generation) ms
+weigh h [] = 0
+weigh h (m ∷ ms) = h m.place m.generation + weigh h ms
+
+-- f of each seat, added up
+abbrev pub total : (Notes → ℕ) → List Notes → ℕ
+total f [] = 0
+total f (v ∷ vs) = f v + total f vs
 
 -- h 0 to h (n - 1), added up
 abbrev pub upto : (ℕ → ℕ) → ℕ → ℕ
@@ -43,9 +49,9 @@ pub record Fits (words : List ℕ) (v : Notes) : Type 0 where
 pub record Kept (places seats : ℕ) (s : State (Unit {0}) Notes) : Type 0 where
   pub wide : length s.words ≡ places
   pub bounded : (q : ℕ) → slice_index s.words q ≤ 18446744073709551614
-  pub whole : sum_by (λ (v : Notes). v.parts) s.views ≡ seats
-  pub claims : (h : ℕ → ℕ → ℕ) → sum_by (λ (v : Notes). weigh h v.claimed) s.views ≡ sums h claims_by s.words
-  pub gifts : (h : ℕ → ℕ → ℕ) → sum_by (λ (v : Notes). weigh h v.given) s.views ≡ sums h gifts_by s.words
+  pub whole : total (λ v. v.parts) s.views ≡ seats
+  pub claims : (h : ℕ → ℕ → ℕ) → total (λ v. weigh h v.claimed) s.views ≡ sums h claims_by s.words
+  pub gifts : (h : ℕ → ℕ → ℕ) → total (λ v. weigh h v.given) s.views ≡ sums h gifts_by s.words
   pub each : (id : ℕ) (v : Notes) → get_elem? s.views id ≡ some v → Fits s.words v
 
 abbrev pub Mine : Type 0
