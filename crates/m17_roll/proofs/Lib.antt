@@ -3,3 +3,4 @@ mod Marks
 mod Steps
 mod Claiming
 mod Seats
+mod Seated

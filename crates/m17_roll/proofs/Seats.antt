@@ -18,7 +18,7 @@ new_fits ws places parts wide = record {
   idle = λ _. (refl, refl);
   sized = wide;
   below = λ k d lt. absurd (omega arith);
-  asked = λ h q lt. absurd (omega arith)
+  asked = λ h q lt. absurd (omega arith);
 }
 
 pub splitting : (P N id : ℕ) (v : Notes) → 1 < v.parts → Splits (Kept P N) id v (rest_of v) (newcomer v.places 1)
@@ -27,24 +27,24 @@ splitting P N id v more s kept at =
       wide = kept.wide;
       bounded = kept.bounded;
       whole = (
-        let a = total_set (λ u. u.parts) s.views id v (rest_of v) at in
-        let b = total_snoc (λ u. u.parts) (set s.views id (rest_of v)) (newcomer v.places 1) in
-        let k = kept.whole in omega arith);
+          let a = total_set (λ u. u.parts) s.views id v (rest_of v) at in
+          let b = total_snoc (λ u. u.parts) (set s.views id (rest_of v)) (newcomer v.places 1) in
+          let k = kept.whole in omega arith);
       claims = (λ h.
-        let a = total_set (λ u. weigh h u.claimed) s.views id v (rest_of v) at in
-        let b = total_snoc (λ u. weigh h u.claimed) (set s.views id (rest_of v)) (newcomer v.places 1) in
-        let k = kept.claims h in omega arith);
+          let a = total_set (λ u. weigh h u.claimed) s.views id v (rest_of v) at in
+          let b = total_snoc (λ u. weigh h u.claimed) (set s.views id (rest_of v)) (newcomer v.places 1) in
+          let k = kept.claims h in omega arith);
       gifts = (λ h.
-        let a = total_set (λ u. weigh h u.given) s.views id v (rest_of v) at in
-        let b = total_snoc (λ u. weigh h u.given) (set s.views id (rest_of v)) (newcomer v.places 1) in
-        let k = kept.gifts h in omega arith);
+          let a = total_set (λ u. weigh h u.given) s.views id v (rest_of v) at in
+          let b = total_snoc (λ u. weigh h u.given) (set s.views id (rest_of v)) (newcomer v.places 1) in
+          let k = kept.gifts h in omega arith);
       each = (λ j u is. ⊎_elim
-        (λ e. ⊎_elim
-            (λ t. subst (λ (x : Notes). Fits s.words x) t.1 record { idle = λ z. absurd (omega arith); sized = λ _. fits.sized (omega arith); below = fits.below; asked = fits.asked })
-            (λ t. kept.each j u t.1)
-            (at_set s.views id j (rest_of v) u e))
-        (λ e. subst (λ (x : Notes). Fits s.words x) e (new_fits s.words v.places 1 (λ _. fits.sized (omega arith))))
-        (at_snoc (set s.views id (rest_of v)) (newcomer v.places 1) u j is))
+          (λ e. ⊎_elim
+          (λ t. subst (λ (x : Notes). Fits s.words x) t.1 record { idle = λ z. absurd (omega arith); sized = λ _. fits.sized (omega arith); below = fits.below; asked = fits.asked })
+          (λ t. kept.each j u t.1)
+          (at_set s.views id j (rest_of v) u e))
+          (λ e. subst (λ (x : Notes). Fits s.words x) e (new_fits s.words v.places 1 (λ _. fits.sized (omega arith))))
+          (at_snoc (set s.views id (rest_of v)) (newcomer v.places 1) u j is));
     }
 
 one_of : (a b : ℕ) → 0 < a + b → (0 < a) ⊎ (0 < b)
@@ -61,7 +61,7 @@ join_fits ws v w part a b = record {
   idle = λ z. absurd (omega arith);
   sized = λ _. a.sized part;
   below = a.below;
-  asked = λ h q lt. ⊎_elim (λ x. a.asked x q lt) (λ x. b.asked x q lt) (one_asked v w h)
+  asked = λ h q lt. ⊎_elim (λ x. a.asked x q lt) (λ x. b.asked x q lt) (one_asked v w h);
 }
 
 pub joining : (P N id : ℕ) (v : Notes) (other : ℕ) (w : Notes) → 0 < v.parts
@@ -75,26 +75,26 @@ joining P N id v other w part s kept at apart at_other =
       wide = kept.wide;
       bounded = kept.bounded;
       whole = (
-        let a = total_set (λ u. u.parts) s.views id v b at in
-        let c = total_set (λ u. u.parts) views other w spent at_other in
-        let k = kept.whole in omega arith);
+          let a = total_set (λ u. u.parts) s.views id v b at in
+          let c = total_set (λ u. u.parts) views other w spent at_other in
+          let k = kept.whole in omega arith);
       claims = (λ h.
-        let a = total_set (λ u. weigh h u.claimed) s.views id v b at in
-        let c = total_set (λ u. weigh h u.claimed) views other w spent at_other in
-        let d = weigh_append h w.claimed v.claimed in
-        let k = kept.claims h in omega arith);
+          let a = total_set (λ u. weigh h u.claimed) s.views id v b at in
+          let c = total_set (λ u. weigh h u.claimed) views other w spent at_other in
+          let d = weigh_append h w.claimed v.claimed in
+          let k = kept.claims h in omega arith);
       gifts = (λ h.
-        let a = total_set (λ u. weigh h u.given) s.views id v b at in
-        let c = total_set (λ u. weigh h u.given) views other w spent at_other in
-        let d = weigh_append h w.given v.given in
-        let k = kept.gifts h in omega arith);
+          let a = total_set (λ u. weigh h u.given) s.views id v b at in
+          let c = total_set (λ u. weigh h u.given) views other w spent at_other in
+          let d = weigh_append h w.given v.given in
+          let k = kept.gifts h in omega arith);
       each = (λ j u is. ⊎_elim
-        (λ t. subst (λ (x : Notes). Fits s.words x) t.1 (new_fits s.words 0 0 (λ z. absurd (omega arith))))
-        (λ t. ⊎_elim
-            (λ t. subst (λ (x : Notes). Fits s.words x) t.1 (join_fits s.words v w part fits fits_other))
-            (λ t. kept.each j u t.1)
-            (at_set s.views id j b u t.1))
-        (at_set views other j spent u is))
+          (λ t. subst (λ (x : Notes). Fits s.words x) t.1 (new_fits s.words 0 0 (λ z. absurd (omega arith))))
+          (λ t. ⊎_elim
+          (λ t. subst (λ (x : Notes). Fits s.words x) t.1 (join_fits s.words v w part fits fits_other))
+          (λ t. kept.each j u t.1)
+          (at_set s.views id j b u t.1))
+          (at_set views other j spent u is));
     }
 
 -- the seat that has every part knows all claims and givings back
@@ -107,20 +107,23 @@ reading P N slots id me i all some_seat lt s kept homes at small =
       keeps,
       tt,
       stays P N s kept i id me.1 me.0 me.0 at lt refl refl refl fits,
-      (refl, record {
-        words = s.words;
-        wide = sym (fits.sized (omega arith));
-        found = refl;
-        claims = (λ h.
-          let a = total_alone (λ u. u.parts) (λ u. weigh h u.claimed) s.views id me.0 at
+      (
+        refl,
+        record {
+          words = s.words;
+          wide = sym (fits.sized (omega arith));
+          found = refl;
+          claims = (λ h.
+              let a = total_alone (λ u. u.parts) (λ u. weigh h u.claimed) s.views id me.0 at
               (λ j w is z. ap (λ (ms : List Member). weigh h ms) ((kept.each j w is).idle z).0) (omega arith) in
-          let k = kept.claims h in omega arith);
-        gifts = (λ h.
-          let a = total_alone (λ u. u.parts) (λ u. weigh h u.given) s.views id me.0 at
+              let k = kept.claims h in omega arith);
+          gifts = (λ h.
+              let a = total_alone (λ u. u.parts) (λ u. weigh h u.given) s.views id me.0 at
               (λ j w is z. ap (λ (ms : List Member). weigh h ms) ((kept.each j w is).idle z).1) (omega arith) in
-          let k = kept.gifts h in omega arith);
-        asked = fits.asked
-      }),
+              let k = kept.gifts h in omega arith);
+          asked = fits.asked;
+        },
+      ),
     )
 
 no_elem : (j : ℕ) (u : Notes) → get_elem? [] j ≡ some u → ⊥
@@ -138,5 +141,5 @@ begins P N ws wide none_taken = record {
   each = λ j u is. ⊎_elim
       (λ e. absurd (no_elem j u e))
       (λ e. subst (λ (x : Notes). Fits ws x) e (new_fits ws P N (λ _. sym wide)))
-      (at_snoc [] (newcomer P N) u j is)
+      (at_snoc [] (newcomer P N) u j is);
 }

@@ -40,7 +40,7 @@ grown ws i n v le fits = record {
   idle = fits.idle;
   sized = λ h. fits.sized h ∙ sym (length-set ws i n);
   below = λ k d lt. let a = fits.below k d lt in let b = rises ws i n (get_or v.seen k d).place le in omega arith;
-  asked = λ h q lt. let a = fits.asked h q (let e = length-set ws i n in omega arith) in let b = rises ws i n q le in omega arith
+  asked = λ h q lt. let a = fits.asked h q (let e = length-set ws i n in omega arith) in let b = rises ws i n q le in omega arith;
 }
 
 -- the seat id goes from v to w, and the word i to n
@@ -59,7 +59,7 @@ moves P N s kept i n id c v w at lt le top parts claims gifts fits = record {
   each = (λ j u is. ⊎_elim
       (λ t. subst (λ (x : Notes). Fits (set s.words i n) x) t.1 fits)
       (λ t. grown s.words i n u le (kept.each j u t.1))
-      (at_set s.views id j w u is))
+      (at_set s.views id j w u is));
 }
 
 -- what seen words say stays said with one more
@@ -98,7 +98,7 @@ saw ws v q fits = record {
   idle = fits.idle;
   sized = fits.sized;
   below = below_more ws v.seen q (get_or ws q 0) fits.below (omega arith);
-  asked = fits.asked
+  asked = fits.asked;
 }
 
 pub looks : (P N slots id : ℕ) (me : Mine) (i : ℕ) → i < P
@@ -130,7 +130,7 @@ refuses ws v who fits all = record {
   idle = fits.idle;
   sized = fits.sized;
   below = fits.below;
-  asked = refused_above ws v who fits all
+  asked = refused_above ws v who fits all;
 }
 
 -- every word is above 0: that of this place, and those that were seen so

@@ -39,4 +39,4 @@ EveryPlaceStands words claimed =
 pub record IsEnded (e : EndView) : Type 0 where
   pub run : IsRollRun e.words e.claimed e.given
   pub refused_when_full :
-    (asker : ℕ) (others : List ℕ) → Contains e.refused (asker ∷ others) → EveryPlaceStands e.words e.claimed
+      (asker : ℕ) (others : List ℕ) → Contains e.refused (asker ∷ others) → EveryPlaceStands e.words e.claimed

@@ -6,8 +6,14 @@ use Rattle.m17_roll.specs.Sightings.{sighting, member}
 -- a seat that has done nothing, of a roll with so many places, which is so many seats
 abbrev pub newcomer : ℕ → ℕ → Notes
 newcomer places parts = record {
-  places = places; parts = parts;
-  claimed = []; given = []; missed = []; refused = []; finished = []; seen = []
+  places = places;
+  parts = parts;
+  claimed = [];
+  given = [];
+  missed = [];
+  refused = [];
+  finished = [];
+  seen = [];
 }
 
 abbrev pub sees : Notes → ℕ → ℕ → Notes
@@ -32,9 +38,14 @@ rest_of v = record v { parts = v.parts - 1 }
 -- the second seat is joined to the first
 abbrev pub joined : Notes → Notes → Notes
 joined v w = record {
-  places = v.places; parts = v.parts + w.parts;
-  claimed = w.claimed ++ v.claimed; given = w.given ++ v.given; missed = v.missed;
-  refused = v.refused; finished = w.refused ∷ v.finished; seen = v.seen
+  places = v.places;
+  parts = v.parts + w.parts;
+  claimed = w.claimed ++ v.claimed;
+  given = w.given ++ v.given;
+  missed = v.missed;
+  refused = v.refused;
+  finished = w.refused ∷ v.finished;
+  seen = v.seen;
 }
 
 -- how many askers stand in these lists

@@ -20,14 +20,14 @@ pub record IsRollRun (words : List ℕ) (claimed given : List Member) : Type 0 w
   pub each_once : (q g : ℕ) → q < length words → g < count_at q claimed → times q g claimed ≡ 1
   pub no_other : (q g : ℕ) → q < length words → count_at q claimed ≤ g → times q g claimed ≡ 0
   pub free :
-    (q : ℕ) → q < length words
-    → (count_at q claimed ≡ 0) ⊎ ((0 < count_at q claimed) × Contains given (member q (count_at q claimed - 1)))
-    → slice_index words q ≡ 2 * count_at q claimed
+      (q : ℕ) → q < length words
+      → (count_at q claimed ≡ 0) ⊎ ((0 < count_at q claimed) × Contains given (member q (count_at q claimed - 1)))
+      → slice_index words q ≡ 2 * count_at q claimed
   pub taken :
-    (q : ℕ) → q < length words → 0 < count_at q claimed → ¬ Contains given (member q (count_at q claimed - 1))
-    → slice_index words q + 1 ≡ 2 * count_at q claimed
+      (q : ℕ) → q < length words → 0 < count_at q claimed → ¬ Contains given (member q (count_at q claimed - 1))
+      → slice_index words q + 1 ≡ 2 * count_at q claimed
   pub within : (m : Member) → Contains claimed m → m.place < length words
   pub was_claimed : (m : Member) → Contains given m → Contains claimed m
   pub given_once : (q g : ℕ) → times q g given ≤ 1
   pub given_before : (a b : Member) → Contains claimed a → Contains claimed b → a.place ≡ b.place
-    → a.generation < b.generation → Contains given a
+      → a.generation < b.generation → Contains given a

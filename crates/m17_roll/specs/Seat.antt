@@ -21,8 +21,14 @@ pub record RollView : Type 0 where
 -- a seat that has done nothing
 abbrev pub new_seat : TableId → ℕ → ℕ → RollView
 new_seat roll seats places = record {
-  roll = roll; seats = seats; places = places;
-  claimed = []; given = []; missed = []; refused = []; seen = []
+  roll = roll;
+  seats = seats;
+  places = places;
+  claimed = [];
+  given = [];
+  missed = [];
+  refused = [];
+  seen = [];
 }
 
 -- the seat is of this roll, which has so many seats and places
@@ -82,3 +88,17 @@ abbrev pub IsNotGiven : RollView → Member → RollView → Type 0
 IsNotGiven old m new =
     (((old.places ≤ m.place) ⊎ (2 ^ 63 - 1 ≤ m.generation)) × (new ≡ old))
     ⊎ IsMiss old m new
+
+-- One place of a claim was seen taken, in at most two looks, and these askers were refused.
+pub record PassesAt (old : RollView) (place : ℕ) (who : List ℕ) (new : RollView) : Type 0 where
+  pub looks : List Sighting
+  pub few : length looks ≤ 2
+  pub taken : IsSeenTaken looks place
+  pub after : new ≡ with_refused (with_looks old looks) who
+
+-- One place of a claim was found free, and taken.
+pub record TakesAt (old : RollView) (place : ℕ) (m : Member) (new : RollView) : Type 0 where
+  pub here : m.place ≡ place
+  pub after : new ≡ with_claim (with_looks old (sighting place (2 * m.generation) ∷ [])) m
+  pub not_last : m.generation < 2 ^ 63 - 1
+  pub newer : IsNewAt old.claimed place m.generation

@@ -14,7 +14,7 @@ seat_view s = record {
   given = s.seat.me.0.given;
   missed = s.seat.me.0.missed;
   refused = s.seat.me.0.refused;
-  seen = s.seat.me.0.seen
+  seen = s.seat.me.0.seen;
 }
 
 -- the seat fits the table, is one of its seats, and its own lists are in order

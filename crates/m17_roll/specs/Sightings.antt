@@ -39,4 +39,4 @@ abbrev pub IsSeenTaken : List Sighting → ℕ → Type 0
 IsSeenTaken looks place =
     ((word : ℕ) × Contains looks (sighting place word) × IsTaken word)
     ⊎ ((i j before after : ℕ) × (i < j) × (slice_get looks i ≡ Some (sighting place before))
-        × (slice_get looks j ≡ Some (sighting place after)) × (before < after))
+    × (slice_get looks j ≡ Some (sighting place after)) × (before < after))

@@ -12,4 +12,4 @@ mod seat;
 mod tests;
 
 pub use rule::Sighting;
-pub use seat::{RollEnd, RollSeat, close};
+pub use seat::{RollEnd, RollSeat, close, make};
