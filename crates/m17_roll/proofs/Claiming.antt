@@ -9,7 +9,7 @@ use lib.ListN.{get_elem?}
 use prog.Atomic.{either}
 use Rattle.atomic_table.specs.Table.{State, step, keeps, stepped, Act, Valid, carried_after, Allows}
 use Rattle.atomic_table.proofs.Lists.{exchanged}
-use Rattle.m17_devices.specs.declared.member.Member.{Member}
+use Rattle.m17_values.specs.declared.member.Member.{Member}
 use Rattle.m17_roll.specs.declared.rule.Notes.{Notes}
 use Rattle.m17_roll.specs.declared.rule.Sighting.{Sighting}
 use Rattle.m17_roll.specs.Sightings.{sighting, member, IsNotBelow, IsNewAt, IsTaken}

@@ -2,7 +2,7 @@
 use Rattle.std.specs.Prelude.{◌≡◌, ℕ, ◌+◌, ◌<◌, List, [], ◌∷◌, ◌++◌, map, length}
 use Rattle.std.specs.List.{All, Contains}
 use Rattle.atomic_table.specs.Seated.{TableId}
-use Rattle.m17_devices.specs.declared.member.Member.{Member}
+use Rattle.m17_values.specs.declared.member.Member.{Member}
 use Rattle.m17_roll.specs.Seat.{RollView, IsSeatOf}
 use Rattle.m17_roll.specs.Run.{IsRollRun}
 

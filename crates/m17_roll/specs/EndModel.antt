@@ -2,7 +2,7 @@
 use Rattle.std.specs.Prelude.{◌≡◌, ℕ, zero, suc, ◌+◌, ◌<◌, List, [], ◌∷◌, ◌++◌}
 use Rattle.std.specs.Arc.{arc_value}
 use Rattle.atomic_table.specs.Seated.{TableId}
-use Rattle.m17_devices.specs.declared.member.Member.{Member}
+use Rattle.m17_values.specs.declared.member.Member.{Member}
 use Rattle.m17_roll.specs.Run.{count_at}
 use Rattle.m17_roll.specs.Seat.{RollView}
 use Rattle.m17_roll.specs.Closing.{EndView}

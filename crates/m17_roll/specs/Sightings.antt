@@ -2,7 +2,7 @@
 -- generation g, and 2 g + 1 while that generation has it. This profile.
 use Rattle.std.specs.Prelude.{◌≡◌, ◌≢◌, ℕ, ◌+◌, ◌-◌, ◌%◌, ◌^◌, ◌<◌, ◌≤◌, ◌⊎◌, List, Some, slice_get}
 use Rattle.std.specs.List.{All, AllPairs, Contains}
-use Rattle.m17_devices.specs.declared.member.Member.{Member}
+use Rattle.m17_values.specs.declared.member.Member.{Member}
 use Rattle.m17_roll.specs.declared.rule.Sighting.{Sighting}
 
 -- this word was found at this place

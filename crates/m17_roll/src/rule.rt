@@ -3,7 +3,7 @@
 ghost use Rattle.std.specs.Prelude.{List, ℕ, []};
 
 use atomic_table::{Join, Play, Split, TableRule};
-use m17_devices::Member;
+use m17_values::Member;
 use std::collections::LinkedList;
 use std::marker::{Brand, PhantomData};
 

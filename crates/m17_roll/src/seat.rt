@@ -8,7 +8,7 @@ ghost use Rattle.m17_roll.specs.Rule.{SeenElse};
 
 use crate::rule::{Asker, ClaimsFor, Gives, Looks, LooksFor, Notes, Parting, RollRule, Shape};
 use atomic_table::{Seat, Table};
-use m17_devices::{Member, NoMemory};
+use m17_values::{Member, NoMemory};
 use std::alloc::{AllocError, Global};
 use std::marker::{Brand, Model};
 use std::sync::Arc;
