@@ -1,7 +1,7 @@
 ghost use Rattle.std.specs.Prelude.{◌≡◌, ◌<◌, ◌^◌};
 ghost use Rattle.m17_callsign.specs.AddressBytes.{address_bytes};
 
-use super::address::Address;
+use m17_values::Address;
 
 /// The six bytes of an address, the most significant first. M17 Protocol Specification, address encoding.
 pub fn to_bytes(a: Address) -> [u8; 6]
@@ -18,5 +18,6 @@ pub fn from_bytes(b: &[u8; 6]) -> Address
     ensures bytes { address_bytes result ≡ b.now }
     ensures within { result < 2 ^ 48 }
 {
-    Address(u64::from_be_bytes([0, 0, b[0], b[1], b[2], b[3], b[4], b[5]]))
+    let value = u64::from_be_bytes([0, 0, b[0], b[1], b[2], b[3], b[4], b[5]]);
+    Address::new(value).unwrap()
 }

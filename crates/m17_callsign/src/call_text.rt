@@ -2,9 +2,10 @@ ghost use Rattle.std.specs.Prelude.{◌≡◌, ◌≤◌, ◌↔◌, ◌⊎◌, 
 ghost use Rattle.m17_callsign.specs.Callsign.{IsCallsignOf, end_of_callsigns};
 ghost use Rattle.m17_callsign.specs.Letters.{callsign_of};
 
-use super::address::{Address, END_OF_CALLSIGNS};
+use super::call_address::END_OF_CALLSIGNS;
 use super::letters::{BASE, MAX_LETTERS, letter_at};
 use arrayvec::ArrayString;
+use m17_values::Address;
 use std::marker::Model;
 
 /// A callsign as text: up to 9 letters. Contracts see its bytes. M17 Protocol Specification, address encoding.

@@ -3,9 +3,9 @@ ghost use Rattle.std.specs.List.{sum_by, range_with_len};
 ghost use Rattle.m17_callsign.specs.Callsign.{IsCallsignOf, IsRefused, HasCallsign, IsLetter, share_of};
 ghost use Rattle.m17_callsign.specs.declared.refusal.CallRefusal.{CallRefusal};
 
-use super::address::Address;
 use super::letters::{BASE, MAX_LETTERS, letter_index};
 use super::refusal::CallRefusal;
+use m17_values::Address;
 
 /// The address of a callsign, or the first reason why the text is none: it is empty, it is too long, its first byte
 /// that is no letter, a space at its end. The first letter counts least. M17 Protocol Specification, address encoding.
@@ -29,7 +29,7 @@ pub fn encode(text: &str) -> Result<Address, CallRefusal>
     if letters[letters.len() - 1] == b' ' {
         return Err(CallRefusal::TrailingSpace);
     }
-    Ok(Address(value))
+    Ok(Address::new(value).unwrap())
 }
 
 /// The sum over all letters, the first of which counts least; or the place of the first byte that is no letter.

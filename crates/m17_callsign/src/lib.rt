@@ -4,18 +4,19 @@
 //! have, is left to the crates above.
 #![tactic(auto)]
 
-mod address;
 mod bytes;
+mod call_address;
 mod call_text;
 mod encoding;
 pub mod laws;
 mod letters;
 mod refusal;
 
-pub use address::{Address, CallAddress};
 pub use bytes::{from_bytes, to_bytes};
+pub use call_address::CallAddress;
 pub use call_text::{CallText, text};
 pub use encoding::encode;
+pub use m17_values::Address;
 pub use refusal::CallRefusal;
 
 #[cfg(test)]

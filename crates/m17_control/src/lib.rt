@@ -3,13 +3,17 @@
 //! `write` spells the packet. What a packet does to a peer or a module is left to the crates above.
 #![tactic(auto)]
 
+mod event;
 mod form;
+mod item;
 pub mod laws;
 mod letter;
 mod packet;
 mod reader;
 mod writer;
 
+pub use event::{Body, Event, Tag, Why};
+pub use item::{Direct, Item, Said};
 pub use letter::ModuleLetter;
 pub use packet::{Control, Packet, Refusal};
 pub use reader::decode;

@@ -6,23 +6,14 @@
 
 mod bytes_sink;
 mod bytes_source;
-mod member;
 mod sink;
 mod source;
 
 pub use bytes_sink::BytesSink;
 pub use bytes_source::BytesSource;
-pub use member::Member;
+pub use m17_values::{Failed, Gram, Heard, Member, NoMemory, Peer};
 pub use sink::Sink;
 pub use source::Source;
-
-/// A device did not do what it was asked to do. This profile.
-#[derive(Clone, Copy, Debug, PartialEq, Eq)]
-pub struct Failed;
-
-/// There was no memory for what was asked. This profile.
-#[derive(Clone, Copy, Debug, PartialEq, Eq)]
-pub struct NoMemory;
 
 #[cfg(test)]
 mod tests;

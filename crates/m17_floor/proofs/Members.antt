@@ -1,7 +1,7 @@
 -- One membership and another.
 use Rattle.std.proofs.Common.{◌≡◌, ℕ, ap, ◌∙◌, true, refl, eqb}
 use Rattle.std.proofs.lemmas.Bool.{and_from, and_parts, eq-eqb, eqb-true}
-use Rattle.m17_devices.specs.declared.member.Member.{Member}
+use Rattle.m17_values.specs.declared.member.Member.{Member}
 use Rattle.m17_floor.specs.Acts.{is_same}
 
 pub is_same_self : (k : Member) → is_same k k ≡ true

@@ -5,7 +5,7 @@ use Rattle.std.proofs.lemmas.List.Sums.{fold-append}
 use Rattle.std.proofs.lemmas.Bool.{cond-false}
 use Rattle.std.specs.List.{fold}
 use Rattle.std.specs.Option.{option_and_then, option_map_or}
-use Rattle.m17_devices.specs.declared.member.Member.{Member}
+use Rattle.m17_values.specs.declared.member.Member.{Member}
 use Rattle.m17_floor.specs.declared.act.Act.{Act}
 use Rattle.m17_floor.specs.Acts.{last_below, kind_or_other, kind_at, greatest_moment, moment_before, moment_at, is_join_of, settles, joined_at}
 use Rattle.m17_floor.specs.Floor.{was_admitted, is_in_since, admits, admitted_before, verdict_at}

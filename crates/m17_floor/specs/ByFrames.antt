@@ -1,6 +1,6 @@
 -- The floor rule over the two frames that are kept: the floor's and the sender's own. This profile.
 use Rattle.std.specs.Prelude.{◌==◌, ◌&&◌, ℕ, ◌-◌, Bool, not, nat_lt, nat_le, Option, None, Some, if◌then◌else◌}
-use Rattle.m17_devices.specs.declared.member.Member.{Member}
+use Rattle.m17_values.specs.declared.member.Member.{Member}
 use Rattle.m17_stream.specs.declared.packet.StreamPacket.{StreamPacket}
 use Rattle.m17_stream.specs.Stream.{steps_ahead}
 use Rattle.m17_floor.specs.declared.verdict.Verdict.{Verdict}

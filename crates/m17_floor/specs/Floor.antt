@@ -2,7 +2,7 @@
 -- the whole list of acts. This profile, the order of frame numbers included.
 use Rattle.std.specs.Prelude.{◌==◌, ◌&&◌, ℕ, zero, suc, ◌-◌, Bool, true, false, not, List, [], ◌∷◌, ◌++◌, slice_get, nat_lt, nat_le, Option, None, Some, IsTrue, unwrap_or, option_and_then, if◌then◌else◌}
 use Rattle.std.specs.Option.{option_map_or}
-use Rattle.m17_devices.specs.declared.member.Member.{Member}
+use Rattle.m17_values.specs.declared.member.Member.{Member}
 use Rattle.m17_stream.specs.declared.packet.StreamPacket.{StreamPacket}
 use Rattle.m17_stream.specs.Stream.{steps_ahead}
 use Rattle.m17_floor.specs.declared.act.Act.{Act}

@@ -1,6 +1,6 @@
 -- What a longer list of acts leaves as it was, and who may speak. This profile.
 use Rattle.std.specs.Prelude.{◌≡◌, ◌≢◌, ℕ, ◌<◌, ◌≤◌, ◌⊎◌, Some, true, false, List, [], ◌∷◌, ◌++◌, length}
-use Rattle.m17_devices.specs.declared.member.Member.{Member}
+use Rattle.m17_values.specs.declared.member.Member.{Member}
 use Rattle.m17_stream.specs.declared.packet.StreamPacket.{StreamPacket}
 use Rattle.m17_stream.specs.Stream.{steps_ahead}
 use Rattle.m17_floor.specs.declared.act.Act.{Act}

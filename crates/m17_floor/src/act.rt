@@ -1,4 +1,4 @@
-use m17_devices::Member;
+use m17_values::Member;
 use m17_stream::StreamPacket;
 
 /// What a module's floor sees of an event. This profile.

@@ -1,5 +1,5 @@
 ghost use Rattle.std.specs.Prelude.{◌≡◌, ◌≢◌, ℕ, ◌<◌, true, false, max, List, [], ◌∷◌, ◌++◌, length, None, Some};
-ghost use Rattle.m17_devices.specs.declared.member.Member.{Member};
+ghost use Rattle.m17_values.specs.declared.member.Member.{Member};
 ghost use Rattle.m17_floor.specs.declared.act.Act.{Act};
 ghost use Rattle.m17_floor.specs.declared.act.ActKind.TheVariants.{Packet};
 ghost use Rattle.m17_floor.specs.declared.verdict.Verdict.TheVariants.{NotMember, ListenOnly};
@@ -9,7 +9,7 @@ ghost use Rattle.m17_floor.specs.Floor.{admits};
 ghost use Rattle.m17_floor.specs.StandsFor.{FloorStandsFor, OwnStandsFor, MaySpeak, HasNoPacket, IsJudged};
 
 use crate::Verdict;
-use m17_devices::Member;
+use m17_values::Member;
 use m17_stream::{StreamPacket, ahead};
 use std::marker::Model;
 

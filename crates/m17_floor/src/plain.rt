@@ -6,7 +6,7 @@ ghost use Rattle.m17_floor.specs.Floor as floor;
 ghost use Rattle.m17_floor.specs.Floor.{was_admitted, holder_at, last_own, own_at, by_own, by_holder, by_membership, verdict_given, verdict_at, listens, admits};
 
 use crate::{Act, ActKind, FLOOR_TIMEOUT_MS, STREAM_MEMORY_MS, Verdict};
-use m17_devices::Member;
+use m17_values::Member;
 use m17_stream::StreamPacket;
 use std::alloc::{AllocError, Global};
 

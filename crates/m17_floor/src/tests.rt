@@ -1,7 +1,7 @@
 use crate::Verdict::{AfterEnd, Busy, Continued, Late, ListenOnly, NotMember, Opened, Repeat};
 use crate::{Act, ActKind, Floor, Last, Verdict, plain};
 use m17_callsign::Address;
-use m17_devices::Member;
+use m17_values::Member;
 use m17_lsd::Lsd;
 use m17_stream::{FRAME_NUMBERS, StreamPacket};
 use std::alloc::{AllocError, Global};

@@ -1,4 +1,4 @@
-use m17_devices::Member;
+use m17_values::Member;
 
 /// What the floor rule says of a stream packet. A packet is admitted where it is `Opened` or `Continued`. This
 /// profile.

@@ -1,6 +1,6 @@
 -- What the table of talkers stands for. This profile.
 use Rattle.std.specs.Prelude.{◌≡◌, ℕ, ◌+◌, ◌<◌, List, [], ◌∷◌, ◌++◌, length, slice_get, Option, Some}
-use Rattle.m17_devices.specs.declared.member.Member.{Member}
+use Rattle.m17_values.specs.declared.member.Member.{Member}
 use Rattle.m17_floor.specs.declared.act.Act.{Act}
 use Rattle.m17_floor.specs.Acts.{moment_before}
 use Rattle.m17_floor.specs.StandsFor.{Frame, FloorStandsFor, OwnStandsFor, MaySpeak, HasNoPacket}

@@ -6,7 +6,7 @@ ghost use Rattle.m17_floor.specs.StandsFor.{Frame};
 ghost use Rattle.m17_tools.specs.Judge.{joins, talker, talkers};
 ghost use Rattle.m17_tools.specs.Table.{TableStandsFor, StandsAtFirst};
 
-use m17_devices::{Member, NoMemory};
+use m17_values::{Member, NoMemory};
 use m17_floor::{Floor, Last, Verdict, laws};
 use m17_stream::StreamPacket;
 use std::alloc::Global;
