@@ -4,3 +4,4 @@ mod Steps
 mod Claiming
 mod Seats
 mod Seated
+mod Turns
