@@ -5,3 +5,4 @@ mod Claiming
 mod Seats
 mod Seated
 mod Turns
+mod Dealing

@@ -164,11 +164,11 @@ fn make_all(alloc: Global, places: u32, seats: u32) -> Result<Vec<RollSeat>, All
     let (table, mut seat) = Words::of_words(alloc, words.as_slice(), &shape)?;
     let table = Arc::new(alloc, table)?;
     let mut all = Vec::with_capacity(alloc, seats as usize)?;
-    for _ in 1..seats {
+    while all.len() + 1 < seats as usize {
         let another = table.shared.split_seat::<Parting>(&mut seat);
-        let table = Arc::try_clone(&table)?;
+        let shared = Arc::try_clone(&table)?;
         all.push_reserved(RollSeat {
-            table,
+            table: shared,
             seat: another,
             places,
         });
