@@ -7,8 +7,18 @@ use Rattle.atomic_table.specs.declared.shared.Seat.{Seat}
 use Rattle.m17_roll.specs.declared.rule.Notes.{Notes}
 use Rattle.m17_roll.specs.declared.seat.RollSeat.TheInside.{Inside}
 use Rattle.m17_roll.specs.Seat.{RollView, new_seat}
-use Rattle.m17_roll.specs.Notes.{newcomer}
+use Rattle.m17_roll.specs.Notes.{newcomer, rest_of}
 use Rattle.m17_roll.specs.SeatModel.{seat_view, IsSeated}
+use Rattle.m17_roll.proofs.Seated.{view_at}
+
+abbrev pair_of : ℕ → Me (Unit {0}) Notes
+pair_of p = (newcomer p 1, [])
+
+abbrev left_of : ℕ → ℕ → Me (Unit {0}) Notes
+left_of p k = (newcomer p k, [])
+
+abbrev cut : Me (Unit {0}) Notes → Me (Unit {0}) Notes
+cut m = (rest_of m.0, m.1)
 
 -- words that were written as 0
 pub none_taken : (n q : ℕ) → ◌≡◌ {A = ℕ} (get_or (replicate n 0) q 0) 0
@@ -36,18 +46,7 @@ new_seated s fits words key more me =
 
 pub new_viewed : (s : Inside) → ◌≡◌ {A = Me (Unit {0}) Notes} s.seat.me (newcomer s.places 1, [])
     → seat_view s ≡ new_seat (arc_value s.table).shared.table_id (arc_value s.table).shared.key.seats s.places
-new_viewed s me = ap (λ (m : Me (Unit {0}) Notes). view_at s m) me where
-  abbrev view_at : Inside → Me (Unit {0}) Notes → RollView
-  view_at s m = record {
-    roll = (arc_value s.table).shared.table_id;
-    seats = (arc_value s.table).shared.key.seats;
-    places = s.places;
-    claimed = m.0.claimed;
-    given = m.0.given;
-    missed = m.0.missed;
-    refused = m.0.refused;
-    seen = m.0.seen
-  }
+new_viewed s me = ap (λ (m : Me (Unit {0}) Notes). view_at s m) me
 
 pub one_more : (n : ℕ) (v : RollView) → replicate n v ++ v ∷ [] ≡ replicate (n + 1) v
 one_more n v = replicate-append-replicate n 1 v
@@ -55,7 +54,81 @@ one_more n v = replicate-append-replicate n 1 v
 -- n seats were handed out, all alike, and the one that is left is the others
 pub record IsDealt (s : Inside) (seats n : ℕ) (items : List RollView) : Type 0 where
   pub fits : s.seat.table_id ≡ (arc_value s.table).shared.table_id
+  pub words : (arc_value s.table).shared.table_id.words ≡ s.places
+  pub key : (arc_value s.table).shared.key.places ≡ s.places
+  pub all : (arc_value s.table).shared.key.seats ≡ seats
   pub parts : ℕ
   pub me : ◌≡◌ {A = Me (Unit {0}) Notes} s.seat.me (newcomer s.places parts, [])
   pub left : parts + n ≡ seats
   pub same : items ≡ replicate n (new_seat (arc_value s.table).shared.table_id seats s.places)
+
+-- before the last seat the one that is left can be cut
+pub many : (s : Inside) (seats n : ℕ) (items : List RollView) → IsDealt s seats n items → n + 1 < seats → 1 < s.seat.me.0.parts
+many s seats n items d lt =
+    let parts : s.seat.me.0.parts ≡ d.parts = ap (λ (m : Me (Unit {0}) Notes). m.0.parts) d.me in let left = d.left in omega arith
+
+-- the seat that was cut off
+pub other_me : (s t : Inside) (seats n : ℕ) (items : List RollView) → IsDealt s seats n items → t.places ≡ s.places
+    → ◌≡◌ {A = Me (Unit {0}) Notes} t.seat.me (newcomer s.seat.me.0.places 1, []) → ◌≡◌ {A = Me (Unit {0}) Notes} t.seat.me (newcomer t.places 1, [])
+other_me s t seats n items d places me =
+    let same : s.seat.me.0.places ≡ t.places = ap (λ (m : Me (Unit {0}) Notes). m.0.places) d.me ∙ sym places in
+    me ∙ ap (λ (p : ℕ). pair_of p) same
+
+pub other_seated : (s t : Inside) (seats n : ℕ) (items : List RollView) → IsDealt s seats n items → 0 < s.places
+    → arc_value t.table ≡ arc_value s.table → t.seat.table_id ≡ s.seat.table_id → t.places ≡ s.places
+    → ◌≡◌ {A = Me (Unit {0}) Notes} t.seat.me (newcomer s.seat.me.0.places 1, []) → IsSeated t
+other_seated s t seats n items d more table same places me =
+    new_seated t (same ∙ (d.fits ∙ sym (ap (λ u. u.shared.table_id) table)))
+    (ap (λ u. u.shared.table_id.words) table ∙ (d.words ∙ sym places)) (ap (λ u. u.shared.key.places) table ∙ (d.key ∙ sym places))
+    (subst (λ (p : ℕ). 0 < p) (sym places) more) (other_me s t seats n items d places me)
+
+pub other_viewed : (s t : Inside) (seats n : ℕ) (items : List RollView) → IsDealt s seats n items
+    → arc_value t.table ≡ arc_value s.table → t.places ≡ s.places
+    → ◌≡◌ {A = Me (Unit {0}) Notes} t.seat.me (newcomer s.seat.me.0.places 1, [])
+    → seat_view t ≡ new_seat (arc_value s.table).shared.table_id seats s.places
+other_viewed s t seats n items d table places me =
+    new_viewed t (other_me s t seats n items d places me)
+    ∙ ap (λ u. new_seat u.shared.table_id u.shared.key.seats t.places) table
+    ∙ ap (λ (k : ℕ). new_seat (arc_value s.table).shared.table_id k t.places) d.all
+    ∙ ap (λ (p : ℕ). new_seat (arc_value s.table).shared.table_id seats p) places
+
+-- one seat more was handed out
+pub deals_on : (s t : Inside) (seats n : ℕ) (items more : List RollView) (v : RollView) → IsDealt s seats n items
+    → t.table ≡ s.table → t.seat.table_id ≡ s.seat.table_id → t.places ≡ s.places
+    → ◌≡◌ {A = Me (Unit {0}) Notes} t.seat.me (rest_of s.seat.me.0, s.seat.me.1) → n + 1 < seats
+    → v ≡ new_seat (arc_value s.table).shared.table_id seats s.places → more ≡ items ++ v ∷ []
+    → IsDealt t seats (n + 1) more
+deals_on s t seats n items more v d table same places me lt is is_more =
+    let at : arc_value t.table ≡ arc_value s.table = ap (λ u. arc_value u) table in record {
+      fits = same ∙ (d.fits ∙ sym (ap (λ u. u.shared.table_id) at));
+      words = ap (λ u. u.shared.table_id.words) at ∙ (d.words ∙ sym places);
+      key = ap (λ u. u.shared.key.places) at ∙ (d.key ∙ sym places);
+      all = ap (λ u. u.shared.key.seats) at ∙ d.all;
+      parts = d.parts - 1;
+      me = me ∙ ap (λ (m : Me (Unit {0}) Notes). cut m) d.me ∙ ap (λ (p : ℕ). left_of p (d.parts - 1)) (sym places);
+      left = (let left = d.left in omega arith);
+      same =
+          is_more ∙ ap (λ (xs : List RollView). xs ++ v ∷ []) d.same
+          ∙ ap (λ (u : RollView). replicate n (new_seat (arc_value s.table).shared.table_id seats s.places) ++ u ∷ []) is
+          ∙ one_more n (new_seat (arc_value s.table).shared.table_id seats s.places)
+          ∙ ap (λ u. replicate (n + 1) (new_seat u.shared.table_id seats s.places)) (sym at)
+          ∙ ap (λ (p : ℕ). replicate (n + 1) (new_seat (arc_value t.table).shared.table_id seats p)) (sym places)
+    }
+
+-- the last seat is the one that is left
+last_me : (s : Inside) (seats n : ℕ) (items : List RollView) → IsDealt s seats n items → n + 1 ≡ seats
+    → ◌≡◌ {A = Me (Unit {0}) Notes} s.seat.me (newcomer s.places 1, [])
+last_me s seats n items d e =
+    let one : d.parts ≡ 1 = (let left = d.left in omega arith) in d.me ∙ ap (λ (k : ℕ). left_of s.places k) one
+
+pub last_seated : (s : Inside) (seats n : ℕ) (items : List RollView) → IsDealt s seats n items → 0 < s.places → n + 1 ≡ seats → IsSeated s
+last_seated s seats n items d more e = new_seated s d.fits d.words d.key more (last_me s seats n items d e)
+
+pub last_viewed : (s : Inside) (seats n : ℕ) (items all : List RollView) → IsDealt s seats n items → n + 1 ≡ seats
+    → all ≡ items ++ seat_view s ∷ [] → all ≡ replicate seats (new_seat (arc_value s.table).shared.table_id seats s.places)
+last_viewed s seats n items all d e is =
+    is ∙ ap (λ (xs : List RollView). xs ++ seat_view s ∷ []) d.same
+    ∙ ap (λ (u : RollView). replicate n (new_seat (arc_value s.table).shared.table_id seats s.places) ++ u ∷ [])
+        (new_viewed s (last_me s seats n items d e) ∙ ap (λ (k : ℕ). new_seat (arc_value s.table).shared.table_id k s.places) d.all)
+    ∙ one_more n (new_seat (arc_value s.table).shared.table_id seats s.places)
+    ∙ ap (λ (k : ℕ). replicate k (new_seat (arc_value s.table).shared.table_id seats s.places)) e

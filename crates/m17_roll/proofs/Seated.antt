@@ -81,7 +81,7 @@ abbrev seen_by : Inside → Seat (Unit {0}) Notes → RollView
 seen_by s seat = seat_view record { table = s.table; seat = seat; places = s.places }
 
 -- what contracts see of a seat that has these notes
-abbrev view_at : Inside → Me (Unit {0}) Notes → RollView
+abbrev pub view_at : Inside → Me (Unit {0}) Notes → RollView
 view_at s m = record {
   roll = (arc_value s.table).shared.table_id;
   seats = (arc_value s.table).shared.key.seats;

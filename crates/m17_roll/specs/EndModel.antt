@@ -1,28 +1,23 @@
--- How seats that are being joined, and a closed roll, are kept, and what of them contracts see.
-use Rattle.std.specs.Prelude.{◌≡◌, ℕ, zero, suc, ◌+◌, ◌<◌, List, [], ◌∷◌, ◌++◌}
+-- How a closed roll is kept.
+use Rattle.std.specs.Prelude.{◌≡◌, ℕ, ◌<◌, [], ◌∷◌, ◌++◌}
 use Rattle.std.specs.Arc.{arc_value}
-use Rattle.atomic_table.specs.Seated.{TableId}
-use Rattle.m17_values.specs.declared.member.Member.{Member}
-use Rattle.m17_roll.specs.Run.{count_at}
-use Rattle.m17_roll.specs.Seat.{RollView}
+use Rattle.m17_roll.specs.declared.seat.closing.RollEnd.TheInside.{Inside}
+use Rattle.m17_roll.specs.Joined.{words_of}
 use Rattle.m17_roll.specs.Closing.{EndView}
-use Rattle.m17_roll.specs.Notes.{refusals}
 
--- seats that were joined, so many of all
-pub record GatheredView : Type 0 where
-  pub roll : TableId
-  pub seats : ℕ
-  pub places : ℕ
-  pub parts : ℕ
-  pub claimed : List Member
-  pub given : List Member
-  pub refused : List (List ℕ)
+abbrev pub end_view : Inside → EndView
+end_view s = record {
+  words = words_of s.places s.seat.me.0.claimed s.seat.me.0.given;
+  claimed = s.seat.me.0.claimed;
+  given = s.seat.me.0.given;
+  refused = s.seat.me.0.finished ++ s.seat.me.0.refused ∷ []
+}
 
--- the words of n places from the k-th on: one more at each claim and at each giving back
-abbrev pub words_from : ℕ → ℕ → List Member → List Member → List ℕ
-words_from k zero claimed given = []
-words_from k (suc n) claimed given =
-    (count_at k claimed + count_at k given) ∷ words_from (suc k) n claimed given
-
-abbrev pub words_of : ℕ → List Member → List Member → List ℕ
-words_of places claimed given = words_from 0 places claimed given
+-- the seat is all seats of the roll
+pub record IsWhole (s : Inside) : Type 0 where
+  pub fits : s.seat.table_id ≡ (arc_value s.table).shared.table_id
+  pub words : (arc_value s.table).shared.table_id.words ≡ s.places
+  pub key : (arc_value s.table).shared.key.places ≡ s.places
+  pub same : s.seat.me.0.places ≡ s.places
+  pub some_part : 0 < s.seat.me.0.parts
+  pub all : s.seat.me.0.parts ≡ (arc_value s.table).shared.key.seats

@@ -7,4 +7,6 @@ pub mod Closing
 pub mod Notes
 pub mod Rule
 pub mod SeatModel
+pub mod Joined
+pub mod GatheredModel
 pub mod EndModel

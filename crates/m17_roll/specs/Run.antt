@@ -1,5 +1,5 @@
 -- The run of a roll: what was claimed and given back in all, and the words that the places have in the end. This profile.
-use Rattle.std.specs.Prelude.{◌≡◌, ◌==◌, ◌&&◌, ℕ, zero, suc, ◌+◌, ◌-◌, ◌*◌, ◌<◌, ◌≤◌, ◌⊎◌, List, length, slice_index, count_by}
+use Rattle.std.specs.Prelude.{◌≡◌, ◌==◌, ◌&&◌, ℕ, ◌+◌, ◌-◌, ◌*◌, ◌<◌, ◌≤◌, ◌⊎◌, List, length, slice_index, count_by}
 use Rattle.std.specs.List.{Contains}
 use Rattle.m17_values.specs.declared.member.Member.{Member}
 use Rattle.m17_roll.specs.Sightings.{member}
