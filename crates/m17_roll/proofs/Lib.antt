@@ -6,3 +6,6 @@ mod Seats
 mod Seated
 mod Turns
 mod Dealing
+mod Running
+mod Ending
+mod Gathers
