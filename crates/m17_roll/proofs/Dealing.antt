@@ -41,7 +41,7 @@ new_seated s fits words key more me =
       no_slot = ap (λ (m : Me (Unit {0}) Notes). m.1) me;
       alone = ap (λ (u : Notes). u.finished) same;
       falls = rw same (λ i j d a b. absurd (omega arith));
-      rises = rw same (λ i j d a b. absurd (omega arith))
+      rises = rw same (λ i j d a b. absurd (omega arith));
     }
 
 pub new_viewed : (s : Inside) → ◌≡◌ {A = Me (Unit {0}) Notes} s.seat.me (newcomer s.places 1, [])
@@ -112,7 +112,7 @@ deals_on s t seats n items more v d table same places me lt is is_more =
           ∙ ap (λ (u : RollView). replicate n (new_seat (arc_value s.table).shared.table_id seats s.places) ++ u ∷ []) is
           ∙ one_more n (new_seat (arc_value s.table).shared.table_id seats s.places)
           ∙ ap (λ u. replicate (n + 1) (new_seat u.shared.table_id seats s.places)) (sym at)
-          ∙ ap (λ (p : ℕ). replicate (n + 1) (new_seat (arc_value t.table).shared.table_id seats p)) (sym places)
+          ∙ ap (λ (p : ℕ). replicate (n + 1) (new_seat (arc_value t.table).shared.table_id seats p)) (sym places);
     }
 
 -- the last seat is the one that is left
@@ -129,6 +129,6 @@ pub last_viewed : (s : Inside) (seats n : ℕ) (items all : List RollView) → I
 last_viewed s seats n items all d e is =
     is ∙ ap (λ (xs : List RollView). xs ++ seat_view s ∷ []) d.same
     ∙ ap (λ (u : RollView). replicate n (new_seat (arc_value s.table).shared.table_id seats s.places) ++ u ∷ [])
-        (new_viewed s (last_me s seats n items d e) ∙ ap (λ (k : ℕ). new_seat (arc_value s.table).shared.table_id k s.places) d.all)
+    (new_viewed s (last_me s seats n items d e) ∙ ap (λ (k : ℕ). new_seat (arc_value s.table).shared.table_id k s.places) d.all)
     ∙ one_more n (new_seat (arc_value s.table).shared.table_id seats s.places)
     ∙ ap (λ (k : ℕ). replicate k (new_seat (arc_value s.table).shared.table_id seats s.places)) e

@@ -17,9 +17,9 @@ words_are : (k : ℕ) (ws : List ℕ) (claimed given : List Member)
 words_are k [] claimed given h = refl
 words_are k (w ∷ ws) claimed given h =
     let here : count_at k claimed + count_at k given ≡ w =
-        subst (λ (p : ℕ). count_at p claimed + count_at p given ≡ w) (omega arith) (h 0 (omega arith)) in
+    subst (λ (p : ℕ). count_at p claimed + count_at p given ≡ w) (omega arith) (h 0 (omega arith)) in
     let rest = words_are (suc k) ws claimed given (λ q lt.
-        subst (λ (p : ℕ). count_at p claimed + count_at p given ≡ get_or ws q 0) (omega arith) (h (suc q) (omega arith))) in
+    subst (λ (p : ℕ). count_at p claimed + count_at p given ≡ get_or ws q 0) (omega arith) (h (suc q) (omega arith))) in
     λ i. here i ∷ rest i
 
 words_from_length : (k n : ℕ) (claimed given : List Member) → length (words_from k n claimed given) ≡ n
@@ -36,11 +36,11 @@ shown_words v q r places s e =
     let g : Weighs gifts_by s.words v.given = record { all = s.gifts } in
     let wide : places ≡ length s.words = sym (s.wide ∙ e) in
     let at : words_from 0 (length s.words) v.claimed v.given ≡ s.words =
-        words_are 0 s.words v.claimed v.given (λ p lt.
-            let a = count_is claims_by s.words v.claimed c p lt in
-            let b = count_is gifts_by s.words v.given g p lt in
-            let same : 0 + p ≡ p = omega arith in
-            subst (λ (k : ℕ). count_at k v.claimed + count_at k v.given ≡ get_or s.words p 0) (sym same) (omega arith)) in
+    words_are 0 s.words v.claimed v.given (λ p lt.
+    let a = count_is claims_by s.words v.claimed c p lt in
+    let b = count_is gifts_by s.words v.given g p lt in
+    let same : 0 + p ≡ p = omega arith in
+    subst (λ (k : ℕ). count_at k v.claimed + count_at k v.given ≡ get_or s.words p 0) (sym same) (omega arith)) in
     ap (λ (n : ℕ). words_from 0 n v.claimed v.given) wide ∙ at
 
 pub shown_word : (v : Notes) (q r places : ℕ) (s : Shown v q r) → v.places ≡ places → r ≡ get_or (words_of places v.claimed v.given) q 0
@@ -70,7 +70,7 @@ shown_end v places = record {
   words = words_of places v.claimed v.given;
   claimed = v.claimed;
   given = v.given;
-  refused = v.finished ++ v.refused ∷ []
+  refused = v.finished ++ v.refused ∷ [];
 }
 
 pub ended : (v : Notes) (q r places : ℕ) → Shown v q r → v.places ≡ places → IsEnded (shown_end v places)
@@ -82,5 +82,5 @@ ended v q r places s e =
       refused_when_full = λ asker others t.
           let some_one = some_refusal v asker others t in
           subst (λ (ws : List ℕ). EveryPlaceStands ws v.claimed) same
-          (λ p lt. let more = s.asked some_one p lt in (0, there claims_by s.words v.claimed c p 0 lt (omega arith)))
+          (λ p lt. let more = s.asked some_one p lt in (0, there claims_by s.words v.claimed c p 0 lt (omega arith)));
     }

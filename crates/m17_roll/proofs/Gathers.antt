@@ -23,7 +23,7 @@ of_roll roll places all before after s are e =
     let long = ap length e in
     let count = length-append before (s ∷ after) in
     let at : get_or all (length before) s ≡ s =
-        ap (λ (xs : List RollView). get_or xs (length before) s) e ∙ get_or-append_seam before s after s in
+    ap (λ (xs : List RollView). get_or xs (length before) s) e ∙ get_or-append_seam before s after s in
     subst (λ (x : RollView). IsSeatOf roll (length all) places x) at (are.each (length before) s (omega arith))
 
 pub begins_with : (roll : TableId) (places : ℕ) (all rest : List RollView) (s : RollView) → AreAll roll places all
@@ -42,8 +42,8 @@ begins_with roll places all rest s are e =
         parts = refl;
         claimed = sym (append-nil s.claimed);
         given = sym (append-nil s.given);
-        refused = refl
-      }
+        refused = refl;
+      };
     }
 
 split_off : (all rest before done : List RollView) (s : RollView) → all ≡ rest ++ done → rest ≡ before ++ s ∷ []
@@ -71,8 +71,8 @@ takes_one all rest before s g h e = record {
     parts = (let p = h.gathered.parts in omega arith);
     claimed = ap (λ (ms : List Member). s.claimed ++ ms) h.gathered.claimed;
     given = ap (λ (ms : List Member). s.given ++ ms) h.gathered.given;
-    refused = ap (λ (xs : List (List ℕ)). s.refused ∷ xs) h.gathered.refused
-  }
+    refused = ap (λ (xs : List (List ℕ)). s.refused ∷ xs) h.gathered.refused;
+  };
 }
 
 -- all seats were joined

@@ -33,8 +33,8 @@ stands : (q g : ℕ) (ms : List Member) → 0 < weigh (mark q g) ms → Contains
 stands q g [] h = absurd (omega arith)
 stands q g (m ∷ ms) h = dite (ℕ_discrete m.place q)
     (λ p. dite (ℕ_discrete m.generation g)
-        (λ e. (0, omega arith, (λ i. record { place = p i; generation = e i })))
-        (λ ne. further m ms q g (stands q g ms (let z = mark_generation q g m.place m.generation ne in omega arith))))
+    (λ e. (0, omega arith, (λ i. record { place = p i; generation = e i })))
+    (λ ne. further m ms q g (stands q g ms (let z = mark_generation q g m.place m.generation ne in omega arith))))
     (λ ne. further m ms q g (stands q g ms (let z = mark_place q g m.place m.generation ne in omega arith)))
 
 -- and the other way round
@@ -69,8 +69,8 @@ known f words ms w m t =
     dite (dec_le (length words) m.place)
     (λ past. absurd (let z = w.all (mark m.place m.generation) ∙ past_sum f words m.place m.generation past in omega arith))
     (λ not. let within = lt_of_not-le not in dite (dec_le (f (get_or words m.place 0)) m.generation)
-        (λ le. absurd (let z = times_none f words ms w m.place m.generation within le in omega arith))
-        (λ less. (within, lt_of_not-le less)))
+    (λ le. absurd (let z = times_none f words ms w m.place m.generation within le in omega arith))
+    (λ less. (within, lt_of_not-le less)))
 
 -- a generation that the word knows stands there
 pub there : (f : ℕ → ℕ) (words : List ℕ) (ms : List Member) → Weighs f words ms → (q g : ℕ) → q < length words
@@ -81,8 +81,8 @@ at_most_once : (f : ℕ → ℕ) (words : List ℕ) (ms : List Member) → Weigh
 at_most_once f words ms w q g = dite (dec_le (length words) q)
     (λ past. let z = w.all (mark q g) ∙ past_sum f words q g past in omega arith)
     (λ not. let within = lt_of_not-le not in dite (dec_le (f (get_or words q 0)) g)
-        (λ le. let z = times_none f words ms w q g within le in omega arith)
-        (λ less. let z = times_one f words ms w q g within (lt_of_not-le less) in omega arith))
+    (λ le. let z = times_none f words ms w q g within le in omega arith)
+    (λ less. let z = times_one f words ms w q g within (lt_of_not-le less) in omega arith))
 
 pub run_of : (words : List ℕ) (claimed given : List Member) → Weighs claims_by words claimed → Weighs gifts_by words given
     → IsRollRun words claimed given
@@ -108,5 +108,5 @@ run_of words claimed given c g = record {
       let same : get_or words a.place 0 ≡ get_or words b.place 0 = ap (λ (p : ℕ). get_or words p 0) place in
       let in_words = k.0 in
       let less = k.1 in
-      there gifts_by words given g a.place a.generation (omega arith) (omega arith)
+      there gifts_by words given g a.place a.generation (omega arith) (omega arith);
 }

@@ -31,7 +31,7 @@ reseat s seat v in_order same_table me places parts finished falls rises =
       no_slot = ap (λ (m : Me (Unit {0}) Notes). m.1) me ∙ in_order.no_slot;
       alone = ap (λ (u : Notes). u.finished) same ∙ (finished ∙ in_order.alone);
       falls = subst (λ (u : Notes). NeverFalls u.seen) (sym same) falls;
-      rises = subst (λ (u : Notes). RisesAtPlaces u.claimed) (sym same) rises
+      rises = subst (λ (u : Notes). RisesAtPlaces u.claimed) (sym same) rises;
     }
 
 -- one word more was seen
@@ -90,7 +90,7 @@ view_at s m = record {
   given = m.0.given;
   missed = m.0.missed;
   refused = m.0.refused;
-  seen = m.0.seen
+  seen = m.0.seen;
 }
 
 abbrev pair_of : Me (Unit {0}) Notes → ℕ → ℕ → List ℕ → Me (Unit {0}) Notes
@@ -103,7 +103,7 @@ passes_one s seat q r who look found = record {
   looks = sighting q r ∷ [];
   few = omega arith;
   taken = inl (r, (0, omega arith, refl), found);
-  after = ap (λ (m : Me (Unit {0}) Notes). view_at s m) (look.taken found)
+  after = ap (λ (m : Me (Unit {0}) Notes). view_at s m) (look.taken found);
 }
 
 -- what a claim's look at a free place did, and then its lost exchange
@@ -116,10 +116,10 @@ passes_two s one two q old r who look free exchange miss =
     let below = subst (λ (m : Me (Unit {0}) Notes). IsNotBelow m.0.seen q r) at (exchange.lost miss).1 in
     let le = last_le before.seen q old r below in
     let then : ◌≡◌ {A = Me (Unit {0}) Notes} two.me (refusing (sees (sees before q old) q r) who, s.seat.me.1) =
-        (exchange.lost miss).0 ∙ ap (λ (m : Me (Unit {0}) Notes). pair_of m q r who) at in record {
+    (exchange.lost miss).0 ∙ ap (λ (m : Me (Unit {0}) Notes). pair_of m q r who) at in record {
       looks = sighting q old ∷ sighting q r ∷ [];
       few = omega arith;
       taken = inr (0, 1, old, r, omega arith, refl, refl, omega arith);
       after = ap (λ (m : Me (Unit {0}) Notes). view_at s m) then
-          ∙ ap (λ (xs : List Sighting). with_refused (record (seat_view s) { seen = xs }) who) (append_assoc before.seen (sighting q old ∷ []) (sighting q r ∷ []))
+          ∙ ap (λ (xs : List Sighting). with_refused (record (seat_view s) { seen = xs }) who) (append_assoc before.seen (sighting q old ∷ []) (sighting q r ∷ []));
     }

@@ -76,7 +76,7 @@ starts old asker more = record {
       let none_yet = written_early 0 old.places asker (λ e. omega arith) in
       let P = λ (xs : List Sighting) (who : List ℕ). record old { seen = xs; refused = who } in
       sym (ap (λ (xs : List Sighting). record old { seen = xs; refused = old.refused ++ written 0 old.places asker }) (append-nil old.seen)
-          ∙ ap (λ (who : List ℕ). record old { refused = who }) (ap (λ (who : List ℕ). old.refused ++ who) none_yet ∙ append-nil old.refused))
+      ∙ ap (λ (who : List ℕ). record old { refused = who }) (ap (λ (who : List ℕ). old.refused ++ who) none_yet ∙ append-nil old.refused));
 }
 
 -- before its last place a claim has refused nobody
@@ -96,7 +96,7 @@ goes_on old now new n asker p lt here =
           (λ ne. taken_left p.looks here.looks q (p.taken q (omega arith))));
       after = here.after
           ∙ ap (λ (v : RollView). with_refused (with_looks v here.looks) (written (n + 1) v.places asker)) at
-          ∙ ap (λ (xs : List Sighting). record old { seen = xs; refused = old.refused ++ written (n + 1) old.places asker }) (append_assoc old.seen p.looks here.looks)
+          ∙ ap (λ (xs : List Sighting). record old { seen = xs; refused = old.refused ++ written (n + 1) old.places asker }) (append_assoc old.seen p.looks here.looks);
     }
 
 pub seen_else : (old now : RollView) (n asker : ℕ) → Passed old n asker now → n < old.places
@@ -106,7 +106,7 @@ seen_else old now n asker p lt asked q less other =
     let places : now.places ≡ old.places = ap (λ (v : RollView). v.places) at in
     let seen : now.seen ≡ old.seen ++ p.looks = ap (λ (v : RollView). v.seen) at in
     let last : n + 1 ≡ now.places = dite (ℕ_discrete (n + 1) now.places) (λ e. e)
-        (λ ne. absurd (let e = ap length (written_early (n + 1) now.places asker ne) in omega arith)) in
+    (λ ne. absurd (let e = ap length (written_early (n + 1) now.places asker ne) in omega arith)) in
     let t = taken_above p.looks q (p.taken q (omega arith)) in
     (t.0, subst (λ (xs : List Sighting). Contains xs (sighting q t.0)) (sym seen) (Contains-append_right old.seen p.looks (sighting q t.0) t.1), t.2)
 
@@ -125,9 +125,9 @@ claims_here old now new n asker m p lt here =
       in_roll = omega arith;
       not_last = here.not_last;
       newer = (
-        let claimed : now.claimed ≡ old.claimed = ap (λ (v : RollView). v.claimed) at in
-        subst (λ (ms : List Member). IsNewAt ms m.place m.generation) claimed
-            (subst (λ (k : ℕ). IsNewAt now.claimed k m.generation) (sym at_place) here.newer))
+          let claimed : now.claimed ≡ old.claimed = ap (λ (v : RollView). v.claimed) at in
+          subst (λ (ms : List Member). IsNewAt ms m.place m.generation) claimed
+          (subst (λ (k : ℕ). IsNewAt now.claimed k m.generation) (sym at_place) here.newer));
     }
 
 pub refuses_all : (old now : RollView) (n asker : ℕ) → Passed old n asker now → n ≡ old.places → IsRefusal old asker now
@@ -135,5 +135,5 @@ refuses_all old now n asker p e = record {
   looks = p.looks;
   few = (let a = p.few in omega arith);
   all_taken = λ q lt. p.taken q (omega arith);
-  after = p.after ∙ ap (λ (who : List ℕ). with_refused (with_looks old p.looks) who) (written_last n old.places asker e)
+  after = p.after ∙ ap (λ (who : List ℕ). with_refused (with_looks old p.looks) who) (written_last n old.places asker e);
 }

@@ -10,7 +10,7 @@ end_view s = record {
   words = words_of s.places s.seat.me.0.claimed s.seat.me.0.given;
   claimed = s.seat.me.0.claimed;
   given = s.seat.me.0.given;
-  refused = s.seat.me.0.finished ++ s.seat.me.0.refused ∷ []
+  refused = s.seat.me.0.finished ++ s.seat.me.0.refused ∷ [];
 }
 
 -- the seat is all seats of the roll

@@ -12,7 +12,7 @@ gathered_view s = record {
   parts = s.seat.me.0.parts;
   claimed = s.seat.me.0.claimed;
   given = s.seat.me.0.given;
-  refused = s.seat.me.0.finished ++ s.seat.me.0.refused ∷ []
+  refused = s.seat.me.0.finished ++ s.seat.me.0.refused ∷ [];
 }
 
 pub record IsJoined (s : Inside) : Type 0 where

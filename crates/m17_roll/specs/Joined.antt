@@ -18,14 +18,24 @@ pub record GatheredView : Type 0 where
 
 abbrev pub first_gathered : RollView → GatheredView
 first_gathered s = record {
-  roll = s.roll; seats = s.seats; places = s.places; parts = 1;
-  claimed = s.claimed; given = s.given; refused = s.refused ∷ []
+  roll = s.roll;
+  seats = s.seats;
+  places = s.places;
+  parts = 1;
+  claimed = s.claimed;
+  given = s.given;
+  refused = s.refused ∷ [];
 }
 
 abbrev pub with_seat : GatheredView → RollView → GatheredView
 with_seat g s = record {
-  roll = g.roll; seats = g.seats; places = g.places; parts = g.parts + 1;
-  claimed = s.claimed ++ g.claimed; given = s.given ++ g.given; refused = s.refused ∷ g.refused
+  roll = g.roll;
+  seats = g.seats;
+  places = g.places;
+  parts = g.parts + 1;
+  claimed = s.claimed ++ g.claimed;
+  given = s.given ++ g.given;
+  refused = s.refused ∷ g.refused;
 }
 
 -- the words of n places from the k-th on: each has risen by one at each claim and at each giving back
@@ -40,7 +50,9 @@ words_of places claimed given = words_from 0 places claimed given
 abbrev pub end_of : GatheredView → EndView
 end_of g = record {
   words = words_of g.places g.claimed g.given;
-  claimed = g.claimed; given = g.given; refused = g.refused
+  claimed = g.claimed;
+  given = g.given;
+  refused = g.refused;
 }
 
 -- these seats were joined

@@ -35,6 +35,10 @@ new_seat roll seats places = record {
 abbrev pub IsSeatOf : TableId → ℕ → ℕ → RollView → Type 0
 IsSeatOf roll seats places s = (s.roll ≡ roll) × (s.seats ≡ seats) × (s.places ≡ places)
 
+-- The seat is still that seat: of the same roll. What it did meanwhile is not said.
+abbrev pub IsSameSeat : RollView → RollView → Type 0
+IsSameSeat before after = IsSeatOf before.roll before.seats before.places after
+
 -- the seat as it was, and after these looks
 abbrev pub with_looks : RollView → List Sighting → RollView
 with_looks s looks = record s { seen = s.seen ++ looks }

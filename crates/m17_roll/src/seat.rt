@@ -3,7 +3,7 @@ ghost use Rattle.std.specs.Prelude.{◌≡◌, ◌⊎◌, ℕ, ◌<◌, ◌≤�
 ghost use Rattle.std.specs.Bool.{OnTrue, OnFalse};
 ghost use Rattle.atomic_table.specs.Seated.{TableId};
 ghost use Rattle.m17_roll.specs.Sightings.{sighting, NeverFalls, RisesAtPlaces};
-ghost use Rattle.m17_roll.specs.Seat.{new_seat, with_looks, with_gift, IsClaim, IsRefusal, IsNotGiven, TakesAt, PassesAt};
+ghost use Rattle.m17_roll.specs.Seat.{new_seat, IsSameSeat, with_looks, with_gift, IsClaim, IsRefusal, IsNotGiven, TakesAt, PassesAt};
 ghost use Rattle.m17_roll.specs.Rule.{SeenElse};
 
 use crate::rule::{Asker, ClaimsFor, Gives, Looks, LooksFor, Notes, Parting, RollRule, Shape};
@@ -57,6 +57,7 @@ impl RollSeat {
         ensures refused { IfNone result (IsRefusal self.old asker self.new) }
         ensures never_falls { NeverFalls self.new.seen }
         ensures rising { RisesAtPlaces self.new.claimed }
+        ensures seat { IsSameSeat self.old self.new }
     {
         for place in 0..self.places {
             if let Some(member) = self.try_at::<Brand>(place, asker) {
@@ -74,6 +75,7 @@ impl RollSeat {
     pub fn give(&mut self, member: Member) -> bool
         ensures given { OnTrue result (self.new ≡ with_gift self.old member) }
         ensures refused { OnFalse result (IsNotGiven self.old member self.new) }
+        ensures seat { IsSameSeat self.old self.new }
     {
         let place = member.place;
         if place >= self.places || member.generation >= END_OF_GENERATIONS {
@@ -94,6 +96,7 @@ impl RollSeat {
         ensures none { IfNone result (self.new ≡ self.old) }
         ensures no_place { IsNone result ↔ (self.old.places ≤ place) }
         ensures never_falls { NeverFalls self.new.seen }
+        ensures seat { IsSameSeat self.old self.new }
     {
         if place >= self.places {
             return None;

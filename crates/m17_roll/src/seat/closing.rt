@@ -41,7 +41,9 @@ impl RollEnd {
         ensures word { result ≡ slice_index self.old.words place }
         ensures same { self.new ≡ self.old }
     {
-        self.table.shared.load::<Reads>(&mut self.seat, place as usize)
+        self.table
+            .shared
+            .load::<Reads>(&mut self.seat, place as usize)
     }
 }
 

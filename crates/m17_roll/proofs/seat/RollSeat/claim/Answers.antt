@@ -16,7 +16,7 @@ returns-in-Some-clause-claimed c =
     let test = c.loop-place-test.true in
     let within : c.loop-place.place < c.args.self.now.places = omega arith in
     claims_here c.args.self.now c.loop-place.self c.try_at.new.self c.loop-place.place c.args.asker c.in-Some.member c.loop-place.invariant within
-        c.in-Some.ensures.claimed
+    c.in-Some.ensures.claimed
 
 pub loop-place-preserved : goal.loop-place-preserved
 loop-place-preserved c =
@@ -24,7 +24,7 @@ loop-place-preserved c =
     let test = c.loop-place-test.true in
     let within : c.loop-place.place < c.args.self.now.places = omega arith in
     goes_on c.args.self.now c.loop-place.self c.try_at.new.self c.loop-place.place c.args.asker c.loop-place.invariant within
-        c.in_default.ensures.refused
+    c.in_default.ensures.refused
 
 pub returns-clause-refused : goal.returns-clause-refused
 returns-clause-refused c =

@@ -13,5 +13,5 @@ returns-clause-places c k d lt =
     let h = c.loop-seat.invariant in
     let g = c.loop-seat.gathering in
     let long : length c.settle.result.words ≡ g.places =
-        ap (λ (e : EndView). length e.words) c.settle.ensures.shown ∙ words_length g.places g.claimed g.given in
+    ap (λ (e : EndView). length e.words) c.settle.ensures.shown ∙ words_length g.places g.claimed g.given in
     (h.are.each k d lt).2 ∙ sym (long ∙ h.gathered.same_places)
