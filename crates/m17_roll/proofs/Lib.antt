@@ -9,3 +9,4 @@ mod Dealing
 mod Running
 mod Ending
 mod Gathers
+mod Twice

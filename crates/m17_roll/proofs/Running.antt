@@ -19,7 +19,7 @@ count_weighs q (m ∷ ms) =
     sum_by-cons (λ (x : Member). let r : ℕ = cond (eqb x.place q) 1 0 in r) m ms
     ∙ ap (λ (n : ℕ). mark_at q m.place m.generation + n) (count_weighs q ms)
 
-times_weighs : (q g : ℕ) (ms : List Member) → times q g ms ≡ weigh (mark q g) ms
+pub times_weighs : (q g : ℕ) (ms : List Member) → times q g ms ≡ weigh (mark q g) ms
 times_weighs q g [] = refl
 times_weighs q g (m ∷ ms) =
     sum_by-cons (λ (x : Member). let r : ℕ = cond (eqb x.place q && eqb x.generation g) 1 0 in r) m ms

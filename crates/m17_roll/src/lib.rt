@@ -6,6 +6,7 @@
 //! Who asks for a place, and what a member may do, is left to the crates above.
 #![tactic(auto)]
 
+pub mod laws;
 mod rule;
 mod seat;
 #[cfg(test)]
