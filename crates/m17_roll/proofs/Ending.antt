@@ -79,8 +79,8 @@ ended v q r places s e =
     let g : Weighs gifts_by s.words v.given = record { all = s.gifts } in
     let same = sym (shown_words v q r places s e) in record {
       run = subst (λ (ws : List ℕ). IsRollRun ws v.claimed v.given) same (run_of s.words v.claimed v.given c g);
-      refused_when_full = λ asker others t.
-          let some_one = some_refusal v asker others t in
+      refused_when_full = λ t.
+          let some_one = some_refusal v t.0 t.1 t.2 in
           subst (λ (ws : List ℕ). EveryPlaceStands ws v.claimed) same
           (λ p lt. let more = s.asked some_one p lt in (0, there claims_by s.words v.claimed c p 0 lt (omega arith)));
     }

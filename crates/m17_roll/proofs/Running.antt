@@ -89,15 +89,19 @@ pub run_of : (words : List ℕ) (claimed given : List Member) → Weighs claims_
 run_of words claimed given c g = record {
   each_once = λ q n lt less. times_weighs q n claimed ∙ times_one claims_by words claimed c q n lt (let e = count_is claims_by words claimed c q lt in omega arith);
   no_other = λ q n lt le. times_weighs q n claimed ∙ times_none claims_by words claimed c q n lt (let e = count_is claims_by words claimed c q lt in omega arith);
-  free = λ q lt h.
-      let e = count_is claims_by words claimed c q lt in
-      ⊎_elim (λ none_yet. omega arith)
-      (λ t. let k = known gifts_by words given g (member q (count_at q claimed - 1)) t.1 in let less = k.1 in let some_claim = t.0 in omega arith) h;
-  taken = λ q lt some_claim not.
-      let e = count_is claims_by words claimed c q lt in
-      dite (dec_le (gifts_by (get_or words q 0)) (count_at q claimed - 1))
-      (λ le. omega arith)
-      (λ more. absurd (not (there gifts_by words given g q (count_at q claimed - 1) lt (lt_of_not-le more))));
+  word = λ q lt. let e = count_is claims_by words claimed c q lt in (
+    (λ h. ⊎_elim (λ none_yet. omega arith)
+        (λ t.
+        let k = known gifts_by words given g (member q (count_at q claimed - 1)) t.1 in
+        let less = k.1 in
+        let some_claim = t.0 in omega arith)
+        h),
+    (λ t.
+        let some_claim = t.0 in
+        dite (dec_le (gifts_by (get_or words q 0)) (count_at q claimed - 1))
+        (λ le. omega arith)
+        (λ more. absurd (t.1 (there gifts_by words given g q (count_at q claimed - 1) lt (lt_of_not-le more))))),
+  );
   within = λ m t. (known claims_by words claimed c m t).0;
   was_claimed = λ m t.
       let k = known gifts_by words given g m t in

@@ -3,6 +3,7 @@ use Rattle.std.specs.Prelude.{◌≡◌, ℕ, ◌+◌, ◌<◌, List, [], ◌∷
 use Rattle.std.specs.List.{All, Contains}
 use Rattle.atomic_table.specs.Seated.{TableId}
 use Rattle.m17_values.specs.declared.member.Member.{Member}
+use Rattle.m17_roll.specs.Sightings.{member}
 use Rattle.m17_roll.specs.Seat.{RollView, IsSeatOf}
 use Rattle.m17_roll.specs.Run.{IsRollRun}
 
@@ -29,14 +30,17 @@ abbrev pub gifts_of : List RollView → List Member
 gifts_of [] = []
 gifts_of (s ∷ ss) = s.given ++ gifts_of ss
 
+-- Some seat refused an asker.
+abbrev pub HasRefusal : List (List ℕ) → Type 0
+HasRefusal refused = (asker : ℕ) × (others : List ℕ) × Contains refused (asker ∷ others)
+
 -- Every place of the roll stands among the claimed members.
 abbrev pub EveryPlaceStands : List ℕ → List Member → Type 0
 EveryPlaceStands words claimed =
-    (q : ℕ) → q < length words → (generation : ℕ) × Contains claimed (record { place = q; generation = generation })
+    (q : ℕ) → q < length words → (generation : ℕ) × Contains claimed (member q generation)
 
 -- What was claimed and given back is one run of the roll, and where some seat refused an asker, every place of the roll
 -- stands among the claimed members.
 pub record IsEnded (e : EndView) : Type 0 where
   pub run : IsRollRun e.words e.claimed e.given
-  pub refused_when_full :
-      (asker : ℕ) (others : List ℕ) → Contains e.refused (asker ∷ others) → EveryPlaceStands e.words e.claimed
+  pub refused_when_full : HasRefusal e.refused → EveryPlaceStands e.words e.claimed

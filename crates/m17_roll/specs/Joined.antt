@@ -41,7 +41,8 @@ with_seat g s = record {
 -- the words of n places from the k-th on: each has risen by one at each claim and at each giving back
 abbrev pub words_from : ℕ → ℕ → List Member → List Member → List ℕ
 words_from k zero claimed given = []
-words_from k (suc n) claimed given = (count_at k claimed + count_at k given) ∷ words_from (suc k) n claimed given
+words_from k (suc n) claimed given =
+    let risen = count_at k claimed + count_at k given in risen ∷ words_from (suc k) n claimed given
 
 abbrev pub words_of : ℕ → List Member → List Member → List ℕ
 words_of places claimed given = words_from 0 places claimed given
@@ -56,11 +57,11 @@ end_of g = record {
 }
 
 -- these seats were joined
-pub record IsGathered (roll : TableId) (places seats : ℕ) (joined : List RollView) (g : GatheredView) : Type 0 where
-  pub same_roll : g.roll ≡ roll
+pub record IsGathered (r : TableId) (places seats : ℕ) (ss : List RollView) (g : GatheredView) : Type 0 where
+  pub same_roll : g.roll ≡ r
   pub same_places : g.places ≡ places
   pub same_seats : g.seats ≡ seats
-  pub parts : g.parts ≡ length joined
-  pub claimed : g.claimed ≡ claims_of joined
-  pub given : g.given ≡ gifts_of joined
-  pub refused : g.refused ≡ map (λ s. s.refused) joined
+  pub parts : g.parts ≡ length ss
+  pub claimed : g.claimed ≡ claims_of ss
+  pub given : g.given ≡ gifts_of ss
+  pub refused : g.refused ≡ map (λ s. s.refused) ss

@@ -4,7 +4,11 @@ use Rattle.std.specs.List.{AllPairs}
 use Rattle.m17_values.specs.declared.member.Member.{Member}
 use Rattle.m17_roll.specs.Run.{IsRollRun}
 
+-- no member stands twice
+abbrev pub AreDistinct : List Member → Type 0
+AreDistinct members = AllPairs (λ a b. a ≢ b) members
+
 -- In a run no two claims, of one seat or of two, are of the same member.
 abbrev pub NoMemberIsClaimedTwice : Type 0
 NoMemberIsClaimedTwice =
-    (words : List ℕ) (claimed given : List Member) → IsRollRun words claimed given → AllPairs (λ a b. a ≢ b) claimed
+    (ws : List ℕ) (claimed given : List Member) → IsRollRun ws claimed given → AreDistinct claimed

@@ -101,7 +101,11 @@ pub record Shown (v : Notes) (q r : ℕ) : Type 0 where
 abbrev pub reads : Step (Unit {0}) → Mine → ℕ → Mine → Type 0
 reads st m r m' = (m' ≡ m) × Shown m.0 st.word r
 
+-- some word above 0 was seen at this place
+abbrev pub IsSeenAbove : List Sighting → ℕ → Type 0
+IsSeenAbove seen q = (w : ℕ) × Contains seen (sighting q w) × (0 < w)
+
 -- where somebody is to be refused, every place but this one was seen with a word above 0
 abbrev pub SeenElse : ℕ → ℕ → List Sighting → List ℕ → Type 0
 SeenElse places place seen who =
-    0 < length who → (q : ℕ) → q < places → q ≢ place → (w : ℕ) × Contains seen (sighting q w) × (0 < w)
+    0 < length who → (q : ℕ) → q < places → q ≢ place → IsSeenAbove seen q

@@ -1,9 +1,9 @@
 -- What contracts see of a seat, and what each call does to it. This profile.
-use Rattle.std.specs.Prelude.{◌≡◌, ◌≢◌, ℕ, ◌+◌, ◌-◌, ◌*◌, ◌^◌, ◌<◌, ◌≤◌, ◌⊎◌, List, [], ◌∷◌, ◌++◌, length}
+use Rattle.std.specs.Prelude.{◌≡◌, ◌≢◌, ℕ, ◌+◌, ◌-◌, ◌*◌, ◌^◌, ◌<◌, ◌≤◌, ◌⊎◌, List, [], ◌∷◌, ◌++◌, length, replicate}
 use Rattle.atomic_table.specs.Seated.{TableId}
 use Rattle.m17_values.specs.declared.member.Member.{Member}
 use Rattle.m17_roll.specs.declared.rule.Sighting.{Sighting}
-use Rattle.m17_roll.specs.Sightings.{sighting, IsNotBelow, IsNewAt, IsSeenTaken}
+use Rattle.m17_roll.specs.Sightings.{sighting, free_for, IsNotBelow, IsNewAt, IsSeenTaken}
 
 -- A seat: which roll it belongs to, the roll's numbers of seats and places, and in order of time the members that this
 -- seat claimed, those that it gave back, what it found where a giving back was refused, its refused askers, and what it
@@ -30,6 +30,10 @@ new_seat roll seats places = record {
   refused = [];
   seen = [];
 }
+
+-- These are new seats of one roll, as many as it has, with so many places. This profile.
+abbrev pub AreNew : ℕ → ℕ → List RollView → Type 0
+AreNew places seats all = (roll : TableId) × (all ≡ replicate seats (new_seat roll seats places))
 
 -- the seat is of this roll, which has so many seats and places
 abbrev pub IsSeatOf : TableId → ℕ → ℕ → RollView → Type 0
@@ -65,7 +69,7 @@ pub record IsClaim (old : RollView) (m : Member) (new : RollView) : Type 0 where
   pub looks : List Sighting
   pub few : length looks ≤ 2 * m.place
   pub lower : (q : ℕ) → q < m.place → IsSeenTaken looks q
-  pub after : new ≡ with_claim (with_looks old (looks ++ sighting m.place (2 * m.generation) ∷ [])) m
+  pub after : new ≡ with_claim (with_looks old (looks ++ free_for m ∷ [])) m
   pub in_roll : m.place < old.places
   pub not_last : m.generation < 2 ^ 63 - 1
   pub newer : IsNewAt old.claimed m.place m.generation

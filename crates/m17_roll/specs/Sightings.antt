@@ -1,6 +1,6 @@
 -- Words that a seat found at places, and members that it claimed. The word of a place is 2 g while it is free for its
 -- generation g, and 2 g + 1 while that generation has it. This profile.
-use Rattle.std.specs.Prelude.{◌≡◌, ◌≢◌, ℕ, ◌+◌, ◌-◌, ◌%◌, ◌^◌, ◌<◌, ◌≤◌, ◌⊎◌, List, Some, slice_get}
+use Rattle.std.specs.Prelude.{◌≡◌, ◌≢◌, ℕ, ◌+◌, ◌-◌, ◌*◌, ◌%◌, ◌^◌, ◌<◌, ◌≤◌, ◌⊎◌, List, Some, slice_get}
 use Rattle.std.specs.List.{All, AllPairs, Contains}
 use Rattle.m17_values.specs.declared.member.Member.{Member}
 use Rattle.m17_roll.specs.declared.rule.Sighting.{Sighting}
@@ -12,6 +12,10 @@ sighting place word = record { place = place; word = word }
 -- the member of this place and generation
 abbrev pub member : ℕ → ℕ → Member
 member place generation = record { place = place; generation = generation }
+
+-- the member's place is free for it
+abbrev pub free_for : Member → Sighting
+free_for m = sighting m.place (2 * m.generation)
 
 -- Of two words that were found at one place the later is not below the earlier. This profile.
 abbrev pub NeverFalls : List Sighting → Type 0

@@ -1,9 +1,8 @@
 //! A seat at the roll: claim a place, give it back, look at its word.
 ghost use Rattle.std.specs.Prelude.{◌≡◌, ◌⊎◌, ℕ, ◌<◌, ◌≤◌, ◌↔◌, length, replicate, IfOk, IfSome, IfNone, IsNone, [], ◌∷◌, ◌++◌};
 ghost use Rattle.std.specs.Bool.{OnTrue, OnFalse};
-ghost use Rattle.atomic_table.specs.Seated.{TableId};
 ghost use Rattle.m17_roll.specs.Sightings.{sighting, NeverFalls, RisesAtPlaces};
-ghost use Rattle.m17_roll.specs.Seat.{new_seat, IsSameSeat, with_looks, with_gift, IsClaim, IsRefusal, IsNotGiven, TakesAt, PassesAt};
+ghost use Rattle.m17_roll.specs.Seat.{AreNew, IsSameSeat, with_looks, with_gift, IsClaim, IsRefusal, IsNotGiven, TakesAt, PassesAt};
 ghost use Rattle.m17_roll.specs.Rule.{SeenElse};
 
 use crate::rule::{Asker, ClaimsFor, Gives, Looks, LooksFor, Notes, Parting, RollRule, Shape};
@@ -148,7 +147,7 @@ impl RollSeat {
 pub fn make(alloc: Global, places: u32, seats: u32) -> Result<Vec<RollSeat>, NoMemory>
     requires places { (0 < places) × (places ≤ 256) }
     requires seats { 0 < seats }
-    ensures { IfOk result (λ v. (roll : TableId) × (v.items ≡ replicate seats (new_seat roll seats places))) }
+    ensures { IfOk result (λ v. AreNew places seats v.items) }
 {
     let Ok(all) = make_all(alloc, places, seats) else {
         return Err(NoMemory);
@@ -160,7 +159,7 @@ pub fn make(alloc: Global, places: u32, seats: u32) -> Result<Vec<RollSeat>, NoM
 fn make_all(alloc: Global, places: u32, seats: u32) -> Result<Vec<RollSeat>, AllocError>
     requires places { 0 < places }
     requires seats { 0 < seats }
-    ensures { IfOk result (λ v. (roll : TableId) × (v.items ≡ replicate seats (new_seat roll seats places))) }
+    ensures { IfOk result (λ v. AreNew places seats v.items) }
 {
     let words = vec![in alloc; 0u64; places as usize]?;
     let shape = Shape { places, seats };
