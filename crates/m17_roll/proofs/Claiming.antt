@@ -1,20 +1,19 @@
 -- The steps of a claim and of a giving back keep the rule.
-use Rattle.std.proofs.Common.{◌≡◌, ◌≢◌, ℕ, zero, suc, ◌+◌, ◌-◌, ◌*◌, ◌/◌, ◌%◌, ◌<◌, ◌≤◌, ◌⊎◌, inl, inr, ⊎_elim, eqb, List, [], ◌∷◌, ◌++◌, length, get_or, set, sym, refl, ap, ◌∙◌, subst, arith, length-set, length-append, lt_of_not-le}
-use Rattle.std.specs.List.{All, Contains}
+use Rattle.std.proofs.Common.{◌≡◌, ℕ, suc, ◌+◌, ◌*◌, ◌/◌, ◌%◌, ◌<◌, ◌≤◌, inl, inr, ⊎_elim, eqb, List, [], ◌∷◌, ◌++◌, get_or, refl, arith, lt_of_not-le}
+use Rattle.std.specs.List.{Contains}
 use Rattle.std.proofs.lemmas.List.Elements.{Contains-append_left}
 use mathlib.Core.Logic.{dite}
 use mathlib.Core.Option.{none, some}
 use native.Mathlib.Decide.{ℕ_discrete, dec_le}
 use lib.ListN.{get_elem?}
 use prog.Atomic.{either}
-use Rattle.atomic_table.specs.Table.{State, step, keeps, stepped, Act, Valid, carried_after, Allows}
+use Rattle.atomic_table.specs.Table.{step, keeps, stepped, Act, Valid, carried_after, Allows}
 use Rattle.atomic_table.proofs.Lists.{exchanged}
-use Rattle.m17_values.specs.declared.member.Member.{Member}
 use Rattle.m17_roll.specs.declared.rule.Notes.{Notes}
 use Rattle.m17_roll.specs.declared.rule.Sighting.{Sighting}
-use Rattle.m17_roll.specs.Sightings.{sighting, member, IsNotBelow, IsNewAt, IsTaken}
+use Rattle.m17_roll.specs.Sightings.{sighting, member, IsNewAt, IsTaken}
 use Rattle.m17_roll.specs.Notes.{sees, claiming, giving, missing, refusing}
-use Rattle.m17_roll.specs.Rule.{weigh, total, upto, sums, claims_by, gifts_by, Fits, Kept, Mine, LookedFor, looked_for, ClaimedFor, claims_for, Gave, gives, SeenElse}
+use Rattle.m17_roll.specs.Rule.{weigh, claims_by, gifts_by, Kept, Mine, looked_for, claims_for, gives, SeenElse}
 use Rattle.m17_roll.proofs.Weighing.{total_has, sums_set, upto_at}
 use Rattle.m17_roll.proofs.Marks.{mark, mark_here, weigh_append, weigh_has, none_sum}
 use Rattle.m17_roll.proofs.Steps.{St, grown, moves, stays, saw, not_below, seen_below, refuses, all_above}

@@ -1,9 +1,8 @@
 -- The seats that `make` hands out.
-use Rattle.std.proofs.Common.{◌≡◌, ℕ, zero, suc, ◌+◌, ◌-◌, ◌<◌, ◌≤◌, List, [], ◌∷◌, ◌++◌, length, get_or, replicate, sym, refl, ap, ◌∙◌, subst, arith}
+use Rattle.std.proofs.Common.{◌≡◌, ℕ, zero, suc, ◌+◌, ◌-◌, ◌<◌, List, [], ◌∷◌, ◌++◌, get_or, replicate, sym, refl, ap, ◌∙◌, subst, arith}
 use Rattle.std.specs.Arc.{arc_value}
-use Rattle.std.proofs.lemmas.List.{get_or-replicate, length-replicate, replicate-append-replicate}
+use Rattle.std.proofs.lemmas.List.{replicate-append-replicate}
 use Rattle.atomic_table.specs.Table.{Me}
-use Rattle.atomic_table.specs.declared.shared.Seat.{Seat}
 use Rattle.m17_roll.specs.declared.rule.Notes.{Notes}
 use Rattle.m17_roll.specs.declared.seat.RollSeat.TheInside.{Inside}
 use Rattle.m17_roll.specs.Seat.{RollView, new_seat}

@@ -1,7 +1,7 @@
 -- Weights that count one member, or the members of one place.
-use Rattle.std.proofs.Common.{◌≡◌, ◌≢◌, ℕ, zero, suc, ◌+◌, ◌-◌, ◌<◌, ◌≤◌, Bool, true, false, cond, ◌&&◌, ◌||◌, eqb, eq-eqb, ne_eqb, List, [], ◌∷◌, ◌++◌, length, get_or, sym, refl, ap, ◌∙◌, arith}
+use Rattle.std.proofs.Common.{◌≡◌, ◌≢◌, ℕ, zero, suc, ◌+◌, ◌-◌, ◌<◌, ◌≤◌, Bool, true, false, cond, ◌&&◌, eqb, eq-eqb, ne_eqb, List, [], ◌∷◌, ◌++◌, length, get_or, refl, ap, ◌∙◌, arith}
 use Rattle.m17_values.specs.declared.member.Member.{Member}
-use Rattle.m17_roll.specs.Rule.{weigh, upto, sums}
+use Rattle.m17_roll.specs.Rule.{weigh, sums}
 use Rattle.m17_roll.proofs.Weighing.{sums_only, sums_none, upto_ones, upto_short, upto_past, upto_at}
 
 -- 1 for the member of place q and generation g, and else 0

@@ -1,16 +1,14 @@
 -- What all claims and all givings back weigh makes them one run of the roll.
-use Rattle.std.proofs.Common.{◌≡◌, ◌≢◌, ℕ, zero, suc, ◌+◌, ◌-◌, ◌*◌, ◌/◌, ◌<◌, ◌≤◌, ◌⊎◌, inl, inr, ⊎_elim, Bool, true, false, cond, ◌&&◌, eqb, List, [], ◌∷◌, ◌++◌, length, get_or, sym, refl, ap, ◌∙◌, subst, arith, lt_of_not-le}
-use Rattle.std.specs.List.{Contains, count_by}
+use Rattle.std.proofs.Common.{◌≡◌, ℕ, suc, ◌+◌, ◌-◌, ◌<◌, ◌≤◌, ⊎_elim, cond, ◌&&◌, eqb, List, [], ◌∷◌, length, get_or, refl, ap, ◌∙◌, arith, lt_of_not-le}
+use Rattle.std.specs.List.{Contains}
 use Rattle.std.proofs.lemmas.List.Sums.{sum_by-cons}
 use mathlib.Core.Logic.{dite}
 use native.Mathlib.Decide.{ℕ_discrete, dec_le}
 use Rattle.m17_values.specs.declared.member.Member.{Member}
-use Rattle.m17_roll.specs.declared.rule.Notes.{Notes}
 use Rattle.m17_roll.specs.Sightings.{member}
 use Rattle.m17_roll.specs.Run.{count_at, times, IsRollRun}
-use Rattle.m17_roll.specs.Joined.{words_from, words_of}
-use Rattle.m17_roll.specs.Rule.{weigh, sums, claims_by, gifts_by, Shown}
-use Rattle.m17_roll.proofs.Marks.{mark, mark_at, mark_here, mark_place, mark_generation, mark_at_here, weigh_has, place_sum, one_sum, none_sum, past_sum}
+use Rattle.m17_roll.specs.Rule.{weigh, sums, claims_by, gifts_by}
+use Rattle.m17_roll.proofs.Marks.{mark, mark_at, mark_here, mark_place, mark_generation, weigh_has, place_sum, one_sum, none_sum, past_sum}
 
 -- counting is weighing
 count_weighs : (q : ℕ) (ms : List Member) → count_at q ms ≡ weigh (mark_at q) ms

@@ -1,5 +1,5 @@
 -- A seat stays in order at each kind of step.
-use Rattle.std.proofs.Common.{◌≡◌, ◌≢◌, ℕ, zero, suc, ◌+◌, ◌*◌, ◌/◌, ◌<◌, ◌≤◌, List, [], ◌∷◌, ◌++◌, sym, refl, ap, ◌∙◌, subst, inl, inr, append_assoc, arith}
+use Rattle.std.proofs.Common.{◌≡◌, ◌≢◌, ℕ, suc, ◌/◌, ◌<◌, ◌≤◌, List, [], ◌∷◌, ◌++◌, sym, refl, ap, ◌∙◌, subst, inl, inr, append_assoc, arith}
 use Rattle.std.specs.Arc.{arc_value}
 use Rattle.std.proofs.lemmas.List.Quantifiers.{all_pairs_push}
 use Rattle.atomic_table.specs.Table.{Me}
@@ -9,7 +9,7 @@ use Rattle.m17_roll.specs.declared.rule.Notes.{Notes}
 use Rattle.m17_roll.specs.declared.rule.Sighting.{Sighting}
 use Rattle.m17_roll.specs.declared.seat.RollSeat.TheInside.{Inside}
 use Rattle.m17_roll.specs.Sightings.{sighting, member, NeverFalls, RisesAtPlaces, IsNotBelow, IsNewAt, IsTaken}
-use Rattle.m17_roll.specs.Seat.{RollView, with_looks, with_refused, PassesAt}
+use Rattle.m17_roll.specs.Seat.{RollView, with_refused, PassesAt}
 use Rattle.m17_roll.specs.Notes.{sees, claiming, refusing}
 use Rattle.m17_roll.specs.Rule.{LookedFor, ClaimedFor}
 use Rattle.m17_roll.specs.SeatModel.{seat_view, IsSeated}

@@ -1,16 +1,16 @@
 -- Cutting a seat in two, joining two, and the look of the one seat that is left, keep the rule.
-use Rattle.std.proofs.Common.{◌≡◌, ◌≢◌, ℕ, zero, suc, ◌+◌, ◌-◌, ◌*◌, ◌<◌, ◌≤◌, ◌⊎◌, inl, inr, ⊎_elim, List, [], ◌∷◌, ◌++◌, length, get_or, set, sym, refl, ap, ◌∙◌, subst, arith}
+use Rattle.std.proofs.Common.{◌≡◌, ℕ, zero, suc, ◌+◌, ◌<◌, ◌⊎◌, inl, inr, ⊎_elim, List, [], length, get_or, set, sym, refl, ap, subst, arith}
 use mathlib.Core.Option.{none, some}
 use lib.ListN.{get_elem?}
-use Rattle.atomic_table.specs.Table.{State, step, keeps, Allows, Splits, Joins, opening}
+use Rattle.atomic_table.specs.Table.{step, keeps, Allows, Splits, Joins, opening}
 use Rattle.atomic_table.proofs.Lists.{at_set, at_snoc}
 use Rattle.m17_values.specs.declared.member.Member.{Member}
 use Rattle.m17_roll.specs.declared.rule.Notes.{Notes}
 use Rattle.m17_roll.specs.Notes.{newcomer, rest_of, joined, refusals}
-use Rattle.m17_roll.specs.Rule.{weigh, total, sums, claims_by, gifts_by, Fits, Kept, Mine, Shown, reads}
+use Rattle.m17_roll.specs.Rule.{weigh, claims_by, gifts_by, Fits, Kept, Mine, reads}
 use Rattle.m17_roll.proofs.Weighing.{total_set, total_snoc, total_alone, sums_zero}
 use Rattle.m17_roll.proofs.Marks.{weigh_append}
-use Rattle.m17_roll.proofs.Steps.{St, stays}
+use Rattle.m17_roll.proofs.Steps.{stays}
 
 -- a seat that has done nothing fits
 new_fits : (ws : List ℕ) (places parts : ℕ) → (0 < parts → places ≡ length ws) → Fits ws (newcomer places parts)

@@ -1,20 +1,19 @@
 -- Each kind of step keeps the rule.
-use Rattle.std.proofs.Common.{◌≡◌, ◌≢◌, ℕ, zero, suc, ◌+◌, ◌-◌, ◌*◌, ◌/◌, ◌%◌, ◌<◌, ◌≤◌, ◌⊎◌, inl, inr, ⊎_elim, eqb, List, [], ◌∷◌, ◌++◌, length, get_or, set, sym, refl, ap, ◌∙◌, subst, arith, length-set, length-append, get_or-set_same, eq-eqb, ne_eqb}
+use Rattle.std.proofs.Common.{◌≡◌, ℕ, zero, suc, ◌+◌, ◌<◌, ◌≤◌, ⊎_elim, List, [], ◌∷◌, ◌++◌, length, get_or, set, sym, refl, ap, ◌∙◌, subst, arith, length-set, length-append}
 use Rattle.std.specs.List.{All, Contains}
 use mathlib.Core.Logic.{dite}
 use mathlib.Core.Option.{none, some}
 use native.Mathlib.Decide.{ℕ_discrete}
 use lib.ListN.{get_elem?}
-use prog.Atomic.{either}
-use Rattle.atomic_table.specs.Table.{State, step, keeps, stepped, Allows, Splits, Joins, opening}
-use Rattle.atomic_table.proofs.Lists.{at_set, at_snoc, exchanged}
+use Rattle.atomic_table.specs.Table.{State, step, keeps, stepped, Allows}
+use Rattle.atomic_table.proofs.Lists.{at_set}
 use Rattle.m17_values.specs.declared.member.Member.{Member}
 use Rattle.m17_roll.specs.declared.rule.Notes.{Notes}
 use Rattle.m17_roll.specs.declared.rule.Sighting.{Sighting}
-use Rattle.m17_roll.specs.Sightings.{sighting, member, IsNotBelow, IsNewAt, IsTaken}
-use Rattle.m17_roll.specs.Notes.{newcomer, sees, claiming, giving, missing, refusing, rest_of, joined, refusals, length_of}
-use Rattle.m17_roll.specs.Rule.{weigh, total, upto, sums, claims_by, gifts_by, Fits, Kept, Mine, Saw, looked, LookedFor, looked_for, ClaimedFor, claims_for, Gave, gives, Shown, reads, SeenElse}
-use Rattle.m17_roll.proofs.Weighing.{total_set, total_snoc, total_has, total_alone, sums_set, sums_zero, upto_at}
+use Rattle.m17_roll.specs.Sightings.{sighting, IsNotBelow}
+use Rattle.m17_roll.specs.Notes.{sees, refusing, length_of}
+use Rattle.m17_roll.specs.Rule.{weigh, sums, claims_by, gifts_by, Fits, Kept, Mine, looked, SeenElse}
+use Rattle.m17_roll.proofs.Weighing.{total_set, sums_set}
 
 abbrev pub St : Type 0
 St = State (Unit {0}) Notes

@@ -1,10 +1,10 @@
 -- In a run no member is claimed twice.
-use Rattle.std.proofs.Common.{◌≡◌, ◌≢◌, ℕ, zero, suc, ◌+◌, ◌<◌, ◌≤◌, List, [], ◌∷◌, length, get_or, sym, refl, ap, ◌∙◌, subst, arith, lt_of_not-le}
+use Rattle.std.proofs.Common.{◌≡◌, ◌≢◌, ℕ, zero, suc, ◌+◌, ◌<◌, ◌≤◌, List, [], ◌∷◌, length, get_or, sym, refl, ap, arith, lt_of_not-le}
 use Rattle.std.specs.List.{AllPairs, Contains}
 use mathlib.Core.Logic.{dite}
 use native.Mathlib.Decide.{dec_le}
 use Rattle.m17_values.specs.declared.member.Member.{Member}
-use Rattle.m17_roll.specs.Run.{count_at, times, IsRollRun}
+use Rattle.m17_roll.specs.Run.{count_at, IsRollRun}
 use Rattle.m17_roll.specs.Rule.{weigh}
 use Rattle.m17_roll.proofs.Marks.{mark, mark_here, weigh_has}
 use Rattle.m17_roll.proofs.Running.{times_weighs}

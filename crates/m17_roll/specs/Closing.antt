@@ -1,5 +1,5 @@
 -- The seats of a roll brought together again, and what is shown then. This profile.
-use Rattle.std.specs.Prelude.{◌≡◌, ℕ, ◌+◌, ◌<◌, List, [], ◌∷◌, ◌++◌, map, length}
+use Rattle.std.specs.Prelude.{ℕ, ◌<◌, List, [], ◌∷◌, ◌++◌, length}
 use Rattle.std.specs.List.{All, Contains}
 use Rattle.atomic_table.specs.Seated.{TableId}
 use Rattle.m17_values.specs.declared.member.Member.{Member}

@@ -1,5 +1,5 @@
 -- How seats that are being joined are kept.
-use Rattle.std.specs.Prelude.{◌≡◌, ℕ, ◌<◌, [], ◌∷◌, ◌++◌}
+use Rattle.std.specs.Prelude.{◌≡◌, ◌<◌, [], ◌∷◌, ◌++◌}
 use Rattle.std.specs.Arc.{arc_value}
 use Rattle.m17_roll.specs.declared.seat.closing.Gathering.TheInside.{Inside}
 use Rattle.m17_roll.specs.Joined.{GatheredView}

@@ -1,5 +1,5 @@
 -- Seats that are being joined, as `close` goes from the last one to the first.
-use Rattle.std.specs.Prelude.{◌≡◌, ℕ, zero, suc, ◌+◌, ◌<◌, List, [], ◌∷◌, ◌++◌, map, length}
+use Rattle.std.specs.Prelude.{◌≡◌, ℕ, zero, suc, ◌+◌, List, [], ◌∷◌, ◌++◌, map, length}
 use Rattle.atomic_table.specs.Seated.{TableId}
 use Rattle.m17_values.specs.declared.member.Member.{Member}
 use Rattle.m17_roll.specs.Run.{count_at}

@@ -1,5 +1,5 @@
 -- How a seat is kept, and what of it contracts see.
-use Rattle.std.specs.Prelude.{◌≡◌, ℕ, ◌<◌, []}
+use Rattle.std.specs.Prelude.{◌≡◌, ◌<◌, []}
 use Rattle.std.specs.Arc.{arc_value}
 use Rattle.m17_roll.specs.declared.seat.RollSeat.TheInside.{Inside}
 use Rattle.m17_roll.specs.Sightings.{NeverFalls, RisesAtPlaces}

@@ -1,6 +1,6 @@
-use Rattle.std.proofs.Common.{rules, refl, sym, ◌∙◌, subst, ap, ◌≡◌, ℕ, ◌+◌, ◌<◌, replicate, get_or, length, List, arith, vec_len}
+use Rattle.std.proofs.Common.{rules, refl, sym, subst, ◌≡◌, ℕ, replicate, get_or, List, arith}
 use Rattle.std.specs.Arc.{arc_value}
-use Rattle.m17_roll.proofs.Dealing.{none_taken, many, other_seated, other_viewed, deals_on, last_seated, last_viewed}
+use Rattle.m17_roll.proofs.Dealing.{none_taken, many, other_seated, last_seated, last_viewed}
 use Rattle.m17_roll.proofs.Seats.{begins, splitting}
 use Rattle.m17_roll.proofs.seat.make_all.Goals as goal
 

@@ -1,4 +1,4 @@
-use Rattle.std.proofs.Common.{◌≡◌, ℕ, ◌+◌, ◌-◌, ◌<◌, ◌≤◌, vec_len, vec_capacity}
+use Rattle.std.proofs.Common.{◌≡◌, ◌-◌, ◌<◌, vec_len, vec_capacity}
 use Rattle.m17_roll.proofs.Dealing.{IsDealt}
 use Rattle.m17_roll.proofs.seat.make_all.Given as goal
 

@@ -1,6 +1,6 @@
-use Rattle.std.proofs.Common.{rules, refl, ap, sym, ◌∙◌, ◌≡◌, ℕ, ◌+◌, ◌<◌, arith}
+use Rattle.std.proofs.Common.{ap, ◌≡◌, ◌<◌, arith}
 use Rattle.m17_roll.specs.Seat.{RollView}
-use Rattle.m17_roll.proofs.Turns.{starts, goes_on, seen_else, claims_here, refuses_all}
+use Rattle.m17_roll.proofs.Turns.{goes_on, seen_else, claims_here, refuses_all}
 use Rattle.m17_roll.proofs.seat.RollSeat.claim.Goals as goal
 
 pub try_at-requires-clause-others : goal.try_at-requires-clause-others

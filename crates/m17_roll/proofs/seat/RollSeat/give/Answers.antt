@@ -1,4 +1,4 @@
-use Rattle.std.proofs.Common.{rules, refl, ◌≡◌, ◌<◌, ◌≤◌, ◌+◌, arith}
+use Rattle.std.proofs.Common.{rules, refl, arith}
 use Rattle.m17_roll.proofs.Claiming.{giving_back}
 use Rattle.m17_roll.proofs.seat.RollSeat.give.Goals as goal
 

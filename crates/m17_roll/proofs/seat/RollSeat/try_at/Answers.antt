@@ -1,11 +1,11 @@
-use Rattle.std.proofs.Common.{rules, refl, sym, subst, ⊎_elim, inl, inr, ◌≡◌, ℕ, ◌*◌, ◌/◌, ◌%◌, ◌+◌, ◌<◌, ◌++◌, ◌∷◌, [], arith}
-use Rattle.std.proofs.lemmas.List.Elements.{Contains-append_left, Contains-append_right}
+use Rattle.std.proofs.Common.{rules, refl, sym, subst, ⊎_elim, inl, inr, ◌≡◌, ℕ, ◌*◌, ◌/◌, ◌<◌, ◌∷◌, [], arith}
+use Rattle.std.proofs.lemmas.List.Elements.{Contains-append_right}
 use Rattle.m17_roll.specs.Sightings.{sighting, IsTaken}
-use Rattle.m17_roll.specs.Seat.{RollView, PassesAt}
+use Rattle.m17_roll.specs.Seat.{RollView}
 use Rattle.std.specs.List.{Contains}
 use Rattle.m17_roll.specs.Rule.{Mine, SeenElse}
 use Rattle.m17_roll.proofs.Claiming.{looking_for, claiming_for, else_more}
-use Rattle.m17_roll.proofs.Seated.{look_taken, look_free, lost, won, passes_one, passes_two}
+use Rattle.m17_roll.proofs.Seated.{look_taken, look_free, lost, won, passes_two}
 use Rattle.m17_roll.proofs.seat.RollSeat.try_at.Goals as goal
 
 pub load-word-requires : goal.load-word-requires

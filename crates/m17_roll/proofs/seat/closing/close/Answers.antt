@@ -1,4 +1,4 @@
-use Rattle.std.proofs.Common.{rules, refl, sym, ap, ◌∙◌, ◌≡◌, length}
+use Rattle.std.proofs.Common.{rules, sym, ap, ◌∙◌, ◌≡◌, length}
 use Rattle.m17_roll.specs.Closing.{EndView}
 use Rattle.m17_roll.proofs.Gathers.{begins_with}
 use Rattle.m17_roll.proofs.Ending.{words_length}

@@ -1,4 +1,4 @@
-use Rattle.std.proofs.Common.{ℕ, vec_len}
+use Rattle.std.proofs.Common.{vec_len}
 use Rattle.m17_roll.proofs.Gathers.{Gathers}
 use Rattle.m17_roll.proofs.seat.closing.close.Given as goal
 

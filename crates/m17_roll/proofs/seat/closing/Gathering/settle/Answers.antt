@@ -1,4 +1,4 @@
-use Rattle.std.proofs.Common.{rules, refl, sym, subst}
+use Rattle.std.proofs.Common.{rules, sym, subst}
 use Rattle.m17_roll.specs.Closing.{IsEnded}
 use Rattle.m17_roll.specs.Rule.{Mine}
 use Rattle.m17_roll.proofs.Seats.{reading}

@@ -1,4 +1,4 @@
-use Rattle.std.proofs.Common.{rules, refl}
+use Rattle.std.proofs.Common.{rules}
 use Rattle.m17_roll.proofs.Seats.{joining}
 use Rattle.m17_roll.proofs.seat.closing.Gathering.take_in.Goals as goal
 

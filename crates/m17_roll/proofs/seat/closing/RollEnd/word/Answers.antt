@@ -1,4 +1,4 @@
-use Rattle.std.proofs.Common.{rules, refl, sym, ap, ◌∙◌, ◌≡◌, ◌<◌, length, arith}
+use Rattle.std.proofs.Common.{rules, ap, ◌∙◌, ◌<◌, length, arith}
 use Rattle.std.specs.List.{slice_index}
 use Rattle.m17_roll.specs.Closing.{EndView}
 use Rattle.m17_roll.proofs.Seats.{reading}
