@@ -1,2 +1,2 @@
-pub mod Exact
 pub mod Forms
+pub mod Laws

@@ -16,9 +16,6 @@ pair_of p = (newcomer p 1, [])
 abbrev left_of : ℕ → ℕ → Me (Unit {0}) Notes
 left_of p k = (newcomer p k, [])
 
-abbrev cut : Me (Unit {0}) Notes → Me (Unit {0}) Notes
-cut m = (rest_of m.0, m.1)
-
 -- words that were written as 0
 pub none_taken : (n q : ℕ) → ◌≡◌ {A = ℕ} (get_or (replicate n 0) q 0) 0
 none_taken zero q = refl
@@ -80,39 +77,6 @@ other_seated s t seats n items d more table same places me =
     new_seated t (same ∙ (d.fits ∙ sym (ap (λ u. u.shared.table_id) table)))
     (ap (λ u. u.shared.table_id.words) table ∙ (d.words ∙ sym places)) (ap (λ u. u.shared.key.places) table ∙ (d.key ∙ sym places))
     (subst (λ (p : ℕ). 0 < p) (sym places) more) (other_me s t seats n items d places me)
-
-pub other_viewed : (s t : Inside) (seats n : ℕ) (items : List RollView) → IsDealt s seats n items
-    → arc_value t.table ≡ arc_value s.table → t.places ≡ s.places
-    → ◌≡◌ {A = Me (Unit {0}) Notes} t.seat.me (newcomer s.seat.me.0.places 1, [])
-    → seat_view t ≡ new_seat (arc_value s.table).shared.table_id seats s.places
-other_viewed s t seats n items d table places me =
-    new_viewed t (other_me s t seats n items d places me)
-    ∙ ap (λ u. new_seat u.shared.table_id u.shared.key.seats t.places) table
-    ∙ ap (λ (k : ℕ). new_seat (arc_value s.table).shared.table_id k t.places) d.all
-    ∙ ap (λ (p : ℕ). new_seat (arc_value s.table).shared.table_id seats p) places
-
--- one seat more was handed out
-pub deals_on : (s t : Inside) (seats n : ℕ) (items more : List RollView) (v : RollView) → IsDealt s seats n items
-    → t.table ≡ s.table → t.seat.table_id ≡ s.seat.table_id → t.places ≡ s.places
-    → ◌≡◌ {A = Me (Unit {0}) Notes} t.seat.me (rest_of s.seat.me.0, s.seat.me.1) → n + 1 < seats
-    → v ≡ new_seat (arc_value s.table).shared.table_id seats s.places → more ≡ items ++ v ∷ []
-    → IsDealt t seats (n + 1) more
-deals_on s t seats n items more v d table same places me lt is is_more =
-    let at : arc_value t.table ≡ arc_value s.table = ap (λ u. arc_value u) table in record {
-      fits = same ∙ (d.fits ∙ sym (ap (λ u. u.shared.table_id) at));
-      words = ap (λ u. u.shared.table_id.words) at ∙ (d.words ∙ sym places);
-      key = ap (λ u. u.shared.key.places) at ∙ (d.key ∙ sym places);
-      all = ap (λ u. u.shared.key.seats) at ∙ d.all;
-      parts = d.parts - 1;
-      me = me ∙ ap (λ (m : Me (Unit {0}) Notes). cut m) d.me ∙ ap (λ (p : ℕ). left_of p (d.parts - 1)) (sym places);
-      left = (let left = d.left in omega arith);
-      same =
-          is_more ∙ ap (λ (xs : List RollView). xs ++ v ∷ []) d.same
-          ∙ ap (λ (u : RollView). replicate n (new_seat (arc_value s.table).shared.table_id seats s.places) ++ u ∷ []) is
-          ∙ one_more n (new_seat (arc_value s.table).shared.table_id seats s.places)
-          ∙ ap (λ u. replicate (n + 1) (new_seat u.shared.table_id seats s.places)) (sym at)
-          ∙ ap (λ (p : ℕ). replicate (n + 1) (new_seat (arc_value t.table).shared.table_id seats p)) (sym places);
-    }
 
 -- the last seat is the one that is left
 last_me : (s : Inside) (seats n : ℕ) (items : List RollView) → IsDealt s seats n items → n + 1 ≡ seats

@@ -96,16 +96,6 @@ view_at s m = record {
 abbrev pair_of : Me (Unit {0}) Notes → ℕ → ℕ → List ℕ → Me (Unit {0}) Notes
 pair_of m q r who = (refusing (sees m.0 q r) who, m.1)
 
--- what a claim's look at a taken place did
-pub passes_one : (s : Inside) (seat : Seat (Unit {0}) Notes) (q r : ℕ) (who : List ℕ)
-    → LookedFor who s.seat.me q r seat.me → IsTaken r → PassesAt (seat_view s) q who (seen_by s seat)
-passes_one s seat q r who look found = record {
-  looks = sighting q r ∷ [];
-  few = omega arith;
-  taken = inl (r, (0, omega arith, refl), found);
-  after = ap (λ (m : Me (Unit {0}) Notes). view_at s m) (look.taken found);
-}
-
 -- what a claim's look at a free place did, and then its lost exchange
 pub passes_two : (s : Inside) (one two : Seat (Unit {0}) Notes) (q old r : ℕ) (who : List ℕ)
     → LookedFor who s.seat.me q old one.me → ¬ IsTaken old → ClaimedFor who one.me q old r two.me → r ≢ old

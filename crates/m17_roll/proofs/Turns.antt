@@ -67,18 +67,6 @@ taken_above looks q h = ⊎_elim
     ))
     h
 
-pub starts : (old : RollView) (asker : ℕ) → 0 < old.places → Passed old 0 asker old
-starts old asker more = record {
-  looks = [];
-  few = omega arith;
-  taken = λ q lt. absurd (omega arith);
-  after =
-      let none_yet = written_early 0 old.places asker (λ e. omega arith) in
-      let P = λ (xs : List Sighting) (who : List ℕ). record old { seen = xs; refused = who } in
-      sym (ap (λ (xs : List Sighting). record old { seen = xs; refused = old.refused ++ written 0 old.places asker }) (append-nil old.seen)
-      ∙ ap (λ (who : List ℕ). record old { refused = who }) (ap (λ (who : List ℕ). old.refused ++ who) none_yet ∙ append-nil old.refused));
-}
-
 -- before its last place a claim has refused nobody
 so_far : (old now : RollView) (n asker : ℕ) (p : Passed old n asker now) → n < old.places → now ≡ with_looks old p.looks
 so_far old now n asker p lt =

@@ -7,8 +7,8 @@ use Rattle.m17_roll.specs.Sightings.{member}
 use Rattle.m17_roll.specs.Seat.{RollView, IsSeatOf}
 use Rattle.m17_roll.specs.Run.{IsRollRun}
 
--- A closed roll: the words that the places have in the end, all members that were claimed, all that were given back, and
--- for each seat its refused askers.
+-- A closed roll: the words that the places have in the end, all members that were claimed, all that
+-- were given back, and for each seat its refused askers.
 pub record EndView : Type 0 where
   pub words : List ℕ
   pub claimed : List Member
@@ -39,8 +39,8 @@ abbrev pub EveryPlaceStands : List ℕ → List Member → Type 0
 EveryPlaceStands words claimed =
     (q : ℕ) → q < length words → (generation : ℕ) × Contains claimed (member q generation)
 
--- What was claimed and given back is one run of the roll, and where some seat refused an asker, every place of the roll
--- stands among the claimed members.
+-- What was claimed and given back is one run of the roll, and where some seat refused an asker,
+-- every place of the roll stands among the claimed members.
 pub record IsEnded (e : EndView) : Type 0 where
   pub run : IsRollRun e.words e.claimed e.given
   pub refused_when_full : HasRefusal e.refused → EveryPlaceStands e.words e.claimed

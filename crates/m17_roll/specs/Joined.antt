@@ -38,7 +38,8 @@ with_seat g s = record {
   refused = s.refused ∷ g.refused;
 }
 
--- the words of n places from the k-th on: each has risen by one at each claim and at each giving back
+-- the words of n places from the k-th on: each has risen by one at each claim and at each giving
+-- back
 abbrev pub words_from : ℕ → ℕ → List Member → List Member → List ℕ
 words_from k zero claimed given = []
 words_from k (suc n) claimed given =

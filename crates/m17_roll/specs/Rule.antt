@@ -37,15 +37,17 @@ claims_by w = (w + 1) / 2
 abbrev pub gifts_by : ℕ → ℕ
 gifts_by w = w / 2
 
--- a seat that was joined to another has no list left; no word falls below what was seen; a refusal saw no word at 0
+-- a seat that was joined to another has no list left; no word falls below what was seen; a refusal
+-- saw no word at 0
 pub record Fits (words : List ℕ) (v : Notes) : Type 0 where
   pub idle : v.parts ≡ 0 → (v.claimed ≡ []) × (v.given ≡ [])
   pub sized : 0 < v.parts → v.places ≡ length words
   pub below : All (λ x. x.word ≤ slice_index words x.place) v.seen
   pub asked : 0 < refusals v → (q : ℕ) → q < length words → 0 < slice_index words q
 
--- However members are weighed, all claims weigh what the words say was claimed, and all givings back what they say was
--- given back. No word passes its last value, and the seats are as many as were made.
+-- However members are weighed, all claims weigh what the words say was claimed, and all givings
+-- back what they say was given back. No word passes its last value, and the seats are as many as
+-- were made.
 pub record Kept (places seats : ℕ) (s : State (Unit {0}) Notes) : Type 0 where
   pub wide : length s.words ≡ places
   pub bounded : (q : ℕ) → slice_index s.words q ≤ 18446744073709551614
@@ -73,7 +75,8 @@ pub record LookedFor (who : List ℕ) (m : Mine) (q r : ℕ) (m' : Mine) : Type 
 abbrev pub looked_for : List ℕ → Step (Unit {0}) → Mine → ℕ → Mine → Type 0
 looked_for who st m r m' = LookedFor who m st.word r m'
 
--- the exchange of a claim: won, and then the member is noted, or lost, and then the word and these refused askers are
+-- the exchange of a claim: won, and then the member is noted, or lost, and then the word and these
+-- refused askers are
 pub record ClaimedFor (who : List ℕ) (m : Mine) (q old r : ℕ) (m' : Mine) : Type 0 where
   pub won : r ≡ old → (m' ≡ (claiming m.0 q (old / 2), m.1)) × IsNewAt m.0.claimed q (old / 2)
   pub lost : r ≢ old → (m' ≡ (refusing (sees m.0 q r) who, m.1)) × IsNotBelow m.0.seen q r

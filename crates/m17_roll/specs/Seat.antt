@@ -5,9 +5,9 @@ use Rattle.m17_values.specs.declared.member.Member.{Member}
 use Rattle.m17_roll.specs.declared.rule.Sighting.{Sighting}
 use Rattle.m17_roll.specs.Sightings.{sighting, free_for, IsNotBelow, IsNewAt, IsSeenTaken}
 
--- A seat: which roll it belongs to, the roll's numbers of seats and places, and in order of time the members that this
--- seat claimed, those that it gave back, what it found where a giving back was refused, its refused askers, and what it
--- found at looks and at lost claims.
+-- A seat: which roll it belongs to, the roll's numbers of seats and places, and in order of time
+-- the members that this seat claimed, those that it gave back, what it found where a giving back
+-- was refused, its refused askers, and what it found at looks and at lost claims.
 pub record RollView : Type 0 where
   pub roll : TableId
   pub seats : ℕ
@@ -63,8 +63,9 @@ with_miss s x = record s { missed = s.missed ++ x ∷ [] }
 abbrev pub with_refused : RollView → List ℕ → RollView
 with_refused s askers = record s { refused = s.refused ++ askers }
 
--- The seat claimed the member. It saw every lower place taken, in at most two looks each, and then found the member's
--- place free for a generation that isn't its last, later than any that this seat had claimed there.
+-- The seat claimed the member. It saw every lower place taken, in at most two looks each, and then
+-- found the member's place free for a generation that isn't its last, later than any that this seat
+-- had claimed there.
 pub record IsClaim (old : RollView) (m : Member) (new : RollView) : Type 0 where
   pub looks : List Sighting
   pub few : length looks ≤ 2 * m.place
@@ -74,15 +75,16 @@ pub record IsClaim (old : RollView) (m : Member) (new : RollView) : Type 0 where
   pub not_last : m.generation < 2 ^ 63 - 1
   pub newer : IsNewAt old.claimed m.place m.generation
 
--- The seat refused the asker. It saw every place of the roll taken in this call, in at most two looks each.
+-- The seat refused the asker. It saw every place of the roll taken in this call, in at most two
+-- looks each.
 pub record IsRefusal (old : RollView) (asker : ℕ) (new : RollView) : Type 0 where
   pub looks : List Sighting
   pub few : length looks ≤ 2 * old.places
   pub all_taken : (q : ℕ) → q < old.places → IsSeenTaken looks q
   pub after : new ≡ with_refused (with_looks old looks) (asker ∷ [])
 
--- The word of the member's place was not that of the member: the exchange found another one, no lower than any that this
--- seat had seen there.
+-- The word of the member's place was not that of the member: the exchange found another one, no
+-- lower than any that this seat had seen there.
 pub record IsMiss (old : RollView) (m : Member) (new : RollView) : Type 0 where
   pub in_roll : m.place < old.places
   pub word : ℕ
@@ -90,8 +92,8 @@ pub record IsMiss (old : RollView) (m : Member) (new : RollView) : Type 0 where
   pub not_below : IsNotBelow old.seen m.place word
   pub after : new ≡ with_miss old (sighting m.place word)
 
--- The member was not given back: the roll has no such place, or no place can come to this generation, and then nothing
--- was done; or the place's word was another one.
+-- The member was not given back: the roll has no such place, or no place can come to this
+-- generation, and then nothing was done; or the place's word was another one.
 abbrev pub IsNotGiven : RollView → Member → RollView → Type 0
 IsNotGiven old m new =
     (((old.places ≤ m.place) ⊎ (2 ^ 63 - 1 ≤ m.generation)) × (new ≡ old))

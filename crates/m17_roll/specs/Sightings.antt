@@ -1,5 +1,5 @@
--- Words that a seat found at places, and members that it claimed. The word of a place is 2 g while it is free for its
--- generation g, and 2 g + 1 while that generation has it. This profile.
+-- Words that a seat found at places, and members that it claimed. The word of a place is 2 g while
+-- it is free for its generation g, and 2 g + 1 while that generation has it. This profile.
 use Rattle.std.specs.Prelude.{◌≡◌, ℕ, ◌-◌, ◌*◌, ◌%◌, ◌^◌, ◌<◌, ◌≤◌, ◌⊎◌, List, Some, slice_get}
 use Rattle.std.specs.List.{All, AllPairs, Contains}
 use Rattle.m17_values.specs.declared.member.Member.{Member}
@@ -33,12 +33,13 @@ IsNotBelow seen place word = All (λ x. x.place ≡ place → x.word ≤ word) s
 abbrev pub IsNewAt : List Member → ℕ → ℕ → Type 0
 IsNewAt claimed place generation = All (λ m. m.place ≡ place → m.generation < generation) claimed
 
--- The word is that of a taken place, or of a free one at its last value, which is never taken again. This profile.
+-- The word is that of a taken place, or of a free one at its last value, which is never taken
+-- again. This profile.
 abbrev pub IsTaken : ℕ → Type 0
 IsTaken word = (word % 2 ≡ 1) ⊎ (word ≡ 2 ^ 64 - 2)
 
--- These looks saw the place taken: by its word, or by another seat between two looks, of which the later found a greater
--- word. This profile.
+-- These looks saw the place taken: by its word, or by another seat between two looks, of which the
+-- later found a greater word. This profile.
 abbrev pub IsSeenTaken : List Sighting → ℕ → Type 0
 IsSeenTaken looks place =
     ((word : ℕ) × Contains looks (sighting place word) × IsTaken word)
