@@ -7,9 +7,10 @@ ghost use Rattle.std.specs.Prelude.{◌≤◌, ◌<◌};
 use m17_roll::{RollSeat, make};
 use std::alloc::Global;
 use std::io;
+use std::rt::Clock;
 use std::thread;
 use std::thread::Threads;
-use std::time::Instant;
+use std::time::{Duration, Instant};
 
 const ROUNDS: u32 = 2_000_000;
 
@@ -20,7 +21,7 @@ fn no_memory() -> io::Error {
 }
 
 // Claims and gives back, so many times; how often both were done.
-fn play(seat: &mut RollSeat, rounds: u32) -> u32 {
+fn play(mut seat: RollSeat, rounds: u32) -> u32 {
     let mut done = 0u32;
     for _ in 0..rounds {
         if let Some(member) = seat.claim(0) {
@@ -32,18 +33,30 @@ fn play(seat: &mut RollSeat, rounds: u32) -> u32 {
     done
 }
 
-fn per_round(nanos: u128, rounds: u32) -> u128 {
+fn for_each(time: Duration, rounds: u32) -> u64 {
+    let nanos = time
+        .as_secs()
+        .wrapping_mul(1_000_000_000)
+        .wrapping_add(u64::from(time.subsec_nanos()));
     if rounds == 0 {
-        0
+        nanos
     } else {
-        nanos / u128::from(rounds)
+        nanos / u64::from(rounds)
     }
 }
 
-fn alone(rt: &HostRuntime, alloc: Global, places: u32, taken: u32, rounds: u32) -> io::Result<()>
+fn alone<R: Clock + Print>(
+    rt: &R,
+    alloc: Global,
+    places: u32,
+    taken: u32,
+    rounds: u32,
+) -> io::Result<()>
     requires { (0 < places) × (places ≤ 256) }
 {
-    let mut seats = make(alloc, places, 1).map_err(|_| no_memory())?;
+    let Ok(mut seats) = make(alloc, places, 1) else {
+        return Err(no_memory());
+    };
     let Some(mut seat) = seats.pop() else {
         return Err(no_memory());
     };
@@ -51,17 +64,20 @@ fn alone(rt: &HostRuntime, alloc: Global, places: u32, taken: u32, rounds: u32) 
         let _ = seat.claim(0);
     }
     let start = Instant::now(rt)?;
-    let done = play(&mut seat, rounds);
-    let nanos = start.elapsed(rt)?.as_nanos();
-    let each = per_round(nanos, done);
+    let done = play(seat, rounds);
+    let each = for_each(start.elapsed(rt)?, done);
     println!(rt; "1 thread, {places} places, {taken} taken: {each} ns, {done} of {rounds}")
 }
 
 fn together<R: Threads + Sync>(rt: &R, alloc: Global, places: u32) -> io::Result<u32>
     requires { (0 < places) × (places ≤ 256) }
 {
-    let seats = make(alloc, places, 4).map_err(|_| no_memory())?;
-    let played = thread::map_vec(rt, seats, &|mut seat: RollSeat| play(&mut seat, ROUNDS))?;
+    let Ok(seats) = make(alloc, places, 4) else {
+        return Err(no_memory());
+    };
+    let Ok(played) = thread::map_vec(rt, seats, &|seat| play(seat, ROUNDS)) else {
+        return Err(no_memory());
+    };
     let mut done = 0u32;
     for one in &played {
         done = done.wrapping_add(*one);
@@ -77,7 +93,6 @@ fn main(rt: HostRuntime) -> io::Result<()> {
     alone(&rt, alloc, 256, 255, FEWER_ROUNDS)?;
     let start = Instant::now(&rt)?;
     let done = together(&rt, alloc, 64)?;
-    let nanos = start.elapsed(&rt)?.as_nanos();
-    let each = per_round(nanos, done);
-    println!(rt; "4 threads, 64 places: {each} ns, {done} in all")
+    let each = for_each(start.elapsed(&rt)?, done);
+    println!(rt; "4 threads, 64 places: {each} ns of all four together, {done} in all")
 }
