@@ -1,0 +1,12 @@
+mod Weighing
+mod Marks
+mod Steps
+mod Claiming
+mod Seats
+mod Seated
+mod Turns
+mod Dealing
+mod Running
+mod Ending
+mod Gathers
+mod Twice

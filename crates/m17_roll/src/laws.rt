@@ -1,0 +1,7 @@
+//! What one run of a roll promises. Each function has no body: its clause is the law. This profile.
+ghost use Rattle.m17_roll.specs.Laws.{NoMemberIsClaimedTwice};
+
+/// In a run of a roll no member stands twice among the claimed members, whichever seats claimed it.
+pub fn no_member_is_claimed_twice()
+    ensures { NoMemberIsClaimedTwice }
+{}

@@ -1,0 +1,184 @@
+//! A seat at the roll: claim a place, give it back, look at its word.
+ghost use Rattle.std.specs.Prelude.{◌≡◌, ◌⊎◌, ℕ, ◌<◌, ◌≤◌, ◌↔◌, length, replicate, IfOk, IfSome, IfNone, IsNone, [], ◌∷◌, ◌++◌};
+ghost use Rattle.std.specs.Bool.{OnTrue, OnFalse};
+ghost use Rattle.m17_roll.specs.Sightings.{sighting, NeverFalls, RisesAtPlaces};
+ghost use Rattle.m17_roll.specs.Seat.{AreNew, IsSameSeat, with_looks, with_gift, IsClaim, IsRefusal, IsNotGiven, TakesAt, PassesAt};
+ghost use Rattle.m17_roll.specs.Rule.{SeenElse};
+
+use crate::rule::{Asker, ClaimsFor, Gives, Looks, LooksFor, Notes, Parting, RollRule, Shape};
+use atomic_table::{Seat, Table};
+use m17_values::{Member, NoMemory};
+use std::alloc::{AllocError, Global};
+use std::marker::{Brand, Model};
+use std::sync::Arc;
+
+mod closing;
+
+pub use closing::{RollEnd, close};
+
+/// The table of words. It has no slots.
+type Words = Table<(), Notes, Shape, RollRule, Global>;
+
+/// A free word at its last value, 2^64 - 2. It is never taken again.
+const LAST_WORD: u64 = 18_446_744_073_709_551_614;
+
+/// No place comes to this generation or a later one.
+const END_OF_GENERATIONS: u64 = 9_223_372_036_854_775_807;
+
+/// A seat at a roll, for one thread.
+#[derive(Drop)]
+pub struct RollSeat {
+    table: Arc<Words, Global>,
+    seat: Seat<(), Notes>,
+    places: u32,
+}
+
+impl Model for RollSeat {
+    ghost use Rattle.m17_roll.specs.Seat.{RollView};
+
+    ghost Value = { RollView };
+
+    ghost use Rattle.m17_roll.specs.SeatModel.{seat_view, IsSeated};
+
+    ghost view = { seat_view };
+
+    ghost invariant = { IsSeated };
+}
+
+impl RollSeat {
+    /// Claims a place for whoever asks: the lowest one that is found free, for its next generation. `asker` is any number
+    /// that names who asks, such as a link's. Looks at each place in turn, and tries one exchange where it is free. None
+    /// comes only where every place of the roll was seen taken in this call, and then the asker is noted as refused: a
+    /// place was seen taken where its word was odd, or is at its last value, or another seat took it between this call's
+    /// look and its exchange. This profile.
+    pub fn claim(&mut self, asker: u64) -> Option<Member>
+        ensures claimed { IfSome result (λ m. IsClaim self.old m self.new) }
+        ensures refused { IfNone result (IsRefusal self.old asker self.new) }
+        ensures never_falls { NeverFalls self.new.seen }
+        ensures rising { RisesAtPlaces self.new.claimed }
+        ensures seat { IsSameSeat self.old self.new }
+    {
+        for place in 0..self.places {
+            if let Some(member) = self.try_at::<Brand>(place, asker) {
+                self.in_order();
+                return Some(member);
+            }
+        }
+        self.in_order();
+        None
+    }
+
+    /// Gives a member back, so that its place is free for the next generation: true where the place's word was that of the
+    /// member. False comes where there is no such place, or the word was another one, and nothing changes then. This
+    /// profile.
+    pub fn give(&mut self, member: Member) -> bool
+        ensures given { OnTrue result (self.new ≡ with_gift self.old member) }
+        ensures refused { OnFalse result (IsNotGiven self.old member self.new) }
+        ensures seat { IsSameSeat self.old self.new }
+    {
+        let place = member.place;
+        if place >= self.places || member.generation >= END_OF_GENERATIONS {
+            return false;
+        }
+        let taken = 2 * member.generation + 1;
+        let found = self
+            .table
+            .shared
+            .compare_exchange::<Gives>(&mut self.seat, place as usize, taken, taken + 1);
+        found == taken
+    }
+
+    /// The word of a place: 2 g while it is free for its generation g, and 2 g + 1 while that generation has it. None comes
+    /// exactly where there is no such place. This profile.
+    pub fn look(&mut self, place: u32) -> Option<u64>
+        ensures some { IfSome result (λ w. self.new ≡ with_looks self.old (sighting place w ∷ [])) }
+        ensures none { IfNone result (self.new ≡ self.old) }
+        ensures no_place { IsNone result ↔ (self.old.places ≤ place) }
+        ensures never_falls { NeverFalls self.new.seen }
+        ensures seat { IsSameSeat self.old self.new }
+    {
+        if place >= self.places {
+            return None;
+        }
+        let word = self
+            .table
+            .shared
+            .load::<Looks>(&mut self.seat, place as usize);
+        self.in_order();
+        Some(word)
+    }
+
+    // One place of a claim. Where it is seen taken, these askers are refused.
+    fn try_at<A: Asker>(&mut self, place: u32, asker: u64) -> Option<Member>
+        requires in_roll { place < self.old.places }
+        requires others { SeenElse self.old.places place self.old.seen A.askers }
+        ensures claimed { IfSome result (λ m. TakesAt self.old place m self.new) }
+        ensures refused { IfNone result (PassesAt self.old place A.askers self.new) }
+    {
+        let at = place as usize;
+        let word = self.table.shared.load::<LooksFor<A>>(&mut self.seat, at);
+        if word % 2 == 1 || word == LAST_WORD {
+            return None;
+        }
+        let found = self
+            .table
+            .shared
+            .compare_exchange::<ClaimsFor<A>>(&mut self.seat, at, word, word + 1);
+        if found != word {
+            return None;
+        }
+        Some(Member {
+            place,
+            generation: word / 2,
+        })
+    }
+
+    // What is always so of a seat's own lists.
+    fn in_order(&self)
+        ensures never_falls { NeverFalls self.now.seen }
+        ensures rising { RisesAtPlaces self.now.claimed }
+    {
+        let _ = &self.seat;
+    }
+}
+
+/// Makes a roll of places that are all free for generation 0, and its seats. `places` is 1 to 256, and there is at least
+/// one seat; each thread takes one. `NoMemory` where there is none for the words, the seats or their count. This profile.
+pub fn make(alloc: Global, places: u32, seats: u32) -> Result<Vec<RollSeat>, NoMemory>
+    requires places { (0 < places) × (places ≤ 256) }
+    requires seats { 0 < seats }
+    ensures { IfOk result (λ v. AreNew places seats v.items) }
+{
+    let Ok(all) = make_all(alloc, places, seats) else {
+        return Err(NoMemory);
+    };
+    Ok(all)
+}
+
+// The same, with the kit's own word for want of memory.
+fn make_all(alloc: Global, places: u32, seats: u32) -> Result<Vec<RollSeat>, AllocError>
+    requires places { 0 < places }
+    requires seats { 0 < seats }
+    ensures { IfOk result (λ v. AreNew places seats v.items) }
+{
+    let words = vec![in alloc; 0u64; places as usize]?;
+    let shape = Shape { places, seats };
+    let (table, mut seat) = Words::of_words(alloc, words.as_slice(), &shape)?;
+    let table = Arc::new(alloc, table)?;
+    let mut all = Vec::with_capacity(alloc, seats as usize)?;
+    while all.len() + 1 < seats as usize {
+        let another = table.shared.split_seat::<Parting>(&mut seat);
+        let shared = Arc::try_clone(&table)?;
+        all.push_reserved(RollSeat {
+            table: shared,
+            seat: another,
+            places,
+        });
+    }
+    all.push_reserved(RollSeat {
+        table,
+        seat,
+        places,
+    });
+    Ok(all)
+}
