@@ -9,7 +9,8 @@ mkdir -p "$tree/crates/roll_bench/src"
 cp -r "$here/../crates/m17_values" "$here/../crates/m17_roll" "$tree/crates/"
 cp "$here/roll/main.rt" "$tree/crates/roll_bench/src/main.rt"
 cp "$here/../HANDLES" "$tree/"
-printf '%s\n' 'm17_values: arrayvec' 'm17_roll: m17_values atomic_table' 'roll_bench: m17_roll' >"$tree/crates.txt"
+grep -E '^m17_(values|roll)[ :]' "$here/../crates.txt" >"$tree/crates.txt"
+echo 'roll_bench: m17_roll' >>"$tree/crates.txt"
 cd "$tree/crates/roll_bench"
 : >stdin
 : >stdout
