@@ -1,5 +1,5 @@
 /// One membership: a place of the reflector's table, and which of the memberships at that place it is. This profile.
-#[derive(Clone, Copy, Debug, PartialEq, Eq, PartialOrd, Ord)]
+#[derive(Clone, Copy, Debug, PartialEq, Eq)]
 pub struct Member {
     /// The place, from 0.
     pub place: u32,
