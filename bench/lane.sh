@@ -1,6 +1,6 @@
 #!/bin/bash
 # What a lane costs between two threads, beside the kit's own queue with the same waiting; and the processor time of
-# threads that wait. Builds bench/lane/main.rt over the crates in a folder of its own, which it removes, so nothing of
+# threads that wait. Builds bench/lane/main.rt.txt over the crates in a folder of its own, which it removes, so nothing of
 # it stands in the gate. It needs rt, and some minutes for the first proof.
 set -e
 top=$(cd "$(dirname "$0")/.." && pwd)
@@ -11,7 +11,7 @@ trap 'rm -rf "$work"' EXIT
 mkdir -p "$work/crates/m17_lane_bench/src"
 cp "$top/HANDLES" "$work/"
 cp -r "$top/crates/m17_values" "$top/crates/m17_lane" "$work/crates/"
-cp "$top/bench/lane/main.rt" "$work/crates/m17_lane_bench/src/main.rt"
+cp "$top/bench/lane/main.rt.txt" "$work/crates/m17_lane_bench/src/main.rt"
 grep -E '^m17_(values|lane)[ :]' "$top/crates.txt" > "$work/crates.txt"
 echo 'm17_lane_bench: m17_lane m17_values crossbeam_queue crossbeam_utils' >> "$work/crates.txt"
 cd "$work/crates/m17_lane_bench"

@@ -7,7 +7,7 @@ tree=$(mktemp -d)
 trap 'rm -rf "$tree"' EXIT
 mkdir -p "$tree/crates/roll_bench/src"
 cp -r "$here/../crates/m17_values" "$here/../crates/m17_roll" "$tree/crates/"
-cp "$here/roll/main.rt" "$tree/crates/roll_bench/src/main.rt"
+cp "$here/roll/main.rt.txt" "$tree/crates/roll_bench/src/main.rt"
 cp "$here/../HANDLES" "$tree/"
 grep -E '^m17_(values|roll)[ :]' "$here/../crates.txt" >"$tree/crates.txt"
 echo 'roll_bench: m17_roll' >>"$tree/crates.txt"
