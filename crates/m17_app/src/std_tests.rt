@@ -22,7 +22,7 @@ enum Answer {
 use Answer::{Bytes, Fails, Interrupted};
 
 // The answer to the call of this number, from 0: the last one comes to all further calls.
-fn answer(answers: &[Answer], call: usize) -> Answer {
+fn answer_to(answers: &[Answer], call: usize) -> Answer {
     match answers.get(call).or(answers.last()) {
         Some(answer) => *answer,
         None => Bytes(usize::MAX),
@@ -37,7 +37,7 @@ struct Halting<'a> {
     calls: usize,
 }
 
-fn halting<'a>(left: &'a [u8], answers: &'a [Answer]) -> Halting<'a> {
+fn reader_of<'a>(left: &'a [u8], answers: &'a [Answer]) -> Halting<'a> {
     Halting {
         left,
         answers,
@@ -49,7 +49,7 @@ impl Read for Halting<'_> {
     fn read(&mut self, buf: &mut [u8]) -> io::Result<usize> {
         let call = self.calls;
         self.calls = self.calls.saturating_add(1);
-        let most = match answer(self.answers, call) {
+        let most = match answer_to(self.answers, call) {
             Bytes(most) => most,
             Interrupted => return Err(Error::from(ErrorKind::Interrupted)),
             Fails(kind) => return Err(Error::from(kind)),
@@ -70,7 +70,7 @@ struct Collected<'a> {
     calls: Cell<usize>,
 }
 
-fn collected<'a>(alloc: Global, answers: &'a [Answer]) -> Collected<'a> {
+fn printer_that<'a>(alloc: Global, answers: &'a [Answer]) -> Collected<'a> {
     Collected {
         bytes: RefCell::new(Vec::new(alloc)),
         answers,
@@ -103,7 +103,7 @@ impl Print for Collected<'_> {
     fn write_some(&self, bytes: &[u8]) -> io::Result<usize> {
         let call = self.calls.get();
         self.calls.set(call.saturating_add(1));
-        let most = match answer(self.answers, call) {
+        let most = match answer_to(self.answers, call) {
             Bytes(most) => most,
             Interrupted => return Err(Error::from(ErrorKind::Interrupted)),
             Fails(kind) => return Err(Error::from(kind)),
@@ -127,10 +127,10 @@ fn interruptions_pass_and_other_errors_are_faults(rt: HostRuntime) -> Result<(),
     }
     answers.push(Bytes(3))?;
     let mut into = [0u8; 8];
-    let mut input = StdIn::new(halting(b"abcde", &answers));
+    let mut input = StdIn::new(reader_of(b"abcde", &answers));
     assert_eq!(rt; input.read(&mut into), Ok(3));
     assert!(rt; !input.is_at_hand());
-    let to = collected(alloc, &answers);
+    let to = printer_that(alloc, &answers);
     assert_eq!(rt; StdOut::new(&to).send(b"abcde"), Ok(3));
     assert!(rt; to.holds(b"abc"));
     for kind in [
@@ -143,16 +143,16 @@ fn interruptions_pass_and_other_errors_are_faults(rt: HostRuntime) -> Result<(),
         ErrorKind::Other,
     ] {
         let fails = [Interrupted, Fails(kind), Bytes(8)];
-        let mut input = StdIn::new(halting(b"abcde", &fails));
+        let mut input = StdIn::new(reader_of(b"abcde", &fails));
         assert_eq!(rt; input.read(&mut into), Err(Failed));
         assert_eq!(rt; input.read(&mut into), Ok(5));
-        let to = collected(alloc, &fails);
+        let to = printer_that(alloc, &fails);
         let mut out = StdOut::new(&to);
         assert_eq!(rt; out.send(b"abcde"), Err(Failed));
         assert_eq!(rt; out.send(b"abcde"), Ok(5));
         assert!(rt; to.holds(b"abcde"));
     }
-    let to = collected(alloc, &[Bytes(0)]);
+    let to = printer_that(alloc, &[Bytes(0)]);
     assert_eq!(rt; StdOut::new(&to).send(b"abcde"), Err(Failed));
     assert_eq!(rt; StdOut::new(&to).send(b""), Ok(0));
     Ok(())
@@ -246,8 +246,8 @@ fn each_status_of_the_program_comes_with_its_line(rt: HostRuntime) -> Result<(),
         for word in run.words {
             words.push(String::from_str(alloc, word)?)?;
         }
-        let to = collected(alloc, run.writes);
-        let status = run_on(&rt, alloc, &words, halting(run.input, run.reads), &to);
+        let to = printer_that(alloc, run.writes);
+        let status = run_on(&rt, alloc, &words, reader_of(run.input, run.reads), &to);
         assert_eq!(rt; status, run.status, "run {i}");
         assert!(rt; to.holds(run.printed), "run {i}");
     }
