@@ -133,7 +133,7 @@ fn play<R: Wait>(rt: &R, mut seat: RollSeat, mut members: Vec<Member>, rounds: u
 
 // Whether no member stands twice.
 fn are_distinct(mut members: Vec<Member>) -> Result<bool, AllocError> {
-    members.sort()?;
+    members.sort_by_key(|m| (m.place, m.generation))?;
     let members = members.as_slice();
     for i in 1..members.len() {
         if members[i - 1] == members[i] {
