@@ -1,2 +1,4 @@
 pub mod Exact
 pub mod Forms
+pub mod Modules
+pub mod Spelled
