@@ -1,8 +1,8 @@
 -- A number that stands at the front of a text is read back.
-use Rattle.std.proofs.Common.{◌≡◌, ℕ, ◌+◌, ◌-◌, ◌*◌, ◌%◌, ◌^◌, ◌<◌, ◌≤◌, ◌⊎◌, List, length, take, get_or, ◌++◌, decimal, arith, sym, ap, ◌∙◌, subst, inl, inr, lit<, length-append}
-use Rattle.std.specs.Char.{digit_value, IsAsciiDigit, IsInRange}
+use Rattle.std.proofs.Common.{◌≡◌, ℕ, ◌+◌, ◌-◌, ◌*◌, ◌%◌, ◌^◌, ◌<◌, ◌≤◌, ◌⊎◌, List, length, take, get_or, ◌++◌, decimal, arith, sym, ap, ◌∙◌, subst, Bool, true, false, MatchBool, inl, inr, lit<, length-append}
+use Rattle.std.specs.Char.{digit_value, IsAsciiDigit, IsNotAsciiDigit}
 use Rattle.std.specs.Str.Parse.{AllDigits, IsNumeral, digits_value}
-use Rattle.std.proofs.lemmas.Bool.{cases_lt}
+use Rattle.std.proofs.lemmas.Bool.{false≢true}
 use Rattle.std.proofs.lemmas.Bool.Decides.{nat_tests}
 use Rattle.std.proofs.lemmas.Fmt.{decimal_is_IsNumeral, length-decimal-le}
 use Rattle.std.proofs.lemmas.Int.Digits.{digits_value-lt, digits_more, digits_value_more}
@@ -29,7 +29,7 @@ pub small : (bytes : List ℕ) (i value : ℕ) → i ≤ length bytes → i < 5 
 small bytes i value h few r =
     let below : digits_value 10 (take i bytes) < 10 ^ length (take i bytes) = digits_value-lt 10 (take i bytes) r.digits in
     let len : length (take i bytes) ≡ i = length-take-le i bytes h in
-    let bound : 10 ^ length (take i bytes) ≤ 10 ^ 4 = pow-le-pow_right (lit< tt) (omega arith) in
+    let bound : 10 ^ length (take i bytes) ≤ 10 ^ 4 = pow-le-pow_right {n = 10} (lit< tt) {i = length (take i bytes)} {j = 4} (omega arith) in
     omega (arith, r.value_is)
 
 pub one_more : (bytes : List ℕ) (i value byte : ℕ) → i < length bytes → i < 5 → byte ≡ get_or bytes i 0 → 48 ≤ byte → byte ≤ 57 → IsRead bytes i value → IsRead bytes (i + 1) (value * 10 + (byte - 48))
@@ -69,3 +69,11 @@ number_read bytes i value n rest h r stops fits ends e =
     let front : take i bytes ≡ decimal n = ap (λ x. take x bytes) len ∙ ap (λ x. take (length (decimal n)) x) e ∙ take-append_seam (decimal n) rest in
     let is : value ≡ n = r.value_is ∙ ap (digits_value 10) front ∙ (decimal_is_IsNumeral n (omega arith)).1 in
     (omega arith, len)
+
+pub is_digit : (r : Bool) (c : ℕ) → r ≡ true → MatchBool r (IsAsciiDigit c) (IsNotAsciiDigit c) → IsAsciiDigit c
+is_digit true c e h = h
+is_digit false c e h = absurd (false≢true e)
+
+pub no_digit : (r : Bool) (c : ℕ) → r ≡ false → MatchBool r (IsAsciiDigit c) (IsNotAsciiDigit c) → IsAsciiDigit c → ⊥
+no_digit true c e h = absurd (false≢true (sym e))
+no_digit false c e h = λ digit. omega arith

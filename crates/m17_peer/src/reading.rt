@@ -1,4 +1,4 @@
-ghost use Rattle.std.specs.Prelude.{◌≡◌, ℕ, ◌↔◌, ◌+◌, ◌%◌, ◌<◌, ◌^◌, true, false, [], ◌∷◌, drop, slice_index};
+ghost use Rattle.std.specs.Prelude.{◌≡◌, ℕ, ◌↔◌, ◌+◌, ◌%◌, ◌<◌, ◌^◌, true, false, [], ◌∷◌, drop, length, slice_index};
 ghost use Rattle.m17_peer.specs.Text.{IsPeer, IsTextOf};
 ghost use Rattle.m17_values.specs.declared.peer.Peer.{Peer};
 ghost use Rattle.m17_peer.specs.Reading.{pair_value, nibble_value};
@@ -107,9 +107,20 @@ fn guess_six(bytes: &[u8]) -> Peer
     let [m, n, o, p] = two_groups(bytes, 31);
     let mut rest = rest_from(bytes, 42);
     let port = rest.number();
+    six_peer(&[a, b, c, d, e, f, g, h, i, j, k, l, m, n, o, p], port)
+}
+
+// The IPv6 peer of an address and a port.
+fn six_peer(ip: &[u8], port: u16) -> Peer
+    requires { length ip.now ≡ 16 }
+    ensures six { result.six ≡ true }
+    ensures ip { result.ip ≡ ip.now }
+    ensures port { result.port ≡ port }
+    ensures is_peer { IsPeer result }
+{
     Peer {
         six: true,
-        ip: [a, b, c, d, e, f, g, h, i, j, k, l, m, n, o, p],
+        ip: *ip.as_array().unwrap(),
         port,
     }
 }
