@@ -1,6 +1,11 @@
 -- Sets of modules by their bits.
-use Rattle.std.proofs.Common.{◌≡◌, ◌≢◌, ℕ, ◌+◌, ◌-◌, ◌*◌, ◌/◌, ◌%◌, ◌^◌, ◌<◌, ◌≤◌, Bool, true, false, ◌&&◌, ◌==◌, nat_le, bit_and, bit_or, arith, sym, ap, ◌∙◌, ◌⊎◌, inl, inr}
+use Rattle.std.proofs.Common.{◌≡◌, ◌≢◌, ℕ, ◌+◌, ◌-◌, ◌*◌, ◌/◌, ◌%◌, ◌^◌, ◌<◌, ◌≤◌, Bool, true, false, ◌&&◌, ◌==◌, nat_le, bit_and, bit_or, arith, sym, ap, ◌∙◌, ◌⊎◌, inl, inr, MatchBool, List, length, filter, take, get_or, cond}
 use Rattle.std.proofs.lemmas.Bool.{cases_lt}
+use Rattle.std.specs.Char.{IsAsciiUppercase, IsNotAsciiUppercase}
+use Rattle.std.specs.List.{range_with_len}
+use Rattle.std.proofs.lemmas.Bool.{false≢true}
+use Rattle.std.proofs.lemmas.List.Filters.{length-filter_more}
+use Rattle.std.proofs.lemmas.List.FromFn.{get_or-range_with_len, length-range_with_len}
 use Rattle.std.specs.Int.{w32, bit_at}
 use Rattle.std.proofs.lemmas.Bool.Decides.{nat_tests}
 use Rattle.std.proofs.lemmas.Nat.Bits.{shr_and_one, bit_at-zero, bit_at_set_same, bit_at_set_other}
@@ -51,3 +56,21 @@ put_other m n letter other low high e ne = elim (cases_within other) [
       ∙ sym (serves_is m other inside.0 inside.1))
   | inr out ↦ serves_outside n other out ∙ sym (serves_outside m other out)
 ]
+
+pub is_upper : (r : Bool) (c : ℕ) → r ≡ true → MatchBool r (IsAsciiUppercase c) (IsNotAsciiUppercase c) → (65 ≤ c) × (c ≤ 90)
+is_upper true c e h = h
+is_upper false c e h = absurd (false≢true e)
+
+pub not_upper : (r : Bool) (c : ℕ) → r ≡ false → MatchBool r (IsAsciiUppercase c) (IsNotAsciiUppercase c) → (65 ≤ c) × (c ≤ 90) → ⊥
+not_upper true c e h = absurd (false≢true (sym e))
+not_upper false c e h = λ upper. omega arith
+
+pub counted_more : (m : Modules) (letter count new : ℕ) → 65 ≤ letter → letter < 91 → count ≡ length (filter (serves m) (take (letter - 65) (range_with_len 65 26))) →
+    new ≡ count + cond (serves m letter) 1 0 → new ≡ length (filter (serves m) (take (letter + 1 - 65) (range_with_len 65 26)))
+counted_more m letter count new low high counted e =
+    let i : letter + 1 - 65 ≡ (letter - 65) + 1 = omega arith in
+    let at : get_or (range_with_len 65 26) (letter - 65) 0 ≡ letter = get_or-range_with_len 65 26 (letter - 65) 0 (omega arith) ∙ (let k : 65 + (letter - 65) ≡ letter = omega arith in k) in
+    e ∙ ap (λ x. x + cond (serves m letter) 1 0) counted
+    ∙ ap (λ x. length (filter (serves m) (take (letter - 65) (range_with_len 65 26))) + cond (serves m x) 1 0) (sym at)
+    ∙ sym (length-filter_more (serves m) (range_with_len 65 26) (letter - 65) 0 (omega (arith, length-range_with_len 65 26)))
+    ∙ ap (λ x. length (filter (serves m) (take x (range_with_len 65 26)))) (sym i)

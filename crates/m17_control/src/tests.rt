@@ -1,5 +1,6 @@
 use super::*;
 use m17_callsign::{Address, CallAddress};
+use m17_values::{Member, Peer};
 use std::test::Fail;
 
 fn from(value: u64) -> Option<CallAddress> {
@@ -113,4 +114,111 @@ fn other_bytes_as_long_as_a_stream_packet_are_refused(rt: HostRuntime) {
     other_magic[2] = b'N';
     other_magic[3] = b'G';
     assert_eq!(rt; decode(&other_magic), Err(Refusal::Magic(*b"PING")));
+}
+
+#[test]
+fn texts_name_modules(rt: HostRuntime) -> Result<(), Fail> {
+    let some = Modules::read("CAZ")?;
+    assert_eq!(rt; some.count(), 3);
+    for (letter, has) in [
+        (b'A', true),
+        (b'B', false),
+        (b'C', true),
+        (b'Y', false),
+        (b'Z', true),
+        (b'@', false),
+        (b'[', false),
+        (b'a', false),
+        (0, false),
+        (255, false),
+    ] {
+        assert_eq!(rt; some.has(letter), has);
+    }
+    assert_eq!(rt; Modules::read("ZYXWVUTSRQPONMLKJIHGFEDCBA")?.count(), 26);
+    assert_eq!(rt; Modules::none().count(), 0);
+    assert!(rt; !Modules::none().has(b'A'));
+    Ok(())
+}
+
+#[test]
+fn other_texts_name_no_modules(rt: HostRuntime) {
+    for (text, refusal) in [
+        ("", ModulesRefusal::Empty),
+        ("a", ModulesRefusal::Letter(0)),
+        ("AB C", ModulesRefusal::Letter(2)),
+        ("ABA", ModulesRefusal::Twice(2)),
+        ("AAa", ModulesRefusal::Twice(1)),
+        ("AaA", ModulesRefusal::Letter(1)),
+        ("AB1A", ModulesRefusal::Letter(2)),
+    ] {
+        assert!(rt; Modules::read(text) == Err(refusal));
+    }
+}
+
+#[test]
+fn an_item_spells_its_datagram(rt: HostRuntime) -> Result<(), Fail> {
+    let name = from(0x13_89f9_baed).ok_or("no callsign")?;
+    let packet = match decode(&stream()) {
+        Ok(Packet::Stream(packet)) => packet,
+        _ => return Err(Fail::from("no stream packet")),
+    };
+    let long_disc = b"DISC\x00\x13\x89\xf9\xba\xed".as_slice();
+    for (body, bytes) in [
+        (Said::Hello { after: 3 }, b"ACKN".as_slice()),
+        (
+            Said::Frame {
+                position: 2,
+                packet,
+            },
+            &stream(),
+        ),
+        (
+            Said::Echo {
+                position: 2,
+                packet,
+            },
+            &stream(),
+        ),
+        (
+            Said::Reply {
+                control: Control::Ackn,
+            },
+            b"ACKN",
+        ),
+        (
+            Said::Reply {
+                control: Control::Pong { from: name },
+            },
+            b"PONG\x00\x13\x89\xf9\xba\xed",
+        ),
+        (Said::Ping, b"PING\x00\x13\x89\xf9\xba\xed"),
+        (Said::Bye { why: Why::Asked }, b"DISC"),
+        (Said::Bye { why: Why::Silent }, long_disc),
+        (Said::Bye { why: Why::Stopped }, long_disc),
+        (Said::Bye { why: Why::Moved }, b""),
+        (Said::Bye { why: Why::Replaced }, b""),
+    ] {
+        let spelled = spell(&said(body), name);
+        assert!(rt; spelled.is_some() == !bytes.is_empty());
+        if let Some(datagram) = spelled {
+            assert_eq!(rt; datagram.as_slice(), bytes);
+        }
+    }
+    Ok(())
+}
+
+fn said(body: Said) -> Item {
+    Item {
+        member: Member {
+            place: 0,
+            generation: 0,
+        },
+        link: 0,
+        peer: Peer {
+            six: false,
+            ip: [0; 16],
+            port: 17000,
+        },
+        body,
+    }
 }
