@@ -10,7 +10,7 @@ use Rattle.std.proofs.lemmas.List.Elements.{All-get_or}
 use Rattle.std.proofs.lemmas.Bool.Decides.{nat_tests}
 use Rattle.m17_values.specs.declared.peer.Peer.{Peer}
 use Rattle.m17_peer.specs.Reading.{EndsNumber, nibble_value, pair_value}
-use Rattle.m17_peer.specs.Text.{hex_digit, four_text, six_text, address_of, text_of, IsPeer, IsTextOf}
+use Rattle.m17_peer.specs.Text.{hex_digit, four_text, six_text, text_of, IsPeer, IsTextOf}
 
 nibble_back : (d : ℕ) → d < 16 → nibble_value (hex_digit d) ≡ d
 nibble_back d h = grind (arith, nat_tests)

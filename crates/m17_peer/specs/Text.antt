@@ -1,5 +1,5 @@
 -- The texts of peers. This profile.
-use Rattle.std.specs.Prelude.{◌≡◌, ℕ, ◌+◌, ◌*◌, ◌/◌, ◌%◌, ◌<◌, ◌^◌, true, false, List, [], ◌∷◌, ◌++◌, decimal, drop, length, replicate, slice_index, nat_lt, All, if◌then◌else◌}
+use Rattle.std.specs.Prelude.{◌≡◌, ℕ, ◌+◌, ◌/◌, ◌%◌, ◌<◌, ◌^◌, false, List, [], ◌∷◌, ◌++◌, decimal, drop, length, replicate, slice_index, nat_lt, All, if◌then◌else◌}
 use Rattle.m17_values.specs.declared.peer.Peer.{Peer}
 
 -- a lower-case hex digit

@@ -1,5 +1,5 @@
 -- The numbers of an IPv4 peer's text give it back.
-use Rattle.std.proofs.Common.{◌≡◌, ℕ, List, ◌++◌, ◌∷◌, [], decimal, drop, slice_index, arith, ap, sym, ◌∙◌}
+use Rattle.std.proofs.Common.{ℕ, List, ◌++◌, ◌∷◌, [], decimal, drop, slice_index, arith, ap, sym, ◌∙◌}
 use Rattle.m17_peer.proofs.Spelled.{byte_fits, colon_ends, dot_ends, end_ends, four_ip, four_spelled, low, same_peer}
 use Rattle.m17_peer.proofs.reading.guess_four.Goals as goal
 
