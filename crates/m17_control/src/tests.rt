@@ -1,5 +1,6 @@
 use super::*;
 use m17_callsign::{Address, CallAddress};
+use m17_stream::StreamPacket;
 use m17_values::{Member, Peer};
 use std::test::Fail;
 
@@ -158,49 +159,12 @@ fn other_texts_name_no_modules(rt: HostRuntime) {
 #[test]
 fn an_item_spells_its_datagram(rt: HostRuntime) -> Result<(), Fail> {
     let name = from(0x13_89f9_baed).ok_or("no callsign")?;
-    let packet = match decode(&stream()) {
-        Ok(Packet::Stream(packet)) => packet,
-        _ => return Err(Fail::from("no stream packet")),
-    };
-    let pong = Control::Pong { from: name };
     let long_disc = b"DISC\x00\x13\x89\xf9\xba\xed";
+    let ackn = Said::Reply {
+        control: Control::Ackn,
+    };
     assert!(rt; spells(Said::Hello { after: 3 }, name, b"ACKN"));
-    assert!(rt;
-        spells(
-            Said::Frame {
-                position: 2,
-                packet
-            },
-            name,
-            &stream()
-        )
-    );
-    assert!(rt;
-        spells(
-            Said::Echo {
-                position: 2,
-                packet
-            },
-            name,
-            &stream()
-        )
-    );
-    assert!(rt;
-        spells(
-            Said::Reply {
-                control: Control::Ackn
-            },
-            name,
-            b"ACKN"
-        )
-    );
-    assert!(rt;
-        spells(
-            Said::Reply { control: pong },
-            name,
-            b"PONG\x00\x13\x89\xf9\xba\xed"
-        )
-    );
+    assert!(rt; spells(ackn, name, b"ACKN"));
     assert!(rt; spells(Said::Ping, name, b"PING\x00\x13\x89\xf9\xba\xed"));
     assert!(rt; spells(Said::Bye { why: Why::Asked }, name, b"DISC"));
     assert!(rt; spells(Said::Bye { why: Why::Silent }, name, long_disc));
@@ -208,6 +172,28 @@ fn an_item_spells_its_datagram(rt: HostRuntime) -> Result<(), Fail> {
     assert!(rt; spell(&said(Said::Bye { why: Why::Moved }), name).is_none());
     assert!(rt; spell(&said(Said::Bye { why: Why::Replaced }), name).is_none());
     Ok(())
+}
+
+#[test]
+fn frames_and_echoes_spell_their_packet(rt: HostRuntime) -> Result<(), Fail> {
+    let name = from(0x13_89f9_baed).ok_or("no callsign")?;
+    match decode(&stream()) {
+        Ok(Packet::Stream(packet)) => assert!(rt; frame_and_echo(&packet, name)),
+        _ => return Err(Fail::from("no stream packet")),
+    }
+    Ok(())
+}
+
+fn frame_and_echo(packet: &StreamPacket, name: CallAddress) -> bool {
+    let frame = Said::Frame {
+        position: 2,
+        packet: *packet,
+    };
+    let echo = Said::Echo {
+        position: 2,
+        packet: *packet,
+    };
+    spells(frame, name, &stream()) && spells(echo, name, &stream())
 }
 
 fn spells(body: Said, name: CallAddress, bytes: &[u8]) -> bool {
