@@ -1,6 +1,5 @@
 -- One letter more is counted where it is served.
-use Rattle.std.proofs.Common.{◌≡◌, ℕ, ◌+◌, cond, arith, ap, sym, ◌∙◌}
-use Rattle.m17_control.specs.Modules.{serves}
+use Rattle.std.proofs.Common.{◌≡◌, ◌+◌, cond, arith, ap, sym, ◌∙◌}
 use Rattle.m17_control.proofs.ModuleSets.{counted_more}
 use Rattle.m17_control.proofs.modules.Modules.count.Goals as goal
 use Rattle.m17_control.proofs.modules.Modules.count.Goals.{then-has, else-has}
