@@ -1,5 +1,4 @@
 pub mod Alphabet
-pub mod SixBytes
 pub mod Cutting
 pub mod Folded
 pub mod Spelled

@@ -1,7 +1,7 @@
 -- The six bytes of an address. M17 Protocol Specification, address encoding.
-use Rattle.std.specs.Prelude.{ℕ, List, drop}
-use Rattle.std.specs.Int.{w64, to_be_bytes}
+use Rattle.std.specs.Prelude.{ℕ, List}
+use Rattle.m17_fields.specs.Fields.{be_48}
 
--- the low six of the eight bytes of the number, the most significant first
+-- an address is a number of 48 bits, big-endian
 abbrev pub address_bytes : ℕ → List ℕ
-address_bytes address = drop 2 (to_be_bytes w64 address)
+address_bytes address = be_48 address

@@ -1,3 +1,4 @@
 pub mod Callsign
 pub mod AddressBytes
 pub mod Letters
+pub mod Laws

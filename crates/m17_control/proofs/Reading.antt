@@ -4,23 +4,23 @@ use Rattle.std.proofs.lemmas.Bool.{cases_eq, cases_lt, cases_Bool, false≢true}
 use Rattle.std.proofs.lemmas.List.{length-take, length-drop, take_all}
 use Rattle.std.proofs.lemmas.List.Elements.{All-take, All-drop}
 use Rattle.std.proofs.lemmas.Slice.Eq.{bytes_eq-Decides}
-use Rattle.std.specs.List.{All}
 use Rattle.std.specs.Str.{bytes_eq}
 use Rattle.m17_callsign.specs.AddressBytes.{address_bytes}
 use Rattle.m17_callsign.specs.Callsign.{end_of_callsigns}
-use Rattle.m17_stream.specs.declared.packet.StreamPacket.{StreamPacket}
 use Rattle.m17_stream.specs.declared.packet.StreamRefusal.{StreamRefusal}
 use Rattle.m17_stream.specs.declared.packet.StreamRefusal.TheVariants as streams
-use Rattle.m17_stream.specs.Exact.{IsBytes}
+use Rattle.m17_fields.specs.Fields.{IsBytes, Fields48AreExact}
+use Rattle.m17_fields.specs.Reading.{HasOneReading}
+use Rattle.m17_stream.specs.Laws.{OnePacket}
 use Rattle.m17_stream.specs.Stream as stream
 use Rattle.m17_control.specs.declared.packet.Control.TheVariants.{Conn, Lstn, Ackn, Nack, Ping, Pong, Disc}
 use Rattle.m17_control.specs.declared.packet.Packet.{Packet}
 use Rattle.m17_control.specs.declared.packet.Packet.TheVariants as packets
 use Rattle.m17_control.specs.declared.packet.Refusal.{Refusal}
 use Rattle.m17_control.specs.declared.packet.Refusal.TheVariants.{Length, Magic, Address, Module, Crc}
-use Rattle.m17_control.specs.Exact.{HasOneReading}
+use Rattle.m17_control.specs.Laws.{DecodingIsExact}
 use Rattle.m17_control.specs.Forms.{Spells, Refuses, IsFrom, IsModule, IsLength, HasMagic, HasFrom}
-use Rattle.m17_control.proofs.Controls.{BytesAreExact, one_spelling as control_spelling}
+use Rattle.m17_control.proofs.Controls.{one_spelling as control_spelling}
 use Rattle.m17_control.proofs.Parts.{of_from, of_module, no_stream_magic}
 use Rattle.m17_control.proofs.Refused.{HasOneStream, not_both, one_packet, one_refusal}
 
@@ -33,15 +33,11 @@ same_or_other a b =
     let decides = bytes_eq-Decides a b in
     elim (cases_Bool (bytes_eq a b)) [ inl same ↦ inl (decides.0 same) | inr other ↦ inr (λ e. false≢true (sym other ∙ decides.1 e)) ]
 
--- what the law on six bytes says
-abbrev EachSixBytes : Type 0
-EachSixBytes = (bytes : List ℕ) → length bytes ≡ 6 → All (λ byte. byte < 2 ^ 8) bytes → (a : ℕ) × (a < 2 ^ 48) × (address_bytes a ≡ bytes)
-
 -- the From of bytes that have room for it
-has_from : EachSixBytes → (b : List ℕ) → IsBytes b → HasMagic b → (length b ≡ 10) ⊎ (length b ≡ 11) → 10 ≤ length b → (a : ℕ) × HasFrom b a
+has_from : Fields48AreExact → (b : List ℕ) → IsBytes b → HasMagic b → (length b ≡ 10) ⊎ (length b ≡ 11) → 10 ≤ length b → (a : ℕ) × HasFrom b a
 has_from six b h magic long room =
     let bytes = All-take (λ byte. byte < 2 ^ 8) 6 (drop 4 b) (All-drop (λ byte. byte < 2 ^ 8) 4 b h) in
-    let from = six (take 6 (drop 4 b)) (simp (length-take, length-drop) (omega arith)) bytes in
+    let from = six.each_bytes (take 6 (drop 4 b)) (simp (length-take, length-drop) (omega arith)) bytes in
     (from.0, record { has_magic = magic; length_with_from = long; fits = from.1; field = from.2 })
 
 is_from : (a : ℕ) → (IsFrom a) ⊎ (IsFrom a → ⊥)
@@ -102,12 +98,12 @@ read_bare b long =
     ]
 
 -- a control packet with From, or the refusal of that
-read_from : EachSixBytes → (b : List ℕ) → IsBytes b → length b ≡ 10 → HasMagic b → ((a : ℕ) → IsFrom a → HasFrom b a → (p : Packet) × Spells p b) → Reads b
+read_from : Fields48AreExact → (b : List ℕ) → IsBytes b → length b ≡ 10 → HasMagic b → ((a : ℕ) → IsFrom a → HasFrom b a → (p : Packet) × Spells p b) → Reads b
 read_from six b h long magic make =
     let from = has_from six b h magic (inl long) (omega arith) in
     elim (is_from from.0) [ inl good ↦ inl (make from.0 good from.1) | inr bad ↦ inr (Address from.0, (from.1, bad)) ]
 
-read_with_from : EachSixBytes → (b : List ℕ) → IsBytes b → length b ≡ 10 → Reads b
+read_with_from : Fields48AreExact → (b : List ℕ) → IsBytes b → length b ≡ 10 → Reads b
 read_with_from six b h long =
     elim (same_or_other (take 4 b) (codes "PING")) [
       | inl e ↦ read_from six b h long (inr (inl (long, inl e)))
@@ -124,7 +120,7 @@ read_with_from six b h long =
     ]
 
 -- a control packet with From and a module, or the refusal of one of them
-read_module : EachSixBytes → (b : List ℕ) → IsBytes b → length b ≡ 11 → HasMagic b
+read_module : Fields48AreExact → (b : List ℕ) → IsBytes b → length b ≡ 11 → HasMagic b
     → ((a : ℕ) → IsFrom a → HasFrom b a → IsModule (get_or b 10 0) → (p : Packet) × Spells p b) → Reads b
 read_module six b h long magic make =
     let from = has_from six b h magic (inr long) (omega arith) in
@@ -136,7 +132,7 @@ read_module six b h long magic make =
       | inr bad ↦ inr (Address from.0, (from.1, bad))
     ]
 
-read_with_module : EachSixBytes → (b : List ℕ) → IsBytes b → length b ≡ 11 → Reads b
+read_with_module : Fields48AreExact → (b : List ℕ) → IsBytes b → length b ≡ 11 → Reads b
 read_with_module six b h long =
     elim (same_or_other (take 4 b) (codes "CONN")) [
       | inl e ↦ read_module six b h long (inr (inr (inl (long, inl e))))
@@ -160,10 +156,10 @@ refused_stream b long (streams.Magic m) r = inr (Magic m, (inr (inr (inr long)),
 refused_stream b long (streams.Crc f e) r = inr (Crc f e, (long, inr (inr (inr (long, r.1))), r.2, r.3, r.4, r.5))
 
 read_stream : (b : List ℕ) → length b ≡ 54 → HasOneStream b → Reads b
-read_stream b long (inl one) = inl (packets.Stream one.0, one.1.spells)
-read_stream b long (inr one) = refused_stream b long one.0 one.1.refuses
+read_stream b long (inl one) = inl (packets.Stream one.0, one.1.spelled)
+read_stream b long (inr one) = refused_stream b long one.0 one.1.refused
 
-reads : EachSixBytes → (b : List ℕ) → IsBytes b → HasOneStream b → Reads b
+reads : Fields48AreExact → (b : List ℕ) → IsBytes b → HasOneStream b → Reads b
 reads six b h one =
     elim (cases_eq (length b) 4) [
       | inl long ↦ read_bare b long
@@ -179,28 +175,28 @@ reads six b h one =
       ]
     ]
 
-pub one_reading : BytesAreExact → EachSixBytes → (b : List ℕ) → IsBytes b → HasOneStream b → HasOneReading b
-one_reading law six b h one = elim (reads six b h one) [
-  | inl found ↦ inl (found.0, record { spells = found.1; no_other = λ q s. one_packet law b one q found.0 s found.1; no_refusal = λ r k. not_both law b one found.0 r found.1 k })
-  | inr found ↦ inr (found.0, record { refuses = found.1; no_other = λ r k. one_refusal law b one r found.0 k found.1; no_packet = λ p s. not_both law b one p found.0 s found.1 })
+one_reading : Fields48AreExact → (b : List ℕ) → IsBytes b → HasOneStream b → HasOneReading Spells Refuses b
+one_reading law b h one = elim (reads law b h one) [
+  | inl found ↦ inl (found.0, record { spelled = found.1; no_other = λ q s. one_packet law b one q found.0 s found.1; no_refusal = λ r k. not_both law b one found.0 r found.1 k })
+  | inr found ↦ inr (found.0, record { refused = found.1; no_other = λ r k. one_refusal law b one r found.0 k found.1; no_value = λ p s. not_both law b one p found.0 s found.1 })
 ]
 
 -- a result that is right is the only one
 abbrev pub IsRight : List ℕ → Result Packet Refusal → Type 0
 IsRight b r = MatchResult r (λ p. Spells p b) (Refuses b)
 
-pub exact_ok : (b : List ℕ) → HasOneReading b → (r : Result Packet Refusal) → IsRight b r → (p : Packet) → (r ≡ Ok p) ↔ Spells p b
+pub exact_ok : (b : List ℕ) → HasOneReading Spells Refuses b → (r : Result Packet Refusal) → IsRight b r → (p : Packet) → (r ≡ Ok p) ↔ Spells p b
 exact_ok b (inl one) (Ok q) h p = (
   λ e. let same : q ≡ p = cc in subst (λ (x : Packet). Spells x b) same h,
   λ s. ap Ok (one.1.no_other q h ∙ sym (one.1.no_other p s)),
 )
-exact_ok b (inr one) (Ok q) h p = absurd (one.1.no_packet q h)
+exact_ok b (inr one) (Ok q) h p = absurd (one.1.no_value q h)
 exact_ok b (inl one) (Err r) h p = absurd (one.1.no_refusal r h)
-exact_ok b (inr one) (Err r) h p = (λ e. cc, λ s. absurd (one.1.no_packet p s))
+exact_ok b (inr one) (Err r) h p = (λ e. cc, λ s. absurd (one.1.no_value p s))
 
-pub exact_err : (b : List ℕ) → HasOneReading b → (r : Result Packet Refusal) → IsRight b r → (s : Refusal) → (r ≡ Err s) ↔ Refuses b s
+pub exact_err : (b : List ℕ) → HasOneReading Spells Refuses b → (r : Result Packet Refusal) → IsRight b r → (s : Refusal) → (r ≡ Err s) ↔ Refuses b s
 exact_err b (inl one) (Ok q) h s = (λ e. cc, λ k. absurd (one.1.no_refusal s k))
-exact_err b (inr one) (Ok q) h s = absurd (one.1.no_packet q h)
+exact_err b (inr one) (Ok q) h s = absurd (one.1.no_value q h)
 exact_err b (inl one) (Err r) h s = absurd (one.1.no_refusal r h)
 exact_err b (inr one) (Err r) h s = (
   λ e. let same : r ≡ s = cc in subst (λ (x : Refusal). Refuses b x) same h,
@@ -208,7 +204,9 @@ exact_err b (inr one) (Err r) h s = (
 )
 
 -- a packet has one spelling
-pub one_spelling : ((p : StreamPacket) (a b : List ℕ) → stream.SpellsStream p a → stream.SpellsStream p b → a ≡ b)
-    → (p : Packet) (a b : List ℕ) → Spells p a → Spells p b → a ≡ b
+one_spelling : OnePacket → (p : Packet) (a b : List ℕ) → Spells p a → Spells p b → a ≡ b
 one_spelling law (packets.Stream p) a b h k = law p a b h k
 one_spelling law (packets.Control c) a b h k = control_spelling c a b h k
+
+pub exact : Fields48AreExact → ((b : List ℕ) → IsBytes b → HasOneStream b) → OnePacket → DecodingIsExact
+exact six stream_law one = record { one_of_both = λ b h. one_reading six b h (stream_law b h); one_spelling = one_spelling one }

@@ -1,7 +1,7 @@
 -- The forms of packets, and why other bytes are refused. M17 Protocol Specification, IP networking; the forms of
 -- control packets are this profile's.
 use Rattle.std.specs.Prelude.{◌≡◌, ◌≢◌, ◌⊎◌, ℕ, ◌<◌, ◌≤◌, ◌^◌, List, [], ◌∷◌, ◌++◌, length, take, drop, codes, slice_index, min, ◌-◌, None, Some}
-use Rattle.std.specs.Int.{w16, to_be_bytes}
+use Rattle.m17_fields.specs.Fields.{be_16, field_at}
 use Rattle.m17_callsign.specs.AddressBytes.{address_bytes}
 use Rattle.m17_callsign.specs.Callsign.{HasCallsign}
 use Rattle.m17_crc.specs.Crc.{crc_of}
@@ -23,8 +23,10 @@ IsModule letter = (65 ≤ letter) × (letter ≤ 90)
 
 -- The control packet spells the bytes: its magic, and then its fields.
 abbrev pub SpellsControl : Control → List ℕ → Type 0
-SpellsControl (Conn from letter) bytes = IsFrom from × IsModule letter × (bytes ≡ codes "CONN" ++ address_bytes from ++ letter ∷ [])
-SpellsControl (Lstn from letter) bytes = IsFrom from × IsModule letter × (bytes ≡ codes "LSTN" ++ address_bytes from ++ letter ∷ [])
+SpellsControl (Conn from letter) bytes =
+    IsFrom from × IsModule letter × (bytes ≡ codes "CONN" ++ address_bytes from ++ letter ∷ [])
+SpellsControl (Lstn from letter) bytes =
+    IsFrom from × IsModule letter × (bytes ≡ codes "LSTN" ++ address_bytes from ++ letter ∷ [])
 SpellsControl Ackn bytes = bytes ≡ codes "ACKN"
 SpellsControl Nack bytes = bytes ≡ codes "NACK"
 SpellsControl (Ping from) bytes = IsFrom from × (bytes ≡ codes "PING" ++ address_bytes from)
@@ -61,7 +63,7 @@ pub record HasFrom (bytes : List ℕ) (address : ℕ) : Type 0 where
   pub has_magic : HasMagic bytes
   pub length_with_from : (length bytes ≡ 10) ⊎ (length bytes ≡ 11)
   pub fits : address < 2 ^ 48
-  pub field : address_bytes address ≡ take 6 (drop 4 bytes)
+  pub field : address_bytes address ≡ field_at 4 6 bytes
 
 -- The bytes are no packet, and this is the first reason that fits, in the order of the cases. A length above
 -- 4,294,967,295 is told as that number.
@@ -72,4 +74,4 @@ Refuses bytes (Address address) = HasFrom bytes address × (IsFrom address → �
 Refuses bytes (Module letter) = (length bytes ≡ 11) × (letter ≡ slice_index bytes 10) × (IsModule letter → ⊥)
     × (from : ℕ) × HasFrom bytes from × IsFrom from
 Refuses bytes (Crc found expected) = (length bytes ≡ 54) × HasMagic bytes × (found < 2 ^ 16)
-    × (to_be_bytes w16 found ≡ drop 52 bytes) × (expected ≡ crc_of (take 52 bytes)) × (found ≢ expected)
+    × (be_16 found ≡ drop 52 bytes) × (expected ≡ crc_of (take 52 bytes)) × (found ≢ expected)

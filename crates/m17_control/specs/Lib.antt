@@ -1,4 +1,4 @@
-pub mod Exact
 pub mod Forms
+pub mod Laws
 pub mod Modules
 pub mod Spelled

@@ -1,1 +1,2 @@
 pub mod Lsd
+pub mod Laws

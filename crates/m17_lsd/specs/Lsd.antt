@@ -1,7 +1,6 @@
 -- Link setup data: its 28 bytes, and the text of its TYPE. M17 Protocol Specification, link setup data.
-use Rattle.std.specs.Prelude.{◌≡◌, ◌==◌, ℕ, ◌/◌, ◌%◌, ◌^◌, ◌<◌, List, ◌++◌, length, codes, decimal, All, if◌then◌else◌}
-use Rattle.std.specs.Int.{w16, to_be_bytes}
-use Rattle.m17_callsign.specs.AddressBytes.{address_bytes}
+use Rattle.std.specs.Prelude.{◌≡◌, ◌==◌, ℕ, ◌/◌, ◌%◌, ◌^◌, ◌<◌, List, ◌++◌, length, codes, decimal, if◌then◌else◌}
+use Rattle.m17_fields.specs.Fields.{be_16, be_48, IsBytes}
 use Rattle.m17_lsd.specs.declared.lsd.Lsd.{Lsd}
 
 -- the numbers fit their fields
@@ -9,12 +8,12 @@ pub record FitsFields (l : Lsd) : Type 0 where
   pub dst : l.dst < 2 ^ 48
   pub src : l.src < 2 ^ 48
   pub kind : l.kind < 2 ^ 16
-  pub meta_bytes : All (λ byte. byte < 2 ^ 8) l.meta
+  pub meta_bytes : IsBytes l.meta
   pub meta_length : length l.meta ≡ 14
 
 -- DST, SRC, TYPE and META, one after another
 abbrev pub lsd_bytes : Lsd → List ℕ
-lsd_bytes l = address_bytes l.dst ++ address_bytes l.src ++ to_be_bytes w16 l.kind ++ l.meta
+lsd_bytes l = be_48 l.dst ++ be_48 l.src ++ be_16 l.kind ++ l.meta
 
 -- so many bits of TYPE, from this one on, as a number; bit 0 is the least significant
 abbrev pub bits_at : ℕ → ℕ → ℕ → ℕ

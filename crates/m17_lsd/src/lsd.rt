@@ -1,4 +1,4 @@
-use m17_callsign::Address;
+use m17_values::Address;
 
 /// Link setup data of 28 bytes. M17 Protocol Specification, link setup data.
 #[derive(Clone, Copy, Debug, PartialEq, Eq)]

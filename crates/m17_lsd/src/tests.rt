@@ -1,5 +1,5 @@
 use super::*;
-use m17_callsign::Address;
+use m17_values::Address;
 use std::test::Fail;
 
 #[test]

@@ -2,11 +2,12 @@
 use Rattle.std.proofs.Common.{◌≡◌, ◌↔◌, ℕ, ◌%◌, ◌<◌, ◌^◌, Bool, true, false, List, ◌++◌, length, take, drop, Result, Ok, Err, MatchResult, leb, inl, inr, refl, sym, ap, ◌∙◌, subst, arith}
 use Rattle.std.proofs.lemmas.List.{take-append-drop, take_all, length-take, length-drop}
 use Rattle.std.proofs.lemmas.Bool.Decides.{leb_tells}
-use Rattle.std.proofs.lemmas.Nat.{from_be_bytes-to_be_bytes_2}
 use Rattle.std.proofs.Math.Bridge.{le_prop}
-use Rattle.std.specs.Int.{w16, to_be_bytes, from_be_bytes}
+use Rattle.m17_fields.specs.Fields.{be_16, Fields16AreExact}
 use Rattle.m17_lsd.specs.declared.lsd.Lsd.{Lsd}
 use Rattle.m17_lsd.specs.Lsd.{FitsFields, lsd_bytes}
+use Rattle.m17_lsd.specs.Laws.{FieldsAreExact}
+use Rattle.m17_stream.specs.Laws.{OneSpelling}
 use Rattle.m17_crc.specs.Crc.{crc_of}
 use Rattle.m17_stream.specs.declared.packet.StreamPacket.{StreamPacket}
 use Rattle.m17_stream.specs.declared.packet.StreamRefusal.{StreamRefusal}
@@ -33,11 +34,6 @@ same_packet p q s l n e y =
     ∙ ap (λ v. packet q.sid q.lsd p.number q.last v p.numbered) y
     ∙ same_number q.sid q.lsd q.last q.payload p.number q.number n p.numbered q.numbered
 
--- numbers of 16 bits with the same two bytes are one
-pub one_number : (a b : ℕ) → a < 2 ^ 16 → b < 2 ^ 16 → to_be_bytes w16 a ≡ to_be_bytes w16 b → a ≡ b
-one_number a b ha hb e =
-    sym (from_be_bytes-to_be_bytes_2 a ha) ∙ ap (from_be_bytes w16) e ∙ from_be_bytes-to_be_bytes_2 b hb
-
 field_below : (e : Bool) (n : ℕ) → n < 32768 → frame_field e n < 2 ^ 16
 field_below true n h = omega arith
 field_below false n h = omega arith
@@ -48,27 +44,23 @@ one_field false false m n h k e = (refl, omega arith)
 one_field true false m n h k e = absurd (omega arith)
 one_field false true m n h k e = absurd (omega arith)
 
--- what the law on link setup data says
-abbrev pub LsdIsExact : Type 0
-LsdIsExact = (l m : Lsd) → FitsFields l → FitsFields m → lsd_bytes l ≡ lsd_bytes m → l ≡ m
-
 -- packets whose fields stand in the same bytes are one
-pub same_fields : LsdIsExact → (p q : StreamPacket) (b : List ℕ) → HasFields p b → HasFields q b → p ≡ q
-same_fields law p q b hp hq =
+pub same_fields : FieldsAreExact → Fields16AreExact → (p q : StreamPacket) (b : List ℕ) → HasFields p b → HasFields q b → p ≡ q
+same_fields law two p q b hp hq =
     let field = one_field p.last q.last p.number q.number hp.number_fits hq.number_fits
-    (one_number _ _ (field_below p.last p.number hp.number_fits) (field_below q.last q.number hq.number_fits) (hp.field ∙ sym hq.field)) in
+    (two.one_number _ _ (field_below p.last p.number hp.number_fits) (field_below q.last q.number hq.number_fits) (hp.field ∙ sym hq.field)) in
     same_packet p q
-    (one_number p.sid q.sid hp.sid_fits hq.sid_fits (hp.sid ∙ sym hq.sid))
+    (two.one_number p.sid q.sid hp.sid_fits hq.sid_fits (hp.sid ∙ sym hq.sid))
     (law p.lsd q.lsd hp.lsd_fits hq.lsd_fits (hp.lsd ∙ sym hq.lsd))
     field.1 field.0 (hp.payload ∙ sym hq.payload)
 
 -- a packet whose fields stand in 54 bytes with the magic and the right CRC spells them
 pub spells : (p : StreamPacket) (b : List ℕ) → length b ≡ 54 → HasFields p b → take 4 b ≡ magic
-    → to_be_bytes w16 (crc_of (take 52 b)) ≡ drop 52 b → SpellsStream p b
+    → be_16 (crc_of (take 52 b)) ≡ drop 52 b → SpellsStream p b
 spells p b long h m crc =
-    let front : front_bytes p ≡ take 52 b = front_from_parts magic (to_be_bytes w16 p.sid) (lsd_bytes p.lsd)
-    (to_be_bytes w16 (frame_field p.last p.number)) p.payload b m h.sid h.lsd h.field h.payload in
-    let last : to_be_bytes w16 (crc_of (front_bytes p)) ≡ drop 52 b = ap (λ x. to_be_bytes w16 (crc_of x)) front ∙ crc in
+    let front : front_bytes p ≡ take 52 b = front_from_parts magic (be_16 p.sid) (lsd_bytes p.lsd)
+    (be_16 (frame_field p.last p.number)) p.payload b m h.sid h.lsd h.field h.payload in
+    let last : be_16 (crc_of (front_bytes p)) ≡ drop 52 b = ap (λ x. be_16 (crc_of x)) front ∙ crc in
     record {
       sid = h.sid_fits;
       lsd = h.lsd_fits;
@@ -83,11 +75,11 @@ lsd_length l h = omega (arith, h.meta_length)
 
 -- what a packet spells has its parts
 pub parts : (p : StreamPacket) (b : List ℕ) → SpellsStream p b
-    → Parts magic (to_be_bytes w16 p.sid) (lsd_bytes p.lsd) (to_be_bytes w16 (frame_field p.last p.number)) p.payload
-    (to_be_bytes w16 (crc_of (front_bytes p))) b
+    → Parts magic (be_16 p.sid) (lsd_bytes p.lsd) (be_16 (frame_field p.last p.number)) p.payload
+    (be_16 (crc_of (front_bytes p))) b
 parts p b h =
-    parts_of magic (to_be_bytes w16 p.sid) (lsd_bytes p.lsd) (to_be_bytes w16 (frame_field p.last p.number)) p.payload
-    (to_be_bytes w16 (crc_of (front_bytes p))) b refl refl (lsd_length p.lsd h.lsd) refl h.payload_length h.spelling
+    parts_of magic (be_16 p.sid) (lsd_bytes p.lsd) (be_16 (frame_field p.last p.number)) p.payload
+    (be_16 (crc_of (front_bytes p))) b refl refl (lsd_length p.lsd h.lsd) refl h.payload_length h.spelling
 
 pub fields_of : (p : StreamPacket) (b : List ℕ) → SpellsStream p b → HasFields p b
 fields_of p b h =
@@ -103,32 +95,32 @@ fields_of p b h =
       payload = sym at.payload;
     }
 
-pub one_spelling : LsdIsExact → (p q : StreamPacket) (b : List ℕ) → SpellsStream p b → SpellsStream q b → p ≡ q
-one_spelling law p q b hp hq = same_fields law p q b (fields_of p b hp) (fields_of q b hq)
+pub one_spelling : FieldsAreExact → Fields16AreExact → OneSpelling
+one_spelling law two p q b hp hq = same_fields law two p q b (fields_of p b hp) (fields_of q b hq)
 
 -- what the law on the CRC says
 abbrev pub CrcFits : Type 0
 CrcFits = (bytes : List ℕ) → crc_of bytes < 2 ^ 16
 
-pub not_both : CrcFits → (b : List ℕ) (p : StreamPacket) (r : StreamRefusal) → SpellsStream p b → RefusesStream b r → ⊥
-not_both fits b p (Length n) h r = r.1 (parts p b h).whole
-not_both fits b p (Magic m) h r = r.2 (r.1 ∙ (parts p b h).magic)
-not_both fits b p (Crc found expected) h r =
+pub not_both : Fields16AreExact → CrcFits → (b : List ℕ) (p : StreamPacket) (r : StreamRefusal) → SpellsStream p b → RefusesStream b r → ⊥
+not_both two fits b p (Length n) h r = r.1 (parts p b h).whole
+not_both two fits b p (Magic m) h r = r.2 (r.1 ∙ (parts p b h).magic)
+not_both two fits b p (Crc found expected) h r =
     let at = parts p b h in
-    let same : found ≡ crc_of (front_bytes p) = one_number found (crc_of (front_bytes p)) r.2 (fits (front_bytes p)) (r.3 ∙ at.crc) in
+    let same : found ≡ crc_of (front_bytes p) = two.one_number found (crc_of (front_bytes p)) r.2 (fits (front_bytes p)) (r.3 ∙ at.crc) in
     r.5 (same ∙ sym (r.4 ∙ ap crc_of at.front))
 
-pub one_refusal : (b : List ℕ) (r s : StreamRefusal) → RefusesStream b r → RefusesStream b s → r ≡ s
-one_refusal b (Length n) (Length m) r s = ap Length (r.0 ∙ sym s.0)
-one_refusal b (Length n) (Magic m) r s = absurd (r.1 s.0)
-one_refusal b (Length n) (Crc found expected) r s = absurd (r.1 s.0)
-one_refusal b (Magic n) (Length m) r s = absurd (s.1 r.0)
-one_refusal b (Magic n) (Magic m) r s = ap Magic (r.1 ∙ sym s.1)
-one_refusal b (Magic n) (Crc found expected) r s = absurd (r.2 (r.1 ∙ s.1))
-one_refusal b (Crc f e) (Length m) r s = absurd (s.1 r.0)
-one_refusal b (Crc f e) (Magic m) r s = absurd (s.2 (s.1 ∙ r.1))
-one_refusal b (Crc f e) (Crc g d) r s =
-    let found = one_number f g r.2 s.2 (r.3 ∙ sym s.3) in
+pub one_refusal : Fields16AreExact → (b : List ℕ) (r s : StreamRefusal) → RefusesStream b r → RefusesStream b s → r ≡ s
+one_refusal two b (Length n) (Length m) r s = ap Length (r.0 ∙ sym s.0)
+one_refusal two b (Length n) (Magic m) r s = absurd (r.1 s.0)
+one_refusal two b (Length n) (Crc found expected) r s = absurd (r.1 s.0)
+one_refusal two b (Magic n) (Length m) r s = absurd (s.1 r.0)
+one_refusal two b (Magic n) (Magic m) r s = ap Magic (r.1 ∙ sym s.1)
+one_refusal two b (Magic n) (Crc found expected) r s = absurd (r.2 (r.1 ∙ s.1))
+one_refusal two b (Crc f e) (Length m) r s = absurd (s.1 r.0)
+one_refusal two b (Crc f e) (Magic m) r s = absurd (s.2 (s.1 ∙ r.1))
+one_refusal two b (Crc f e) (Crc g d) r s =
+    let found = two.one_number f g r.2 s.2 (r.3 ∙ sym s.3) in
     let expected = r.4 ∙ sym s.4 in
     ap (λ x. Crc x e) found ∙ ap (Crc g) expected
 
@@ -136,16 +128,13 @@ one_refusal b (Crc f e) (Crc g d) r s =
 abbrev pub IsRight : List ℕ → Result StreamPacket StreamRefusal → Type 0
 IsRight b r = MatchResult r (λ p. SpellsStream p b) (RefusesStream b)
 
-abbrev pub HasOneSpelling : Type 0
-HasOneSpelling = (p q : StreamPacket) (b : List ℕ) → SpellsStream p b → SpellsStream q b → p ≡ q
+pub exact_ok : OneSpelling → Fields16AreExact → CrcFits → (b : List ℕ) (r : Result StreamPacket StreamRefusal) → IsRight b r → (p : StreamPacket) → (r ≡ Ok p) ↔ SpellsStream p b
+exact_ok one two fits b (Ok q) h p = (λ e. let same : q ≡ p = cc in subst (λ (x : StreamPacket). SpellsStream x b) same h, λ s. ap Ok (one q p b h s))
+exact_ok one two fits b (Err r) h p = (λ e. cc, λ s. absurd (not_both two fits b p r s h))
 
-pub exact_ok : HasOneSpelling → CrcFits → (b : List ℕ) (r : Result StreamPacket StreamRefusal) → IsRight b r → (p : StreamPacket) → (r ≡ Ok p) ↔ SpellsStream p b
-exact_ok one fits b (Ok q) h p = (λ e. let same : q ≡ p = cc in subst (λ (x : StreamPacket). SpellsStream x b) same h, λ s. ap Ok (one q p b h s))
-exact_ok one fits b (Err r) h p = (λ e. cc, λ s. absurd (not_both fits b p r s h))
-
-pub exact_err : CrcFits → (b : List ℕ) (r : Result StreamPacket StreamRefusal) → IsRight b r → (s : StreamRefusal) → (r ≡ Err s) ↔ RefusesStream b s
-exact_err fits b (Ok q) h s = (λ e. cc, λ k. absurd (not_both fits b q s h k))
-exact_err fits b (Err r) h s = (λ e. let same : r ≡ s = cc in subst (λ (x : StreamRefusal). RefusesStream b x) same h, λ k. ap Err (one_refusal b r s h k))
+pub exact_err : Fields16AreExact → CrcFits → (b : List ℕ) (r : Result StreamPacket StreamRefusal) → IsRight b r → (s : StreamRefusal) → (r ≡ Err s) ↔ RefusesStream b s
+exact_err two fits b (Ok q) h s = (λ e. cc, λ k. absurd (not_both two fits b q s h k))
+exact_err two fits b (Err r) h s = (λ e. let same : r ≡ s = cc in subst (λ (x : StreamRefusal). RefusesStream b x) same h, λ k. ap Err (one_refusal two b r s h k))
 
 -- the field gives back its number and its end bit
 pub field_of_parts : (f : ℕ) → f < 65536 → frame_field (leb 32768 f) (f % 32768) ≡ f

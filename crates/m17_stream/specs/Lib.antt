@@ -1,3 +1,4 @@
-pub mod Exact
-pub mod Fields
 pub mod Stream
+pub mod Laws
+-- for proofs alone
+pub mod Fields

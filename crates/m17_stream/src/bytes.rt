@@ -1,5 +1,4 @@
 ghost use Rattle.std.specs.Prelude.{◌≡◌, ◌↔◌, ◌+◌, ◌<◌, ◌≤◌, ◌++◌, take, drop, length, All, ◌^◌, MatchResult};
-ghost use Rattle.std.specs.Int.{w16, to_be_bytes};
 ghost use Rattle.m17_stream.specs.Fields.{HasFields};
 ghost use Rattle.m17_stream.specs.Stream.{SpellsStream, RefusesStream, front_bytes, frame_field};
 ghost use Rattle.m17_stream.specs.declared.packet.StreamPacket.{StreamPacket};
@@ -8,6 +7,7 @@ ghost use Rattle.m17_stream.specs.declared.packet.StreamRefusal.{StreamRefusal};
 use crate::packet::{CRC_AT, FIELD_AT, LSD_AT, MAGIC, PAYLOAD_AT, SID_AT};
 use crate::{FRAME_NUMBERS, PACKET_BYTES, StreamPacket, StreamRefusal, laws};
 use m17_crc::crc;
+use m17_fields::{get_16, put};
 
 /// The stream packet that these bytes spell, all of them; else the first reason why they spell none: `Length` where
 /// there are not 54 bytes, `Magic` where they do not begin with `M17 `, and `Crc` where the CRC field is not the CRC of
@@ -18,6 +18,7 @@ pub fn read(b: &[u8]) -> Result<StreamPacket, StreamRefusal>
 {
     laws::one_spelling();
     m17_crc::laws::crc_has_16_bits();
+    m17_fields::laws::fields_of_16_bits_are_exact();
     read_first(b)
 }
 
@@ -33,7 +34,7 @@ fn read_first(b: &[u8]) -> Result<StreamPacket, StreamRefusal>
     if magic != MAGIC {
         return Err(StreamRefusal::Magic(magic));
     }
-    let found = number_at(b, CRC_AT);
+    let found = get_16(b, CRC_AT);
     let expected = crc(&b[..CRC_AT]);
     if found != expected {
         return Err(StreamRefusal::Crc { found, expected });
@@ -41,23 +42,14 @@ fn read_first(b: &[u8]) -> Result<StreamPacket, StreamRefusal>
     Ok(fields(b))
 }
 
-/// The big-endian number in the two bytes from this place on.
-#[inline]
-fn number_at(b: &[u8; PACKET_BYTES], place: usize) -> u16
-    requires { place + 1 < 54 }
-    ensures { to_be_bytes w16 result ≡ take 2 (drop place b.now) }
-{
-    u16::from_be_bytes([b[place], b[place + 1]])
-}
-
 /// The fields between the magic and the CRC.
 #[inline]
 fn fields(b: &[u8; PACKET_BYTES]) -> StreamPacket
     ensures { HasFields result b.now }
 {
-    let field = number_at(b, FIELD_AT);
+    let field = get_16(b, FIELD_AT);
     StreamPacket {
-        sid: number_at(b, SID_AT),
+        sid: get_16(b, SID_AT),
         lsd: m17_lsd::read(b[LSD_AT..FIELD_AT].as_array().unwrap()),
         number: field % FRAME_NUMBERS,
         last: field >= FRAME_NUMBERS,
@@ -69,26 +61,16 @@ fn fields(b: &[u8; PACKET_BYTES]) -> StreamPacket
 pub fn write(p: &StreamPacket) -> [u8; 54]
     ensures { SpellsStream p.now result }
 {
+    let sid = p.sid;
     let mut bytes = [0; PACKET_BYTES];
     put(&mut bytes, 0, &MAGIC);
-    put(&mut bytes, SID_AT, &p.sid.to_be_bytes());
+    put(&mut bytes, SID_AT, &sid.to_be_bytes());
     put(&mut bytes, LSD_AT, &m17_lsd::write(&p.lsd));
     put(&mut bytes, FIELD_AT, &field(p.last, p.number).to_be_bytes());
     put(&mut bytes, PAYLOAD_AT, &p.payload);
     let crc = crc(&bytes[..CRC_AT]);
     put(&mut bytes, CRC_AT, &crc.to_be_bytes());
     bytes
-}
-
-/// Writes the part at its place, and leaves all before it.
-#[inline]
-fn put(bytes: &mut [u8; PACKET_BYTES], place: usize, part: &[u8])
-    requires { place + length part.now ≤ 54 }
-    ensures front { take (place + length part.now) bytes.new ≡ take place bytes.old ++ part.now }
-    ensures whole { length bytes.new ≡ 54 }
-    ensures part_bytes { All (λ byte. byte < 2 ^ 8) part.now }
-{
-    bytes[place..place + part.len()].copy_from_slice(part);
 }
 
 /// The field of a frame: its number, and the top bit in the last frame of its stream.

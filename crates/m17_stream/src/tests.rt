@@ -1,6 +1,6 @@
 use super::*;
-use m17_callsign::Address;
 use m17_lsd::Lsd;
+use m17_values::Address;
 use std::test::Fail;
 
 /// Frame 5 of stream 1234 hex, to everyone, from 9FDD51 hex: TYPE 0005, META and payload zero.

@@ -1,5 +1,5 @@
 use Rattle.std.proofs.Common.{◌≡◌, ◌^◌, ◌<◌, List, ℕ, take, drop, Option, MatchOption, Some, ap, ◌∙◌, rules}
-use Rattle.std.specs.Int.{w16, to_be_bytes}
+use Rattle.m17_fields.specs.Fields.{be_16}
 use Rattle.std.specs.Array.{IsWholeChunk}
 use Rattle.std.specs.Borrow.{Bor}
 use Rattle.std.proofs.lemmas.List.Elements.{All-same, All-take, All-drop, All-from_get_or}
@@ -17,13 +17,13 @@ returns c =
     let payload : c.unwrap-2.result.now ≡ take 16 (drop 36 b) = chunk c.as_array-2.result c.unwrap-2.result _ 16 _ c.unwrap-2.ensures c.as_array-2.ensures.cases in
     let lsd : c.unwrap.result.now ≡ take 28 (drop 6 b) = chunk c.as_array.result c.unwrap.result _ 28 _ c.unwrap.ensures c.as_array.ensures.cases in
     record {
-      sid_fits = c.number_at.type_inv;
+      sid_fits = c.get_16.type_inv;
       lsd_fits = c.read.ensures.fits;
       number_fits = search rules;
       payload_fits = All-same (λ byte. byte < 2 ^ 8) _ _ payload
           (All-take (λ byte. byte < 2 ^ 8) 16 (drop 36 b) (All-drop (λ byte. byte < 2 ^ 8) 36 b (All-from_get_or (λ byte. byte < 2 ^ 8) b 0 (λ i _. c.fits-b i))));
-      sid = c.number_at.ensures;
+      sid = c.get_16.ensures;
       lsd = c.read.ensures.bytes ∙ lsd;
-      field = ap (to_be_bytes w16) (field_of_parts c.number_at-field.result c.number_at-field.type_inv) ∙ c.number_at-field.ensures;
+      field = ap (be_16) (field_of_parts c.get_16-field.result c.get_16-field.type_inv) ∙ c.get_16-field.ensures;
       payload = payload;
     }

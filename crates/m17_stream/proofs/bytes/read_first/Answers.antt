@@ -1,5 +1,5 @@
 use Rattle.std.proofs.Common.{◌≡◌, length, take, drop, sym, ap, ◌∙◌, rules}
-use Rattle.std.specs.Int.{w16, to_be_bytes}
+use Rattle.m17_fields.specs.Fields.{be_16}
 use Rattle.m17_crc.specs.Crc.{crc_of}
 use Rattle.m17_stream.proofs.Packets.{spells, last_two}
 use Rattle.m17_stream.specs.Stream.{magic}
@@ -12,8 +12,8 @@ returns-then-found-expected c =
     let m : take 4 c.args.b.now ≡ magic = search rules in (
       long,
       m,
-      c.number_at-found.type_inv,
-      c.number_at-found.ensures ∙ ap (λ x. take 2 (drop 52 x)) same ∙ last_two c.args.b.now long,
+      c.get_16-found.type_inv,
+      c.get_16-found.ensures ∙ ap (λ x. take 2 (drop 52 x)) same ∙ last_two c.args.b.now long,
       c.crc-expected.ensures ∙ ap (λ x. crc_of (take 52 x)) same,
       c.if-found-expected.true,
     )
@@ -23,7 +23,7 @@ returns c =
     let same : c.in-Some.b.now ≡ c.args.b.now = c.in-Some.ensures.cases.same in
     let long : length c.in-Some.b.now ≡ 54 = ap length same ∙ c.in-Some.ensures.cases.long in
     let m : take 4 c.in-Some.b.now ≡ magic = search rules in
-    let crc : to_be_bytes w16 (crc_of (take 52 c.in-Some.b.now)) ≡ drop 52 c.in-Some.b.now =
-    ap (to_be_bytes w16) (sym c.crc-expected.ensures ∙ sym c.if-found-expected.false) ∙ c.number_at-found.ensures ∙ last_two c.in-Some.b.now long in
+    let crc : be_16 (crc_of (take 52 c.in-Some.b.now)) ≡ drop 52 c.in-Some.b.now =
+    ap (be_16) (sym c.crc-expected.ensures ∙ sym c.if-found-expected.false) ∙ c.get_16-found.ensures ∙ last_two c.in-Some.b.now long in
     let all = spells c.fields.result c.in-Some.b.now long c.fields.ensures m crc in
     rw same at all

@@ -1,0 +1,110 @@
+# Checks of the documents: their examples, the names and paths in them. Part of checks/run.
+# shellcheck shell=sh
+
+# The commands of the blocks ```console, each after `$ `, with what they print below them; run in a tree that is built.
+examples_of() { # DOCUMENT
+    make_tree tree && with_rt tree/m17 build 2>/dev/null || return 1
+    awk '
+        /^```console$/ { on = 1; next }
+        /^```/ { on = 0 }
+        on && /^\$ / { count++; print substr($0, 3) >(count ".command"); printf "" >(count ".wanted"); next }
+        on && count { print >(count ".wanted") }' "$top/$1" || return 1
+    [ -f 1.command ] || {
+        echo "$1 has no example"
+        return 1
+    }
+    for command in *.command; do
+        (cd tree && without_rt sh "../$command") >got 2>&1
+        cmp got "${command%.command}.wanted" || {
+            echo "$1 says otherwise of: $(cat "$command")"
+            return 1
+        }
+    done
+}
+check "the examples of README.md print what it says" examples_of README.md
+
+help_has_each_command() {
+    "$top/m17" help >help || return 1
+    grep -o '\./m17 [a-z]*' "$top/README.md" "$top/docs/operating.md" | sed 's/.* //' | sort -u >named
+    [ -s named ] || return 1
+    while read -r word; do
+        grep -q "m17 $word" help || {
+            echo "m17 help says nothing of $word"
+            return 1
+        }
+    done <named
+}
+check "m17 help has each command that the documents name" help_has_each_command
+
+# In the tables of docs/proofs.md the column `edits` names files of crates/*/must-fail.
+edits_are_named() {
+    awk -F '|' '
+        !/^\|/ { column = 0; next }
+        !column { for (i = 2; i < NF; i++) if ($i ~ /^ *edits *$/) column = i; if (!column) column = -1; next }
+        column > 0 { print $column }' "$top/docs/proofs.md" | grep -o '`[a-z0-9_]*`' | tr -d '`' | sort -u >named
+    find "$top"/crates/*/must-fail -name '*.edit' | sed 's/.*\///; s/\.edit$//' | sort -u >files
+    [ -s named ] && [ -s files ] || return 1
+    comm -23 named files | sed 's/$/ is named in docs\/proofs.md, and is no edit/' >wrong
+    comm -13 named files | sed 's/$/ is an edit that docs\/proofs.md does not name/' >>wrong
+    cat wrong
+    [ ! -s wrong ]
+}
+check "docs/proofs.md names each edit of must-fail, and no other" edits_are_named
+
+crates_are_on_the_map() {
+    sed 's/#.*//; /:/!d; s/[ :].*//' "$top/crates.txt" >crates
+    [ -s crates ] || return 1
+    while read -r name; do
+        grep -q "^| .*\`$name\`" "$top/docs/architecture.md" || {
+            echo "docs/architecture.md has no row for $name"
+            return 1
+        }
+    done <crates
+}
+check "docs/architecture.md has each crate of crates.txt" crates_are_on_the_map
+
+# Links, and paths in back quotes that begin with a folder of the tree.
+paths_are_there() {
+    for text in "$top"/*.md "$top"/docs/*.md "$top"/bench/*.md; do
+        {
+            grep -o '](\([^)#]*\)' "$text" | sed 's/^](//' | grep -v '^[a-z]*:' | sed "s|^|${text%/*}/|"
+            grep -o '`\(crates\|docs\|examples\|bench\|checks\)/[A-Za-z0-9_./-]*`' "$text" | tr -d '`' | sed "s|^|$top/|"
+        } | grep -v '/out/\|/NAME\|[*]' | while read -r path; do
+            [ -e "$path" ] || echo "${text#"$top"/}: there is no ${path#"$top"/}"
+        done
+    done >missing
+    cat missing
+    [ ! -s missing ]
+}
+check "links and paths in the documents lead to something" paths_are_there
+
+one_version() {
+    told=$("$top/m17" version | sed -n 's/^m17 //p')
+    newest=$(sed -n 's/^## \([0-9][0-9.]*\).*/\1/p' "$top/CHANGELOG.md" | head -n 1)
+    [ -n "$told" ] && [ "$told" = "$newest" ] || {
+        echo "m17 version says $told, and CHANGELOG.md begins with $newest"
+        return 1
+    }
+}
+check "m17 version and CHANGELOG.md name the same version" one_version
+
+made_examples() {
+    needs python3
+    cp "$top/examples/make.py" . && python3 make.py || return 1
+    cmp judge.bin "$top/examples/judge.bin" && cmp show.hex "$top/examples/show.hex"
+}
+check "examples/make.py makes the example inputs" made_examples
+
+# The recipe of docs/operating.md, on a capture whose short Ethernet frames are filled up to 60 bytes.
+capture() {
+    needs tcpdump python3
+    python3 "$top/checks/padded_capture.py" <"$top/examples/show.hex" >padded.pcap || return 1
+    for _ in 4 6; do cat "$top/examples/show.hex"; done | prog show | sort >wanted
+    tcpdump -n -r - -x 'udp port 17000' <padded.pcap 2>/dev/null | awk -f "$top/examples/tcpdump_hex.awk" >lines || return 1
+    prog show <lines | sort | cmp - wanted || {
+        cat lines
+        return 1
+    }
+    grep -qF 'awk -W interactive -f examples/tcpdump_hex.awk' "$top/docs/operating.md"
+}
+check "the recipe for tcpdump leaves out what fills up short frames" capture

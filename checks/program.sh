@@ -1,0 +1,155 @@
+# Checks of the built program as a process: its words and its statuses. Part of checks/run.
+# shellcheck shell=sh
+
+# refused WORD..: whether these words are refused, and nothing of the input is taken.
+refused() {
+    gives 2 'words refused\n' prog "$@" <"$top/examples/show.hex" || return 1
+    { prog "$@" >/dev/null; cat; } <"$top/examples/show.hex" >left
+    cmp left "$top/examples/show.hex" || {
+        echo "the input was touched for the words: $*"
+        return 1
+    }
+}
+
+words_that_name_no_command() {
+    refused &&
+        refused '' &&
+        refused ' judge' &&
+        refused 'judge ' &&
+        refused JUDGE &&
+        refused jud &&
+        refused judges &&
+        refused "$(printf 'judge\n.')" &&
+        refused -- &&
+        refused --help
+}
+check "words that name no command are refused, and nothing is read" words_that_name_no_command
+
+too_many_words() {
+    needs seq
+    # shellcheck disable=SC2046  # one word for each number
+    refused judge judge &&
+        refused judge '' &&
+        refused '' judge &&
+        refused show show.hex &&
+        refused judge $(seq 5000)
+}
+check "a second word is refused, and five thousand are" too_many_words
+
+words_that_are_not_utf8() {
+    refused "$(printf '\377')" &&
+        refused "$(printf 'judge\200')" &&
+        refused "$(printf '\303')" &&
+        refused judge "$(printf '\377')" &&
+        refused "$(printf '\377')" judge &&
+        refused "$(printf '\355\240\200')"
+}
+check "words that are not UTF-8 are refused" words_that_are_not_utf8
+
+a_very_long_word() {
+    refused "$(head -c 100000 /dev/zero | tr '\0' j)"
+}
+check "a word of 100,000 letters is refused" a_very_long_word
+
+refused_input() {
+    head -c 65 "$top/examples/judge.bin" >cut
+    gives 1 '0 opened\ninput refused at 65: cut\n' prog judge <cut || return 1
+    printf 4 >odd
+    gives 1 'input refused at 0: odd\n' prog show <odd || return 1
+    printf '44495343\n4x\n44495343\n' >digit
+    gives 1 'disc\ninput refused at 1: digit\n' prog show <digit
+}
+check "refused input gives 1, and the last line says where and why" refused_input
+
+empty_input() {
+    gives 0 '' prog judge && gives 0 '' prog show && gives 0 'refused length 0\n' sh -c 'echo | "$1" show' sh "$program"
+}
+check "an empty input gives 0 and no line; an empty line, one" empty_input
+
+more_than_a_million() {
+    needs yes
+    head -c 64000001 /dev/zero | prog judge >got
+    [ "$(tail -n 1 got)" = 'input refused at 64000000: large' ] || {
+        tail -n 1 got
+        return 1
+    }
+    [ "$(wc -l <got)" -eq 1000001 ] || return 1
+    yes 44495343 | prog show >got
+    [ "$(tail -n 1 got)" = 'input refused at 1000000: large' ] || {
+        tail -n 1 got
+        return 1
+    }
+    [ "$(wc -l <got)" -eq 1000001 ]
+}
+check "record and line 1,000,000 are refused after a line for each before them" more_than_a_million
+
+failed_read() {
+    gives 3 'read failed\n' prog judge </ && gives 3 'read failed\n' prog show </
+}
+check "an input that cannot be read gives 3" failed_read
+
+closed_streams() {
+    prog judge >got <&-
+    [ $? -eq 3 ] && [ "$(cat got)" = 'read failed' ] || {
+        echo "with no standard input judge wrote: $(cat got)"
+        return 1
+    }
+    prog show <"$top/examples/show.hex" >&-
+    [ $? -eq 4 ]
+}
+check "no standard input gives 3, and no standard output 4" closed_streams
+
+# A pipe that does not wait: the first read gets what is there, and the next one is told to try again later.
+impatient_pipe() {
+    needs python3
+    python3 -c '
+import os, subprocess, sys
+out, into = os.pipe()
+os.write(into, b"44495343\n444")
+os.set_blocking(out, False)
+sys.exit(subprocess.run([sys.argv[1], "show"], stdin=out, timeout=60).returncode)' "$program" >got
+    [ $? -eq 3 ] && printf 'disc\nread failed\n' | cmp - got
+}
+check "a pipe that has nothing and does not wait gives 3, and what was whole is shown" impatient_pipe
+
+full_disk() {
+    [ -c /dev/full ] || {
+        echo "there is no /dev/full here"
+        exit 77
+    }
+    for word in judge show nonsense; do
+        case $word in
+        judge) input=$top/examples/judge.bin ;;
+        *) input=$top/examples/show.hex ;;
+        esac
+        prog "$word" <"$input" >/dev/full
+        ended=$?
+        [ $ended -eq 4 ] || {
+            echo "$word ended with status $ended, and not 4"
+            return 1
+        }
+    done
+}
+check "an output that takes nothing gives 4, also for refused words" full_disk
+
+# The program writes more than a pipe holds, to a reader that has gone.
+closed_pipe() {
+    needs yes
+    head -c 1280000 /dev/zero >records
+    yes 44495343 | head -n 50000 >lines
+    for word in judge show; do
+        case $word in
+        judge) input=records ;;
+        *) input=lines ;;
+        esac
+        {
+            prog "$word" <$input
+            echo $? >ended
+        } | true
+        [ "$(cat ended)" -eq 4 ] || {
+            echo "$word ended with status $(cat ended), and not 4"
+            return 1
+        }
+    done
+}
+check "a reader that goes away gives 4, and no signal ends the program" closed_pipe
