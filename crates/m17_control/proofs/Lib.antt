@@ -2,3 +2,5 @@ pub mod Controls
 pub mod Parts
 pub mod Reading
 pub mod Refused
+pub mod ModuleSets
+pub mod ModuleTexts

@@ -1,2 +1,4 @@
 pub mod Forms
 pub mod Laws
+pub mod Modules
+pub mod Spelled

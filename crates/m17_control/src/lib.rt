@@ -8,15 +8,19 @@ mod form;
 mod item;
 pub mod laws;
 mod letter;
+mod modules;
 mod packet;
 mod reader;
+mod speller;
 mod writer;
 
 pub use event::{Body, Event, Tag, Why};
 pub use item::{Direct, Item, Said};
 pub use letter::ModuleLetter;
+pub use modules::{Modules, ModulesRefusal};
 pub use packet::{Control, Packet, Refusal};
 pub use reader::decode;
+pub use speller::spell;
 pub use writer::write;
 
 #[cfg(test)]

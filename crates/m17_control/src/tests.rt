@@ -1,5 +1,7 @@
 use super::*;
 use m17_callsign::{Address, CallAddress};
+use m17_stream::StreamPacket;
+use m17_values::{Member, Peer};
 use std::test::Fail;
 
 fn from(value: u64) -> Option<CallAddress> {
@@ -113,4 +115,106 @@ fn other_bytes_as_long_as_a_stream_packet_are_refused(rt: HostRuntime) {
     other_magic[2] = b'N';
     other_magic[3] = b'G';
     assert_eq!(rt; decode(&other_magic), Err(Refusal::Magic(*b"PING")));
+}
+
+#[test]
+fn texts_name_modules(rt: HostRuntime) -> Result<(), Fail> {
+    let some = Modules::read("CAZ")?;
+    assert_eq!(rt; some.count(), 3);
+    for (letter, has) in [
+        (b'A', true),
+        (b'B', false),
+        (b'C', true),
+        (b'Y', false),
+        (b'Z', true),
+        (b'@', false),
+        (b'[', false),
+        (b'a', false),
+        (0, false),
+        (255, false),
+    ] {
+        assert_eq!(rt; some.has(letter), has);
+    }
+    assert_eq!(rt; Modules::read("ZYXWVUTSRQPONMLKJIHGFEDCBA")?.count(), 26);
+    assert_eq!(rt; Modules::none().count(), 0);
+    assert!(rt; !Modules::none().has(b'A'));
+    Ok(())
+}
+
+#[test]
+fn other_texts_name_no_modules(rt: HostRuntime) {
+    for (text, refusal) in [
+        ("", ModulesRefusal::Empty),
+        ("a", ModulesRefusal::Letter(0)),
+        ("AB C", ModulesRefusal::Letter(2)),
+        ("ABA", ModulesRefusal::Twice(2)),
+        ("AAa", ModulesRefusal::Twice(1)),
+        ("AaA", ModulesRefusal::Letter(1)),
+        ("AB1A", ModulesRefusal::Letter(2)),
+    ] {
+        assert!(rt; Modules::read(text) == Err(refusal));
+    }
+}
+
+#[test]
+fn an_item_spells_its_datagram(rt: HostRuntime) -> Result<(), Fail> {
+    let name = from(0x13_89f9_baed).ok_or("no callsign")?;
+    let long_disc = b"DISC\x00\x13\x89\xf9\xba\xed";
+    let ackn = Said::Reply {
+        control: Control::Ackn,
+    };
+    assert!(rt; spells(Said::Hello { after: 3 }, name, b"ACKN"));
+    assert!(rt; spells(ackn, name, b"ACKN"));
+    assert!(rt; spells(Said::Ping, name, b"PING\x00\x13\x89\xf9\xba\xed"));
+    assert!(rt; spells(Said::Bye { why: Why::Asked }, name, b"DISC"));
+    assert!(rt; spells(Said::Bye { why: Why::Silent }, name, long_disc));
+    assert!(rt; spells(Said::Bye { why: Why::Stopped }, name, long_disc));
+    assert!(rt; spell(&said(Said::Bye { why: Why::Moved }), name).is_none());
+    assert!(rt; spell(&said(Said::Bye { why: Why::Replaced }), name).is_none());
+    Ok(())
+}
+
+#[test]
+fn frames_and_echoes_spell_their_packet(rt: HostRuntime) -> Result<(), Fail> {
+    let name = from(0x13_89f9_baed).ok_or("no callsign")?;
+    match decode(&stream()) {
+        Ok(Packet::Stream(packet)) => assert!(rt; frame_and_echo(&packet, name)),
+        _ => return Err(Fail::from("no stream packet")),
+    }
+    Ok(())
+}
+
+fn frame_and_echo(packet: &StreamPacket, name: CallAddress) -> bool {
+    let frame = Said::Frame {
+        position: 2,
+        packet: *packet,
+    };
+    let echo = Said::Echo {
+        position: 2,
+        packet: *packet,
+    };
+    spells(frame, name, &stream()) && spells(echo, name, &stream())
+}
+
+fn spells(body: Said, name: CallAddress, bytes: &[u8]) -> bool {
+    match spell(&said(body), name) {
+        Some(datagram) => datagram.as_slice() == bytes,
+        None => false,
+    }
+}
+
+fn said(body: Said) -> Item {
+    Item {
+        member: Member {
+            place: 0,
+            generation: 0,
+        },
+        link: 0,
+        peer: Peer {
+            six: false,
+            ip: [0; 16],
+            port: 17000,
+        },
+        body,
+    }
 }

@@ -1,0 +1,84 @@
+ghost use Rattle.std.specs.Prelude.{◌≡◌, ◌≢◌, ◌↔◌, ℕ, false, true, length, IfOk, IsOk, IsTrue, Contains};
+ghost use Rattle.m17_control.specs.declared.modules.ModulesRefusal.{ModulesRefusal};
+
+/// A set of modules, A to Z. This profile.
+#[derive(Clone, Copy, Debug, PartialEq, Eq)]
+pub struct Modules(u32);
+
+/// Why a text names no modules: the first reason, in the order of places. This profile.
+#[derive(Clone, Copy, Debug, PartialEq, Eq)]
+pub enum ModulesRefusal {
+    /// It is empty.
+    Empty,
+    /// The byte at this place isn't A to Z.
+    Letter(usize),
+    /// The letter at this place stands earlier too.
+    Twice(usize),
+}
+
+impl Modules {
+    ghost use Rattle.m17_control.specs.Forms.{IsModule};
+    ghost use Rattle.m17_control.specs.Modules.{serves, letters_of, IsModulesText, IsModulesRefused};
+
+    /// No module. This profile.
+    pub fn none() -> Modules
+        ensures { (letter : ℕ) → serves result letter ≡ false }
+    {
+        Modules(0)
+    }
+
+    /// The modules whose letters are the bytes of the text, each once and in any order. `Empty` where there is none,
+    /// `Letter` at the first byte that is no letter of a module, and `Twice` at the first letter that stands earlier
+    /// too, whichever place comes first. This profile.
+    pub fn read(text: &str) -> Result<Modules, ModulesRefusal>
+        ensures ok { IsOk result ↔ IsModulesText text.now }
+        ensures letters { IfOk result (λ modules. (letter : ℕ) → IsTrue (serves modules letter) ↔ Contains text.now letter) }
+        ensures err { (refusal : ModulesRefusal) → (result ≡ Err refusal) ↔ IsModulesRefused text.now refusal }
+    {
+        let bytes = text.as_bytes();
+        if bytes.is_empty() {
+            return Err(ModulesRefusal::Empty);
+        }
+        let mut modules = Modules::none();
+        for (place, byte) in bytes.iter().enumerate() {
+            if !byte.is_ascii_uppercase() {
+                return Err(ModulesRefusal::Letter(place));
+            }
+            if modules.has(*byte) {
+                return Err(ModulesRefusal::Twice(place));
+            }
+            modules.put(*byte);
+        }
+        Ok(modules)
+    }
+
+    /// Whether the module with this letter is in the set. This profile.
+    #[inline]
+    pub fn has(&self, letter: u8) -> bool
+        ensures { result ≡ serves self.now letter }
+    {
+        letter.is_ascii_uppercase() && (self.0 >> (letter - b'A')) & 1 == 1
+    }
+
+    /// How many modules there are, 0 to 26. This profile.
+    pub fn count(&self) -> u32
+        ensures { result ≡ length (letters_of self.now) }
+    {
+        let mut count = 0;
+        for letter in b'A'..b'Z' + 1 {
+            if self.has(letter) {
+                count += 1;
+            }
+        }
+        count
+    }
+
+    // Puts a module into the set.
+    fn put(&mut self, letter: u8)
+        requires { IsModule letter }
+        ensures it { serves self.new letter ≡ true }
+        ensures others { (other : ℕ) → other ≢ letter → serves self.new other ≡ serves self.old other }
+    {
+        self.0 |= 1 << (letter - b'A');
+    }
+}
