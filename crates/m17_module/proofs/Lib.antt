@@ -1,0 +1,5 @@
+mod Below
+mod Acts
+mod Places
+mod SeatsMore
+mod PeopleMore
