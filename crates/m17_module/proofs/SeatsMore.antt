@@ -31,7 +31,7 @@ same_from_is_same a b h =
     let make : ℕ → ℕ → Member = λ x y. record { place = x; generation = y } in
     ap (λ x. make x a.generation) place ∙ ap (make b.place) generation
 
-joined_at_before : LaterActsChangeNoMembership → (places : ℕ) (events more : List Event) (k : Member) (n : ℕ) → n ≤ length events → joined_at places (acts_of (events ++ more)) k n ≡ joined_at places (acts_of events) k n
+pub joined_at_before : LaterActsChangeNoMembership → (places : ℕ) (events more : List Event) (k : Member) (n : ℕ) → n ≤ length events → joined_at places (acts_of (events ++ more)) k n ≡ joined_at places (acts_of events) k n
 joined_at_before law places events more k n h =
     ap (λ acts. joined_at places acts k n) (acts_append events more) ∙ law places (acts_of events) (acts_of more) k n (omega (arith, length_acts events))
 
@@ -295,3 +295,6 @@ pub seats_at_before : LaterActsChangeNoMembership → (places : ℕ) (events mor
 seats_at_before law places events more n h =
     seats_from places (events ++ more) n (seats_at places events n) (length_seats places events n)
     (λ q l. seats_at_is places events n q l ∙ sym (seat_at_before law places events more n q h))
+
+pub joined_below : (places : ℕ) (events : List Event) (n : ℕ) (k : Member) (j : ℕ) → joined_at places (acts_of events) k n ≡ Some j → j < n
+joined_below places events n k j e = last_below_lt _ n j (join_parts places events n k j e).last

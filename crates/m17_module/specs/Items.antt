@@ -41,14 +41,19 @@ pub record Setting : Type 0 where
   pub link : ℕ
   pub admitted : Bool
 
+-- Who joins takes a place of the module: who is in there leaves first, with a Bye, and then comes the Hello. At a
+-- place that is none of the module's nothing happens. This profile.
+abbrev pub greets : List (Option Seat) → Seat → ℕ → List Item
+greets seats seat after =
+    if nat_lt seat.member.place (length seats)
+    then to_one (said.Bye Replaced) (seat_in seats seat.member.place) ++ item_to (said.Hello after) seat ∷ []
+    else []
+
 -- What an event says by what it is: to the member that a Join replaces and to the new one, to a member that
 -- leaves, to all but the sender of an admitted packet, and to one that is answered. This profile.
 abbrev pub says : Setting → Body → List Item
 says now (Join k peer callsign listens after) =
-    if nat_lt k.place (length now.seats)
-    then to_one (said.Bye Replaced) (seat_in now.seats k.place)
-        ++ item_to (said.Hello after) (record { member = k; link = now.link; peer = peer; listens = listens }) ∷ []
-    else []
+    greets now.seats (record { member = k; link = now.link; peer = peer; listens = listens }) after
 says now (Leave k why) = to_one (said.Bye why) (seat_of now.seats k)
 says now (Packet k p) =
     if now.admitted then map (item_to (said.Frame now.position p)) (others_than k now.seats) else []

@@ -1,14 +1,12 @@
-ghost use Rattle.std.specs.Prelude.{◌≡◌, ◌+◌, ◌<◌, ◌≤◌, ℕ, false, List, [], ◌∷◌, ◌++◌, length, map, max, nat_lt, count_by, insert, remove, slice_set, Some, None, IfOk};
-ghost use Rattle.m17_control.specs.declared.event.Body.TheVariants as body;
+ghost use Rattle.std.specs.Prelude.{◌≡◌, ◌+◌, ◌<◌, ◌≤◌, ℕ, false, List, [], ◌∷◌, ◌++◌, length, map, max, nat_lt, count_by, insert, remove, slice_set, Some, None, IfOk, if◌then◌else◌};
 ghost use Rattle.m17_control.specs.declared.event.Event.{Event};
-ghost use Rattle.m17_control.specs.declared.event.Why.{Why};
 ghost use Rattle.m17_control.specs.declared.item.Said.TheVariants as said;
 ghost use Rattle.m17_floor.specs.Acts.{moment_before};
-ghost use Rattle.m17_floor.specs.Floor.{verdict_at};
+ghost use Rattle.m17_floor.specs.Floor.{verdict_at, admits};
 ghost use Rattle.m17_floor.specs.declared.act.ActKind.TheVariants as act;
 ghost use Rattle.m17_module.specs.Events.{kind_of, acts_of};
 ghost use Rattle.m17_module.specs.Seats.{seat_from, members_of, seat_in, seat_of, others_than};
-ghost use Rattle.m17_module.specs.Items.{item_to, to_one};
+ghost use Rattle.m17_module.specs.Items.{item_to, to_one, greets, says};
 ghost use Rattle.m17_module.specs.Held.{held_from, to_other, with_place, without_place};
 ghost use Rattle.arrayvec.specs.ArrayVec.{array_vec_len};
 ghost use Rattle.m17_module.specs.StandsFor.{PeopleStandFor};
@@ -16,7 +14,7 @@ ghost use Rattle.m17_module.specs.StandsFor.{PeopleStandFor};
 use crate::Seat;
 use crate::basket::Tray;
 use arrayvec::ArrayVec;
-use m17_control::{Item, Said};
+use m17_control::{Body, Control, Event, Item, Said, Why};
 use m17_floor::laws as floor_laws;
 use m17_floor::{Floor, Last, Verdict};
 use m17_stream::StreamPacket;
@@ -264,5 +262,166 @@ impl Room {
     {
         let own = &mut self.lasts[seat.member.place as usize];
         self.floor.judge(seat.member, at, p, own)
+    }
+
+    // A packet of a member, or of one that is none.
+    fn packet(&mut self, k: Member, at: u64, p: &StreamPacket) -> Verdict
+        ensures seats { self.new.seats ≡ self.old.seats }
+        ensures stands { (places : ℕ) (events : List Event) (event : Event) →
+            kind_of event.body ≡ act.Packet k p.now →
+            at ≡ max (moment_before (acts_of events) (length events)) event.at →
+            PeopleStandFor places self.old events →
+            PeopleStandFor places self.new (events ++ event ∷ [])
+            × (verdict_at places (acts_of (events ++ event ∷ [])) (length events) ≡ Some result) }
+    {
+        floor_laws::strangers_change_nothing();
+        floor_laws::only_speakers_are_heard();
+        floor_laws::later_acts_change_nothing_before();
+        let Some(seat) = self.seat_of(k) else {
+            return Verdict::NotMember;
+        };
+        if seat.listens {
+            return Verdict::ListenOnly;
+        }
+        self.judge(&seat, at, p)
+    }
+
+    // A member comes in; who was in at its place until now is answered.
+    fn join(&mut self, seat: &Seat) -> Option<Seat>
+        requires { seat.now.member.place < length self.old.seats }
+        ensures was { result ≡ seat_in self.old.seats seat.now.member.place }
+        ensures length { length self.new.seats ≡ length self.old.seats }
+        ensures stands { (places : ℕ) (events : List Event) (event : Event) →
+            seat_from (Some event) ≡ Some seat.now → PeopleStandFor places self.old events →
+            PeopleStandFor places self.new (events ++ event ∷ []) }
+    {
+        let Some(old) = self.seat_in(seat.member.place) else {
+            self.take_free(seat);
+            return None;
+        };
+        self.take_over(&old, seat);
+        Some(old)
+    }
+
+    // A member leaves, if it is in; its seat is answered.
+    fn leave(&mut self, k: Member) -> Option<Seat>
+        ensures was { result ≡ seat_of self.old.seats k }
+        ensures length { length self.new.seats ≡ length self.old.seats }
+        ensures stands { (places : ℕ) (events : List Event) (event : Event) →
+            kind_of event.body ≡ act.Leave k → PeopleStandFor places self.old events →
+            PeopleStandFor places self.new (events ++ event ∷ []) }
+    {
+        floor_laws::strangers_change_nothing();
+        let Some(seat) = self.seat_of(k) else {
+            return None;
+        };
+        self.give_up(&seat);
+        Some(seat)
+    }
+
+    // A Join: who was in at the place is told, and then who comes in.
+    fn come(&mut self, seat: &Seat, after: u64, out: &mut Tray)
+        requires { length out.old ≤ 256 }
+        ensures told { out.new ≡ out.old ++ greets self.old.seats seat.now after }
+        ensures length { length self.new.seats ≡ length self.old.seats }
+        ensures stands { (places : ℕ) (events : List Event) (event : Event) →
+            seat_from (Some event) ≡ Some seat.now → PeopleStandFor places self.old events →
+            PeopleStandFor places self.new (events ++ event ∷ []) }
+    {
+        floor_laws::strangers_change_nothing();
+        if seat.member.place as usize >= self.places() {
+            return;
+        }
+        let was = self.join(seat);
+        tell(&was, &Said::Bye { why: Why::Replaced }, out);
+        out.put(&item_for(seat, &Said::Hello { after }));
+    }
+
+    // A Leave: who leaves is told.
+    fn go(&mut self, k: Member, why: Why, out: &mut Tray)
+        requires { length out.old ≤ 256 }
+        ensures told { out.new ≡ out.old ++ to_one (said.Bye why) (seat_of self.old.seats k) }
+        ensures length { length self.new.seats ≡ length self.old.seats }
+        ensures stands { (places : ℕ) (events : List Event) (event : Event) →
+            kind_of event.body ≡ act.Leave k → PeopleStandFor places self.old events →
+            PeopleStandFor places self.new (events ++ event ∷ []) }
+    {
+        let was = self.leave(k);
+        tell(&was, &Said::Bye { why }, out);
+    }
+
+    // A packet: if it is admitted, the others are told, and of which position it is.
+    fn hear(&mut self, k: Member, at: u64, position: u64, p: &StreamPacket, out: &mut Tray) -> Verdict
+        requires { length out.old ≤ 256 }
+        ensures told { out.new ≡ out.old ++ (if admits (Some result)
+            then map (item_to (said.Frame position p.now)) (others_than k self.old.seats) else []) }
+        ensures seats { self.new.seats ≡ self.old.seats }
+        ensures stands { (places : ℕ) (events : List Event) (event : Event) →
+            kind_of event.body ≡ act.Packet k p.now →
+            at ≡ max (moment_before (acts_of events) (length events)) event.at →
+            PeopleStandFor places self.old events →
+            PeopleStandFor places self.new (events ++ event ∷ [])
+            × (verdict_at places (acts_of (events ++ event ∷ [])) (length events) ≡ Some result) }
+    {
+        let verdict = self.packet(k, at, p);
+        if !verdict.is_admitted() {
+            return verdict;
+        }
+        let frame = Said::Frame {
+            position,
+            packet: *p,
+        };
+        tell_others(self.seats.as_slice(), self.held.as_slice(), k, &frame, out);
+        verdict
+    }
+
+    // A reply: who is answered is told.
+    fn reply(&self, k: Member, control: &Control, out: &mut Tray)
+        requires { length out.old ≤ 256 }
+        ensures told { out.new ≡ out.old ++ to_one (said.Reply control.now) (seat_of self.now.seats k) }
+    {
+        let was = self.seat_of(k);
+        tell(&was, &Said::Reply { control: *control }, out);
+    }
+
+    /// What an event does by what it is, and what it says: `at` is the module's moment, `position` that of the event.
+    pub(crate) fn happen(&mut self, event: &Event, at: u64, position: u64, out: &mut Tray) -> Option<Verdict>
+        requires { length out.old ≤ 256 }
+        ensures told { out.new ≡ out.old ++ says (record { seats = self.old.seats; position = position;
+            link = event.now.tag.link; admitted = admits result }) event.now.body }
+        ensures length { length self.new.seats ≡ length self.old.seats }
+        ensures stands { (places : ℕ) (events : List Event) →
+            at ≡ max (moment_before (acts_of events) (length events)) event.now.at →
+            PeopleStandFor places self.old events →
+            PeopleStandFor places self.new (events ++ event.now ∷ [])
+            × (result ≡ verdict_at places (acts_of (events ++ event.now ∷ [])) (length events)) }
+    {
+        floor_laws::other_acts_change_nothing();
+        floor_laws::only_speakers_are_heard();
+        match &event.body {
+            Body::Join { member, peer, callsign: _, listen, after } => {
+                let seat = Seat {
+                    member: *member,
+                    link: event.tag.link,
+                    peer: *peer,
+                    listens: *listen,
+                };
+                self.come(&seat, *after, out);
+                return None;
+            }
+            Body::Leave { member, why } => {
+                self.go(*member, *why, out);
+                return None;
+            }
+            Body::Packet { member, packet } => {
+                return Some(self.hear(*member, at, position, packet, out));
+            }
+            Body::Reply { member, control } => {
+                self.reply(*member, control, out);
+                return None;
+            }
+            Body::Tick => return None,
+            Body::Stop => return None,
+        }
     }
 }
