@@ -3,3 +3,4 @@ mod Acts
 mod Places
 mod SeatsMore
 mod PeopleMore
+mod StepMore

@@ -341,7 +341,7 @@ judged_by_rule places seats lasts before floor own own' events event seat p verd
      ∙ ap (verdict_at places (with_act (acts_of events) (act_of event))) (sym (length_acts events))
      ∙ judged'.verdict_is)
 
-kind_end : (events : List Event) (event : Event) → kind_at (acts_of (events ++ event ∷ [])) (length events) ≡ kind_of event.body
+pub kind_end : (events : List Event) (event : Event) → kind_at (acts_of (events ++ event ∷ [])) (length events) ≡ kind_of event.body
 kind_end events event = kind_at_is (events ++ event ∷ []) (length events) ∙ ap kind_from (slice_get_end events event)
 
 joined_lt : (places : ℕ) (events : List Event) (k : Member) (j : ℕ) → joined_at places (acts_of events) k (length events) ≡ Some j → j < length events

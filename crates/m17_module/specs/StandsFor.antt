@@ -1,14 +1,16 @@
 -- What the small state of a module stands for, out of the whole list of its events. This profile.
-use Rattle.std.specs.Prelude.{◌≡◌, ℕ, List, length, slice_get, Option, Some}
+use Rattle.std.specs.Prelude.{◌≡◌, ℕ, List, [], ◌∷◌, ◌++◌, length, slice_get, Option, Some}
 use Rattle.m17_control.specs.declared.event.Event.{Event}
+use Rattle.m17_control.specs.declared.item.Item.{Item}
+use Rattle.m17_floor.specs.declared.verdict.Verdict.{Verdict}
 use Rattle.m17_floor.specs.Acts.{moment_before}
-use Rattle.m17_floor.specs.Floor.{admitted_count}
+use Rattle.m17_floor.specs.Floor.{verdict_at, admitted_count}
 use Rattle.m17_floor.specs.Rule.{Frame}
 use Rattle.m17_floor.specs.StandsFor.{FloorStandsFor, OwnStandsFor}
 use Rattle.m17_module.specs.declared.seat.Seat.{Seat}
 use Rattle.m17_module.specs.Events.{acts_of}
 use Rattle.m17_module.specs.Seats.{seats_at}
-use Rattle.m17_module.specs.Items.{Setup}
+use Rattle.m17_module.specs.Items.{Setup, items_at}
 
 -- Who is in, place by place, the last admitted frame of each, and the floor's. This profile.
 pub record People : Type 0 where
@@ -42,3 +44,11 @@ pub record StandsFor (kept : Kept) (events : List Event) : Type 0 where
   pub people : PeopleStandFor kept.setup.places kept.people events
   pub count : kept.count ≡ length events
   pub admitted : kept.admitted ≡ admitted_count kept.setup.places (acts_of events)
+
+-- The step by an event after these: the module then stands for the list with the event, what it gave is what the
+-- event at this position gives, and its answer is the verdict there, which only a packet has. This profile.
+pub record IsStep (setup : Setup) (events : List Event) (event : Event) (answer : Option Verdict)
+    (kept : Kept) (given : List Item) : Type 0 where
+  pub stands : StandsFor kept (events ++ event ∷ [])
+  pub items : given ≡ items_at setup (events ++ event ∷ []) (length events)
+  pub verdict : answer ≡ verdict_at setup.places (acts_of (events ++ event ∷ [])) (length events)

@@ -4,7 +4,9 @@
 mod basket;
 mod room;
 mod seat;
+mod state;
 
 pub use basket::{BASKET_ROOM, Basket};
 pub use room::MOST_PLACES;
 pub use seat::Seat;
+pub use state::{Module, PING_EVERY_MS};

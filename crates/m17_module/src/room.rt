@@ -1,7 +1,7 @@
-ghost use Rattle.std.specs.Prelude.{◌≡◌, ◌+◌, ◌<◌, ◌≤◌, ℕ, false, List, [], ◌∷◌, ◌++◌, length, map, max, nat_lt, count_by, insert, remove, slice_set, Some, None, IfOk, if◌then◌else◌};
+ghost use Rattle.std.specs.Prelude.{◌≡◌, ◌+◌, ◌<◌, ◌≤◌, ℕ, false, List, [], ◌∷◌, ◌++◌, length, map, max, nat_lt, count_by, insert, remove, slice_set, Some, None, IfOk, is_some, if◌then◌else◌};
 ghost use Rattle.m17_control.specs.declared.event.Event.{Event};
 ghost use Rattle.m17_control.specs.declared.item.Said.TheVariants as said;
-ghost use Rattle.m17_floor.specs.Acts.{moment_before};
+ghost use Rattle.m17_floor.specs.Acts.{is_packet, moment_before};
 ghost use Rattle.m17_floor.specs.Floor.{verdict_at, admits};
 ghost use Rattle.m17_floor.specs.declared.act.ActKind.TheVariants as act;
 ghost use Rattle.m17_module.specs.Events.{kind_of, acts_of};
@@ -390,6 +390,7 @@ impl Room {
         ensures told { out.new ≡ out.old ++ says (record { seats = self.old.seats; position = position;
             link = event.now.tag.link; admitted = admits result }) event.now.body }
         ensures length { length self.new.seats ≡ length self.old.seats }
+        ensures answer { is_some result ≡ is_packet (kind_of event.now.body) }
         ensures stands { (places : ℕ) (events : List Event) →
             at ≡ max (moment_before (acts_of events) (length events)) event.now.at →
             PeopleStandFor places self.old events →
