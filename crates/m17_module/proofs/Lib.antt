@@ -4,3 +4,4 @@ mod Places
 mod SeatsMore
 mod PeopleMore
 mod StepMore
+mod ItemsMore

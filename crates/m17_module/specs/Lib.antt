@@ -3,5 +3,6 @@ pub mod Events
 pub mod Seats
 pub mod Items
 pub mod StandsFor
+pub mod Laws
 -- For the code alone: the row of held places.
 pub mod Held

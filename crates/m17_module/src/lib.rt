@@ -2,6 +2,7 @@
 #![tactic(auto)]
 
 mod basket;
+pub mod laws;
 mod room;
 mod seat;
 mod state;
