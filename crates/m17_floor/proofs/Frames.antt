@@ -1,5 +1,5 @@
 -- What one more act makes of the floor's frame and of each member's own.
-use Rattle.std.proofs.Common.{◌≡◌, ℕ, suc, ◌<◌, ◌&&◌, Bool, true, false, not, cond, List, [], ◌∷◌, ◌++◌, length, Option, None, Some, nat_lt, refl, ap, ◌∙◌, arith}
+use Rattle.std.proofs.Common.{◌≡◌, ℕ, ◌<◌, ◌&&◌, Bool, true, false, not, cond, List, [], ◌∷◌, length, Option, None, Some, nat_lt, refl, ap, ◌∙◌, arith}
 use Rattle.std.proofs.lemmas.Bool.{cond-true, cond-false, lt-ltb, and_left, and_right, and_from}
 use Rattle.std.proofs.Math.Bool.{and-true}
 use Rattle.std.specs.Option.{option_and_then, option_map_or}
@@ -8,7 +8,7 @@ use Rattle.m17_stream.specs.declared.packet.StreamPacket.{StreamPacket}
 use Rattle.m17_floor.specs.declared.act.Act.{Act}
 use Rattle.m17_floor.specs.declared.act.ActKind.{ActKind}
 use Rattle.m17_floor.specs.declared.act.ActKind.TheVariants.{Join, Leave, Packet, Other}
-use Rattle.m17_floor.specs.Acts.{with_act, last_below, kind_at, moment_at, is_same, settles, joined_at}
+use Rattle.m17_floor.specs.Acts.{with_act, last_below, kind_at, moment_at, is_same, settles}
 use Rattle.m17_floor.specs.Rule.{Frame, incoming, frame_from, only_if}
 use Rattle.m17_floor.specs.Floor.{Past, was_admitted, joined, is_in_since, frame_of, frame_at, has_stayed, last_admitted, floor_frame, is_packet_of, last_own, own_frame}
 use Rattle.m17_floor.specs.StandsFor.{packet_act}

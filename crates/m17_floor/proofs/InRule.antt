@@ -1,6 +1,6 @@
 -- The frames that are looked up, and the verdict beside them.
-use Rattle.std.proofs.Common.{◌≡◌, ℕ, ◌<◌, ◌&&◌, Bool, true, false, cond, List, [], ◌∷◌, length, Option, None, Some, nat_lt, refl, ap, sym, ◌∙◌}
-use Rattle.std.proofs.lemmas.Bool.{ltb-true, and_right, cond-true, cond-false}
+use Rattle.std.proofs.Common.{◌≡◌, ℕ, ◌<◌, ◌&&◌, Bool, true, false, cond, [], ◌∷◌, length, Option, None, Some, nat_lt, refl, ap, sym, ◌∙◌}
+use Rattle.std.proofs.lemmas.Bool.{ltb-true, and_right, cond-true}
 use Rattle.std.proofs.lemmas.Option.{cond_some}
 use Rattle.std.specs.Option.{option_and_then, option_map_or}
 use Rattle.m17_values.specs.declared.member.Member.{Member}

@@ -1,7 +1,7 @@
 -- A Join, as the last act of a list; and who is in at one place.
-use Rattle.std.proofs.Common.{◌≡◌, ◌≢◌, ℕ, ◌<◌, ◌≤◌, ◌==◌, ◌&&◌, Bool, true, false, not, cond, List, [], ◌∷◌, length, Option, None, Some, nat_lt, IsSome, inl, inr, refl, ap, sym, ◌∙◌, arith}
-use Rattle.std.proofs.lemmas.Bool.{cases_Bool, cond-true, eq-eqb, eqb-true, ne_eqb, lt-ltb, and_from, false_from_ne_true, false≢true}
-use Rattle.std.proofs.lemmas.Option.{cond_some, same_Some}
+use Rattle.std.proofs.Common.{◌≡◌, ℕ, ◌<◌, ◌≤◌, ◌==◌, ◌&&◌, Bool, true, false, not, cond, List, length, Option, None, Some, nat_lt, IsSome, inl, inr, refl, ap, sym, ◌∙◌, arith}
+use Rattle.std.proofs.lemmas.Bool.{cases_Bool, cond-true, eq-eqb, eqb-true, lt-ltb, and_from, false_from_ne_true, false≢true}
+use Rattle.std.proofs.lemmas.Option.{cond_some}
 use Rattle.std.specs.Option.{option_and_then}
 use Rattle.m17_values.specs.declared.member.Member.{Member}
 use Rattle.m17_floor.specs.declared.act.Act.{Act}
@@ -10,10 +10,10 @@ use Rattle.m17_floor.specs.declared.act.ActKind.TheVariants.{Join, Leave, Packet
 use Rattle.m17_floor.specs.Acts.{with_act, last_below, kind_at, is_same, is_join_of, settles, joined_at, IsMember}
 use Rattle.m17_floor.specs.Rule.{Frame, only_if}
 use Rattle.m17_floor.specs.Floor.{floor_frame, own_frame, listens}
-use Rattle.m17_floor.specs.StandsFor.{past_of, MaySpeak, without, FloorStandsFor, OwnStandsFor, join_act, leave_act}
+use Rattle.m17_floor.specs.StandsFor.{past_of, MaySpeak, without, FloorStandsFor, join_act, leave_act}
 use Rattle.m17_floor.proofs.Frames.{leaves_in}
 use Rattle.m17_floor.proofs.InRule.{floor_is_in}
-use Rattle.m17_floor.proofs.LastBelow.{last_below_ge, last_below_lt, last_below_true, kept_is, some_from_cond}
+use Rattle.m17_floor.proofs.LastBelow.{last_below_ge, last_below_lt, some_from_cond}
 use Rattle.m17_floor.proofs.Members.{is_same_self, is_same_from, same_from_is_same}
 use Rattle.m17_floor.proofs.OneMore.{kind_end, membership_more}
 use Rattle.m17_floor.proofs.Standing.{no_packet_admitted, floor_more, floor_same, own_more_settled}
@@ -23,12 +23,13 @@ joined_speaks places acts k at h =
     let act : Act = join_act at k false in
     let n : ℕ = length acts in
     let here : (is_same k k && nat_lt k.place places) ≡ true = and_from _ _ (is_same_self k) (lt-ltb _ _ h) in
-    let place : (k.place == k.place) ≡ true = eq-eqb k.place k.place refl in
-    (n,
-    membership_more places acts act k
-    ∙ cond-true (k.place == k.place) (cond (is_same k k && nat_lt k.place places) (Some n) None) (joined_at places acts k n) place
-    ∙ cond-true (is_same k k && nat_lt k.place places) (Some n) None here,
-    ap listens (kind_end acts act))
+    let place : (k.place == k.place) ≡ true = eq-eqb k.place k.place refl in (
+      n,
+      membership_more places acts act k
+          ∙ cond-true (k.place == k.place) (cond (is_same k k && nat_lt k.place places) (Some n) None) (joined_at places acts k n) place
+          ∙ cond-true (is_same k k && nat_lt k.place places) (Some n) None here,
+      ap listens (kind_end acts act),
+    )
 
 -- Nothing is kept of one that has just joined.
 pub joined_anew : (places : ℕ) (acts : List Act) (at : ℕ) (k : Member) (only : Bool) → own_frame (past_of places (with_act acts (join_act at k only))) k ≡ None

@@ -3,6 +3,7 @@ mod Frames
 mod InRule
 mod Joins
 mod LastBelow
+mod Lines
 mod Members
 mod NoPacket
 mod OneMore

@@ -4,10 +4,10 @@ use Rattle.std.proofs.lemmas.Bool.{and_left}
 use Rattle.std.specs.Option.{option_and_then}
 use Rattle.m17_values.specs.declared.member.Member.{Member}
 use Rattle.m17_floor.specs.declared.act.Act.{Act}
-use Rattle.m17_floor.specs.Acts.{last_below, kind_at, moment_at, is_packet}
-use Rattle.m17_floor.specs.Floor.{was_admitted, is_in_since, frame_at, last_admitted, floor_frame, is_packet_of, last_own, own_frame, verdict_given, admits, past_with, admitted_before}
+use Rattle.m17_floor.specs.Acts.{kind_at, moment_at, is_packet}
+use Rattle.m17_floor.specs.Floor.{was_admitted, is_in_since, frame_at, last_admitted, floor_frame, is_packet_of, last_own, own_frame, admits, past_with, admitted_before}
 use Rattle.m17_floor.specs.StandsFor.{past_of, HasNoPacket}
-use Rattle.m17_floor.proofs.Frames.{stayed_at, own_test}
+use Rattle.m17_floor.proofs.Frames.{stayed_at}
 use Rattle.m17_floor.proofs.InRule.{none_given}
 use Rattle.m17_floor.proofs.LastBelow.{last_below_none}
 

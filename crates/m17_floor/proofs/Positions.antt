@@ -1,6 +1,6 @@
 -- What is looked back on at a position of a list.
-use Rattle.std.proofs.Common.{◌≡◌, ◌≢◌, ℕ, zero, suc, ◌+◌, ◌<◌, ◌≤◌, ◌&&◌, Bool, true, false, not, cond, List, [], ◌∷◌, ◌++◌, length, take, drop, max, Option, None, Some, IsTrue, slice_get, unwrap_or, nat_lt, inl, inr, refl, ap, sym, ◌∙◌, arith}
-use Rattle.std.proofs.lemmas.Bool.{cases_Bool, cases_eq, cases_lt, lt-ltb, and_from, and_parts, false_from_ne_true, true_from_ne_false, false≢true}
+use Rattle.std.proofs.Common.{◌≡◌, ℕ, zero, suc, ◌<◌, ◌≤◌, ◌&&◌, Bool, true, false, List, [], ◌∷◌, ◌++◌, length, take, drop, None, Some, slice_get, unwrap_or, nat_lt, inl, inr, refl, ap, sym, ◌∙◌, arith}
+use Rattle.std.proofs.lemmas.Bool.{cases_eq, cases_lt, lt-ltb, and_from, and_parts, false_from_ne_true}
 use Rattle.std.proofs.lemmas.List.{take-append-drop, length-take-le}
 use Rattle.std.proofs.lemmas.Option.{slice_get_past}
 use Rattle.std.specs.Option.{option_map_or}
@@ -9,11 +9,10 @@ use Rattle.m17_stream.specs.declared.packet.StreamPacket.{StreamPacket}
 use Rattle.m17_floor.specs.declared.act.Act.{Act}
 use Rattle.m17_floor.specs.declared.act.ActKind.{ActKind}
 use Rattle.m17_floor.specs.declared.act.ActKind.TheVariants.{Join, Leave, Packet, Other}
-use Rattle.m17_floor.specs.declared.verdict.Verdict.{Verdict}
 use Rattle.m17_floor.specs.declared.verdict.Verdict.TheVariants.{NotMember, ListenOnly}
 use Rattle.m17_floor.specs.Acts.{kind_or_other, kind_at, moment_at, is_packet, joined_at}
-use Rattle.m17_floor.specs.Rule.{Frame, Incoming, incoming}
-use Rattle.m17_floor.specs.Floor.{Past, was_admitted, joined, is_in_since, frame_of, frame_at, last_admitted, is_packet_of, last_own, listens, verdict_after, verdict_given, admits, past_with, admitted_before, past_at, verdict_at, IsAdmitted}
+use Rattle.m17_floor.specs.Rule.{incoming}
+use Rattle.m17_floor.specs.Floor.{Past, was_admitted, joined, is_in_since, frame_of, frame_at, last_admitted, is_packet_of, last_own, listens, verdict_after, verdict_given, admits, admitted_before, past_at, verdict_at, IsAdmitted}
 use Rattle.m17_floor.specs.Laws.{HasStayed, NoneAdmittedBetween, IsAdmittedPacket}
 use Rattle.m17_floor.proofs.Frames.{own_test}
 use Rattle.m17_floor.proofs.InRule.{after_stranger, after_listener, none_given, since_from}

@@ -4,13 +4,11 @@ use Rattle.std.proofs.lemmas.Bool.{cases_Bool, and_left, and_right, cond-true, c
 use Rattle.m17_values.specs.declared.member.Member.{Member}
 use Rattle.m17_stream.specs.declared.packet.StreamPacket.{StreamPacket}
 use Rattle.m17_floor.specs.declared.act.Act.{Act}
-use Rattle.m17_floor.specs.declared.act.ActKind.{ActKind}
-use Rattle.m17_floor.specs.declared.act.ActKind.TheVariants.{Packet, Other}
+use Rattle.m17_floor.specs.declared.act.ActKind.TheVariants.{Other}
 use Rattle.m17_floor.specs.declared.verdict.Verdict.{Verdict}
 use Rattle.m17_floor.specs.Acts.{with_act, kind_at, is_packet, is_same, is_join_of, settles, joined_at}
 use Rattle.m17_floor.specs.Rule.{Frame, incoming, frame_from, only_if, verdict_by_frames}
-use Rattle.m17_floor.specs.Floor.{Past, joined, floor_frame, is_packet_of, own_frame, listens, verdict_after, verdict_given, admits, verdict_at}
-use Rattle.m17_floor.specs.Laws.{joined_with}
+use Rattle.m17_floor.specs.Floor.{Past, floor_frame, is_packet_of, own_frame, listens, verdict_after, verdict_given, admits, verdict_at}
 use Rattle.m17_floor.specs.StandsFor.{past_of, FloorStandsFor, OwnStandsFor, MaySpeak, packet_act, join_act, leave_act, MemberKeepsStanding, KeepsStanding, IsJudged}
 use Rattle.m17_floor.proofs.Frames.{leaves_in, floor_kept, floor_admitted, own_settled, own_kept, own_admitted}
 use Rattle.m17_floor.proofs.InRule.{floor_is_in, own_out, only_if_all, after_stranger, after_listener, after_speaker, none_given}

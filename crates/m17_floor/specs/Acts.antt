@@ -1,7 +1,7 @@
--- What happened in a module, and what is looked up in the list of it. Positions count from 0. This profile.
+-- What happened in a module, and what is looked up in the list of it. Positions count from 0. This
+-- profile.
 use Rattle.std.specs.Prelude.{◌==◌, ◌&&◌, ℕ, zero, suc, Bool, true, false, List, [], ◌∷◌, ◌++◌, map, take, fold, max, slice_get, nat_lt, Option, None, Some, IsSome, option_and_then, if◌then◌else◌}
 use Rattle.m17_values.specs.declared.member.Member.{Member}
-use Rattle.m17_stream.specs.declared.packet.StreamPacket.{StreamPacket}
 use Rattle.m17_floor.specs.declared.act.Act.{Act}
 use Rattle.m17_floor.specs.declared.act.ActKind.{ActKind}
 use Rattle.m17_floor.specs.declared.act.ActKind.TheVariants.{Join, Leave, Packet, Other}
@@ -61,7 +61,7 @@ unfoldable pub joined_at : ℕ → List Act → Member → ℕ → Option ℕ
 joined_at places acts k n =
     if nat_lt k.place places
     then option_and_then (λ j. if is_join_of k (kind_at acts j) then Some j else None)
-        (last_below (λ j. settles k (kind_at acts j)) n)
+    (last_below (λ j. settles k (kind_at acts j)) n)
     else None
 
 -- the member is in before position n
@@ -72,4 +72,3 @@ IsMember places acts k n = IsSome (joined_at places acts k n)
 abbrev pub listens : ActKind → Bool
 listens (Join member listens_only) = listens_only
 listens _ = false
-

@@ -1,9 +1,8 @@
--- The floor rule at each position of the list of all acts. The two frames that matter are looked up in
--- the acts before the position, and the rest is the rule beside them. This profile.
-use Rattle.std.specs.Prelude.{◌≡◌, ◌&&◌, ℕ, zero, suc, ◌-◌, Bool, true, false, List, [], ◌∷◌, ◌++◌, length, take, slice_get, count_by, nat_lt, Option, None, Some, IsTrue, unwrap_or, option_and_then, if◌then◌else◌}
+-- The floor rule at each position of the list of all acts. The two frames that matter are looked up
+-- in the acts before the position, and the rest is the rule beside them. This profile.
+use Rattle.std.specs.Prelude.{◌&&◌, ℕ, zero, suc, Bool, true, false, List, [], ◌∷◌, ◌++◌, length, take, slice_get, count_by, nat_lt, Option, None, Some, IsTrue, unwrap_or, option_and_then, if◌then◌else◌}
 use Rattle.std.specs.Option.{option_map_or}
 use Rattle.m17_values.specs.declared.member.Member.{Member}
-use Rattle.m17_stream.specs.declared.packet.StreamPacket.{StreamPacket}
 use Rattle.m17_floor.specs.declared.act.Act.{Act}
 use Rattle.m17_floor.specs.declared.act.ActKind.{ActKind}
 use Rattle.m17_floor.specs.declared.act.ActKind.TheVariants.{Join, Packet}
@@ -12,8 +11,8 @@ use Rattle.m17_floor.specs.declared.verdict.Verdict.TheVariants.{Opened, Continu
 use Rattle.m17_floor.specs.Acts.{last_below, kind_at, moment_at, is_same, joined_at}
 use Rattle.m17_floor.specs.Rule.{Frame, Incoming, incoming, frame_from, first_fit, verdict_by_frames}
 
--- What the rule looks back on: the number of the module's places, what happened there so far, and of
--- each of these acts whether it was admitted.
+-- What the rule looks back on: the number of the module's places, what happened there so far, and
+-- of each of these acts whether it was admitted.
 pub record Past : Type 0 where
   pub places : ℕ
   pub acts : List Act

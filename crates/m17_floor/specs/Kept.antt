@@ -5,5 +5,9 @@ use Rattle.m17_floor.specs.Rule.{Frame}
 -- its fields, as they are
 abbrev pub frame_seen : AdmittedFrame → Frame
 frame_seen kept = record {
-  member = kept.member; sid = kept.sid; number = kept.number; last = kept.last; at = kept.at
+  member = kept.member;
+  sid = kept.sid;
+  number = kept.number;
+  last = kept.last;
+  at = kept.at;
 }

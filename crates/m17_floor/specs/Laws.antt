@@ -1,16 +1,16 @@
 -- What follows from the floor rule for every list of acts, and what one act more makes of what is
 -- looked up. This profile.
-use Rattle.std.specs.Prelude.{◌≡◌, ◌≢◌, ◌+◌, ℕ, ◌<◌, ◌≤◌, ◌⊎◌, ◌&&◌, Bool, true, false, List, [], ◌∷◌, ◌++◌, length, max, nat_lt, Option, None, Some, if◌then◌else◌}
+use Rattle.std.specs.Prelude.{◌≡◌, ◌≢◌, ◌+◌, ℕ, ◌<◌, ◌≤◌, ◌⊎◌, ◌&&◌, Bool, true, false, List, [], ◌++◌, length, max, nat_lt, Option, None, Some, if◌then◌else◌}
 use Rattle.m17_values.specs.declared.member.Member.{Member}
 use Rattle.m17_stream.specs.declared.packet.StreamPacket.{StreamPacket}
 use Rattle.m17_stream.specs.Stream.{steps_ahead, IsAhead}
 use Rattle.m17_floor.specs.declared.act.Act.{Act}
-use Rattle.m17_floor.specs.declared.act.ActKind.TheVariants.{Join, Packet, Other}
+use Rattle.m17_floor.specs.declared.act.ActKind.TheVariants.{Packet, Other}
 use Rattle.m17_floor.specs.declared.verdict.Verdict.TheVariants.{Opened, NotMember, ListenOnly}
 use Rattle.m17_floor.specs.Acts.{with_act, kind_at, is_packet, moment_before, moment_at, is_join_of, settles, joined_at}
 use Rattle.m17_floor.specs.Rule.{Frame, floor_timeout_ms, stream_memory_ms, late_from}
 use Rattle.m17_floor.specs.Floor.{listens, admits, verdict_at, IsAdmitted, admitted_count}
-use Rattle.m17_floor.specs.StandsFor.{FloorStandsFor, MaySpeak, join_act, leave_act, packet_act, MemberKeepsStanding, KeepsStanding}
+use Rattle.m17_floor.specs.StandsFor.{FloorStandsFor, its_join, MaySpeak, join_act, leave_act, packet_act, MemberKeepsStanding, KeepsStanding}
 
 -- What happens later changes no verdict, ..
 abbrev pub LaterActsChangeNoVerdict : Type 0
@@ -24,10 +24,25 @@ LaterActsChangeNoMembership =
     (places : ℕ) (acts more : List Act) (k : Member) (n : ℕ) → n ≤ length acts →
     joined_at places (acts ++ more) k n ≡ joined_at places acts k n
 
--- .. and no moment.
+-- .. no moment, neither at a position nor before it, ..
 abbrev pub LaterActsChangeNoMoment : Type 0
 LaterActsChangeNoMoment =
     (acts more : List Act) (n : ℕ) → n < length acts → moment_at (acts ++ more) n ≡ moment_at acts n
+
+abbrev pub LaterActsChangeNoMomentBefore : Type 0
+LaterActsChangeNoMomentBefore =
+    (acts more : List Act) (n : ℕ) → n ≤ length acts →
+    moment_before (acts ++ more) n ≡ moment_before acts n
+
+-- .. and not what happened.
+abbrev pub LaterActsChangeNoKind : Type 0
+LaterActsChangeNoKind =
+    (acts more : List Act) (n : ℕ) → n < length acts → kind_at (acts ++ more) n ≡ kind_at acts n
+
+-- One act more stands at the end.
+abbrev pub KindOfOneMore : Type 0
+KindOfOneMore =
+    (acts : List Act) (act : Act) → kind_at (with_act acts act) (length acts) ≡ act.kind
 
 -- After one act more the moment is that of the act, if it is greater than the moment before.
 abbrev pub MomentOfOneMore : Type 0
@@ -41,18 +56,18 @@ MomentAfterOneMore =
     moment_before (with_act acts act) (length (with_act acts act))
     ≡ max (moment_before acts (length acts)) act.at
 
--- Who is in after one act more: by this act, if it is its Join at one of the places; not, if the act is
--- a Leave of it or another Join at its place; else as before.
+-- Who is in after one act more: by this act, if it is its Join at one of the places; not, if the
+-- act is a Leave of it or another Join at its place; else as before.
 abbrev pub joined_with : ℕ → List Act → Act → Member → Option ℕ
 joined_with places acts act k =
     if settles k act.kind
     then (if is_join_of k act.kind && nat_lt k.place places then Some (length acts) else None)
-    else joined_at places acts k (length acts)
+    else its_join places acts k
 
 abbrev pub MembershipOfOneMore : Type 0
 MembershipOfOneMore =
     (places : ℕ) (acts : List Act) (act : Act) (k : Member) →
-    joined_at places (with_act acts act) k (length (with_act acts act)) ≡ joined_with places acts act k
+    its_join places (with_act acts act) k ≡ joined_with places acts act k
 
 -- At each place at most one member is in.
 abbrev pub OneMemberAtAPlace : Type 0
@@ -86,7 +101,7 @@ CountOfOneMore =
     (places : ℕ) (acts : List Act) (act : Act) →
     admitted_count places (with_act acts act)
     ≡ admitted_count places acts
-      + (if admits (verdict_at places (with_act acts act) (length acts)) then 1 else 0)
+    + (if admits (verdict_at places (with_act acts act) (length acts)) then 1 else 0)
 
 abbrev pub CountOfNone : Type 0
 CountOfNone = (places : ℕ) → admitted_count places [] ≡ 0
@@ -100,13 +115,13 @@ OtherActsChangeNothing =
 -- Nor does a packet of one that may not speak, ..
 abbrev pub UnheardPacketsChangeNothing : Type 0
 UnheardPacketsChangeNothing =
-    (places : ℕ) (acts : List Act) (at : ℕ) (k : Member) (p : StreamPacket) → ¬ MaySpeak places acts k →
-    KeepsStanding places acts (with_act acts (packet_act at k p))
+    (places : ℕ) (acts : List Act) (at : ℕ) (k : Member) (p : StreamPacket) →
+    ¬ MaySpeak places acts k → KeepsStanding places acts (with_act acts (packet_act at k p))
 
 -- .. a Leave of one that is not in, ..
 abbrev pub LeavesOfStrangersChangeNothing : Type 0
 LeavesOfStrangersChangeNothing =
-    (places : ℕ) (acts : List Act) (at : ℕ) (m : Member) → joined_at places acts m (length acts) ≡ None →
+    (places : ℕ) (acts : List Act) (at : ℕ) (m : Member) → its_join places acts m ≡ None →
     KeepsStanding places acts (with_act acts (leave_act at m))
 
 -- .. or a Join at a place that is none of the module's.
@@ -125,13 +140,15 @@ LeavesLeaveOthers =
 abbrev pub JoinsLeaveOthers : Type 0
 JoinsLeaveOthers =
     (places : ℕ) (acts : List Act) (at : ℕ) (m : Member) (listens_only : Bool) (k : Member) →
-    k.place ≢ m.place → MemberKeepsStanding places acts (with_act acts (join_act at m listens_only)) k
+    k.place ≢ m.place →
+    MemberKeepsStanding places acts (with_act acts (join_act at m listens_only)) k
 
 -- A Join at a place where nobody is in leaves the floor as it is.
 abbrev pub JoinsAtAFreePlaceLeaveTheFloor : Type 0
 JoinsAtAFreePlaceLeaveTheFloor =
-    (places : ℕ) (acts : List Act) (at : ℕ) (m : Member) (listens_only : Bool) (floor : Option Frame) →
-    ((k : Member) → k.place ≡ m.place → joined_at places acts k (length acts) ≡ None) →
+    (places : ℕ) (acts : List Act) (at : ℕ) (m : Member) (listens_only : Bool)
+    (floor : Option Frame) →
+    ((k : Member) → k.place ≡ m.place → its_join places acts k ≡ None) →
     FloorStandsFor places acts floor →
     FloorStandsFor places (with_act acts (join_act at m listens_only)) floor
 
@@ -152,7 +169,8 @@ OthersStillMaySpeak =
     MaySpeak places acts m → MaySpeak places (then_joins acts k at) m
 
 -- the position is a packet of this member, and admitted
-pub record IsAdmittedPacket (places : ℕ) (acts : List Act) (n : ℕ) (k : Member) (p : StreamPacket) : Type 0 where
+pub record IsAdmittedPacket (places : ℕ) (acts : List Act) (n : ℕ) (k : Member) (p : StreamPacket)
+    : Type 0 where
   pub packet_is : kind_at acts n ≡ Packet k p
   pub admitted : IsAdmitted places acts n
 
@@ -173,16 +191,17 @@ pub record IsOneOpening (places : ℕ) (acts : List Act) (o n : ℕ) : Type 0 wh
   pub opened : IsOpened places acts o
   pub no_other : (m : ℕ) → o < m → m ≤ n → ¬ IsOpened places acts m
 
--- The two packets are of one member and stream id, and the first doesn't end the stream. If none was
--- admitted between the two, the second's number is ahead of the first's.
-pub record GoesOn (places : ℕ) (acts : List Act) (a n : ℕ) (k m : Member) (p q : StreamPacket) : Type 0 where
+-- The two packets are of one member and stream id, and the first doesn't end the stream. If none
+-- was admitted between the two, the second's number is ahead of the first's.
+pub record GoesOn (places : ℕ) (acts : List Act) (a n : ℕ) (k m : Member) (p q : StreamPacket)
+    : Type 0 where
   pub same_member : m ≡ k
   pub same_stream : q.sid ≡ p.sid
   pub not_ended : p.last ≡ false
   pub ahead : NoneAdmittedBetween places acts a n → IsAhead q.number p.number
 
--- From an opened position up to the next one, all that is admitted is one stream of one member, with
--- numbers that go ahead, and nothing after its end.
+-- From an opened position up to the next one, all that is admitted is one stream of one member,
+-- with numbers that go ahead, and nothing after its end.
 abbrev pub OpeningsAreClean : Type 0
 OpeningsAreClean =
     (places : ℕ) (acts : List Act) (o a n : ℕ) (k m : Member) (p q : StreamPacket) →
@@ -190,17 +209,20 @@ OpeningsAreClean =
     IsAdmittedPacket places acts a k p → IsAdmittedPacket places acts n m q →
     GoesOn places acts a n k m p q
 
--- Where a position is opened, the admitted frame before it, if there is one, had the end bit, or its
--- member has left since, or 1,600 ms or more went by.
+-- Where a position is opened, the admitted frame before it, if there is one, had the end bit, or
+-- its member has left since, or 1,600 ms or more went by.
 abbrev pub FloorsAreTakenFree : Type 0
 FloorsAreTakenFree =
     (places : ℕ) (acts : List Act) (a n : ℕ) (k : Member) (p : StreamPacket) →
-    IsOpened places acts n → a < n → IsAdmittedPacket places acts a k p → NoneAdmittedBetween places acts a n →
+    IsOpened places acts n → a < n → IsAdmittedPacket places acts a k p →
+    NoneAdmittedBetween places acts a n →
     (p.last ≡ true)
     ⊎ ((¬ HasStayed places acts k a n) ⊎ (moment_at acts a + floor_timeout_ms ≤ moment_at acts n))
 
--- At n the member's last admitted frame since its Join is at position a, and less than 10,000 ms old.
-pub record IsLastOwn (places : ℕ) (acts : List Act) (n a : ℕ) (k : Member) (frame : StreamPacket) : Type 0 where
+-- At n the member's last admitted frame since its Join is at position a, and less than 10,000 ms
+-- old.
+pub record IsLastOwn (places : ℕ) (acts : List Act) (n a : ℕ) (k : Member) (frame : StreamPacket)
+    : Type 0 where
   pub earlier : a < n
   pub frame_is : IsAdmittedPacket places acts a k frame
   pub since_join : HasStayed places acts k a n
@@ -211,8 +233,8 @@ pub record IsLastOwn (places : ℕ) (acts : List Act) (n a : ℕ) (k : Member) (
 abbrev pub HasPassed : StreamPacket → ℕ → Type 0
 HasPassed frame number = (frame.last ≡ true) ⊎ (steps_ahead frame.number number ≤ late_from)
 
--- A packet isn't admitted while its sender's last admitted frame is of its stream, less than 10,000 ms
--- old, and has passed its number.
+-- A packet isn't admitted while its sender's last admitted frame is of its stream, less than 10,000
+-- ms old, and has passed its number.
 abbrev pub PassedNumbersAreNotAdmitted : Type 0
 PassedNumbersAreNotAdmitted =
     (places : ℕ) (acts : List Act) (n b : ℕ) (k : Member) (packet last : StreamPacket) →
@@ -220,12 +242,14 @@ PassedNumbersAreNotAdmitted =
     HasPassed last packet.number → ¬ IsAdmitted places acts n
 
 -- The packet at position a was admitted since the Join by which the member is in at position n.
-pub record WasAdmittedSince (places : ℕ) (acts : List Act) (n a : ℕ) (k : Member) (packet : StreamPacket) : Type 0 where
+pub record WasAdmittedSince (places : ℕ) (acts : List Act) (n a : ℕ) (k : Member)
+    (packet : StreamPacket) : Type 0 where
   pub earlier : a < n
   pub packet_is : IsAdmittedPacket places acts a k packet
   pub since_join : HasStayed places acts k a n
 
--- So neither is one with the stream id and number of a packet that was admitted since its sender's Join.
+-- So neither is one with the stream id and number of a packet that was admitted since its sender's
+-- Join.
 abbrev pub RepeatsAreNotAdmitted : Type 0
 RepeatsAreNotAdmitted =
     (places : ℕ) (acts : List Act) (n a b : ℕ) (k : Member) (packet copied last : StreamPacket) →

@@ -17,6 +17,6 @@ abbrev pub was_answered : List (Option Verdict) → ℕ → Bool
 was_answered answered a = unwrap_or (slice_get (map admits answered) a) false
 
 -- the member is in at the end, by a Join below position a
-abbrev pub has_stayed : ℕ → List Act → Member → ℕ → Bool
-has_stayed places acts k a =
+abbrev pub has_been_in : ℕ → List Act → Member → ℕ → Bool
+has_been_in places acts k a =
     option_map_or (λ j. nat_lt j a) (joined_at places acts k (length acts)) false

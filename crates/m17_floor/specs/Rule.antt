@@ -1,6 +1,6 @@
--- The floor rule: the verdict on a packet beside the two frames that matter, the floor's last one and
--- the sender's own last one. This profile.
-use Rattle.std.specs.Prelude.{◌==◌, ◌&&◌, ℕ, ◌-◌, Bool, true, false, not, List, [], ◌∷◌, nat_lt, nat_le, Option, None, Some, if◌then◌else◌}
+-- The floor rule: the verdict on a packet beside the two frames that matter, the floor's last one
+-- and the sender's own last one. This profile.
+use Rattle.std.specs.Prelude.{◌==◌, ◌&&◌, ℕ, ◌-◌, Bool, not, List, [], ◌∷◌, nat_lt, nat_le, Option, None, Some, if◌then◌else◌}
 use Rattle.m17_values.specs.declared.member.Member.{Member}
 use Rattle.m17_stream.specs.declared.packet.StreamPacket.{StreamPacket}
 use Rattle.m17_stream.specs.Stream.{steps_ahead}
@@ -12,7 +12,8 @@ use Rattle.m17_floor.specs.Acts.{is_same}
 abbrev pub floor_timeout_ms : ℕ
 floor_timeout_ms = 1600
 
--- The stream of a sender's last admitted frame is remembered for so many milliseconds. This profile.
+-- The stream of a sender's last admitted frame is remembered for so many milliseconds. This
+-- profile.
 abbrev pub stream_memory_ms : ℕ
 stream_memory_ms = 10000
 
@@ -20,7 +21,8 @@ stream_memory_ms = 10000
 abbrev pub late_from : ℕ
 late_from = 16384
 
--- an admitted frame: of whom, of which stream, its number, whether it ended the stream, and its moment
+-- an admitted frame: of whom, of which stream, its number, whether it ended the stream, and its
+-- moment
 pub record Frame : Type 0 where
   pub member : Member
   pub sid : ℕ
@@ -40,16 +42,20 @@ incoming sender at packet = record { sender = sender; at = at; packet = packet }
 -- what is kept of the packet if it is admitted
 abbrev pub frame_from : Incoming → Frame
 frame_from new = record {
-  member = new.sender; sid = new.packet.sid; number = new.packet.number;
-  last = new.packet.last; at = new.at
+  member = new.sender;
+  sid = new.packet.sid;
+  number = new.packet.number;
+  last = new.packet.last;
+  at = new.at;
 }
 
--- The frame has the floor at this moment: it did not end its stream, and less than 1,600 ms went by.
+-- The frame has the floor at this moment: it did not end its stream, and less than 1,600 ms went
+-- by.
 abbrev pub has_floor : ℕ → Frame → Bool
 has_floor at frame = not frame.last && nat_lt (at - frame.at) floor_timeout_ms
 
--- A packet of this stream id at this moment is compared with the frame: that is of the stream id too, and
--- less than 10,000 ms went by.
+-- A packet of this stream id at this moment is compared with the frame: that is of the stream id
+-- too, and less than 10,000 ms went by.
 abbrev pub is_compared : ℕ → ℕ → Frame → Bool
 is_compared sid at frame = frame.sid == sid && nat_lt (at - frame.at) stream_memory_ms
 
@@ -57,8 +63,9 @@ is_compared sid at frame = frame.sid == sid && nat_lt (at - frame.at) stream_mem
 abbrev pub is_of_stream : Frame → Incoming → Bool
 is_of_stream frame new = is_same frame.member new.sender && frame.sid == new.packet.sid
 
--- The lines of the table that look at frames, in its order. `holder` is the frame that has the floor, if
--- one has it; `own` is the sender's own frame that the packet is compared with, if there is one.
+-- The lines of the table that look at frames, in its order. `holder` is the frame that has the
+-- floor, if one has it; `own` is the sender's own frame that the packet is compared with, if there
+-- is one.
 abbrev pub busy : Option Frame → Incoming → Option Verdict
 busy None new = None
 busy (Some holder) new = if is_of_stream holder new then None else Some (Busy holder.member)
@@ -91,7 +98,7 @@ abbrev pub verdict_beside : Option Frame → Option Frame → Incoming → Verdi
 verdict_beside holder own new =
     first_fit
     (busy holder new ∷ after_end own ∷ repeated own new.packet.number ∷ late own new.packet.number
-        ∷ continued holder ∷ [])
+    ∷ continued holder ∷ [])
     Opened
 
 -- the frame, if it passes the test
@@ -100,11 +107,14 @@ only_if test None = None
 only_if test (Some frame) = if test frame then Some frame else None
 
 -- The floor rule over the two frames that are kept. The module's last frame is the holder if it has
--- the floor at the packet's moment, and the sender's last frame is its own if the packet is compared
--- with it.
+-- the floor at the packet's moment, and the sender's last frame is its own if the packet is
+-- compared with it.
 abbrev pub verdict_by_frames : Option Frame → Option Frame → Incoming → Verdict
 verdict_by_frames floor own new =
-    verdict_beside (only_if (has_floor new.at) floor) (only_if (is_compared new.packet.sid new.at) own) new
+    verdict_beside
+    (only_if (has_floor new.at) floor)
+    (only_if (is_compared new.packet.sid new.at) own)
+    new
 
 -- For the body of the step alone: the lines beside the sender's own frame, and else this verdict.
 abbrev pub beside_own : Option Frame → ℕ → Verdict → Verdict

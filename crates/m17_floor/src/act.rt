@@ -1,5 +1,5 @@
-use m17_values::Member;
 use m17_stream::StreamPacket;
+use m17_values::Member;
 
 /// What a module's floor sees of an event. This profile.
 #[derive(Clone, Copy, Debug, PartialEq, Eq)]

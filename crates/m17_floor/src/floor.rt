@@ -8,8 +8,8 @@ ghost use Rattle.m17_floor.specs.Floor.{admits};
 ghost use Rattle.m17_floor.specs.StandsFor.{FloorStandsFor, OwnStandsFor, MaySpeak, HasNoPacket, without, packet_act, join_act, leave_act, IsJudged};
 
 use crate::Verdict;
-use m17_values::Member;
 use m17_stream::{StreamPacket, ahead};
+use m17_values::Member;
 use std::marker::Model;
 
 /// A floor is given up when so many milliseconds went by without an admitted frame. This profile.
@@ -84,8 +84,8 @@ impl Last {
         // It stands for every list without a packet, and for every one that ends with the member's Join.
         ensures stands { (places : ℕ) (acts : List Act) (k : Member) →
             HasNoPacket acts → OwnStandsFor places acts k result }
-        ensures joined { (places : ℕ) (acts : List Act) (at : ℕ) (k : Member) (listens_only : Bool) →
-            OwnStandsFor places (with_act acts (join_act at k listens_only)) k result }
+        ensures joined { (places : ℕ) (acts : List Act) (k : Member) (at : ℕ) (listens : Bool) →
+            OwnStandsFor places (with_act acts (join_act at k listens)) k result }
     {
         Last { frame: None }
     }
@@ -101,7 +101,8 @@ impl Last {
 
     // The verdict on a packet that the floor allows: `admitted`, unless the sender's own frame stands against it.
     fn verdict(&self, at: u64, p: &StreamPacket, admitted: Verdict) -> Verdict
-        ensures { result ≡ beside_own (only_if (is_compared p.now.sid at) self.now) p.now.number admitted }
+        ensures { let own = only_if (is_compared p.now.sid at) self.now in
+            result ≡ beside_own own p.now.number admitted }
     {
         match self.frame {
             Some(own) if own.sid == p.sid && at.saturating_sub(own.at) < STREAM_MEMORY_MS => {
@@ -173,7 +174,8 @@ impl Floor {
         ensures admitted { let kept = Some (frame_from (incoming sender at p.now)) in
             admits (Some result) ≡ true → (self.new ≡ kept) × (own.new ≡ kept) }
         // Another one changes nothing.
-        ensures refused { admits (Some result) ≡ false → (self.new ≡ self.old) × (own.new ≡ own.old) }
+        ensures refused { admits (Some result) ≡ false →
+            (self.new ≡ self.old) × (own.new ≡ own.old) }
         // It gives one of six verdicts.
         ensures of_a_speaker { (result ≢ NotMember) × (result ≢ ListenOnly) }
     {
@@ -195,11 +197,14 @@ impl Floor {
             FloorStandsFor places acts self.old →
             FloorStandsFor places (with_act acts (leave_act moment m)) self.new }
         // .. and for the list with a Join at the place where m was in.
-        ensures by_join { (places : ℕ) (acts : List Act) (moment : ℕ) (k : Member) (listens_only : Bool) →
-            FloorStandsFor places acts self.old → IsMember places acts m (length acts) → k.place ≡ m.place →
-            FloorStandsFor places (with_act acts (join_act moment k listens_only)) self.new }
+        ensures by_join { (places : ℕ) (acts : List Act) (moment : ℕ) (k : Member) (listens : Bool) →
+            FloorStandsFor places acts self.old →
+            IsMember places acts m (length acts) → k.place ≡ m.place →
+            FloorStandsFor places (with_act acts (join_act moment k listens)) self.new }
     {
-        if let Some(frame) = self.frame && frame.member == m {
+        if let Some(frame) = self.frame
+            && frame.member == m
+        {
             self.frame = None;
         }
     }

@@ -7,10 +7,14 @@ pub fn later_acts_change_no_verdict()
     ensures { law.LaterActsChangeNoVerdict }
 {}
 
-/// What happens later changes neither who was in before, nor any moment.
+/// What happens later changes neither who was in before, nor any moment, nor what happened; and one act more stands at
+/// the end.
 pub fn later_acts_change_nothing_before()
     ensures members { law.LaterActsChangeNoMembership }
     ensures moments { law.LaterActsChangeNoMoment }
+    ensures moments_before { law.LaterActsChangeNoMomentBefore }
+    ensures kinds { law.LaterActsChangeNoKind }
+    ensures one_more { law.KindOfOneMore }
 {}
 
 /// The moment of one act more is the greatest so far, its own included.
@@ -25,8 +29,8 @@ pub fn one_member_at_a_place()
     ensures one { law.OneMemberAtAPlace }
 {}
 
-/// Only packets have verdicts; a packet of one that is not in gets not-member, and one of a member that joined to listen
-/// only gets listen-only.
+/// Only packets have verdicts; a packet of one that is not in gets not-member, and one of a member that joined to
+/// listen only gets listen-only.
 pub fn only_speakers_are_heard()
     ensures packets { law.OnlyPacketsHaveVerdicts }
     ensures strangers { law.StrangersGetNotMember }
@@ -51,8 +55,8 @@ pub fn strangers_change_nothing()
     ensures joins { law.JoinsPastThePlacesChangeNothing }
 {}
 
-/// A Leave changes nothing of what is kept of the others, and a Join nothing of what is kept of those at other places. A
-/// Join at a place where nobody is in leaves the floor as it is.
+/// A Leave changes nothing of what is kept of the others, and a Join nothing of what is kept of those at other places.
+/// A Join at a place where nobody is in leaves the floor as it is.
 pub fn comings_and_goings_leave_others()
     ensures leaves { law.LeavesLeaveOthers }
     ensures joins { law.JoinsLeaveOthers }
@@ -67,8 +71,8 @@ pub fn who_joins_may_speak()
 {}
 
 /// From an opened position up to the next one, all that is admitted is one stream of one member, with numbers that go
-/// ahead, and nothing after its end. And a floor is opened only where it was free: the admitted frame before had the end
-/// bit, or its member has left since, or 1,600 ms or more went by.
+/// ahead, and nothing after its end. And a floor is opened only where it was free: the admitted frame before had the
+/// end bit, or its member has left since, or 1,600 ms or more went by.
 pub fn openings_are_clean()
     ensures clean { law.OpeningsAreClean }
     ensures free { law.FloorsAreTakenFree }

@@ -6,11 +6,11 @@ ghost use Rattle.m17_floor.specs.Acts.{last_below, kind_at, greatest_moment, set
 ghost use Rattle.m17_floor.specs.Floor as floor;
 ghost use Rattle.m17_floor.specs.Floor.{was_admitted, floor_frame, last_own, own_frame, verdict_after, verdict_given, verdict_at};
 ghost use Rattle.m17_floor.specs.Rule.{incoming};
-ghost use Rattle.m17_floor.specs.Plain.{past_answered, was_answered, has_stayed};
+ghost use Rattle.m17_floor.specs.Plain.{past_answered, was_answered, has_been_in};
 
 use crate::{Act, ActKind, Floor, Last, Verdict};
-use m17_values::Member;
 use m17_stream::StreamPacket;
+use m17_values::Member;
 use std::alloc::{AllocError, Global};
 
 /// The verdicts of a list of acts in a module of so many places: one for each act, and none but for a packet. It fails
@@ -21,7 +21,8 @@ pub fn verdicts(
     acts: &[Act],
 ) -> Result<Vec<Option<Verdict>>, AllocError>
     ensures { IfOk result (λ verdicts. (length verdicts.items ≡ length acts.now)
-        × ((n : ℕ) → n < length acts.now → slice_get verdicts.items n ≡ Some (verdict_at places acts.now n))) }
+        × ((n : ℕ) → n < length acts.now →
+        slice_get verdicts.items n ≡ Some (verdict_at places acts.now n))) }
 {
     let mut verdicts = Vec::with_capacity(alloc, acts.len())?;
     for _ in acts {
@@ -61,7 +62,8 @@ fn on_packet(
     at: u64,
     p: &StreamPacket,
 ) -> Verdict
-    ensures { result ≡ verdict_after (past_answered places acts.now answered.now) (incoming k at p.now) }
+    ensures { let past = past_answered places acts.now answered.now in
+        result ≡ verdict_after past (incoming k at p.now) }
 {
     let Some(join) = last_join(places, acts, k) else {
         return Verdict::NotMember;
@@ -137,16 +139,15 @@ fn last_of(places: u32, acts: &[Act], answered: &[Option<Verdict>], k: Member) -
 // Whether the position is an admitted packet of the member since its Join.
 fn is_own(places: u32, acts: &[Act], answered: &[Option<Verdict>], k: Member, a: usize) -> bool
     ensures { let past = past_answered places acts.now answered.now in
-        result ≡ (was_admitted past a && floor.is_packet_of k (kind_at acts.now a) && floor.is_in_since past k a) }
+        result ≡ (was_admitted past a && floor.is_packet_of k (kind_at acts.now a)
+        && floor.is_in_since past k a) }
 {
-    is_admitted(answered, a)
-        && is_packet_of(k, &kind(acts, a))
-        && is_in_since(places, acts, k, a)
+    is_admitted(answered, a) && is_packet_of(k, &kind(acts, a)) && is_in_since(places, acts, k, a)
 }
 
 // Whether the member is in at the end of the acts, by a Join below position a.
 fn is_in_since(places: u32, acts: &[Act], k: Member, a: usize) -> bool
-    ensures { result ≡ has_stayed places acts.now k a }
+    ensures { result ≡ has_been_in places acts.now k a }
 {
     match last_join(places, acts, k) {
         Some(join) => join < a,

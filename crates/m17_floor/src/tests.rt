@@ -1,9 +1,9 @@
 use crate::Verdict::{AfterEnd, Busy, Continued, Late, ListenOnly, NotMember, Opened, Repeat};
 use crate::{Act, ActKind, Floor, Last, Verdict, plain};
 use m17_callsign::Address;
-use m17_values::Member;
 use m17_lsd::Lsd;
 use m17_stream::{FRAME_NUMBERS, StreamPacket};
+use m17_values::Member;
 use std::alloc::{AllocError, Global};
 use std::process::Abort;
 use std::test::Fail;

@@ -8,7 +8,8 @@ use Rattle.m17_floor.specs.declared.act.Act.{Act}
 use Rattle.m17_floor.specs.declared.act.ActKind.TheVariants.{Join}
 use Rattle.m17_floor.specs.Acts.{moment_before, greatest_moment}
 use Rattle.m17_floor.specs.Laws.{WhoJoinsMaySpeak, OthersStillMaySpeak}
-use Rattle.m17_floor.specs.StandsFor.{MaySpeak, HasNoPacket, is_packet}
+use Rattle.m17_floor.specs.Acts.{is_packet}
+use Rattle.m17_floor.specs.StandsFor.{MaySpeak, HasNoPacket}
 use Rattle.m17_tools.specs.Judge.{joins, talker, talkers}
 
 -- the Join of one talker

@@ -7,7 +7,7 @@ use Rattle.std.proofs.lemmas.Bool.{cases_lt}
 use Rattle.m17_devices.specs.Sink.{AppendsPrefix}
 use Rattle.m17_floor.specs.declared.act.Act.{Act}
 use Rattle.m17_floor.specs.Laws.{LaterActsChangeNoVerdict}
-use Rattle.m17_floor.specs.StandsFor.{Frame}
+use Rattle.m17_floor.specs.Rule.{Frame}
 use Rattle.m17_tools.specs.declared.ending.Ending.{Ending}
 use Rattle.m17_tools.specs.declared.ending.Ending.TheVariants.{Finished, Refused, ReadFailed, WriteFailed}
 use Rattle.m17_tools.specs.declared.ending.Reason.TheVariants.{Cut}

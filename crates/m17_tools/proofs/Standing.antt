@@ -10,7 +10,8 @@ use Rattle.m17_floor.specs.declared.act.ActKind.TheVariants.{Packet, Other}
 use Rattle.m17_floor.specs.declared.verdict.Verdict.{Verdict}
 use Rattle.m17_floor.specs.Acts.{moment_before}
 use Rattle.m17_floor.specs.Laws.{OtherActsChangeNothing}
-use Rattle.m17_floor.specs.StandsFor.{Frame, FloorStandsFor, OwnStandsFor, MaySpeak, IsJudged}
+use Rattle.m17_floor.specs.Rule.{Frame}
+use Rattle.m17_floor.specs.StandsFor.{FloorStandsFor, OwnStandsFor, MaySpeak, IsJudged}
 use Rattle.m17_tools.specs.Judge.{talker, talkers}
 use Rattle.m17_tools.specs.Table.{TableStandsFor}
 use Rattle.m17_tools.proofs.Joins.{moment_more}

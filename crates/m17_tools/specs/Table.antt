@@ -3,7 +3,8 @@ use Rattle.std.specs.Prelude.{◌≡◌, ℕ, ◌+◌, ◌<◌, List, [], ◌∷
 use Rattle.m17_values.specs.declared.member.Member.{Member}
 use Rattle.m17_floor.specs.declared.act.Act.{Act}
 use Rattle.m17_floor.specs.Acts.{moment_before}
-use Rattle.m17_floor.specs.StandsFor.{Frame, FloorStandsFor, OwnStandsFor, MaySpeak, HasNoPacket}
+use Rattle.m17_floor.specs.Rule.{Frame}
+use Rattle.m17_floor.specs.StandsFor.{FloorStandsFor, OwnStandsFor, MaySpeak, HasNoPacket}
 use Rattle.m17_tools.specs.Judge.{talkers, talker, IsLine}
 
 -- The table may have come from these acts: its floor, its frame of each talker, all of whom may speak, and its moment.

@@ -2,7 +2,7 @@ ghost use Rattle.std.specs.Prelude.{◌≡◌, ℕ, Option, slice_get, List, [],
 ghost use Rattle.m17_floor.specs.declared.act.Act.{Act};
 ghost use Rattle.m17_floor.specs.declared.act.ActKind.TheVariants.{Packet, Other};
 ghost use Rattle.m17_floor.specs.Floor.{verdict_at};
-ghost use Rattle.m17_floor.specs.StandsFor.{Frame};
+ghost use Rattle.m17_floor.specs.Rule.{Frame};
 ghost use Rattle.m17_tools.specs.Judge.{joins, talker, talkers};
 ghost use Rattle.m17_tools.specs.Table.{TableStandsFor, StandsAtFirst};
 

@@ -1,5 +1,5 @@
 use Rattle.std.proofs.Common.{◌≡◌, ℕ, length, slice_get, Option, Some}
-use Rattle.m17_floor.specs.StandsFor.{Frame}
+use Rattle.m17_floor.specs.Rule.{Frame}
 use Rattle.m17_tools.specs.Table.{StandsAtFirst}
 use Rattle.m17_tools.proofs.table.fresh.Given as goal
 

@@ -7,4 +7,4 @@ pub returns-clause-stands : goal.returns-clause-stands
 returns-clause-stands c = λ places acts k h. sym (no_own_frame places acts k h)
 
 pub returns-clause-joined : goal.returns-clause-joined
-returns-clause-joined c = λ places acts at k only. sym (joined_anew places acts at k only)
+returns-clause-joined c = λ places acts k at only. sym (joined_anew places acts at k only)
