@@ -5,3 +5,5 @@ mod SeatsMore
 mod PeopleMore
 mod StepMore
 mod ItemsMore
+mod Mine
+mod FramesMine

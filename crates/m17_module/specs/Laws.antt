@@ -1,8 +1,17 @@
 -- What follows from the definitions for every list of events. This profile.
-use Rattle.std.specs.Prelude.{◌≡◌, ℕ, ◌<◌, List, [], ◌∷◌, ◌++◌, length, filter}
+use Rattle.std.specs.Prelude.{◌≡◌, ℕ, ◌<◌, ◌&&◌, Bool, true, not, List, [], ◌∷◌, ◌++◌, length, filter, slice_get, is_some, Option, None, Some}
+use Rattle.std.specs.List.{flat_map, range_with_len}
 use Rattle.m17_values.specs.declared.member.Member.{Member}
 use Rattle.m17_control.specs.declared.event.Event.{Event}
-use Rattle.m17_module.specs.Items.{Setup, items_at, items_given, is_for, items_for}
+use Rattle.m17_control.specs.declared.event.Body.{Body}
+use Rattle.m17_control.specs.declared.event.Body.TheVariants.{Packet}
+use Rattle.m17_control.specs.declared.item.Item.{Item}
+use Rattle.m17_control.specs.declared.item.Said.TheVariants as said
+use Rattle.m17_floor.specs.Acts.{kind_at, joined_at}
+use Rattle.m17_floor.specs.Floor.{is_packet_of, admits, verdict_at}
+use Rattle.m17_module.specs.Events.{acts_of}
+use Rattle.m17_module.specs.Seats.{seats_at, seat_of}
+use Rattle.m17_module.specs.Items.{to_one, frames_for, Setup, items_at, items_given, is_for, items_for}
 
 -- What comes later changes nothing of what an event gives. This profile.
 abbrev pub LaterEventsChangeNoItems : Type 0
@@ -23,3 +32,38 @@ OneEventMoreIsShared =
     (setup : Setup) (events : List Event) (event : Event) (k : Member) →
     items_for setup (events ++ event ∷ []) k
     ≡ items_for setup events k ++ filter (is_for k) (items_at setup (events ++ event ∷ []) (length events))
+
+-- A member hears a position: it is in before it, and the packet there is admitted and not its own. This profile.
+abbrev pub hears : ℕ → List Event → Member → ℕ → Bool
+hears places events k n =
+    is_some (joined_at places (acts_of events) k n)
+    && (admits (verdict_at places (acts_of events) n) && not (is_packet_of k (kind_at (acts_of events) n)))
+
+-- The positions that a member hears, rising. This profile.
+abbrev pub heard : ℕ → List Event → Member → List ℕ
+heard places events k = filter (hears places events k) (range_with_len 0 (length events))
+
+-- The packet as the member is sent it; nothing of any other event. This profile.
+abbrev pub frame_of_body : ℕ → List Event → Member → ℕ → Body → List Item
+frame_of_body places events k n (Packet m p) = to_one (said.Frame n p) (seat_of (seats_at places events n) k)
+frame_of_body places events k n _ = []
+
+-- The packet of a position as the member is sent it: with the position, to the link and peer of its Join. This
+-- profile.
+abbrev pub frame_by : ℕ → List Event → Member → ℕ → Option Event → List Item
+frame_by places events k n None = []
+frame_by places events k n (Some event) = frame_of_body places events k n event.body
+
+abbrev pub frame_sent : ℕ → List Event → Member → ℕ → List Item
+frame_sent places events k n = frame_by places events k n (slice_get events n)
+
+-- The frames for a member are those of the positions that it hears, in their order, and each is one. This profile.
+abbrev pub FramesAreThoseHeard : Type 0
+FramesAreThoseHeard =
+    (setup : Setup) (events : List Event) (k : Member) →
+    frames_for setup events k ≡ flat_map (frame_sent setup.places events k) (heard setup.places events k)
+
+abbrev pub EachHeardIsSentOnce : Type 0
+EachHeardIsSentOnce =
+    (places : ℕ) (events : List Event) (k : Member) (n : ℕ) → hears places events k n ≡ true →
+    length (frame_sent places events k n) ≡ 1

@@ -11,3 +11,6 @@ pub use basket::{BASKET_ROOM, Basket};
 pub use room::MOST_PLACES;
 pub use seat::Seat;
 pub use state::{Module, PING_EVERY_MS};
+
+#[cfg(test)]
+mod tests;

@@ -32,5 +32,5 @@ returns-clause-stands c = λ places events event is stands.
     c.self.inside.seats.items c.self.inside.lasts.items c.self.inside.floor c.self.inside.floor c.new.result events event c.args.seat.now is within c.self.invariant.each
     (c.comings_and_goings_leave_others.ensures.floor places (acts_of events) event.at c.args.seat.now.member c.args.seat.now.listens c.self.inside.floor
     (nobody_in places _ events q inside free) inside.floor)
-    (c.new.ensures.joined places (acts_of events) event.at c.args.seat.now.member c.args.seat.now.listens)
+    (c.new.ensures.joined places (acts_of events) c.args.seat.now.member event.at c.args.seat.now.listens)
     inside

@@ -27,5 +27,5 @@ returns-clause-stands c = λ places events event is stands.
     joined_people c.one_member_at_a_place.ensures.after_one_more c.comings_and_goings_leave_others.ensures.joins places
     c.self.inside.seats.items c.self.inside.lasts.items c.self.inside.floor c.left.new.self c.new.result events event c.args.seat.now is within c.self.invariant.each
     (c.left.ensures.by_join places (acts_of events) event.at c.args.seat.now.member c.args.seat.now.listens inside.floor (member_by_seat places _ events q c.args.old.now inside there) (sym at.place))
-    (c.new.ensures.joined places (acts_of events) event.at c.args.seat.now.member c.args.seat.now.listens)
+    (c.new.ensures.joined places (acts_of events) c.args.seat.now.member event.at c.args.seat.now.listens)
     inside
