@@ -26,10 +26,10 @@ pings_before members moments places events more n h =
     let longer : List Event = events ++ more in
     let told : ℕ → ℕ → List (Option Seat) → List Item = λ b m xs. cond (nat_lt (b / ping_every_ms) (m / ping_every_ms)) (map (item_to said.Ping) (members_of xs)) [] in
     let before : moment_before (acts_of longer) n ≡ moment_before (acts_of events) n =
-        ap (λ acts. moment_before acts n) (acts_append events more)
-        ∙ ap greatest_moment (take-append-le n (acts_of events) (acts_of more) (omega (arith, length_acts events))) in
+    ap (λ acts. moment_before acts n) (acts_append events more)
+    ∙ ap greatest_moment (take-append-le n (acts_of events) (acts_of more) (omega (arith, length_acts events))) in
     let now : moment_at (acts_of longer) n ≡ moment_at (acts_of events) n =
-        ap (λ acts. moment_at acts n) (acts_append events more) ∙ moments (acts_of events) (acts_of more) n (omega (arith, length_acts events)) in
+    ap (λ acts. moment_at acts n) (acts_append events more) ∙ moments (acts_of events) (acts_of more) n (omega (arith, length_acts events)) in
     ap (λ b. told b (moment_at (acts_of longer) n) (seats_at places longer n)) before
     ∙ ap (λ m. told (moment_before (acts_of events) n) m (seats_at places longer n)) now
     ∙ ap (told (moment_before (acts_of events) n) (moment_at (acts_of events) n)) (sym (seats_at_before members places events more n (omega arith)))

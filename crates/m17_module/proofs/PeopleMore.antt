@@ -75,7 +75,7 @@ kept_people places people events event nobody keeps stands =
     let longer : List Event = with_event events event in
     record {
       seats = ap (λ (s : List (Option Seat)). s) (seats_from places longer (length longer) people.seats (length_there places people events stands)
-        (λ q h. seat_there places people events q stands h
+          (λ q h. seat_there places people events q stands h
           ∙ sym (seat_same places events event q (nobody q h) (λ seat at. joined_kept places events event seat.member (keeps.joined seat.member)))
           ∙ ap (λ n. seat_at places longer n q) (sym (length_event events event))));
       lasts = λ place seat last is there. subst (λ acts. OwnStandsFor places acts seat.member last) (sym (acts_more events event)) (keeps.own seat.member last (stands.lasts place seat last is there));
@@ -89,18 +89,18 @@ judged_people places seats lasts before floor own events event seat verdict with
     let people : People = record { seats = seats; lasts = lasts; floor = before } in
     record {
       seats = seats_from places longer (length longer) seats (length_there places people events stands)
-        (λ q h. seat_there places people events q stands h
+          (λ q h. seat_there places people events q stands h
           ∙ sym (seat_same places events event q (nobody q h) (λ s at. joined_kept places events event s.member (judged.joined s.member)))
           ∙ ap (λ n. seat_at places longer n q) (sym (length_event events event)));
       lasts = λ place other last is there.
-        subst (λ acts. OwnStandsFor places acts other.member last) (sym (acts_more events event))
-        (elim (set_cases lasts seat.member.place own place last within there) [
-          | inl here ↦
-            let same : other ≡ seat = same_Some other seat (sym (get_or_from_slice_get seats place (Some other) None is) ∙ ap (λ p. get_or seats p None) here.0 ∙ mine) in
-            subst (λ (s : Seat). OwnStandsFor places (with_act (acts_of events) (act_of event)) s.member last) (sym same) (here.1 ∙ judged.own_stands)
-          | inr elsewhere ↦
-            judged.others_stand other.member last (λ same. elsewhere.0 (sym (seat_found places people events place other stands is).place ∙ ap (λ (m : Member). m.place) same)) (stands.lasts place other last is elsewhere.1)
-        ]);
+          subst (λ acts. OwnStandsFor places acts other.member last) (sym (acts_more events event))
+          (elim (set_cases lasts seat.member.place own place last within there) [
+            | inl here ↦
+                let same : other ≡ seat = same_Some other seat (sym (get_or_from_slice_get seats place (Some other) None is) ∙ ap (λ p. get_or seats p None) here.0 ∙ mine) in
+                subst (λ (s : Seat). OwnStandsFor places (with_act (acts_of events) (act_of event)) s.member last) (sym same) (here.1 ∙ judged.own_stands)
+            | inr elsewhere ↦
+                judged.others_stand other.member last (λ same. elsewhere.0 (sym (seat_found places people events place other stands is).place ∙ ap (λ (m : Member). m.place) same)) (stands.lasts place other last is elsewhere.1)
+          ]);
       floor = subst (λ acts. FloorStandsFor places acts floor) (sym (acts_more events event)) judged.floor_stands;
     }
 
@@ -117,41 +117,41 @@ joined_people membership others places seats lasts before floor own events event
     let acts : acts_of longer ≡ with_act (acts_of events) (join_act event.at k seat.listens) = acts_more events event ∙ ap (with_act (acts_of events)) kind in
     let size : length seats ≡ places = length_there places people events stands in
     let kept : (m : Member) → m.place ≢ k.place → MemberKeepsStanding places (acts_of events) (with_act (acts_of events) (act_of event)) m =
-        λ m ne. subst (λ x. MemberKeepsStanding places (acts_of events) (with_act (acts_of events) x) m) (sym kind) (others places (acts_of events) event.at k seat.listens m ne) in
+    λ m ne. subst (λ x. MemberKeepsStanding places (acts_of events) (with_act (acts_of events) x) m) (sym kind) (others places (acts_of events) event.at k seat.listens m ne) in
     record {
       seats = seats_from places longer (length longer) (slice_set seats k.place (Some seat)) (length-set seats k.place (Some seat) ∙ size)
-        (λ q h. elim (cases_eq q k.place) [
-          | inl here ↦
-            ap (λ p. get_or (slice_set seats k.place (Some seat)) p None) here
-            ∙ get_or-set_same seats k.place (Some seat) None within
-            ∙ sym (seat_joins membership places events event seat is (omega arith))
-            ∙ ap (λ p. seat_at places longer (suc (length events)) p) (sym here)
-            ∙ ap (λ n. seat_at places longer n q) (sym (length_event events event))
-          | inr elsewhere ↦
-            get_or-set_other seats k.place q (Some seat) None elsewhere
-            ∙ seat_there places people events q stands h
-            ∙ sym (seat_same places events event q (ap (is_at q) is ∙ ne_eqb k.place q (λ same. elsewhere (sym same)))
-              (λ s at. joined_kept places events event s.member (kept s.member (λ same. elsewhere (sym at ∙ same))).joined))
-            ∙ ap (λ n. seat_at places longer n q) (sym (length_event events event))
-        ]);
+          (λ q h. elim (cases_eq q k.place) [
+            | inl here ↦
+                ap (λ p. get_or (slice_set seats k.place (Some seat)) p None) here
+                ∙ get_or-set_same seats k.place (Some seat) None within
+                ∙ sym (seat_joins membership places events event seat is (omega arith))
+                ∙ ap (λ p. seat_at places longer (suc (length events)) p) (sym here)
+                ∙ ap (λ n. seat_at places longer n q) (sym (length_event events event))
+            | inr elsewhere ↦
+                get_or-set_other seats k.place q (Some seat) None elsewhere
+                ∙ seat_there places people events q stands h
+                ∙ sym (seat_same places events event q (ap (is_at q) is ∙ ne_eqb k.place q (λ same. elsewhere (sym same)))
+                (λ s at. joined_kept places events event s.member (kept s.member (λ same. elsewhere (sym at ∙ same))).joined))
+                ∙ ap (λ n. seat_at places longer n q) (sym (length_event events event))
+          ]);
       lasts = λ place other last there last_there.
-        elim (set_cases seats k.place (Some seat) place (Some other) within there) [
-          | inl here ↦
-            elim (set_cases lasts k.place own place last (omega arith) last_there) [
-              | inl now ↦
-                let same : other ≡ seat = same_Some other seat here.1 in
-                subst (λ a. OwnStandsFor places a other.member last) (sym acts)
-                (subst (λ (s : Seat). OwnStandsFor places (with_act (acts_of events) (join_act event.at k seat.listens)) s.member last) (sym same) (now.1 ∙ own_stands))
-              | inr not_now ↦ absurd (not_now.0 here.0)
-            ]
-          | inr elsewhere ↦
-            elim (set_cases lasts k.place own place last (omega arith) last_there) [
-              | inl now ↦ absurd (elsewhere.0 now.0)
-              | inr not_now ↦
-                subst (λ a. OwnStandsFor places a other.member last) (sym (acts_more events event))
-                ((kept other.member (λ same. elsewhere.0 (sym (seat_found places people events place other stands elsewhere.1).place ∙ same))).own last (stands.lasts place other last elsewhere.1 not_now.1))
-            ]
-        ];
+          elim (set_cases seats k.place (Some seat) place (Some other) within there) [
+            | inl here ↦
+                elim (set_cases lasts k.place own place last (omega arith) last_there) [
+                  | inl now ↦
+                      let same : other ≡ seat = same_Some other seat here.1 in
+                      subst (λ a. OwnStandsFor places a other.member last) (sym acts)
+                      (subst (λ (s : Seat). OwnStandsFor places (with_act (acts_of events) (join_act event.at k seat.listens)) s.member last) (sym same) (now.1 ∙ own_stands))
+                  | inr not_now ↦ absurd (not_now.0 here.0)
+                ]
+            | inr elsewhere ↦
+                elim (set_cases lasts k.place own place last (omega arith) last_there) [
+                  | inl now ↦ absurd (elsewhere.0 now.0)
+                  | inr not_now ↦
+                      subst (λ a. OwnStandsFor places a other.member last) (sym (acts_more events event))
+                      ((kept other.member (λ same. elsewhere.0 (sym (seat_found places people events place other stands elsewhere.1).place ∙ same))).own last (stands.lasts place other last elsewhere.1 not_now.1))
+                ]
+          ];
       floor = subst (λ a. FloorStandsFor places a floor) (sym acts) floor_stands;
     }
 
@@ -170,31 +170,31 @@ left_people membership others places seats lasts before floor events event seat 
     let kind : act_of event ≡ leave_act event.at k = leave_is event k is in
     let size : length seats ≡ places = length_there places people events stands in
     let kept : (m : Member) → m ≢ k → MemberKeepsStanding places (acts_of events) (with_act (acts_of events) (act_of event)) m =
-        λ m ne. subst (λ x. MemberKeepsStanding places (acts_of events) (with_act (acts_of events) x) m) (sym kind) (others places (acts_of events) event.at k m ne) in
+    λ m ne. subst (λ x. MemberKeepsStanding places (acts_of events) (with_act (acts_of events) x) m) (sym kind) (others places (acts_of events) event.at k m ne) in
     let gone : joined_at places (acts_of longer) k (suc (length events)) ≡ None =
-        joined_new membership places events event k ∙ ap (λ x. joined_with places (acts_of events) x k) kind ∙ gone_with places (acts_of events) event.at k in
+    joined_new membership places events event k ∙ ap (λ x. joined_with places (acts_of events) x k) kind ∙ gone_with places (acts_of events) event.at k in
     record {
       seats = seats_from places longer (length longer) (slice_set seats k.place None) (length-set seats k.place None ∙ size)
-        (λ q h. elim (cases_eq q k.place) [
-          | inl here ↦
-            ap (λ p. get_or (slice_set seats k.place None) p None) here
-            ∙ get_or-set_same seats k.place None None within
-            ∙ sym (seat_leaves places events event seat k.place (sym (seat_there places people events k.place stands (omega arith)) ∙ mine) (nobody k.place) gone)
-            ∙ ap (λ p. seat_at places longer (suc (length events)) p) (sym here)
-            ∙ ap (λ n. seat_at places longer n q) (sym (length_event events event))
-          | inr elsewhere ↦
-            get_or-set_other seats k.place q None None elsewhere
-            ∙ seat_there places people events q stands h
-            ∙ sym (seat_same places events event q (nobody q) (λ s at. joined_kept places events event s.member (kept s.member (λ same. elsewhere (sym at ∙ ap (λ (m : Member). m.place) same))).joined))
-            ∙ ap (λ n. seat_at places longer n q) (sym (length_event events event))
-        ]);
+          (λ q h. elim (cases_eq q k.place) [
+            | inl here ↦
+                ap (λ p. get_or (slice_set seats k.place None) p None) here
+                ∙ get_or-set_same seats k.place None None within
+                ∙ sym (seat_leaves places events event seat k.place (sym (seat_there places people events k.place stands (omega arith)) ∙ mine) (nobody k.place) gone)
+                ∙ ap (λ p. seat_at places longer (suc (length events)) p) (sym here)
+                ∙ ap (λ n. seat_at places longer n q) (sym (length_event events event))
+            | inr elsewhere ↦
+                get_or-set_other seats k.place q None None elsewhere
+                ∙ seat_there places people events q stands h
+                ∙ sym (seat_same places events event q (nobody q) (λ s at. joined_kept places events event s.member (kept s.member (λ same. elsewhere (sym at ∙ ap (λ (m : Member). m.place) same))).joined))
+                ∙ ap (λ n. seat_at places longer n q) (sym (length_event events event))
+          ]);
       lasts = λ place other last there last_there.
-        elim (set_cases seats k.place None place (Some other) within there) [
-          | inl here ↦ let never : Some other ≡ None = here.1 in cc
-          | inr elsewhere ↦
-            subst (λ a. OwnStandsFor places a other.member last) (sym (acts_more events event))
-            ((kept other.member (λ same. elsewhere.0 (sym (seat_found places people events place other stands elsewhere.1).place ∙ ap (λ (m : Member). m.place) same))).own last (stands.lasts place other last elsewhere.1 last_there))
-        ];
+          elim (set_cases seats k.place None place (Some other) within there) [
+            | inl here ↦ let never : Some other ≡ None = here.1 in cc
+            | inr elsewhere ↦
+                subst (λ a. OwnStandsFor places a other.member last) (sym (acts_more events event))
+                ((kept other.member (λ same. elsewhere.0 (sym (seat_found places people events place other stands elsewhere.1).place ∙ ap (λ (m : Member). m.place) same))).own last (stands.lasts place other last elsewhere.1 last_there))
+          ];
       floor = subst (λ a. FloorStandsFor places a floor) (sym (acts_more events event ∙ ap (with_act (acts_of events)) kind)) floor_stands;
     }
 
@@ -332,14 +332,15 @@ judged_by_rule places seats lasts before floor own own' events event seat p verd
     let kept : slice_get lasts q ≡ Some own = slice_get_read lasts (length lasts) q own refl within read in
     let now : at ≡ max (moment_before (acts_of events) (length (acts_of events))) event.at = moment ∙ ap (λ n. max (moment_before (acts_of events) n) event.at) (sym (length_acts events)) in
     let judged : IsJudged places (acts_of events) (packet_act event.at seat.member p) seat.member verdict floor own' =
-        rule (acts_of events) event.at stands.floor (stands.lasts q seat own there kept) (in_at.position, joined_end places people events q seat in_at, in_at.listening ∙ speaks) now in
+    rule (acts_of events) event.at stands.floor (stands.lasts q seat own there kept) (in_at.position, joined_end places people events q seat in_at, in_at.listening ∙ speaks) now in
     let same : act_of event ≡ packet_act event.at seat.member p = act_kind event (act.Packet seat.member p) is in
     let judged' : IsJudged places (acts_of events) (act_of event) seat.member verdict floor own' =
-        subst (λ x. IsJudged places (acts_of events) x seat.member verdict floor own') (sym same) judged in
-    (judged_people places seats lasts before floor own' events event seat verdict within mine (λ r h. nobody_at_packet event seat.member p is r) judged' stands,
-     ap (λ acts. verdict_at places acts (length events)) (acts_more events event)
-     ∙ ap (verdict_at places (with_act (acts_of events) (act_of event))) (sym (length_acts events))
-     ∙ judged'.verdict_is)
+    subst (λ x. IsJudged places (acts_of events) x seat.member verdict floor own') (sym same) judged in (
+      judged_people places seats lasts before floor own' events event seat verdict within mine (λ r h. nobody_at_packet event seat.member p is r) judged' stands,
+      ap (λ acts. verdict_at places acts (length events)) (acts_more events event)
+          ∙ ap (verdict_at places (with_act (acts_of events) (act_of event))) (sym (length_acts events))
+          ∙ judged'.verdict_is,
+    )
 
 pub kind_end : (events : List Event) (event : Event) → kind_at (acts_of (events ++ event ∷ [])) (length events) ≡ kind_of event.body
 kind_end events event = kind_at_is (events ++ event ∷ []) (length events) ∙ ap kind_from (slice_get_end events event)
@@ -355,10 +356,11 @@ unheard law places people events event k p silent is stands =
 -- A packet of one that is no member, ..
 pub stranger_people : UnheardPacketsChangeNothing → StrangersGetNotMember → LaterActsChangeNoMembership → (places : ℕ) (people : People) (events : List Event) (event : Event) (k : Member) (p : StreamPacket) → seat_of people.seats k ≡ None → kind_of event.body ≡ act.Packet k p → PeopleStandFor places people events → PeopleStandFor places people (events ++ event ∷ []) × (verdict_at places (acts_of (events ++ event ∷ [])) (length events) ≡ Some NotMember)
 stranger_people law verdict later places people events event k p stranger is stands =
-    let out : joined_at places (acts_of events) k (length (acts_of events)) ≡ None = not_in places people events k stands stranger in
-    (unheard law places people events event k p (λ speaks. let never : None ≡ Some speaks.0 = sym out ∙ speaks.1 in cc) is stands,
-     verdict places (acts_of (events ++ event ∷ [])) (length events) k p (kind_end events event ∙ is)
-     (joined_at_before later places events (event ∷ []) k (length events) (omega arith) ∙ ap (joined_at places (acts_of events) k) (sym (length_acts events)) ∙ out))
+    let out : joined_at places (acts_of events) k (length (acts_of events)) ≡ None = not_in places people events k stands stranger in (
+      unheard law places people events event k p (λ speaks. let never : None ≡ Some speaks.0 = sym out ∙ speaks.1 in cc) is stands,
+      verdict places (acts_of (events ++ event ∷ [])) (length events) k p (kind_end events event ∙ is)
+          (joined_at_before later places events (event ∷ []) k (length events) (omega arith) ∙ ap (joined_at places (acts_of events) k) (sym (length_acts events)) ∙ out),
+    )
 
 -- .. and of one that joined to listen only.
 pub listener_people : UnheardPacketsChangeNothing → ListenersGetListenOnly → LaterActsChangeNoMembership → (places : ℕ) (people : People) (events : List Event) (event : Event) (k : Member) (p : StreamPacket) (seat : Seat) → seat_of people.seats k ≡ Some seat → seat.listens ≡ true → kind_of event.body ≡ act.Packet k p → PeopleStandFor places people events → PeopleStandFor places people (events ++ event ∷ []) × (verdict_at places (acts_of (events ++ event ∷ [])) (length events) ≡ Some ListenOnly)
@@ -367,15 +369,16 @@ listener_people law verdict later places people events event k p seat mine only 
     let at : IsIn places events (length events) k.place seat = in_by_seat places people events k.place seat stands parts.0 in
     let joined : joined_at places (acts_of events) k (length events) ≡ Some at.position = ap (λ m. joined_at places (acts_of events) m (length events)) (sym parts.1) ∙ at.joined in
     let end : joined_at places (acts_of events) k (length (acts_of events)) ≡ Some at.position = ap (joined_at places (acts_of events) k) (length_acts events) ∙ joined in
-    let l : at.position < length events = joined_lt places events k at.position joined in
-    (unheard law places people events event k p
-     (λ speaks.
-     let same : at.position ≡ speaks.0 = same_Some _ _ (sym end ∙ speaks.1) in
-     let not_silent : listens (kind_at (acts_of events) at.position) ≡ false = ap (λ j. listens (kind_at (acts_of events) j)) same ∙ speaks.2 in
-     true≢false (sym (at.listening ∙ only) ∙ not_silent)) is stands,
-     verdict places (acts_of (events ++ event ∷ [])) (length events) k p at.position (kind_end events event ∙ is)
-     (joined_at_before later places events (event ∷ []) k (length events) (omega arith) ∙ joined)
-     (ap listens (kind_at_is (events ++ event ∷ []) at.position ∙ ap kind_from (slice_get_before events (event ∷ []) at.position l) ∙ sym (kind_at_is events at.position)) ∙ at.listening ∙ only))
+    let l : at.position < length events = joined_lt places events k at.position joined in (
+      unheard law places people events event k p
+          (λ speaks.
+          let same : at.position ≡ speaks.0 = same_Some _ _ (sym end ∙ speaks.1) in
+          let not_silent : listens (kind_at (acts_of events) at.position) ≡ false = ap (λ j. listens (kind_at (acts_of events) j)) same ∙ speaks.2 in
+          true≢false (sym (at.listening ∙ only) ∙ not_silent)) is stands,
+      verdict places (acts_of (events ++ event ∷ [])) (length events) k p at.position (kind_end events event ∙ is)
+          (joined_at_before later places events (event ∷ []) k (length events) (omega arith) ∙ joined)
+          (ap listens (kind_at_is (events ++ event ∷ []) at.position ∙ ap kind_from (slice_get_before events (event ∷ []) at.position l) ∙ sym (kind_at_is events at.position)) ∙ at.listening ∙ only),
+    )
 
 -- A Leave of one that is not in.
 pub stranger_leaves : LeavesOfStrangersChangeNothing → (places : ℕ) (people : People) (events : List Event) (event : Event) (k : Member) → seat_of people.seats k ≡ None → kind_of event.body ≡ act.Leave k → PeopleStandFor places people events → PeopleStandFor places people (events ++ event ∷ [])

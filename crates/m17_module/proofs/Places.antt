@@ -50,8 +50,8 @@ held_members_from before (None ∷ seats) place e =
 held_members_from before (Some seat ∷ seats) place e =
     let more : before ++ Some seat ∷ seats ≡ (before ++ Some seat ∷ []) ++ seats = sym (append_assoc before (Some seat ∷ []) seats) in
     let here : seat_in (before ++ Some seat ∷ seats) place ≡ Some seat =
-        let at : place ≡ length before + 0 = omega arith in
-        ap (λ p. get_or (before ++ Some seat ∷ seats) p None) at ∙ get_or-append-add before (Some seat ∷ seats) 0 None in
+    let at : place ≡ length before + 0 = omega arith in
+    ap (λ p. get_or (before ++ Some seat ∷ seats) p None) at ∙ get_or-append-add before (Some seat ∷ seats) 0 None in
     ap (λ o. cons_option o (filter_map (seat_in (before ++ Some seat ∷ seats)) (held_from (place + 1) seats))) here
     ∙ ap (λ xs. seat ∷ filter_map (seat_in xs) (held_from (place + 1) seats)) more
     ∙ ap (λ xs. seat ∷ xs) (held_members_from (before ++ Some seat ∷ []) seats (place + 1) (omega (arith, length-append before (Some seat ∷ []))))

@@ -204,7 +204,6 @@ stricter_test : (k : Member) (o : Option Event) → is_at k.place (seat_from o) 
 stricter_test k None e = cc
 stricter_test k (Some event) e = stricter_body k event.tag.link event.body e
 
-
 join_body : (k : Member) (link : ℕ) (body : Body) → is_join_of k (kind_of body) ≡ true → (seat : Seat) × (seat_joined link body ≡ Some seat) × (seat.member ≡ k)
 join_body k link (Join m peer callsign l after) e = (record { member = m; link = link; peer = peer; listens = l }, refl, same_from_is_same m k e)
 join_body k link (Leave m why) e = cc
@@ -236,9 +235,9 @@ has_seat places events n k i seat below last is mine joined =
       below = below;
       seat = seat;
       is = ap (option_and_then there) last
-        ∙ ap (if_in_by places events n i) is
-        ∙ ap (λ o. cond (is_position i o) (Some seat) None) (ap (λ m. joined_at places (acts_of events) m n) mine ∙ joined)
-        ∙ cond-true (eqb i i) (Some seat) None (eq-eqb i i refl);
+          ∙ ap (if_in_by places events n i) is
+          ∙ ap (λ o. cond (is_position i o) (Some seat) None) (ap (λ m. joined_at places (acts_of events) m n) mine ∙ joined)
+          ∙ cond-true (eqb i i) (Some seat) None (eq-eqb i i refl);
       mine = mine;
     }
 
@@ -275,7 +274,7 @@ joined_has_seat places events n k j e =
     let join = join_there k (slice_get events j) (ap (is_join_of k) (sym (kind_at_is events j)) ∙ parts.join) in
     let at_place : bringing j ≡ true = ap (is_at k.place) join.1 ∙ eq-eqb join.0.member.place k.place (ap (λ (m : Member). m.place) join.2) in
     let last : last_below bringing n ≡ Some j =
-        last_below_stricter settling bringing n j (λ m b. ap (settles k) (kind_at_is events m) ∙ stricter_test k (slice_get events m) b) parts.last at_place in
+    last_below_stricter settling bringing n j (λ m b. ap (settles k) (kind_at_is events m) ∙ stricter_test k (slice_get events m) b) parts.last at_place in
     has_seat places events n k j join.0 (ltb-true k.place places parts.below) (last_join_is events n k.place j last) join.1 join.2 e
 
 -- The list of places.

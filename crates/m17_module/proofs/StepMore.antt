@@ -22,9 +22,10 @@ use Rattle.m17_module.proofs.PeopleMore.{other_people, kind_end}
 
 -- Anything that is no Join, Leave or packet.
 pub other_happens : OtherActsChangeNothing → OnlyPacketsHaveVerdicts → (places : ℕ) (people : People) (events : List Event) (event : Event) → kind_of event.body ≡ act.Other → PeopleStandFor places people events → PeopleStandFor places people (events ++ event ∷ []) × (None ≡ verdict_at places (acts_of (events ++ event ∷ [])) (length events))
-other_happens law none places people events event is stands =
-    (other_people law places people events event is stands,
-     sym (none places (acts_of (events ++ event ∷ [])) (length events) (ap is_packet (kind_end events event ∙ is))))
+other_happens law none places people events event is stands = (
+  other_people law places people events event is stands,
+  sym (none places (acts_of (events ++ event ∷ [])) (length events) (ap is_packet (kind_end events event ∙ is))),
+)
 
 -- the moment before the new event, at it, and after it
 before_end : (events : List Event) (event : Event) → moment_before (acts_of (events ++ event ∷ [])) (length events) ≡ moment_before (acts_of events) (length events)
@@ -84,22 +85,22 @@ step_is here after later counts setup old new before moment count count' admitte
     let longer : List Event = events ++ event ∷ [] in
     let n : ℕ = length events in
     let verdict : verdict_at setup.places (with_act (acts_of events) (act_of event)) (length (acts_of events)) ≡ answer =
-        ap (verdict_at setup.places (with_act (acts_of events) (act_of event))) (length_acts events)
-        ∙ ap (λ acts. verdict_at setup.places acts n) (sym (acts_more events event)) ∙ sym happened.1 in
+    ap (verdict_at setup.places (with_act (acts_of events) (act_of event))) (length_acts events)
+    ∙ ap (λ acts. verdict_at setup.places acts n) (sym (acts_more events event)) ∙ sym happened.1 in
     record {
       stands = record {
         moment = moment_is ∙ ap (λ m. max m event.at) stands.moment ∙ sym (after_end after events event);
         people = happened.0;
         count = count_is ∙ ap (λ m. m + 1) stands.count ∙ (let e : n + 1 ≡ suc n = omega arith in e) ∙ sym (length_more events event);
         admitted = admitted_is ∙ ap (λ m. m + cond (admits answer) 1 0) stands.admitted
-          ∙ ap (λ v. admitted_count setup.places (acts_of events) + cond (admits v) 1 0) (sym verdict)
-          ∙ sym (counts setup.places (acts_of events) (act_of event))
-          ∙ ap (admitted_count setup.places) (sym (acts_more events event));
+            ∙ ap (λ v. admitted_count setup.places (acts_of events) + cond (admits v) 1 0) (sym verdict)
+            ∙ sym (counts setup.places (acts_of events) (act_of event))
+            ∙ ap (admitted_count setup.places) (sym (acts_more events event));
       };
       items = given_are
-        ∙ ap (λ xs. xs ++ says (record { seats = old.seats; position = count; link = event.tag.link; admitted = admits answer }) event.body)
+          ∙ ap (λ xs. xs ++ says (record { seats = old.seats; position = count; link = event.tag.link; admitted = admits answer }) event.body)
           (pings_are ∙ sym (pings_end here later setup.places events event old.seats before moment stands.people.seats stands.moment moment_is))
-        ∙ ap (λ xs. pings_at setup.places longer n ++ xs) (sym (said_end later setup.places events event old.seats count answer stands.people.seats stands.count happened.1))
-        ∙ ap (λ xs. xs ++ said_at setup.places longer n) (sym (append-nil (pings_at setup.places longer n)));
+          ∙ ap (λ xs. pings_at setup.places longer n ++ xs) (sym (said_end later setup.places events event old.seats count answer stands.people.seats stands.count happened.1))
+          ∙ ap (λ xs. xs ++ said_at setup.places longer n) (sym (append-nil (pings_at setup.places longer n)));
       verdict = happened.1;
     }

@@ -64,8 +64,10 @@ says now Stop = []
 -- Position n, in a module of so many places. This profile.
 abbrev pub setting_at : ℕ → List Event → ℕ → ℕ → Setting
 setting_at places events n link = record {
-  seats = seats_at places events n; position = n; link = link;
-  admitted = admits (verdict_at places (acts_of events) n)
+  seats = seats_at places events n;
+  position = n;
+  link = link;
+  admitted = admits (verdict_at places (acts_of events) n);
 }
 
 -- The first part: where the moment passes a multiple of 3,000 ms, a Ping for each member that is in, in order

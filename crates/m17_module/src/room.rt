@@ -15,8 +15,7 @@ use crate::Seat;
 use crate::basket::Tray;
 use arrayvec::ArrayVec;
 use m17_control::{Body, Control, Event, Item, Said, Why};
-use m17_floor::laws as floor_laws;
-use m17_floor::{Floor, Last, Verdict};
+use m17_floor::{Floor, Last, Verdict, laws as floor_laws};
 use m17_stream::StreamPacket;
 use m17_values::{Member, NoMemory};
 use std::alloc::Global;
@@ -164,7 +163,12 @@ impl Room {
         ensures told { out.new ≡ map (item_to said.Ping) (members_of self.now.seats) }
         ensures few { length out.new ≤ 256 }
     {
-        tell_all(self.seats.as_slice(), self.held.as_slice(), &Said::Ping, out);
+        tell_all(
+            self.seats.as_slice(),
+            self.held.as_slice(),
+            &Said::Ping,
+            out,
+        );
     }
 
     // How many places there are.
@@ -351,7 +355,14 @@ impl Room {
     }
 
     // A packet: if it is admitted, the others are told, and of which position it is.
-    fn hear(&mut self, k: Member, at: u64, position: u64, p: &StreamPacket, out: &mut Tray) -> Verdict
+    fn hear(
+        &mut self,
+        k: Member,
+        at: u64,
+        position: u64,
+        p: &StreamPacket,
+        out: &mut Tray,
+    ) -> Verdict
         requires { length out.old ≤ 256 }
         ensures told { out.new ≡ out.old ++ (if admits (Some result)
             then map (item_to (said.Frame position p.now)) (others_than k self.old.seats) else []) }
@@ -385,10 +396,20 @@ impl Room {
     }
 
     /// What an event does by what it is, and what it says: `at` is the module's moment, `position` that of the event.
-    pub(crate) fn happen(&mut self, event: &Event, at: u64, position: u64, out: &mut Tray) -> Option<Verdict>
+    pub(crate) fn happen(
+        &mut self,
+        event: &Event,
+        at: u64,
+        position: u64,
+        out: &mut Tray,
+    ) -> Option<Verdict>
         requires { length out.old ≤ 256 }
-        ensures told { out.new ≡ out.old ++ says (record { seats = self.old.seats; position = position;
-            link = event.now.tag.link; admitted = admits result }) event.now.body }
+        ensures told { out.new ≡ out.old ++ says (record {
+          seats = self.old.seats;
+          position = position;
+          link = event.now.tag.link;
+          admitted = admits result;
+        }) event.now.body }
         ensures length { length self.new.seats ≡ length self.old.seats }
         ensures answer { is_some result ≡ is_packet (kind_of event.now.body) }
         ensures stands { (places : ℕ) (events : List Event) →
@@ -400,7 +421,13 @@ impl Room {
         floor_laws::other_acts_change_nothing();
         floor_laws::only_speakers_are_heard();
         match &event.body {
-            Body::Join { member, peer, callsign: _, listen, after } => {
+            Body::Join {
+                member,
+                peer,
+                callsign: _,
+                listen,
+                after,
+            } => {
                 let seat = Seat {
                     member: *member,
                     link: event.tag.link,

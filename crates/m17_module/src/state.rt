@@ -12,8 +12,7 @@ use crate::Basket;
 use crate::basket::Tray;
 use crate::room::Room;
 use m17_control::Event;
-use m17_floor::Verdict;
-use m17_floor::laws as floor_laws;
+use m17_floor::{Verdict, laws as floor_laws};
 use m17_values::NoMemory;
 use std::alloc::Global;
 use std::marker::Model;
@@ -39,8 +38,13 @@ impl Model for Module {
 
     ghost Value = { Kept };
 
-    ghost view = { λ m. record { setup = record { places = length m.room.seats; parrot = m.parrot }; moment = m.moment;
-        people = m.room; count = m.count; admitted = m.admitted } };
+    ghost view = { λ m. record {
+      setup = record { places = length m.room.seats; parrot = m.parrot };
+      moment = m.moment;
+      people = m.room;
+      count = m.count;
+      admitted = m.admitted;
+    } };
 
     ghost invariant = { λ m. m.admitted ≤ m.count };
 }

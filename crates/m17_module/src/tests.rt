@@ -135,15 +135,57 @@ fn a_small_evening(rt: HostRuntime) -> Result<(), Fail> {
     let mut basket = Basket::make(alloc).ok().ok_or("no memory")?;
     let (talker, listener) = (member(0, 0), member(1, 0));
     let (m, b) = (&mut module, &mut basket);
-    gives(&rt, m, b, &join(&rt, talker, 0, false), None, &[hello(talker)]);
-    gives(&rt, m, b, &join(&rt, listener, 50, true), None, &[hello(listener)]);
+    gives(
+        &rt,
+        m,
+        b,
+        &join(&rt, talker, 0, false),
+        None,
+        &[hello(talker)],
+    );
+    gives(
+        &rt,
+        m,
+        b,
+        &join(&rt, listener, 50, true),
+        None,
+        &[hello(listener)],
+    );
     let first = sends(talker, 80, 1234, 1);
-    gives(&rt, m, b, &first, Some(Verdict::Opened), &[frame(listener, 2, 1234, 1)]);
+    gives(
+        &rt,
+        m,
+        b,
+        &first,
+        Some(Verdict::Opened),
+        &[frame(listener, 2, 1234, 1)],
+    );
     let goodbye = bye(listener, Why::Asked);
-    gives(&rt, m, b, &leave(listener, 130, Why::Asked), None, &[goodbye]);
-    gives(&rt, m, b, &sends(talker, 160, 1234, 2), Some(Verdict::Continued), &[]);
+    gives(
+        &rt,
+        m,
+        b,
+        &leave(listener, 130, Why::Asked),
+        None,
+        &[goodbye],
+    );
+    gives(
+        &rt,
+        m,
+        b,
+        &sends(talker, 160, 1234, 2),
+        Some(Verdict::Continued),
+        &[],
+    );
     gives(&rt, m, b, &tick(3_000), None, &[ping(talker)]);
-    gives(&rt, m, b, &sends(listener, 3_000, 7, 1), Some(Verdict::NotMember), &[]);
+    gives(
+        &rt,
+        m,
+        b,
+        &sends(listener, 3_000, 7, 1),
+        Some(Verdict::NotMember),
+        &[],
+    );
     assert_eq!(rt; module.admitted(), 2);
     Ok(())
 }
@@ -155,19 +197,61 @@ fn a_place_is_taken_over(rt: HostRuntime) -> Result<(), Fail> {
     let mut basket = Basket::make(alloc).ok().ok_or("no memory")?;
     let (first, second, other) = (member(2, 0), member(2, 1), member(3, 0));
     let (m, b) = (&mut module, &mut basket);
-    gives(&rt, m, b, &join(&rt, other, 0, false), None, &[hello(other)]);
-    gives(&rt, m, b, &join(&rt, first, 0, false), None, &[hello(first)]);
-    gives(&rt, m, b, &sends(first, 10, 5, 1), Some(Verdict::Opened), &[frame(other, 2, 5, 1)]);
+    gives(
+        &rt,
+        m,
+        b,
+        &join(&rt, other, 0, false),
+        None,
+        &[hello(other)],
+    );
+    gives(
+        &rt,
+        m,
+        b,
+        &join(&rt, first, 0, false),
+        None,
+        &[hello(first)],
+    );
+    gives(
+        &rt,
+        m,
+        b,
+        &sends(first, 10, 5, 1),
+        Some(Verdict::Opened),
+        &[frame(other, 2, 5, 1)],
+    );
     let busy = Verdict::Busy { holder: first };
     gives(&rt, m, b, &sends(other, 20, 6, 1), Some(busy), &[]);
     let told = [bye(first, Why::Replaced), hello(second)];
     gives(&rt, m, b, &join(&rt, second, 30, false), None, &told);
     gives(&rt, m, b, &leave(first, 40, Why::Asked), None, &[]);
-    gives(&rt, m, b, &sends(first, 40, 5, 2), Some(Verdict::NotMember), &[]);
-    gives(&rt, m, b, &sends(other, 50, 6, 1), Some(Verdict::Opened), &[frame(second, 7, 6, 1)]);
+    gives(
+        &rt,
+        m,
+        b,
+        &sends(first, 40, 5, 2),
+        Some(Verdict::NotMember),
+        &[],
+    );
+    gives(
+        &rt,
+        m,
+        b,
+        &sends(other, 50, 6, 1),
+        Some(Verdict::Opened),
+        &[frame(second, 7, 6, 1)],
+    );
     let past = member(4, 0);
     gives(&rt, m, b, &join(&rt, past, 60, false), None, &[]);
-    gives(&rt, m, b, &sends(past, 60, 1, 1), Some(Verdict::NotMember), &[]);
+    gives(
+        &rt,
+        m,
+        b,
+        &sends(past, 60, 1, 1),
+        Some(Verdict::NotMember),
+        &[],
+    );
     Ok(())
 }
 
@@ -178,13 +262,48 @@ fn a_talker_leaves_with_the_floor_and_joins_again(rt: HostRuntime) -> Result<(),
     let mut basket = Basket::make(alloc).ok().ok_or("no memory")?;
     let (talker, other) = (member(0, 0), member(1, 0));
     let (m, b) = (&mut module, &mut basket);
-    gives(&rt, m, b, &join(&rt, talker, 0, false), None, &[hello(talker)]);
-    gives(&rt, m, b, &join(&rt, other, 0, false), None, &[hello(other)]);
-    gives(&rt, m, b, &sends(talker, 10, 5, 9), Some(Verdict::Opened), &[frame(other, 2, 5, 9)]);
+    gives(
+        &rt,
+        m,
+        b,
+        &join(&rt, talker, 0, false),
+        None,
+        &[hello(talker)],
+    );
+    gives(
+        &rt,
+        m,
+        b,
+        &join(&rt, other, 0, false),
+        None,
+        &[hello(other)],
+    );
+    gives(
+        &rt,
+        m,
+        b,
+        &sends(talker, 10, 5, 9),
+        Some(Verdict::Opened),
+        &[frame(other, 2, 5, 9)],
+    );
     let goodbye = bye(talker, Why::Silent);
     gives(&rt, m, b, &leave(talker, 20, Why::Silent), None, &[goodbye]);
-    gives(&rt, m, b, &join(&rt, talker, 30, false), None, &[hello(talker)]);
-    gives(&rt, m, b, &sends(talker, 40, 5, 9), Some(Verdict::Opened), &[frame(other, 5, 5, 9)]);
+    gives(
+        &rt,
+        m,
+        b,
+        &join(&rt, talker, 30, false),
+        None,
+        &[hello(talker)],
+    );
+    gives(
+        &rt,
+        m,
+        b,
+        &sends(talker, 40, 5, 9),
+        Some(Verdict::Opened),
+        &[frame(other, 5, 5, 9)],
+    );
     Ok(())
 }
 
@@ -216,7 +335,14 @@ fn a_full_module_is_told_in_order_of_place(rt: HostRuntime) -> Result<(), Fail> 
     for place in 0..256u32 {
         // An order of places that is not theirs.
         let k = member((place * 77) % 256, 0);
-        gives(&rt, &mut module, &mut basket, &join(&rt, k, 0, false), None, &[hello(k)]);
+        gives(
+            &rt,
+            &mut module,
+            &mut basket,
+            &join(&rt, k, 0, false),
+            None,
+            &[hello(k)],
+        );
     }
     let answer = module.step(&sends(member(9, 0), 3_000, 5, 1), &mut basket);
     assert_eq!(rt; answer, Some(Verdict::Opened));
@@ -250,10 +376,12 @@ fn seat(places: u32, events: &[Event], place: u32) -> Option<Event> {
 
 fn is_of(found: &Option<Event>, k: Member) -> bool {
     match found {
-        Some(Event {
-            body: Body::Join { member, .. },
-            ..
-        }) => *member == k,
+        Some(
+            Event {
+                body: Body::Join { member, .. },
+                ..
+            },
+        ) => *member == k,
         _ => false,
     }
 }
@@ -281,7 +409,13 @@ fn greatest(events: &[Event]) -> u64 {
 }
 
 // The basket holds what the last of the events gives, by the definition.
-fn expect_items(rt: &impl Abort, places: u32, events: &[Event], admitted: bool, basket: &mut Basket) {
+fn expect_items(
+    rt: &impl Abort,
+    places: u32,
+    events: &[Event],
+    admitted: bool,
+    basket: &mut Basket,
+) {
     let Some((now, before)) = events.split_last() else {
         return;
     };
@@ -314,7 +448,9 @@ fn expect_said(
         }
         Body::Leave { member, why } => {
             let found = seat(places, before, member.place);
-            if is_of(&found, *member) && let Some(join) = found {
+            if is_of(&found, *member)
+                && let Some(join) = found
+            {
                 expect(rt, basket, &join, Said::Bye { why: *why });
             }
         }
@@ -325,14 +461,18 @@ fn expect_said(
             };
             for place in 0..places {
                 let found = seat(places, before, place);
-                if !is_of(&found, *member) && let Some(join) = found {
+                if !is_of(&found, *member)
+                    && let Some(join) = found
+                {
                     expect(rt, basket, &join, frame);
                 }
             }
         }
         Body::Reply { member, control } => {
             let found = seat(places, before, member.place);
-            if is_of(&found, *member) && let Some(join) = found {
+            if is_of(&found, *member)
+                && let Some(join) = found
+            {
                 expect(rt, basket, &join, Said::Reply { control: *control });
             }
         }
@@ -351,7 +491,14 @@ fn generated(rt: &impl Abort, n: u64) -> Event {
         0 => join(rt, k, at, false),
         1 => join(rt, k, at, n / 262_144 % 4 == 0),
         2 => leave(k, at, Why::Asked),
-        3 => event(k, at, Body::Reply { member: k, control: Control::Ackn }),
+        3 => event(
+            k,
+            at,
+            Body::Reply {
+                member: k,
+                control: Control::Ackn,
+            },
+        ),
         4 => tick(at),
         _ => {
             let packet = packet(sid, number, last);

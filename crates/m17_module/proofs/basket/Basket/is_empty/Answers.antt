@@ -9,5 +9,6 @@ none_left next tray le e = omega (arith, length-drop next tray, ap length e)
 
 pub returns : goal.returns
 returns c = (
-    λ same. sym c.self.view_is ∙ drop_all c.self.inside.next c.self.inside.tray (omega (arith, eqb-true c.self.inside.next c.len.result same, c.len.ensures)),
-    λ none. eq-eqb c.self.inside.next c.len.result (none_left c.self.inside.next c.self.inside.tray c.self.invariant (c.self.view_is ∙ none) ∙ sym c.len.ensures))
+  λ same. sym c.self.view_is ∙ drop_all c.self.inside.next c.self.inside.tray (omega (arith, eqb-true c.self.inside.next c.len.result same, c.len.ensures)),
+  λ none. eq-eqb c.self.inside.next c.len.result (none_left c.self.inside.next c.self.inside.tray c.self.invariant (c.self.view_is ∙ none) ∙ sym c.len.ensures),
+)
