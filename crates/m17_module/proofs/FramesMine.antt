@@ -38,12 +38,12 @@ placed places events n i seat e =
     let at : seat.member.place ≡ i = (seat_is_in places events n i seat there).place in
     omega arith
 
-seat_of_some : (k : Member) (o : Option Seat) (seat : Seat) → o ≡ Some seat → seat.member ≡ k → if_of k o ≡ Some seat
+pub seat_of_some : (k : Member) (o : Option Seat) (seat : Seat) → o ≡ Some seat → seat.member ≡ k → if_of k o ≡ Some seat
 seat_of_some k o seat e mine =
     ap (if_of k) e ∙ cond-true (is_same seat.member k) (Some seat) None (ap (λ m. is_same m k) mine ∙ is_same_self k)
 
 -- the seat of the member
-if_of_is : (k : Member) (o : Option Seat) (seat : Seat) → if_of k o ≡ Some seat → (o ≡ Some seat) × (seat.member ≡ k)
+pub if_of_is : (k : Member) (o : Option Seat) (seat : Seat) → if_of k o ≡ Some seat → (o ≡ Some seat) × (seat.member ≡ k)
 if_of_is k None seat e = cc
 if_of_is k (Some s) seat e =
     let parts = cond_some (is_same s.member k) s seat e in
@@ -126,7 +126,7 @@ relay places events n k m p true false e =
     ∙ all_frames n p (seat_of (seats_at places events n) k)
     ∙ only_some n p (seat_of (seats_at places events n) k)
 
-cond_same : (b : Bool) → ◌≡◌ {A = List Item} (cond b [] []) []
+pub cond_same : (b : Bool) → ◌≡◌ {A = List Item} (cond b [] []) []
 cond_same true = refl
 cond_same false = refl
 

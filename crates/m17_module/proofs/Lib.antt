@@ -7,3 +7,4 @@ mod StepMore
 mod ItemsMore
 mod Mine
 mod FramesMine
+mod Life

@@ -1,13 +1,14 @@
 -- What follows from the definitions for every list of events. This profile.
-use Rattle.std.specs.Prelude.{◌≡◌, ℕ, ◌<◌, ◌&&◌, Bool, true, not, List, [], ◌∷◌, ◌++◌, length, filter, slice_get, is_some, Option, None, Some}
+use Rattle.std.specs.Prelude.{◌≡◌, ℕ, ◌<◌, ◌≤◌, ◌⊎◌, ◌&&◌, Bool, true, false, not, List, [], ◌∷◌, ◌++◌, length, filter, slice_get, is_some, Option, None, Some}
 use Rattle.std.specs.List.{flat_map, range_with_len}
 use Rattle.m17_values.specs.declared.member.Member.{Member}
 use Rattle.m17_control.specs.declared.event.Event.{Event}
 use Rattle.m17_control.specs.declared.event.Body.{Body}
 use Rattle.m17_control.specs.declared.event.Body.TheVariants.{Packet}
 use Rattle.m17_control.specs.declared.item.Item.{Item}
+use Rattle.m17_control.specs.declared.item.Said.{Said}
 use Rattle.m17_control.specs.declared.item.Said.TheVariants as said
-use Rattle.m17_floor.specs.Acts.{kind_at, joined_at}
+use Rattle.m17_floor.specs.Acts.{is_join_of, kind_at, joined_at}
 use Rattle.m17_floor.specs.Floor.{is_packet_of, admits, verdict_at}
 use Rattle.m17_module.specs.Events.{acts_of}
 use Rattle.m17_module.specs.Seats.{seats_at, seat_of}
@@ -67,3 +68,42 @@ abbrev pub EachHeardIsSentOnce : Type 0
 EachHeardIsSentOnce =
     (places : ℕ) (events : List Event) (k : Member) (n : ℕ) → hears places events k n ≡ true →
     length (frame_sent places events k n) ≡ 1
+
+-- A Hello, and a Bye. This profile.
+abbrev pub is_hello : Said → Bool
+is_hello (said.Hello after) = true
+is_hello _ = false
+
+abbrev pub is_bye : Said → Bool
+is_bye (said.Bye why) = true
+is_bye _ = false
+
+-- The position is a Join of the member. This profile.
+abbrev pub joins : List Event → Member → ℕ → Bool
+joins events k n = is_join_of k (kind_at (acts_of events) n)
+
+-- No two positions are Joins of the member. This profile.
+abbrev pub JoinsOnce : List Event → Member → Type 0
+JoinsOnce events k = (i j : ℕ) → joins events k i ≡ true → joins events k j ≡ true → i ≡ j
+
+-- The items begin with their only Hello, and nothing follows a Bye. This profile.
+pub record IsLife (items : List Item) : Type 0 where
+  pub first : Item
+  pub rest : List Item
+  pub items_are : items ≡ first ∷ rest
+  pub hello : is_hello first.body ≡ true
+  pub no_other : filter (λ item. is_hello item.body) rest ≡ []
+  pub bye_is_last : (front after : List Item) (bye : Item) → items ≡ front ++ bye ∷ after →
+      is_bye bye.body ≡ true → after ≡ []
+
+-- The share of a member that joins once, at one of the module's places, begins with its only Hello, and nothing
+-- follows its Bye; one that never joins there gets nothing. This profile.
+abbrev pub ShareIsALife : Type 0
+ShareIsALife =
+    (setup : Setup) (events : List Event) (k : Member) (j : ℕ) → JoinsOnce events k →
+    joins events k j ≡ true → k.place < setup.places → IsLife (items_for setup events k)
+
+abbrev pub WhoNeverJoinsGetsNothing : Type 0
+WhoNeverJoinsGetsNothing =
+    (setup : Setup) (events : List Event) (k : Member) →
+    ((j : ℕ) → joins events k j ≡ false) ⊎ (setup.places ≤ k.place) → items_for setup events k ≡ []

@@ -28,3 +28,14 @@ pub fn frames_are_the_others()
 {
     floor_laws::only_speakers_are_heard();
 }
+
+/// The share of a member that joins once, at one of the module's places, begins with its only Hello, and nothing follows
+/// its Bye; one that never joins there gets nothing. Its frames are those that it hears, between its Join and the event
+/// that ends its membership (`frames_are_the_others`).
+pub fn share_is_the_others_frames()
+    ensures life { law.ShareIsALife }
+    ensures strangers { law.WhoNeverJoinsGetsNothing }
+    ensures frames { law.FramesAreThoseHeard }
+{
+    frames_are_the_others();
+}

@@ -387,7 +387,7 @@ fn is_of(found: &Option<Event>, k: Member) -> bool {
 }
 
 // The next item is this, said to the peer and the link of that Join.
-fn expect(rt: &impl Abort, basket: &mut Basket, join: &Event, body: Said) {
+fn expect(rt: &impl Abort, basket: &mut Basket, join: &Event, body: &Said) {
     let Body::Join { member, peer, .. } = &join.body else {
         return;
     };
@@ -395,7 +395,7 @@ fn expect(rt: &impl Abort, basket: &mut Basket, join: &Event, body: Said) {
         member: *member,
         link: join.tag.link,
         peer: *peer,
-        body,
+        body: *body,
     };
     assert_eq!(rt; basket.take(), Some(want));
 }
@@ -422,7 +422,7 @@ fn expect_items(
     if greatest(before) / 3_000 < greatest(events) / 3_000 {
         for place in 0..places {
             if let Some(join) = seat(places, before, place) {
-                expect(rt, basket, &join, Said::Ping);
+                expect(rt, basket, &join, &Said::Ping);
             }
         }
     }
@@ -442,16 +442,16 @@ fn expect_said(
     match &now.body {
         Body::Join { member, after, .. } if member.place < places => {
             if let Some(join) = seat(places, before, member.place) {
-                expect(rt, basket, &join, Said::Bye { why: Why::Replaced });
+                expect(rt, basket, &join, &Said::Bye { why: Why::Replaced });
             }
-            expect(rt, basket, now, Said::Hello { after: *after });
+            expect(rt, basket, now, &Said::Hello { after: *after });
         }
         Body::Leave { member, why } => {
             let found = seat(places, before, member.place);
             if is_of(&found, *member)
                 && let Some(join) = found
             {
-                expect(rt, basket, &join, Said::Bye { why: *why });
+                expect(rt, basket, &join, &Said::Bye { why: *why });
             }
         }
         Body::Packet { member, packet } if admitted => {
@@ -464,7 +464,7 @@ fn expect_said(
                 if !is_of(&found, *member)
                     && let Some(join) = found
                 {
-                    expect(rt, basket, &join, frame);
+                    expect(rt, basket, &join, &frame);
                 }
             }
         }
@@ -473,7 +473,7 @@ fn expect_said(
             if is_of(&found, *member)
                 && let Some(join) = found
             {
-                expect(rt, basket, &join, Said::Reply { control: *control });
+                expect(rt, basket, &join, &Said::Reply { control: *control });
             }
         }
         _ => (),
