@@ -7,4 +7,5 @@ mod StepMore
 mod ItemsMore
 mod Mine
 mod FramesMine
+mod LifeParts
 mod Life

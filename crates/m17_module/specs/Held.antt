@@ -15,7 +15,8 @@ held_from place (None ∷ seats) = held_from (place + 1) seats
 held_from place (Some seat ∷ seats) = place ∷ held_from (place + 1) seats
 
 -- there are at most 256 places, the row is that of the held ones, and each place has a frame
-pub record IsInOrder (seats : List (Option Seat)) (held : List ℕ) (lasts : List (Option Frame)) : Type 0 where
+pub record IsInOrder (seats : List (Option Seat)) (held : List ℕ)
+    (lasts : List (Option Frame)) : Type 0 where
   pub at_most : length seats ≤ 256
   pub held_are : held ≡ held_from 0 seats
   pub each : length lasts ≡ length seats

@@ -46,7 +46,8 @@ pub record Setting : Type 0 where
 abbrev pub greets : List (Option Seat) → Seat → ℕ → List Item
 greets seats seat after =
     if nat_lt seat.member.place (length seats)
-    then to_one (said.Bye Replaced) (seat_in seats seat.member.place) ++ item_to (said.Hello after) seat ∷ []
+    then to_one (said.Bye Replaced) (seat_in seats seat.member.place)
+    ++ item_to (said.Hello after) seat ∷ []
     else []
 
 -- What an event says by what it is: to the member that a Join replaces and to the new one, to a member that
@@ -74,7 +75,8 @@ setting_at places events n link = record {
 -- of place. This profile.
 unfoldable pub pings_at : ℕ → List Event → ℕ → List Item
 pings_at places events n =
-    if nat_lt (moment_before (acts_of events) n / ping_every_ms) (moment_at (acts_of events) n / ping_every_ms)
+    if nat_lt (moment_before (acts_of events) n / ping_every_ms)
+    (moment_at (acts_of events) n / ping_every_ms)
     then map (item_to said.Ping) (members_of (seats_at places events n))
     else []
 

@@ -32,13 +32,15 @@ abbrev pub OneEventMoreIsShared : Type 0
 OneEventMoreIsShared =
     (setup : Setup) (events : List Event) (event : Event) (k : Member) →
     items_for setup (events ++ event ∷ []) k
-    ≡ items_for setup events k ++ filter (is_for k) (items_at setup (events ++ event ∷ []) (length events))
+    ≡ items_for setup events k
+    ++ filter (is_for k) (items_at setup (events ++ event ∷ []) (length events))
 
 -- A member hears a position: it is in before it, and the packet there is admitted and not its own. This profile.
 abbrev pub hears : ℕ → List Event → Member → ℕ → Bool
 hears places events k n =
     is_some (joined_at places (acts_of events) k n)
-    && (admits (verdict_at places (acts_of events) n) && not (is_packet_of k (kind_at (acts_of events) n)))
+    && (admits (verdict_at places (acts_of events) n)
+    && not (is_packet_of k (kind_at (acts_of events) n)))
 
 -- The positions that a member hears, rising. This profile.
 abbrev pub heard : ℕ → List Event → Member → List ℕ
@@ -46,7 +48,8 @@ heard places events k = filter (hears places events k) (range_with_len 0 (length
 
 -- The packet as the member is sent it; nothing of any other event. This profile.
 abbrev pub frame_of_body : ℕ → List Event → Member → ℕ → Body → List Item
-frame_of_body places events k n (Packet m p) = to_one (said.Frame n p) (seat_of (seats_at places events n) k)
+frame_of_body places events k n (Packet m p) =
+    to_one (said.Frame n p) (seat_of (seats_at places events n) k)
 frame_of_body places events k n _ = []
 
 -- The packet of a position as the member is sent it: with the position, to the link and peer of its Join. This
@@ -62,7 +65,8 @@ frame_sent places events k n = frame_by places events k n (slice_get events n)
 abbrev pub FramesAreThoseHeard : Type 0
 FramesAreThoseHeard =
     (setup : Setup) (events : List Event) (k : Member) →
-    frames_for setup events k ≡ flat_map (frame_sent setup.places events k) (heard setup.places events k)
+    frames_for setup events k
+    ≡ flat_map (frame_sent setup.places events k) (heard setup.places events k)
 
 abbrev pub EachHeardIsSentOnce : Type 0
 EachHeardIsSentOnce =

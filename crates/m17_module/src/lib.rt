@@ -17,4 +17,6 @@ pub use seat::Seat;
 pub use state::{Module, PING_EVERY_MS};
 
 #[cfg(test)]
+mod list_tests;
+#[cfg(test)]
 mod tests;

@@ -389,7 +389,8 @@ impl Room {
     // A reply: who is answered is told.
     fn reply(&self, k: Member, control: &Control, out: &mut Tray)
         requires { length out.old ≤ 256 }
-        ensures told { out.new ≡ out.old ++ to_one (said.Reply control.now) (seat_of self.now.seats k) }
+        ensures told { out.new ≡ out.old
+            ++ to_one (said.Reply control.now) (seat_of self.now.seats k) }
     {
         let was = self.seat_of(k);
         tell(&was, &Said::Reply { control: *control }, out);

@@ -64,7 +64,8 @@ fn ask(room: &Room, before: u64, moment: u64, out: &mut Tray)
 
 // How many packets are admitted after this answer.
 fn count_admitted(admitted: u64, answer: &Option<Verdict>) -> u64
-    ensures counted { admitted < 2 ^ 64 - 1 → result ≡ admitted + (if admits answer.now then 1 else 0) }
+    ensures counted { admitted < 2 ^ 64 - 1 →
+        result ≡ admitted + (if admits answer.now then 1 else 0) }
     ensures at_most { result ≤ admitted + 1 }
 {
     match answer {
@@ -112,7 +113,8 @@ impl Module {
     /// the event. This profile.
     pub fn step(&mut self, event: &Event, out: &mut Basket) -> Option<Verdict>
         requires { out.old ≡ [] }
-        ensures by_rule { (events : List Event) → StandsFor self.old events → length events < 2 ^ 64 - 1 →
+        ensures by_rule { (events : List Event) →
+            StandsFor self.old events → length events < 2 ^ 64 - 1 →
             IsStep self.old.setup events event.now result self.new out.new }
         ensures setup { self.new.setup ≡ self.old.setup }
         ensures answer { is_some result ≡ is_packet (kind_of event.now.body) }
@@ -125,7 +127,8 @@ impl Module {
     // The same, into a row of items.
     fn take_in(&mut self, event: &Event, out: &mut Tray) -> Option<Verdict>
         requires { out.old ≡ [] }
-        ensures by_rule { (events : List Event) → StandsFor self.old events → length events < 2 ^ 64 - 1 →
+        ensures by_rule { (events : List Event) →
+            StandsFor self.old events → length events < 2 ^ 64 - 1 →
             IsStep self.old.setup events event.now result self.new out.new }
         ensures setup { self.new.setup ≡ self.old.setup }
         ensures answer { is_some result ≡ is_packet (kind_of event.now.body) }
