@@ -189,7 +189,7 @@ fn run_list(rt: &impl Abort, alloc: Global, seed: u64) -> Result<(), AllocError>
     let mut module = Module::make(alloc, 3, false).ok().ok_or(AllocError)?;
     let mut basket = Basket::make(alloc).ok().ok_or(AllocError)?;
     for i in 0..48 {
-        while basket.take().is_some() {}
+        assert!(rt; basket.is_empty());
         let answer = module.step(&events[i], &mut basket);
         assert_eq!(rt; verdicts.get(i).copied(), Some(answer));
         let admitted = matches!(answer, Some(Verdict::Opened | Verdict::Continued));

@@ -118,7 +118,7 @@ fn gives(
     answer: Option<Verdict>,
     given: &[Item],
 ) {
-    while basket.take().is_some() {}
+    assert!(rt; basket.is_empty());
     let answered = module.step(event, basket);
     assert_eq!(rt; answered, answer);
     for want in given {
@@ -343,6 +343,7 @@ fn a_full_module_is_told_in_order_of_place(rt: HostRuntime) -> Result<(), Fail> 
             &[hello(k)],
         );
     }
+    assert!(rt; basket.is_empty());
     let answer = module.step(&sends(member(9, 0), 3_000, 5, 1), &mut basket);
     assert_eq!(rt; answer, Some(Verdict::Opened));
     for place in 0..256u32 {
