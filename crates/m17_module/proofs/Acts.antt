@@ -1,15 +1,13 @@
 -- The acts of a list of events.
-use Rattle.std.proofs.Common.{◌≡◌, ℕ, ◌<◌, ◌≤◌, List, [], ◌∷◌, ◌++◌, length, max, Option, None, Some, slice_get, refl, ap, sym, ◌∙◌, arith}
+use Rattle.std.proofs.Common.{◌≡◌, ℕ, List, [], ◌∷◌, ◌++◌, length, Option, None, Some, slice_get, refl, ap, ◌∙◌}
 use Rattle.std.specs.Option.{option_map}
 use Rattle.std.proofs.lemmas.List.{map_push, map-append, length-map}
 use Rattle.std.proofs.lemmas.Option.{slice_get-map}
 use Rattle.m17_control.specs.declared.event.Event.{Event}
-use Rattle.m17_floor.specs.declared.act.Act.{Act}
 use Rattle.m17_floor.specs.declared.act.ActKind.{ActKind}
 use Rattle.m17_floor.specs.declared.act.ActKind.TheVariants.{Other}
 use Rattle.m17_floor.specs.Acts.{with_act, kind_at, kind_or_other}
 use Rattle.m17_module.specs.Events.{act_of, acts_of, kind_of}
-use Rattle.m17_module.proofs.Below.{length_more}
 
 pub acts_more : (events : List Event) (event : Event) → acts_of (events ++ event ∷ []) ≡ with_act (acts_of events) (act_of event)
 acts_more events event = map_push act_of events event

@@ -1,9 +1,9 @@
 -- The frames for a member, position by position.
-use Rattle.std.proofs.Common.{◌≡◌, ◌≢◌, ℕ, zero, suc, ◌+◌, ◌/◌, ◌<◌, ◌≤◌, ◌&&◌, Bool, true, false, not, cond, List, [], ◌∷◌, ◌++◌, length, map, get_or, slice_get, nat_lt, is_some, Option, None, Some, refl, ap, sym, ◌∙◌, arith}
+use Rattle.std.proofs.Common.{◌≡◌, ℕ, ◌/◌, ◌<◌, ◌&&◌, Bool, true, false, not, cond, List, [], ◌∷◌, ◌++◌, length, map, get_or, slice_get, nat_lt, is_some, Option, None, Some, refl, ap, sym, ◌∙◌, arith}
 use Rattle.std.specs.List.{filter, flat_map, range_with_len}
 use Rattle.std.proofs.lemmas.Bool.{cond-true, cond-false, and_right, and_parts, true≢false, true_from_ne_false}
 use Rattle.std.proofs.lemmas.Option.{cond_some}
-use Rattle.std.proofs.lemmas.List.{append-nil, get_or_past}
+use Rattle.std.proofs.lemmas.List.{append-nil}
 use Rattle.m17_values.specs.declared.member.Member.{Member}
 use Rattle.m17_stream.specs.declared.packet.StreamPacket.{StreamPacket}
 use Rattle.m17_control.specs.declared.event.Body.{Body}
@@ -19,13 +19,13 @@ use Rattle.m17_floor.specs.Laws.{OnlyPacketsHaveVerdicts}
 use Rattle.m17_module.specs.declared.seat.Seat.{Seat}
 use Rattle.m17_module.specs.Events.{kind_of, acts_of}
 use Rattle.m17_module.specs.Seats.{seat_at, seats_at, members_of, seat_in, if_of, seat_of, others_than}
-use Rattle.m17_module.specs.Items.{Setup, Setting, ping_every_ms, item_to, to_one, greets, says, setting_at, pings_at, said_by, said_at, items_at, items_given, is_for, items_for, is_frame, frames_for}
-use Rattle.m17_module.specs.Laws.{hears, heard, frame_of_body, frame_by, frame_sent, FramesAreThoseHeard, EachHeardIsSentOnce}
+use Rattle.m17_module.specs.Items.{Setup, ping_every_ms, item_to, to_one, greets, says, setting_at, pings_at, said_by, said_at, items_at, items_given, is_for, items_for, is_frame, frames_for}
+use Rattle.m17_module.specs.Laws.{hears, frame_of_body, frame_by, frame_sent, FramesAreThoseHeard, EachHeardIsSentOnce}
 use Rattle.m17_module.proofs.Acts.{kind_from, kind_at_is}
 use Rattle.m17_module.proofs.Mine.{ArePlaced, mine_at, mine_none, mine_all}
 use Rattle.m17_module.proofs.Places.{filter-append}
 use Rattle.m17_module.proofs.PeopleMore.{place_there}
-use Rattle.m17_module.proofs.SeatsMore.{IsIn, HasSeat, seat_is_in, joined_has_seat, seats_at_is, length_seats, is_same_self, same_from_is_same}
+use Rattle.m17_module.proofs.SeatsMore.{seat_is_in, joined_has_seat, seats_at_is, length_seats, is_same_self, same_from_is_same}
 
 abbrev framed : List Item → List Item
 framed xs = filter (λ item. is_frame item.body) xs

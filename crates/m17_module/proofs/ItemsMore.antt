@@ -1,9 +1,8 @@
 -- What is given, when the list of events goes on.
-use Rattle.std.proofs.Common.{◌≡◌, ℕ, zero, suc, ◌+◌, ◌/◌, ◌<◌, ◌≤◌, Bool, true, false, cond, List, [], ◌∷◌, ◌++◌, length, map, take, slice_get, nat_lt, Option, None, Some, refl, ap, sym, ◌∙◌, arith}
+use Rattle.std.proofs.Common.{◌≡◌, ℕ, zero, suc, ◌+◌, ◌/◌, ◌<◌, cond, List, [], ◌∷◌, ◌++◌, length, map, slice_get, nat_lt, Option, None, Some, refl, ap, sym, ◌∙◌, arith}
 use Rattle.std.specs.List.{filter, flat_map, range_with_len}
-use Rattle.std.proofs.lemmas.List.{take-append-le, append_assoc, append-nil}
+use Rattle.std.proofs.lemmas.List.{take-append-le, append-nil}
 use Rattle.std.proofs.lemmas.List.Concat.{flat_map-append}
-use Rattle.m17_values.specs.declared.member.Member.{Member}
 use Rattle.m17_control.specs.declared.event.Event.{Event}
 use Rattle.m17_control.specs.declared.item.Item.{Item}
 use Rattle.m17_control.specs.declared.item.Said.TheVariants as said
@@ -13,7 +12,7 @@ use Rattle.m17_floor.specs.Laws.{LaterActsChangeNoVerdict, LaterActsChangeNoMemb
 use Rattle.m17_module.specs.declared.seat.Seat.{Seat}
 use Rattle.m17_module.specs.Events.{acts_of}
 use Rattle.m17_module.specs.Seats.{seats_at, members_of}
-use Rattle.m17_module.specs.Items.{Setup, Setting, ping_every_ms, item_to, says, setting_at, pings_at, said_by, said_at, items_at, items_given, is_for, items_for}
+use Rattle.m17_module.specs.Items.{Setting, ping_every_ms, item_to, says, pings_at, said_by, said_at, items_at, items_given, is_for, items_for}
 use Rattle.m17_module.specs.Laws.{LaterEventsChangeNoItems, OneEventMoreGives, OneEventMoreIsShared}
 use Rattle.m17_module.proofs.Acts.{acts_append, length_acts}
 use Rattle.m17_module.proofs.Below.{slice_get_before, length_more}

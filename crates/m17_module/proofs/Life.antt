@@ -1,37 +1,30 @@
 -- The life of a member in its share: one Hello, and nothing after a Bye.
-use Rattle.std.proofs.Common.{◌≡◌, ◌≢◌, ℕ, zero, suc, ◌+◌, ◌/◌, ◌<◌, ◌≤◌, ◌⊎◌, ◌&&◌, Bool, true, false, not, cond, List, [], ◌∷◌, ◌++◌, length, map, get_or, slice_get, nat_lt, eqb, is_some, Option, None, Some, refl, ap, sym, ◌∙◌, arith, inl, inr, subst, length-append}
-use Rattle.std.specs.List.{filter, flat_map, range_with_len}
+use Rattle.std.proofs.Common.{◌≡◌, ℕ, zero, suc, ◌+◌, ◌/◌, ◌<◌, ◌≤◌, ◌⊎◌, Bool, true, false, cond, List, [], ◌∷◌, ◌++◌, length, slice_get, nat_lt, is_some, Option, None, Some, refl, ap, sym, ◌∙◌, arith, inl, inr, subst, length-append}
+use Rattle.std.specs.List.{flat_map, range_with_len}
 use Rattle.std.specs.Option.{option_and_then}
-use Rattle.std.proofs.lemmas.Bool.{cond-true, cond-false, cases_lt, cases_Bool, cases_eq, true≢false, lt-ltb, le-ltb, eq-eqb, false_from_ne_true}
-use Rattle.std.proofs.lemmas.Option.{cond_some, same_Some, slice_get_past}
+use Rattle.std.proofs.lemmas.Bool.{cond-true, cond-false, cases_lt, cases_Bool, cases_eq, true≢false, le-ltb, false_from_ne_true}
+use Rattle.std.proofs.lemmas.Option.{slice_get_past}
 use Rattle.std.proofs.lemmas.List.{append-nil, append_assoc, nil_from_length}
 use Rattle.std.proofs.lemmas.List.Concat.{flat_map-append}
 use Rattle.m17_values.specs.declared.member.Member.{Member}
-use Rattle.m17_stream.specs.declared.packet.StreamPacket.{StreamPacket}
 use Rattle.m17_control.specs.declared.event.Body.{Body}
 use Rattle.m17_control.specs.declared.event.Body.TheVariants.{Join, Leave, Packet, Reply, Tick, Stop}
 use Rattle.m17_control.specs.declared.event.Event.{Event}
-use Rattle.m17_control.specs.declared.event.Why.{Why}
-use Rattle.m17_control.specs.declared.event.Why.TheVariants.{Replaced}
 use Rattle.m17_control.specs.declared.item.Item.{Item}
 use Rattle.m17_control.specs.declared.item.Said.{Said}
 use Rattle.m17_control.specs.declared.item.Said.TheVariants as said
-use Rattle.m17_floor.specs.declared.act.Act.{Act}
-use Rattle.m17_floor.specs.declared.act.ActKind.{ActKind}
-use Rattle.m17_floor.specs.Acts.{last_below, is_same, is_join_of, settles, kind_at, moment_before, moment_at, joined_at}
-use Rattle.m17_floor.specs.Floor.{admits, verdict_at}
+use Rattle.m17_floor.specs.Acts.{last_below, is_join_of, settles, kind_at, moment_before, moment_at, joined_at}
 use Rattle.m17_module.specs.declared.seat.Seat.{Seat}
 use Rattle.m17_module.specs.Events.{kind_of, acts_of}
-use Rattle.m17_module.specs.Seats.{seats_at, members_of, seat_in, if_of, seat_of, others_than}
-use Rattle.m17_module.specs.Items.{Setup, Setting, ping_every_ms, item_to, to_one, greets, says, setting_at, pings_at, said_by, said_at, items_at, items_given, is_for, items_for}
+use Rattle.m17_module.specs.Seats.{seats_at, seat_of}
+use Rattle.m17_module.specs.Items.{Setup, ping_every_ms, to_one, says, setting_at, pings_at, said_by, said_at, items_at, items_given, is_for, items_for}
 use Rattle.m17_module.specs.Laws.{is_hello, is_bye, joins, JoinsOnce, IsLife, ShareIsALife, WhoNeverJoinsGetsNothing}
 use Rattle.m17_module.proofs.Acts.{kind_from, kind_at_is}
-use Rattle.m17_module.proofs.Below.{last_below_suc, last_below_lt}
+use Rattle.m17_module.proofs.Below.{last_below_suc}
 use Rattle.m17_module.proofs.ItemsMore.{range_more}
-use Rattle.m17_module.proofs.Mine.{ArePlaced, mine_at, mine_none, mine_all}
 use Rattle.m17_module.proofs.Places.{filter-append}
-use Rattle.m17_module.proofs.FramesMine.{placed, is_in_exactly, cond_same, if_of_is, seat_of_some}
-use Rattle.m17_module.proofs.SeatsMore.{is_same_self, same_from_is_same, length_seats}
+use Rattle.m17_module.proofs.FramesMine.{is_in_exactly, cond_same}
+use Rattle.m17_module.proofs.SeatsMore.{same_from_is_same, length_seats}
 use Rattle.m17_module.proofs.LifeParts.{hellos, byes, mine, IsPart, empty_part, pinged_part, mine_pings, said_part, said_nothing, said_hello}
 
 -- one position more

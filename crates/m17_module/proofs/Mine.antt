@@ -1,8 +1,7 @@
 -- What is for one member, out of what is said to all.
-use Rattle.std.proofs.Common.{◌≡◌, ◌≢◌, ℕ, zero, suc, ◌+◌, ◌<◌, ◌≤◌, ◌&&◌, Bool, true, false, not, cond, List, [], ◌∷◌, ◌++◌, length, map, get_or, eqb, is_some, Option, None, Some, refl, ap, sym, ◌∙◌, arith}
-use Rattle.std.specs.List.{filter, filter_map, cons_option}
-use Rattle.std.proofs.lemmas.Bool.{cond-true, cond-false, ne_eqb, and_left, false_from_ne_true, true≢false}
-use Rattle.std.proofs.lemmas.Option.{same_Some}
+use Rattle.std.proofs.Common.{◌≡◌, ◌≢◌, ℕ, zero, suc, ◌+◌, ◌<◌, Bool, true, false, not, cond, List, [], ◌∷◌, map, get_or, eqb, Option, None, Some, refl, ap, sym, ◌∙◌, arith}
+use Rattle.std.specs.List.{filter}
+use Rattle.std.proofs.lemmas.Bool.{cond-false, ne_eqb, and_left}
 use Rattle.m17_values.specs.declared.member.Member.{Member}
 use Rattle.m17_control.specs.declared.item.Item.{Item}
 use Rattle.m17_control.specs.declared.item.Said.{Said}
@@ -10,7 +9,7 @@ use Rattle.m17_floor.specs.Acts.{is_same}
 use Rattle.m17_module.specs.declared.seat.Seat.{Seat}
 use Rattle.m17_module.specs.Seats.{members_of, if_of}
 use Rattle.m17_module.specs.Items.{item_to, to_one, is_for}
-use Rattle.m17_module.proofs.SeatsMore.{is_same_self, same_from_is_same}
+use Rattle.m17_module.proofs.SeatsMore.{same_from_is_same}
 
 -- each seat stands at its place
 abbrev pub ArePlaced : ℕ → List (Option Seat) → Type 0

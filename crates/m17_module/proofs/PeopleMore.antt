@@ -1,6 +1,6 @@
 -- The people of a module go on standing for the events, one more at a time.
 use Rattle.std.proofs.Common.{◌≡◌, ◌≢◌, ℕ, suc, ◌<◌, ◌≤◌, ◌⊎◌, Bool, true, false, List, [], ◌∷◌, ◌++◌, length, slice_get, slice_set, get_or, replicate, zero, Option, None, Some, refl, ap, sym, subst, ◌∙◌, arith, inl, inr}
-use Rattle.std.proofs.lemmas.Bool.{cases_eq, ne_eqb, true≢false, cond-true, cond-false, eq-eqb}
+use Rattle.std.proofs.lemmas.Bool.{cases_eq, ne_eqb, true≢false, cond-true}
 use Rattle.std.proofs.lemmas.Option.{slice_get_within, get_or_from_slice_get, slice_get-get_or, same_Some}
 use Rattle.std.proofs.lemmas.List.{get_or-set_other, get_or-set_same, length-set, get_or-replicate, length-replicate}
 use Rattle.m17_values.specs.declared.member.Member.{Member}
@@ -9,7 +9,7 @@ use Rattle.m17_control.specs.declared.event.Event.{Event}
 use Rattle.m17_floor.specs.declared.act.Act.{Act}
 use Rattle.m17_floor.specs.declared.act.ActKind.TheVariants as act
 use Rattle.m17_floor.specs.declared.verdict.Verdict.{Verdict}
-use Rattle.std.proofs.Common.{max, IsSome, cond}
+use Rattle.std.proofs.Common.{max, IsSome}
 use Rattle.std.proofs.lemmas.Option.{slice_get_read, cond_some}
 use Rattle.std.proofs.lemmas.Bool.{cases_lt}
 use Rattle.std.proofs.lemmas.List.{get_or_past}
@@ -20,15 +20,15 @@ use Rattle.m17_floor.specs.declared.verdict.Verdict.TheVariants.{NotMember, List
 use Rattle.m17_floor.specs.Floor.{verdict_at, listens}
 use Rattle.m17_floor.specs.Acts.{with_act, is_same, kind_at, moment_before, joined_at, last_below, IsMember}
 use Rattle.m17_floor.specs.Rule.{Frame}
-use Rattle.m17_floor.specs.Laws.{LaterActsChangeNoMembership, UnheardPacketsChangeNothing, LeavesOfStrangersChangeNothing, JoinsPastThePlacesChangeNothing, OtherActsChangeNothing, JoinsAtAFreePlaceLeaveTheFloor, StrangersGetNotMember, ListenersGetListenOnly, OnlyPacketsHaveVerdicts, MembershipOfOneMore, LeavesLeaveOthers, JoinsLeaveOthers, joined_with}
+use Rattle.m17_floor.specs.Laws.{LaterActsChangeNoMembership, UnheardPacketsChangeNothing, LeavesOfStrangersChangeNothing, JoinsPastThePlacesChangeNothing, OtherActsChangeNothing, StrangersGetNotMember, ListenersGetListenOnly, MembershipOfOneMore, LeavesLeaveOthers, JoinsLeaveOthers, joined_with}
 use Rattle.m17_floor.specs.StandsFor.{FloorStandsFor, OwnStandsFor, KeepsStanding, MemberKeepsStanding, IsJudged, MaySpeak, join_act, leave_act, packet_act}
 use Rattle.m17_module.specs.declared.seat.Seat.{Seat}
 use Rattle.m17_module.specs.Events.{kind_of, act_of, acts_of}
-use Rattle.m17_module.specs.Seats.{seat_joined, if_of, seat_of, seat_in, seat_from, is_at, last_join, seat_at, seats_at}
+use Rattle.m17_module.specs.Seats.{seat_joined, if_of, seat_of, seat_from, is_at, last_join, seat_at}
 use Rattle.m17_module.specs.StandsFor.{People, PeopleStandFor}
 use Rattle.m17_module.proofs.Acts.{acts_more, length_acts, kind_from, kind_at_is}
 use Rattle.m17_module.proofs.Below.{length_more, slice_get_end, slice_get_before}
-use Rattle.m17_module.proofs.SeatsMore.{IsIn, seat_is_in, HasSeat, joined_has_seat, joined_at_before, same_from_is_same, seat_same, seat_joins, seat_leaves, seat_kind_from, joined_new, length_seats, seats_at_is, seats_from, is_same_self, joined_below}
+use Rattle.m17_module.proofs.SeatsMore.{IsIn, seat_is_in, joined_has_seat, joined_at_before, same_from_is_same, seat_same, seat_joins, seat_leaves, seat_kind_from, joined_new, length_seats, seats_at_is, seats_from, is_same_self, joined_below}
 
 -- after a write at one place, what stands at a place is what was written, or what stood there at another place
 set_cases : {X : Type 0} (xs : List X) (at : ℕ) (y : X) (t : ℕ) (x : X) → at < length xs → slice_get (slice_set xs at y) t ≡ Some x → ((t ≡ at) × (x ≡ y)) ⊎ ((t ≢ at) × (slice_get xs t ≡ Some x))

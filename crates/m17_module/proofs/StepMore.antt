@@ -1,10 +1,9 @@
 -- One step of a module: what it gives, and that it goes on standing for the events.
-use Rattle.std.proofs.Common.{◌≡◌, ℕ, suc, ◌+◌, ◌-◌, ◌/◌, ◌<◌, ◌≤◌, Bool, true, false, cond, List, [], ◌∷◌, ◌++◌, length, map, max, take, slice_get, nat_lt, Option, None, Some, refl, ap, sym, subst, ◌∙◌, arith}
+use Rattle.std.proofs.Common.{◌≡◌, ℕ, suc, ◌+◌, ◌/◌, cond, List, [], ◌∷◌, ◌++◌, length, map, max, nat_lt, Option, None, ap, sym, ◌∙◌, arith}
 use Rattle.std.proofs.lemmas.List.{append-nil, take-append-le}
 use Rattle.m17_control.specs.declared.event.Event.{Event}
 use Rattle.m17_control.specs.declared.item.Item.{Item}
 use Rattle.m17_control.specs.declared.item.Said.TheVariants as said
-use Rattle.m17_floor.specs.declared.act.Act.{Act}
 use Rattle.m17_floor.specs.declared.act.ActKind.TheVariants as act
 use Rattle.m17_floor.specs.declared.verdict.Verdict.{Verdict}
 use Rattle.m17_floor.specs.Acts.{with_act, is_packet, greatest_moment, moment_before, moment_at}
@@ -13,9 +12,9 @@ use Rattle.m17_floor.specs.Laws.{MomentOfOneMore, MomentAfterOneMore, LaterActsC
 use Rattle.m17_module.specs.declared.seat.Seat.{Seat}
 use Rattle.m17_module.specs.Events.{kind_of, act_of, acts_of}
 use Rattle.m17_module.specs.Seats.{seats_at, members_of}
-use Rattle.m17_module.specs.Items.{Setup, Setting, ping_every_ms, item_to, says, setting_at, pings_at, said_by, said_at, items_at}
-use Rattle.m17_module.specs.StandsFor.{People, PeopleStandFor, Kept, StandsFor, IsStep}
-use Rattle.m17_module.proofs.Acts.{acts_more, acts_append, length_acts}
+use Rattle.m17_module.specs.Items.{Setup, Setting, ping_every_ms, item_to, says, pings_at, said_by, said_at, items_at}
+use Rattle.m17_module.specs.StandsFor.{People, PeopleStandFor, StandsFor, IsStep}
+use Rattle.m17_module.proofs.Acts.{acts_more, length_acts}
 use Rattle.m17_module.proofs.Below.{length_more, slice_get_end}
 use Rattle.m17_module.proofs.SeatsMore.{seats_at_before}
 use Rattle.m17_module.proofs.PeopleMore.{other_people, kind_end}

@@ -1,5 +1,5 @@
 -- The events of a module, as its floor sees them. This profile.
-use Rattle.std.specs.Prelude.{ℕ, List, map}
+use Rattle.std.specs.Prelude.{List, map}
 use Rattle.m17_control.specs.declared.event.Body.{Body}
 use Rattle.m17_control.specs.declared.event.Body.TheVariants.{Join, Leave, Packet, Reply, Tick, Stop}
 use Rattle.m17_control.specs.declared.event.Event.{Event}

@@ -1,5 +1,5 @@
 -- Who is in a module before a position of its events, place by place. Positions count from 0. This profile.
-use Rattle.std.specs.Prelude.{ℕ, ◌==◌, Bool, false, not, List, map, filter, slice_get, slice_index_or, nat_lt, Option, None, Some, option_and_then, if◌then◌else◌}
+use Rattle.std.specs.Prelude.{ℕ, ◌==◌, Bool, false, not, List, map, filter, slice_get, slice_index_or, Option, None, Some, option_and_then, if◌then◌else◌}
 use Rattle.std.specs.List.{filter_map, range_with_len}
 use Rattle.m17_values.specs.declared.member.Member.{Member}
 use Rattle.m17_control.specs.declared.event.Body.{Body}

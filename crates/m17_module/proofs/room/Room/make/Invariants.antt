@@ -1,4 +1,4 @@
-use Rattle.std.proofs.Common.{◌≡◌, ◌≤◌, None, replicate, length, vec_capacity}
+use Rattle.std.proofs.Common.{◌≡◌, None, replicate, length, vec_capacity}
 use Rattle.m17_module.proofs.room.Room.make.Given as goal
 
 abbrev pub invariant-loop-place : goal.invariant-loop-place
