@@ -1,0 +1,11 @@
+mod Below
+mod Acts
+mod Places
+mod SeatsMore
+mod PeopleMore
+mod StepMore
+mod ItemsMore
+mod Mine
+mod FramesMine
+mod LifeParts
+mod Life

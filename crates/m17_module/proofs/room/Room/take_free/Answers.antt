@@ -1,0 +1,36 @@
+use Rattle.std.proofs.Common.{◌≡◌, ◌<◌, ℕ, None, Some, length, get_or, ap, sym, subst, ◌∙◌, arith}
+use Rattle.std.proofs.lemmas.List.{length-set}
+use Rattle.m17_module.specs.Events.{acts_of}
+use Rattle.m17_module.specs.StandsFor.{People, PeopleStandFor}
+use Rattle.m17_module.proofs.Places.{held_short, in_order_put}
+use Rattle.m17_module.proofs.PeopleMore.{joined_people, nobody_in}
+use Rattle.m17_module.proofs.room.Room.take_free.Goals as goal
+
+pub put_place-requires : goal.put_place-requires
+put_place-requires c =
+    let q : ℕ = c.args.seat.now.member.place in
+    let within : q < length c.self.inside.seats.items = omega (arith, c.requires.place, ap (λ (p : People). length p.seats) c.self.view_is) in
+    omega (arith, c.self.invariant.at_most, ap length c.self.invariant.held_are, held_short c.self.inside.seats.items q within (ap (λ (p : People). get_or p.seats q None) c.self.view_is ∙ c.requires.free))
+
+pub invariant_of-self : goal.invariant_of-self
+invariant_of-self c =
+    let q : ℕ = c.args.seat.now.member.place in
+    let within : q < length c.self.inside.seats.items = omega (arith, c.requires.place, ap (λ (p : People). length p.seats) c.self.view_is) in
+    record {
+      at_most = omega (arith, c.self.invariant.at_most, length-set c.self.inside.seats.items q (Some c.args.seat.now));
+      held_are = in_order_put c.self.inside.seats.items c.self.inside.held.items _ q c.args.seat.now c.self.invariant.held_are c.put_place.ensures within (ap (λ (p : People). get_or p.seats q None) c.self.view_is ∙ c.requires.free);
+      each = length-set c.self.inside.lasts.items q c.new.result ∙ c.self.invariant.each ∙ sym (length-set c.self.inside.seats.items q (Some c.args.seat.now));
+    }
+
+pub returns-clause-stands : goal.returns-clause-stands
+returns-clause-stands c = λ places events event is stands.
+    let q : ℕ = c.args.seat.now.member.place in
+    let within : q < length c.self.inside.seats.items = omega (arith, c.requires.place, ap (λ (p : People). length p.seats) c.self.view_is) in
+    let inside = subst (λ (p : People). PeopleStandFor places p events) (sym c.self.view_is) stands in
+    let free : get_or c.self.inside.seats.items q None ≡ None = ap (λ (p : People). get_or p.seats q None) c.self.view_is ∙ c.requires.free in
+    joined_people c.one_member_at_a_place.ensures.after_one_more c.comings_and_goings_leave_others.ensures.joins places
+    c.self.inside.seats.items c.self.inside.lasts.items c.self.inside.floor c.self.inside.floor c.new.result events event c.args.seat.now is within c.self.invariant.each
+    (c.comings_and_goings_leave_others.ensures.floor places (acts_of events) event.at c.args.seat.now.member c.args.seat.now.listens c.self.inside.floor
+    (nobody_in places _ events q inside free) inside.floor)
+    (c.new.ensures.joined places (acts_of events) c.args.seat.now.member event.at c.args.seat.now.listens)
+    inside

@@ -1,0 +1,117 @@
+-- What each event of a module gives to whom, in order. This profile.
+use Rattle.std.specs.Prelude.{ℕ, ◌/◌, Bool, false, List, [], ◌∷◌, ◌++◌, length, map, filter, slice_get, nat_lt, Option, None, Some, if◌then◌else◌}
+use Rattle.std.specs.List.{flat_map, range_with_len}
+use Rattle.m17_values.specs.declared.member.Member.{Member}
+use Rattle.m17_control.specs.declared.event.Body.{Body}
+use Rattle.m17_control.specs.declared.event.Body.TheVariants.{Join, Leave, Packet, Reply, Tick, Stop}
+use Rattle.m17_control.specs.declared.event.Event.{Event}
+use Rattle.m17_control.specs.declared.event.Why.TheVariants.{Replaced}
+use Rattle.m17_control.specs.declared.item.Item.{Item}
+use Rattle.m17_control.specs.declared.item.Said.{Said}
+use Rattle.m17_control.specs.declared.item.Said.TheVariants as said
+use Rattle.m17_floor.specs.Acts.{is_same, moment_before, moment_at}
+use Rattle.m17_floor.specs.Floor.{admits, verdict_at}
+use Rattle.m17_module.specs.declared.seat.Seat.{Seat}
+use Rattle.m17_module.specs.Events.{acts_of}
+use Rattle.m17_module.specs.Seats.{seats_at, members_of, seat_in, seat_of, others_than}
+
+-- How a module was made: its number of places, and whether it is a parrot. This profile.
+pub record Setup : Type 0 where
+  pub places : ℕ
+  pub parrot : Bool
+
+-- Members are asked whether they are there each time the moment passes a multiple of so many ms. This profile.
+abbrev pub ping_every_ms : ℕ
+ping_every_ms = 3000
+
+-- What is said to a member goes to the peer and the link of its Join. This profile.
+abbrev pub item_to : Said → Seat → Item
+item_to what seat =
+    record { member = seat.member; link = seat.link; peer = seat.peer; body = what }
+
+abbrev pub to_one : Said → Option Seat → List Item
+to_one what None = []
+to_one what (Some seat) = item_to what seat ∷ []
+
+-- What a position is known by: who is in before it, the number of the position, the link of its event, and
+-- whether its packet is admitted. This profile.
+pub record Setting : Type 0 where
+  pub seats : List (Option Seat)
+  pub position : ℕ
+  pub link : ℕ
+  pub admitted : Bool
+
+-- Who joins takes a place of the module: who is in there leaves first, with a Bye, and then comes the Hello. At a
+-- place that is none of the module's nothing happens. This profile.
+abbrev pub greets : List (Option Seat) → Seat → ℕ → List Item
+greets seats seat after =
+    if nat_lt seat.member.place (length seats)
+    then to_one (said.Bye Replaced) (seat_in seats seat.member.place)
+    ++ item_to (said.Hello after) seat ∷ []
+    else []
+
+-- What an event says by what it is: to the member that a Join replaces and to the new one, to a member that
+-- leaves, to all but the sender of an admitted packet, and to one that is answered. This profile.
+abbrev pub says : Setting → Body → List Item
+says now (Join k peer callsign listens after) =
+    greets now.seats (record { member = k; link = now.link; peer = peer; listens = listens }) after
+says now (Leave k why) = to_one (said.Bye why) (seat_of now.seats k)
+says now (Packet k p) =
+    if now.admitted then map (item_to (said.Frame now.position p)) (others_than k now.seats) else []
+says now (Reply k control) = to_one (said.Reply control) (seat_of now.seats k)
+says now Tick = []
+says now Stop = []
+
+-- Position n, in a module of so many places. This profile.
+abbrev pub setting_at : ℕ → List Event → ℕ → ℕ → Setting
+setting_at places events n link = record {
+  seats = seats_at places events n;
+  position = n;
+  link = link;
+  admitted = admits (verdict_at places (acts_of events) n);
+}
+
+-- The first part: where the moment passes a multiple of 3,000 ms, a Ping for each member that is in, in order
+-- of place. This profile.
+unfoldable pub pings_at : ℕ → List Event → ℕ → List Item
+pings_at places events n =
+    if nat_lt (moment_before (acts_of events) n / ping_every_ms)
+    (moment_at (acts_of events) n / ping_every_ms)
+    then map (item_to said.Ping) (members_of (seats_at places events n))
+    else []
+
+-- The second part: what a parrot module plays back. There are none yet. This profile.
+abbrev pub echoes_at : Setup → List Event → ℕ → List Item
+echoes_at setup events n = []
+
+-- The third part: what the event itself says. This profile.
+abbrev pub said_by : ℕ → List Event → ℕ → Option Event → List Item
+said_by places events n None = []
+said_by places events n (Some event) = says (setting_at places events n event.tag.link) event.body
+
+unfoldable pub said_at : ℕ → List Event → ℕ → List Item
+said_at places events n = said_by places events n (slice_get events n)
+
+-- What the event at position n gives, in order. This profile.
+unfoldable pub items_at : Setup → List Event → ℕ → List Item
+items_at setup events n =
+    pings_at setup.places events n ++ echoes_at setup events n ++ said_at setup.places events n
+
+-- All that the events give, in order. This profile.
+unfoldable pub items_given : Setup → List Event → List Item
+items_given setup events = flat_map (items_at setup events) (range_with_len 0 (length events))
+
+-- The share of a member: all that is for it, in order. This profile.
+abbrev pub is_for : Member → Item → Bool
+is_for k item = is_same item.member k
+
+unfoldable pub items_for : Setup → List Event → Member → List Item
+items_for setup events k = filter (is_for k) (items_given setup events)
+
+-- The frames among what is for a member, in order. This profile.
+abbrev pub is_frame : Said → Bool
+is_frame (said.Frame position packet) = Bool.true
+is_frame _ = false
+
+unfoldable pub frames_for : Setup → List Event → Member → List Item
+frames_for setup events k = filter (λ item. is_frame item.body) (items_for setup events k)

@@ -1,0 +1,113 @@
+-- What follows from the definitions for every list of events. This profile.
+use Rattle.std.specs.Prelude.{◌≡◌, ℕ, ◌<◌, ◌≤◌, ◌⊎◌, ◌&&◌, Bool, true, false, not, List, [], ◌∷◌, ◌++◌, length, filter, slice_get, is_some, Option, None, Some}
+use Rattle.std.specs.List.{flat_map, range_with_len}
+use Rattle.m17_values.specs.declared.member.Member.{Member}
+use Rattle.m17_control.specs.declared.event.Event.{Event}
+use Rattle.m17_control.specs.declared.event.Body.{Body}
+use Rattle.m17_control.specs.declared.event.Body.TheVariants.{Packet}
+use Rattle.m17_control.specs.declared.item.Item.{Item}
+use Rattle.m17_control.specs.declared.item.Said.{Said}
+use Rattle.m17_control.specs.declared.item.Said.TheVariants as said
+use Rattle.m17_floor.specs.Acts.{is_join_of, kind_at, joined_at}
+use Rattle.m17_floor.specs.Floor.{is_packet_of, admits, verdict_at}
+use Rattle.m17_module.specs.Events.{acts_of}
+use Rattle.m17_module.specs.Seats.{seats_at, seat_of}
+use Rattle.m17_module.specs.Items.{to_one, frames_for, Setup, items_at, items_given, is_for, items_for}
+
+-- What comes later changes nothing of what an event gives. This profile.
+abbrev pub LaterEventsChangeNoItems : Type 0
+LaterEventsChangeNoItems =
+    (setup : Setup) (events more : List Event) (n : ℕ) → n < length events →
+    items_at setup (events ++ more) n ≡ items_at setup events n
+
+-- One event more gives what it gives at its position, behind all that was given before. This profile.
+abbrev pub OneEventMoreGives : Type 0
+OneEventMoreGives =
+    (setup : Setup) (events : List Event) (event : Event) →
+    items_given setup (events ++ event ∷ [])
+    ≡ items_given setup events ++ items_at setup (events ++ event ∷ []) (length events)
+
+-- The same of each member's share. This profile.
+abbrev pub OneEventMoreIsShared : Type 0
+OneEventMoreIsShared =
+    (setup : Setup) (events : List Event) (event : Event) (k : Member) →
+    items_for setup (events ++ event ∷ []) k
+    ≡ items_for setup events k
+    ++ filter (is_for k) (items_at setup (events ++ event ∷ []) (length events))
+
+-- A member hears a position: it is in before it, and the packet there is admitted and not its own. This profile.
+abbrev pub hears : ℕ → List Event → Member → ℕ → Bool
+hears places events k n =
+    is_some (joined_at places (acts_of events) k n)
+    && (admits (verdict_at places (acts_of events) n)
+    && not (is_packet_of k (kind_at (acts_of events) n)))
+
+-- The positions that a member hears, rising. This profile.
+abbrev pub heard : ℕ → List Event → Member → List ℕ
+heard places events k = filter (hears places events k) (range_with_len 0 (length events))
+
+-- The packet as the member is sent it; nothing of any other event. This profile.
+abbrev pub frame_of_body : ℕ → List Event → Member → ℕ → Body → List Item
+frame_of_body places events k n (Packet m p) =
+    to_one (said.Frame n p) (seat_of (seats_at places events n) k)
+frame_of_body places events k n _ = []
+
+-- The packet of a position as the member is sent it: with the position, to the link and peer of its Join. This
+-- profile.
+abbrev pub frame_by : ℕ → List Event → Member → ℕ → Option Event → List Item
+frame_by places events k n None = []
+frame_by places events k n (Some event) = frame_of_body places events k n event.body
+
+abbrev pub frame_sent : ℕ → List Event → Member → ℕ → List Item
+frame_sent places events k n = frame_by places events k n (slice_get events n)
+
+-- The frames for a member are those of the positions that it hears, in their order, and each is one. This profile.
+abbrev pub FramesAreThoseHeard : Type 0
+FramesAreThoseHeard =
+    (setup : Setup) (events : List Event) (k : Member) →
+    frames_for setup events k
+    ≡ flat_map (frame_sent setup.places events k) (heard setup.places events k)
+
+abbrev pub EachHeardIsSentOnce : Type 0
+EachHeardIsSentOnce =
+    (places : ℕ) (events : List Event) (k : Member) (n : ℕ) → hears places events k n ≡ true →
+    length (frame_sent places events k n) ≡ 1
+
+-- A Hello, and a Bye. This profile.
+abbrev pub is_hello : Said → Bool
+is_hello (said.Hello after) = true
+is_hello _ = false
+
+abbrev pub is_bye : Said → Bool
+is_bye (said.Bye why) = true
+is_bye _ = false
+
+-- The position is a Join of the member. This profile.
+abbrev pub joins : List Event → Member → ℕ → Bool
+joins events k n = is_join_of k (kind_at (acts_of events) n)
+
+-- No two positions are Joins of the member. This profile.
+abbrev pub JoinsOnce : List Event → Member → Type 0
+JoinsOnce events k = (i j : ℕ) → joins events k i ≡ true → joins events k j ≡ true → i ≡ j
+
+-- The items begin with their only Hello, and nothing follows a Bye. This profile.
+pub record IsLife (items : List Item) : Type 0 where
+  pub first : Item
+  pub rest : List Item
+  pub items_are : items ≡ first ∷ rest
+  pub hello : is_hello first.body ≡ true
+  pub no_other : filter (λ item. is_hello item.body) rest ≡ []
+  pub bye_is_last : (front after : List Item) (bye : Item) → items ≡ front ++ bye ∷ after →
+      is_bye bye.body ≡ true → after ≡ []
+
+-- The share of a member that joins once, at one of the module's places, begins with its only Hello, and nothing
+-- follows its Bye; one that never joins there gets nothing. This profile.
+abbrev pub ShareIsALife : Type 0
+ShareIsALife =
+    (setup : Setup) (events : List Event) (k : Member) (j : ℕ) → JoinsOnce events k →
+    joins events k j ≡ true → k.place < setup.places → IsLife (items_for setup events k)
+
+abbrev pub WhoNeverJoinsGetsNothing : Type 0
+WhoNeverJoinsGetsNothing =
+    (setup : Setup) (events : List Event) (k : Member) →
+    ((j : ℕ) → joins events k j ≡ false) ⊎ (setup.places ≤ k.place) → items_for setup events k ≡ []

@@ -1,0 +1,54 @@
+-- What the small state of a module stands for, out of the whole list of its events. This profile.
+use Rattle.std.specs.Prelude.{◌≡◌, ℕ, List, [], ◌∷◌, ◌++◌, length, slice_get, Option, Some}
+use Rattle.m17_control.specs.declared.event.Event.{Event}
+use Rattle.m17_control.specs.declared.item.Item.{Item}
+use Rattle.m17_floor.specs.declared.verdict.Verdict.{Verdict}
+use Rattle.m17_floor.specs.Acts.{moment_before}
+use Rattle.m17_floor.specs.Floor.{verdict_at, admitted_count}
+use Rattle.m17_floor.specs.Rule.{Frame}
+use Rattle.m17_floor.specs.StandsFor.{FloorStandsFor, OwnStandsFor}
+use Rattle.m17_module.specs.declared.seat.Seat.{Seat}
+use Rattle.m17_module.specs.Events.{acts_of}
+use Rattle.m17_module.specs.Seats.{seats_at}
+use Rattle.m17_module.specs.Items.{Setup, items_at}
+
+-- Who is in, place by place, the last admitted frame of each, and the floor's. This profile.
+pub record People : Type 0 where
+  pub seats : List (Option Seat)
+  pub lasts : List (Option Frame)
+  pub floor : Option Frame
+
+-- They may have come from these events in a module of so many places. This profile.
+pub record PeopleStandFor (places : ℕ) (people : People) (events : List Event) : Type 0 where
+  -- the members are those that are in at the end
+  pub seats : people.seats ≡ seats_at places events (length events)
+  -- each member's frame is its last admitted one since its Join
+  pub lasts : (place : ℕ) (seat : Seat) (last : Option Frame) →
+      slice_get people.seats place ≡ Some (Some seat) → slice_get people.lasts place ≡ Some last →
+      OwnStandsFor places (acts_of events) seat.member last
+  -- the floor's frame is the last admitted one, unless its sender has left
+  pub floor : FloorStandsFor places (acts_of events) people.floor
+
+-- What a module keeps: how it was made, its moment, its people, and how many events it has had and packets
+-- it has admitted. This profile.
+pub record Kept : Type 0 where
+  pub setup : Setup
+  pub moment : ℕ
+  pub people : People
+  pub count : ℕ
+  pub admitted : ℕ
+
+-- The module may have come from these events. This profile.
+pub record StandsFor (kept : Kept) (events : List Event) : Type 0 where
+  pub moment : kept.moment ≡ moment_before (acts_of events) (length events)
+  pub people : PeopleStandFor kept.setup.places kept.people events
+  pub count : kept.count ≡ length events
+  pub admitted : kept.admitted ≡ admitted_count kept.setup.places (acts_of events)
+
+-- The step by an event after these: the module then stands for the list with the event, what it gave is what the
+-- event at this position gives, and its answer is the verdict there, which only a packet has. This profile.
+pub record IsStep (setup : Setup) (events : List Event) (event : Event) (answer : Option Verdict)
+    (kept : Kept) (given : List Item) : Type 0 where
+  pub stands : StandsFor kept (events ++ event ∷ [])
+  pub items : given ≡ items_at setup (events ++ event ∷ []) (length events)
+  pub verdict : answer ≡ verdict_at setup.places (acts_of (events ++ event ∷ [])) (length events)

@@ -1,0 +1,41 @@
+//! What the definitions promise of every list of events. Each function does nothing: its clause is the law. This
+//! profile.
+ghost use Rattle.m17_module.specs.Laws as law;
+
+use m17_floor::laws as floor_laws;
+
+/// What comes later changes nothing of what an event gives.
+pub fn later_events_change_no_items()
+    ensures { law.LaterEventsChangeNoItems }
+{
+    floor_laws::later_acts_change_no_verdict();
+    floor_laws::later_acts_change_nothing_before();
+}
+
+/// What one event more gives stands behind all that was given before, and so does each member's part of it.
+pub fn one_event_more_gives()
+    ensures given { law.OneEventMoreGives }
+    ensures shared { law.OneEventMoreIsShared }
+{
+    later_events_change_no_items();
+}
+
+/// The frames for a member are the packets of the positions that it hears: those at which it is in, and the packet is
+/// admitted and not its own. They stand in rising order, each position once.
+pub fn frames_are_the_others()
+    ensures frames { law.FramesAreThoseHeard }
+    ensures once { law.EachHeardIsSentOnce }
+{
+    floor_laws::only_speakers_are_heard();
+}
+
+/// The share of a member that joins once, at one of the module's places, begins with its only Hello, and nothing follows
+/// its Bye; one that never joins there gets nothing. Its frames are those that it hears, between its Join and the event
+/// that ends its membership (`frames_are_the_others`).
+pub fn share_is_the_others_frames()
+    ensures life { law.ShareIsALife }
+    ensures strangers { law.WhoNeverJoinsGetsNothing }
+    ensures frames { law.FramesAreThoseHeard }
+{
+    frames_are_the_others();
+}

@@ -1,0 +1,148 @@
+ghost use Rattle.std.specs.Prelude.{◌≡◌, ◌↔◌, ◌-◌, ◌+◌, ◌/◌, ◌^◌, ◌<◌, ◌≤◌, List, [], ◌∷◌, ◌++◌, false, length, map, nat_lt, is_some, IfOk, if◌then◌else◌};
+ghost use Rattle.m17_control.specs.declared.event.Event.{Event};
+ghost use Rattle.m17_control.specs.declared.item.Said.TheVariants as said;
+ghost use Rattle.m17_floor.specs.Acts.{is_packet};
+ghost use Rattle.m17_floor.specs.Floor.{admits};
+ghost use Rattle.m17_module.specs.Events.{kind_of};
+ghost use Rattle.m17_module.specs.Seats.{members_of};
+ghost use Rattle.m17_module.specs.Items.{item_to, ping_every_ms};
+ghost use Rattle.m17_module.specs.StandsFor.{StandsFor, IsStep};
+
+use crate::Basket;
+use crate::basket::Tray;
+use crate::room::Room;
+use m17_control::Event;
+use m17_floor::{Verdict, laws as floor_laws};
+use m17_values::NoMemory;
+use std::alloc::Global;
+use std::marker::Model;
+
+/// Each member is asked whether it is there where the module's moment passes a multiple of so many milliseconds. This
+/// profile.
+pub const PING_EVERY_MS: u64 = 3_000;
+
+/// A module of the reflector: who is in it, who may speak, and what each event gives to whom. Contracts see what it
+/// keeps, and relate that to the list of all its events (`StandsFor`). This profile.
+#[derive(Debug, Drop)]
+pub struct Module {
+    room: Room,
+    moment: u64,
+    count: u64,
+    admitted: u64,
+    parrot: bool,
+}
+
+impl Model for Module {
+    ghost use Rattle.std.specs.Prelude.{◌≤◌, length};
+    ghost use Rattle.m17_module.specs.StandsFor.{Kept};
+
+    ghost Value = { Kept };
+
+    ghost view = { λ m. record {
+      setup = record { places = length m.room.seats; parrot = m.parrot };
+      moment = m.moment;
+      people = m.room;
+      count = m.count;
+      admitted = m.admitted;
+    } };
+
+    ghost invariant = { λ m. m.admitted ≤ m.count };
+}
+
+// Asks each member whether it is there, where the moment passes a multiple of 3,000 ms. One question is enough, however
+// many multiples were passed.
+fn ask(room: &Room, before: u64, moment: u64, out: &mut Tray)
+    requires { out.old ≡ [] }
+    ensures told { out.new ≡ (if nat_lt (before / ping_every_ms) (moment / ping_every_ms)
+        then map (item_to said.Ping) (members_of room.now.seats) else []) }
+    ensures few { length out.new ≤ 256 }
+{
+    if before / PING_EVERY_MS < moment / PING_EVERY_MS {
+        room.ping(out);
+    }
+}
+
+// How many packets are admitted after this answer.
+fn count_admitted(admitted: u64, answer: &Option<Verdict>) -> u64
+    ensures counted { admitted < 2 ^ 64 - 1 →
+        result ≡ admitted + (if admits answer.now then 1 else 0) }
+    ensures at_most { result ≤ admitted + 1 }
+{
+    match answer {
+        Some(verdict) if verdict.is_admitted() => admitted.saturating_add(1),
+        _ => admitted,
+    }
+}
+
+impl Module {
+    ghost use Rattle.m17_module.specs.Items.{Setup};
+
+    /// An empty module of so many places, 1 to 256; `parrot` is false until there are parrot modules. It fails only where
+    /// there is no memory. This profile.
+    pub fn make(alloc: Global, places: u32, parrot: bool) -> Result<Module, NoMemory>
+        requires some { 0 < places }
+        requires at_most { places ≤ 256 }
+        requires no_parrot { parrot ≡ false }
+        ensures setup { IfOk result (λ m. m.setup ≡ record { places = places; parrot = parrot }) }
+        ensures stands { IfOk result (λ m. StandsFor m []) }
+    {
+        floor_laws::admitted_positions_are_counted();
+        let room = match Room::make(alloc, places) {
+            Ok(room) => room,
+            Err(no_memory) => return Err(no_memory),
+        };
+        Ok(Module {
+            room,
+            moment: 0,
+            count: 0,
+            admitted: 0,
+            parrot,
+        })
+    }
+
+    /// How many packets the module has admitted. This profile.
+    pub fn admitted(&self) -> u64
+        ensures { result ≡ self.now.admitted }
+    {
+        self.admitted
+    }
+
+    /// Takes in the next event: puts what it gives into the basket, in order, and answers the verdict on a packet, and
+    /// nothing for any other event. For every list of events that the module may have come from, of fewer than 2^64 - 1,
+    /// the basket then holds what the event at this position gives (`items_at`), and the module stands for the list with
+    /// the event. This profile.
+    pub fn step(&mut self, event: &Event, out: &mut Basket) -> Option<Verdict>
+        requires { out.old ≡ [] }
+        ensures by_rule { (events : List Event) →
+            StandsFor self.old events → length events < 2 ^ 64 - 1 →
+            IsStep self.old.setup events event.now result self.new out.new }
+        ensures setup { self.new.setup ≡ self.old.setup }
+        ensures answer { is_some result ≡ is_packet (kind_of event.now.body) }
+    {
+        out.tray.clear();
+        out.next = 0;
+        self.take_in(event, &mut out.tray)
+    }
+
+    // The same, into a row of items.
+    fn take_in(&mut self, event: &Event, out: &mut Tray) -> Option<Verdict>
+        requires { out.old ≡ [] }
+        ensures by_rule { (events : List Event) →
+            StandsFor self.old events → length events < 2 ^ 64 - 1 →
+            IsStep self.old.setup events event.now result self.new out.new }
+        ensures setup { self.new.setup ≡ self.old.setup }
+        ensures answer { is_some result ≡ is_packet (kind_of event.now.body) }
+    {
+        floor_laws::the_greatest_moment_counts();
+        floor_laws::later_acts_change_nothing_before();
+        floor_laws::admitted_positions_are_counted();
+        let before = self.moment;
+        let moment = before.max(event.at);
+        ask(&self.room, before, moment, out);
+        let answer = self.room.happen(event, moment, self.count, out);
+        self.moment = moment;
+        self.count = self.count.saturating_add(1);
+        self.admitted = count_admitted(self.admitted, &answer);
+        answer
+    }
+}
