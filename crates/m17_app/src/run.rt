@@ -5,11 +5,11 @@ ghost use Rattle.m17_app.specs.Run.{NamesJudge, NamesShow, AreRefused, RunsJudge
 use crate::command::{Command, command_of};
 use crate::conclude::{conclude, refuse_words};
 use crate::status::Status;
-use m17_io::{Sink, Source};
+use m17_io::{Input, Sink};
 use std::alloc::Global;
 
 // Runs `judge` to its last line.
-fn run_judge<S: Source, K: Sink>(alloc: Global, input: &mut S, out: &mut K) -> Status
+fn run_judge<S: Input<K>, K: Sink>(alloc: Global, input: &mut S, out: &mut K) -> Status
     ensures { RunsJudge result
         (outside (S.left input.old) (S.faults input.old)
         (K.written out.old) (K.faults out.old) (K.held_back out.old))
@@ -23,7 +23,7 @@ fn run_judge<S: Source, K: Sink>(alloc: Global, input: &mut S, out: &mut K) -> S
 }
 
 // Runs `show` to its last line.
-fn run_show<S: Source, K: Sink>(input: &mut S, out: &mut K) -> Status
+fn run_show<S: Input<K>, K: Sink>(input: &mut S, out: &mut K) -> Status
     ensures { RunsShow result
         (outside (S.left input.old) (S.faults input.old)
         (K.written out.old) (K.faults out.old) (K.held_back out.old))
@@ -35,7 +35,7 @@ fn run_show<S: Source, K: Sink>(input: &mut S, out: &mut K) -> Status
 }
 
 // Ends a run whose words are refused.
-fn run_nothing<S: Source, K: Sink>(input: &S, out: &mut K) -> Status
+fn run_nothing<S: Input<K>, K: Sink>(input: &S, out: &mut K) -> Status
     ensures { RefusesWords result
         (outside (S.left input.now) (S.faults input.now)
         (K.written out.old) (K.faults out.old) (K.held_back out.old))
@@ -48,7 +48,7 @@ fn run_nothing<S: Source, K: Sink>(input: &S, out: &mut K) -> Status
 /// Does all that the program does: reads the words, runs their command over the source and the sink, and answers the
 /// status: 0 where the input was read to its end, 1 where it is refused, 2 where the words are, 3 where the source
 /// failed, 4 where the sink failed, in place of all others, and 70 where there was no memory. This profile.
-pub fn run<R, S: Source, K: Sink>(
+pub fn run<R, S: Input<K>, K: Sink>(
     _rt: &R,
     alloc: Global,
     words: &[String],

@@ -44,5 +44,7 @@ abbrev pub IsRefused : List ℕ → CallRefusal → Type 0
 IsRefused text Empty = length text ≡ 0
 IsRefused text (Long len) = (9 < length text) × (len ≡ length text)
 IsRefused text (Letter place) = (length text ≤ 9) × (place < length text)
-    × (IsLetter (slice_index text place) → ⊥) × ((k : ℕ) → k < place → IsLetter (slice_index text k))
-IsRefused text TrailingSpace = (0 < length text) × (length text ≤ 9) × All IsLetter text × (last_letter text ≡ 32)
+    × (IsLetter (slice_index text place) → ⊥)
+    × ((k : ℕ) → k < place → IsLetter (slice_index text k))
+IsRefused text TrailingSpace = (0 < length text) × (length text ≤ 9) × All IsLetter text
+    × (last_letter text ≡ 32)

@@ -36,7 +36,8 @@ pub fn encode(text: &str) -> Result<Address, CallRefusal>
 fn sum_of_letters(letters: &[u8]) -> Result<u64, usize>
     requires { length letters.now ≤ 9 }
     ensures within { IfOk result (λ value. value < 2 ^ 48) }
-    ensures sum { IfOk result (λ value. value ≡ sum_by (share_of letters.now) (range_with_len 0 (length letters.now))) }
+    ensures sum { IfOk result (λ value. value
+        ≡ sum_by (share_of letters.now) (range_with_len 0 (length letters.now))) }
     ensures letters { IfOk result (λ _. All IsLetter letters.now) }
     ensures err { IfErr result (λ place. IsRefused letters.now (CallRefusal.Letter place)) }
 {

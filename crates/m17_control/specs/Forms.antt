@@ -55,8 +55,10 @@ IsModuleMagic m = (m ≡ codes "CONN") ⊎ (m ≡ codes "LSTN")
 
 -- the bytes begin with a magic of packets of their length
 abbrev pub HasMagic : List ℕ → Type 0
-HasMagic bytes = ((length bytes ≡ 4) × IsBareMagic (take 4 bytes)) ⊎ ((length bytes ≡ 10) × IsFromMagic (take 4 bytes))
-    ⊎ ((length bytes ≡ 11) × IsModuleMagic (take 4 bytes)) ⊎ ((length bytes ≡ 54) × (take 4 bytes ≡ stream.magic))
+HasMagic bytes = ((length bytes ≡ 4) × IsBareMagic (take 4 bytes))
+    ⊎ ((length bytes ≡ 10) × IsFromMagic (take 4 bytes))
+    ⊎ ((length bytes ≡ 11) × IsModuleMagic (take 4 bytes))
+    ⊎ ((length bytes ≡ 54) × (take 4 bytes ≡ stream.magic))
 
 -- the bytes have a From field after a magic that fits their length, and this is its address
 pub record HasFrom (bytes : List ℕ) (address : ℕ) : Type 0 where
@@ -71,7 +73,8 @@ abbrev pub Refuses : List ℕ → Refusal → Type 0
 Refuses bytes (Length n) = (IsLength (length bytes) → ⊥) × (n ≡ min (length bytes) (2 ^ 32 - 1))
 Refuses bytes (Magic m) = IsLength (length bytes) × (m ≡ take 4 bytes) × (HasMagic bytes → ⊥)
 Refuses bytes (Address address) = HasFrom bytes address × (IsFrom address → ⊥)
-Refuses bytes (Module letter) = (length bytes ≡ 11) × (letter ≡ slice_index bytes 10) × (IsModule letter → ⊥)
+Refuses bytes (Module letter) = (length bytes ≡ 11) × (letter ≡ slice_index bytes 10)
+    × (IsModule letter → ⊥)
     × (from : ℕ) × HasFrom bytes from × IsFrom from
 Refuses bytes (Crc found expected) = (length bytes ≡ 54) × HasMagic bytes × (found < 2 ^ 16)
     × (be_16 found ≡ drop 52 bytes) × (expected ≡ crc_of (take 52 bytes)) × (found ≢ expected)

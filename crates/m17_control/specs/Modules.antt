@@ -28,6 +28,8 @@ IsModulesText text = (0 < length text) × IsFront text (length text)
 -- or is one that stands earlier too.
 abbrev pub IsModulesRefused : List ℕ → ModulesRefusal → Type 0
 IsModulesRefused text Empty = length text ≡ 0
-IsModulesRefused text (Letter place) = (place < length text) × IsFront text place × (IsModule (slice_index text place) → ⊥)
-IsModulesRefused text (Twice place) = (place < length text) × IsFront text place × IsModule (slice_index text place)
+IsModulesRefused text (Letter place) = (place < length text) × IsFront text place
+    × (IsModule (slice_index text place) → ⊥)
+IsModulesRefused text (Twice place) = (place < length text) × IsFront text place
+    × IsModule (slice_index text place)
     × (k : ℕ) × (k < place) × (slice_index text k ≡ slice_index text place)

@@ -32,8 +32,10 @@ impl Modules {
     /// too, whichever place comes first. This profile.
     pub fn read(text: &str) -> Result<Modules, ModulesRefusal>
         ensures ok { IsOk result ↔ IsModulesText text.now }
-        ensures letters { IfOk result (λ modules. (letter : ℕ) → IsTrue (serves modules letter) ↔ Contains text.now letter) }
-        ensures err { (refusal : ModulesRefusal) → (result ≡ Err refusal) ↔ IsModulesRefused text.now refusal }
+        ensures letters { IfOk result (λ modules. (letter : ℕ)
+            → IsTrue (serves modules letter) ↔ Contains text.now letter) }
+        ensures err { (refusal : ModulesRefusal)
+            → (result ≡ Err refusal) ↔ IsModulesRefused text.now refusal }
     {
         let bytes = text.as_bytes();
         if bytes.is_empty() {
@@ -77,7 +79,8 @@ impl Modules {
     fn put(&mut self, letter: u8)
         requires { IsModule letter }
         ensures it { serves self.new letter ≡ true }
-        ensures others { (other : ℕ) → other ≢ letter → serves self.new other ≡ serves self.old other }
+        ensures others { (other : ℕ) → other ≢ letter
+            → serves self.new other ≡ serves self.old other }
     {
         self.0 |= 1 << (letter - b'A');
     }

@@ -131,7 +131,8 @@ fn from_of(b: &[u8]) -> Result<CallAddress, Refusal>
 fn membership_of(b: &[u8]) -> Result<(CallAddress, ModuleLetter), Refusal>
     requires has_magic { HasMagic b.now }
     requires long { length b.now ≡ 11 }
-    ensures { MatchResult result (λ found. IsFrom found.0 × HasFrom b.now found.0 × IsModule found.1 × (found.1 ≡ slice_index b.now 10)) (Refuses b.now) }
+    ensures { MatchResult result (λ found. IsFrom found.0 × HasFrom b.now found.0
+        × IsModule found.1 × (found.1 ≡ slice_index b.now 10)) (Refuses b.now) }
 {
     let from = from_of(b)?;
     let byte = b[MODULE_AT];

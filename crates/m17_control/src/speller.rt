@@ -17,7 +17,8 @@ const DATAGRAM_BYTES: usize = 54;
 /// None exactly for a member that moved or was replaced, to whom nothing is said. This profile.
 pub fn spell(item: &Item, name: CallAddress) -> Option<ArrayVec<u8, 54>>
     ensures said { is_some result ≡ is_some (packet_said item.now.body name) }
-    ensures bytes { IfSome result (λ datagram. IfSome (packet_said item.now.body name) (λ packet. Spells packet datagram.items)) }
+    ensures bytes { IfSome result (λ datagram. IfSome (packet_said item.now.body name)
+        (λ packet. Spells packet datagram.items)) }
 {
     match item.body {
         Said::Hello { .. } => Some(of_control(&Control::Ackn)),

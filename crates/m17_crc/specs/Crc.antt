@@ -26,7 +26,8 @@ divisor = 1 ∷ byte_bits 0x59 ++ byte_bits 0x35
 -- first bit, which is 0, is left behind. What is left after the last digit is the remainder.
 unfoldable pub remainder : ℕ → List ℕ → List ℕ
 remainder zero bits = bits
-remainder (suc digits) bits = remainder digits (drop 1 (if slice_index bits 0 == 1 then less_front divisor bits else bits))
+remainder (suc digits) bits =
+    remainder digits (drop 1 (if slice_index bits 0 == 1 then less_front divisor bits else bits))
 
 -- the number that bits spell, the most significant first
 abbrev pub number_of : List ℕ → ℕ

@@ -15,7 +15,8 @@ pub fn bytes_48(number: u64) -> [u8; 6]
 #[inline]
 pub fn put(bytes: &mut [u8], place: usize, field: &[u8])
     requires { place + length field.now ≤ length bytes.old }
-    ensures written { bytes.new ≡ take place bytes.old ++ field.now ++ drop (place + length field.now) bytes.old }
+    ensures written { bytes.new
+        ≡ take place bytes.old ++ field.now ++ drop (place + length field.now) bytes.old }
     // What stands before the end of the field, and that the length stays: what a writer from front to back needs.
     ensures front { take (place + length field.now) bytes.new ≡ take place bytes.old ++ field.now }
     ensures whole { length bytes.new ≡ length bytes.old }

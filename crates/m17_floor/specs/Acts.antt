@@ -67,8 +67,3 @@ joined_at places acts k n =
 -- the member is in before position n
 abbrev pub IsMember : ℕ → List Act → Member → ℕ → Type 0
 IsMember places acts k n = IsSome (joined_at places acts k n)
-
--- the act is a Join to listen only
-abbrev pub listens : ActKind → Bool
-listens (Join member listens_only) = listens_only
-listens _ = false

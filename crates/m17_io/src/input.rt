@@ -1,4 +1,4 @@
-ghost use Rattle.std.specs.Prelude.{◌≡◌, ◌⊎◌, ℕ, Bool, true, ◌≤◌, List, length, Option, None, Some, Result, Ok, Err, IfOk, OnErr};
+ghost use Rattle.std.specs.Prelude.{◌≡◌, ◌⊎◌, ℕ, Bool, true, ◌≤◌, ◌-◌, ◌^◌, List, length, Option, None, Some, Result, Ok, Err, IfOk, OnErr};
 ghost use Rattle.m17_io.specs.Faults.{HasCause, HasCauses};
 ghost use Rattle.m17_io.specs.Source.{Takes};
 ghost use Rattle.m17_io.specs.Tied.{fault_of, MayRead};
@@ -31,6 +31,9 @@ pub trait Input<K: Sink> {
     /// Whether the next read is answered from what is at hand.
     fn has_bytes_at_hand(&self) -> bool
         ensures { result ≡ at_hand self.now };
+
+    /// A count of faults is a number of 64 bits.
+    ghost faults_fit: { (source : Self) → faults source ≤ 2 ^ 64 - 1 };
 }
 
 impl<S: Source, K: Sink> Input<K> for S {
@@ -49,6 +52,8 @@ impl<S: Source, K: Sink> Input<K> for S {
     fn has_bytes_at_hand(&self) -> bool {
         self.is_at_hand()
     }
+
+    ghost faults_fit = { λ s. S.faults_fit s };
 }
 
 /// Reads, and before it would wait for more input, the sink hands on what it holds back; while bytes are at hand it is

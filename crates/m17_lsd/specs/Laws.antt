@@ -11,4 +11,5 @@ FieldsAreExact = (l m : Lsd) → FitsFields l → FitsFields m → lsd_bytes l �
 -- each 28 bytes are those of link setup data
 abbrev pub Each28BytesAreLinkSetupData : Type 0
 Each28BytesAreLinkSetupData =
-    (bytes : List ℕ) → length bytes ≡ 28 → IsBytes bytes → (l : Lsd) × FitsFields l × (lsd_bytes l ≡ bytes)
+    (bytes : List ℕ) → length bytes ≡ 28 → IsBytes bytes
+    → (l : Lsd) × FitsFields l × (lsd_bytes l ≡ bytes)

@@ -26,7 +26,8 @@ mode_of kind = if bits_at kind 0 1 == 1 then codes "stream" else codes "packet"
 -- bits 1 and 2
 abbrev pub data_of : ℕ → List ℕ
 data_of kind = if bits_at kind 1 2 == 0 then codes "reserved" else
-    (if bits_at kind 1 2 == 1 then codes "data" else (if bits_at kind 1 2 == 2 then codes "voice" else codes "both"))
+    (if bits_at kind 1 2 == 1 then codes "data" else
+    (if bits_at kind 1 2 == 2 then codes "voice" else codes "both"))
 
 -- the text of TYPE: its mode, its data type, and three numbers; bits 11 to 15 are not printed
 abbrev pub text_of_type : ℕ → List ℕ

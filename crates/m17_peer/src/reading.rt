@@ -128,7 +128,8 @@ fn six_peer(ip: &[u8], port: u16) -> Peer
 // The four bytes of the two groups that begin at a place.
 fn two_groups(bytes: &[u8], at: usize) -> [u8; 4]
     requires { at < 2 ^ 32 }
-    ensures { result ≡ pair_value bytes.now at ∷ pair_value bytes.now (at + 2) ∷ pair_value bytes.now (at + 5) ∷ pair_value bytes.now (at + 7) ∷ [] }
+    ensures { result ≡ pair_value bytes.now at ∷ pair_value bytes.now (at + 2)
+        ∷ pair_value bytes.now (at + 5) ∷ pair_value bytes.now (at + 7) ∷ [] }
 {
     [
         pair(bytes, at),

@@ -39,7 +39,8 @@ impl<'a> Rest<'a> {
 
     /// The number that stands here, of a text that has one; any number of another text.
     pub fn number(&mut self) -> u16
-        ensures { (n : ℕ) (rest : List ℕ) → n < 2 ^ 16 → EndsNumber rest → self.old ≡ decimal n ++ rest → (result ≡ n) × (self.new ≡ rest) }
+        ensures { (n : ℕ) (rest : List ℕ) → n < 2 ^ 16 → EndsNumber rest
+            → self.old ≡ decimal n ++ rest → (result ≡ n) × (self.new ≡ rest) }
     {
         let bytes = self.bytes;
         let (number, len) = first_number(bytes);
@@ -51,7 +52,8 @@ impl<'a> Rest<'a> {
 // The number that a text begins with, and how many digits it has.
 fn first_number(bytes: &[u8]) -> (u16, usize)
     ensures within { result.1 ≤ length bytes.now }
-    ensures number { (n : ℕ) (rest : List ℕ) → n < 2 ^ 16 → EndsNumber rest → bytes.now ≡ decimal n ++ rest → (result.0 ≡ n) × (result.1 ≡ length (decimal n)) }
+    ensures number { (n : ℕ) (rest : List ℕ) → n < 2 ^ 16 → EndsNumber rest
+        → bytes.now ≡ decimal n ++ rest → (result.0 ≡ n) × (result.1 ≡ length (decimal n)) }
 {
     let mut value = 0u32;
     for (i, byte) in bytes.iter().enumerate() {

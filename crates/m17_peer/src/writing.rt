@@ -110,7 +110,8 @@ fn put_group(text: &mut ArrayString<MAX_TEXT>, ip: &[u8; 16], k: usize)
 // Appends a byte as two hex digits.
 fn put_byte(text: &mut ArrayString<MAX_TEXT>, byte: u8)
     requires { array_string_len text.old + 2 ≤ 48 }
-    ensures appended { text.new.bytes ≡ text.old.bytes ++ hex_digit (byte / 16) ∷ hex_digit (byte % 16) ∷ [] }
+    ensures appended { text.new.bytes
+        ≡ text.old.bytes ++ hex_digit (byte / 16) ∷ hex_digit (byte % 16) ∷ [] }
     ensures longer { array_string_len text.new ≡ array_string_len text.old + 2 }
 {
     put_char(text, digit(byte / 16));

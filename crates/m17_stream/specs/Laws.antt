@@ -7,7 +7,8 @@ use Rattle.m17_stream.specs.declared.packet.StreamPacket.{StreamPacket}
 
 -- two packets that the same bytes spell are one
 abbrev pub OneSpelling : Type 0
-OneSpelling = (p q : StreamPacket) (bytes : List ℕ) → SpellsStream p bytes → SpellsStream q bytes → p ≡ q
+OneSpelling =
+    (p q : StreamPacket) (bytes : List ℕ) → SpellsStream p bytes → SpellsStream q bytes → p ≡ q
 
 -- a packet has one spelling
 abbrev pub OnePacket : Type 0

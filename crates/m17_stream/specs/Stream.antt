@@ -18,7 +18,8 @@ frame_field last number = 32768 * (if last then 1 else 0) + number
 
 -- the 52 bytes before the CRC
 abbrev pub front_bytes : StreamPacket → List ℕ
-front_bytes p = magic ++ be_16 p.sid ++ lsd_bytes p.lsd ++ be_16 (frame_field p.last p.number) ++ p.payload
+front_bytes p =
+    magic ++ be_16 p.sid ++ lsd_bytes p.lsd ++ be_16 (frame_field p.last p.number) ++ p.payload
 
 -- The packet spells the bytes: its fields fit their places, and then comes the CRC of the first 52 bytes.
 pub record SpellsStream (p : StreamPacket) (bytes : List ℕ) : Type 0 where
@@ -34,8 +35,9 @@ pub record SpellsStream (p : StreamPacket) (bytes : List ℕ) : Type 0 where
 abbrev pub RefusesStream : List ℕ → StreamRefusal → Type 0
 RefusesStream bytes (Length n) = (n ≡ length bytes) × (length bytes ≢ 54)
 RefusesStream bytes (Magic m) = (length bytes ≡ 54) × (m ≡ take 4 bytes) × (m ≢ magic)
-RefusesStream bytes (Crc found expected) = (length bytes ≡ 54) × (take 4 bytes ≡ magic) × (found < 2 ^ 16)
-    × (be_16 found ≡ drop 52 bytes) × (expected ≡ crc_of (take 52 bytes)) × (found ≢ expected)
+RefusesStream bytes (Crc found expected) = (length bytes ≡ 54) × (take 4 bytes ≡ magic)
+    × (found < 2 ^ 16) × (be_16 found ≡ drop 52 bytes)
+    × (expected ≡ crc_of (take 52 bytes)) × (found ≢ expected)
 
 -- how far the new number is ahead of the old one, counted round 32,768
 abbrev pub steps_ahead : ℕ → ℕ → ℕ

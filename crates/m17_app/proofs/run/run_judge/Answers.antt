@@ -4,7 +4,7 @@ use Rattle.m17_app.proofs.run.run_judge.Goals as goal
 
 pub returns-in-Ok : goal.returns-in-Ok
 returns-in-Ok g c =
-    let mid : Outside = outside (g.S.Source.left c.judge.new.input) (g.S.Source.faults c.judge.new.input)
+    let mid : Outside = outside (g.S.Input.left c.judge.new.input) (g.S.Input.faults c.judge.new.input)
     (g.K.Sink.written c.judge.new.out) (g.K.Sink.faults c.judge.new.out) (g.K.Sink.held_back c.judge.new.out) in
     ran c.in-Ok.ending c.conclude.result _ mid _ c.in-Ok.ensures.ended c.in-Ok.ensures.causes c.judge.ensures.appended (c.conclude.ensures mid.left mid.reads)
 
