@@ -197,8 +197,7 @@ impl Floor {
             FloorStandsFor places acts self.old →
             FloorStandsFor places (with_act acts (leave_act moment m)) self.new }
         // .. and for the list with a Join at the place where m was in.
-        ensures by_join {
-            (places : ℕ) (acts : List Act) (moment : ℕ) (k : Member) (listens : Bool) →
+        ensures by_join { (places : ℕ) (acts : List Act) (moment : ℕ) (k : Member) (listens : Bool) →
             FloorStandsFor places acts self.old →
             IsMember places acts m (length acts) → k.place ≡ m.place →
             FloorStandsFor places (with_act acts (join_act moment k listens)) self.new }
