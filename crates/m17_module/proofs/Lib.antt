@@ -9,3 +9,4 @@ mod Mine
 mod FramesMine
 mod LifeParts
 mod Life
+mod Between

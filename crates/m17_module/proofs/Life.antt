@@ -32,7 +32,7 @@ joined_cond : (below b : Bool) (f : ℕ → Option ℕ) (n : ℕ) (o : Option �
 joined_cond below true f n o = refl
 joined_cond below false f n o = refl
 
-joined_suc : (places : ℕ) (events : List Event) (k : Member) (n : ℕ) → joined_at places (acts_of events) k (suc n) ≡ cond (settles k (kind_at (acts_of events) n)) (cond (nat_lt k.place places) (cond (is_join_of k (kind_at (acts_of events) n)) (Some n) None) None) (joined_at places (acts_of events) k n)
+pub joined_suc : (places : ℕ) (events : List Event) (k : Member) (n : ℕ) → joined_at places (acts_of events) k (suc n) ≡ cond (settles k (kind_at (acts_of events) n)) (cond (nat_lt k.place places) (cond (is_join_of k (kind_at (acts_of events) n)) (Some n) None) None) (joined_at places (acts_of events) k n)
 unfolding joined_at
 joined_suc places events k n =
     let test : ℕ → Bool = λ j. settles k (kind_at (acts_of events) j) in

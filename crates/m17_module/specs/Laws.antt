@@ -1,5 +1,5 @@
 -- What follows from the definitions for every list of events. This profile.
-use Rattle.std.specs.Prelude.{◌≡◌, ℕ, ◌<◌, ◌≤◌, ◌⊎◌, ◌&&◌, Bool, true, false, not, List, [], ◌∷◌, ◌++◌, length, filter, slice_get, is_some, Option, None, Some}
+use Rattle.std.specs.Prelude.{◌≡◌, ◌↔◌, ℕ, ◌<◌, ◌≤◌, ◌⊎◌, ◌&&◌, Bool, true, false, not, List, [], ◌∷◌, ◌++◌, length, filter, slice_get, is_some, Option, None, Some}
 use Rattle.std.specs.List.{flat_map, range_with_len}
 use Rattle.m17_values.specs.declared.member.Member.{Member}
 use Rattle.m17_control.specs.declared.event.Event.{Event}
@@ -8,7 +8,7 @@ use Rattle.m17_control.specs.declared.event.Body.TheVariants.{Packet}
 use Rattle.m17_control.specs.declared.item.Item.{Item}
 use Rattle.m17_control.specs.declared.item.Said.{Said}
 use Rattle.m17_control.specs.declared.item.Said.TheVariants as said
-use Rattle.m17_floor.specs.Acts.{is_join_of, kind_at, joined_at}
+use Rattle.m17_floor.specs.Acts.{is_join_of, settles, kind_at, joined_at}
 use Rattle.m17_floor.specs.Floor.{is_packet_of, admits, verdict_at}
 use Rattle.m17_module.specs.Events.{acts_of}
 use Rattle.m17_module.specs.Seats.{seats_at, seat_of}
@@ -89,6 +89,19 @@ joins events k n = is_join_of k (kind_at (acts_of events) n)
 -- No two positions are Joins of the member. This profile.
 abbrev pub JoinsOnce : List Event → Member → Type 0
 JoinsOnce events k = (i j : ℕ) → joins events k i ≡ true → joins events k j ≡ true → i ≡ j
+
+-- No event strictly between the two positions is a Leave of the member or a Join at its place. This profile.
+abbrev pub StaysBetween : List Event → Member → ℕ → ℕ → Type 0
+StaysBetween events k j n =
+    (i : ℕ) → j < i → i < n → settles k (kind_at (acts_of events) i) ≡ false
+
+-- A member that joins once, at one of the module's places, is in exactly behind its Join and up to the event that ends
+-- its membership, that event too. This profile.
+abbrev pub InFromJoinToEnd : Type 0
+InFromJoinToEnd =
+    (places : ℕ) (events : List Event) (k : Member) (j n : ℕ) → JoinsOnce events k →
+    joins events k j ≡ true → k.place < places →
+    (is_some (joined_at places (acts_of events) k n) ≡ true) ↔ ((j < n) × StaysBetween events k j n)
 
 -- The items begin with their only Hello, and nothing follows a Bye. This profile.
 pub record IsLife (items : List Item) : Type 0 where

@@ -1,4 +1,4 @@
-ghost use Rattle.std.specs.Prelude.{◌≡◌, ◌<◌, ◌↔◌, [], ◌∷◌, ◌++◌, length, slice_index_or, IsTrue, IfOk};
+ghost use Rattle.std.specs.Prelude.{◌≡◌, ◌<◌, ◌↔◌, [], ◌∷◌, ◌++◌, length, slice_index_or, IsTrue, IsNone, IfOk};
 ghost use Rattle.std.specs.Option.{option_to_list};
 
 use m17_callsign::CallAddress;
@@ -109,7 +109,8 @@ impl Basket {
     /// Takes the first item out; none exactly where the basket is empty. This profile.
     #[inline]
     pub fn take(&mut self) -> Option<Item>
-        ensures { self.old ≡ option_to_list result ++ self.new }
+        ensures first { self.old ≡ option_to_list result ++ self.new }
+        ensures none { IsNone result ↔ (self.old ≡ []) }
     {
         if self.next == self.tray.len() {
             return None;

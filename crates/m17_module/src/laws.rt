@@ -30,12 +30,14 @@ pub fn frames_are_the_others()
 }
 
 /// The share of a member that joins once, at one of the module's places, begins with its only Hello, and nothing follows
-/// its Bye; one that never joins there gets nothing. Its frames are those that it hears, between its Join and the event
-/// that ends its membership (`frames_are_the_others`).
+/// its Bye; one that never joins there gets nothing. Its frames are those that it hears, in rising order, each position
+/// once; and it is in, and so hears, exactly at the positions behind its Join up to the event that ends its membership.
 pub fn share_is_the_others_frames()
     ensures life { law.ShareIsALife }
     ensures strangers { law.WhoNeverJoinsGetsNothing }
     ensures frames { law.FramesAreThoseHeard }
+    ensures once { law.EachHeardIsSentOnce }
+    ensures between { law.InFromJoinToEnd }
 {
     frames_are_the_others();
 }

@@ -178,10 +178,10 @@ fn run_list(rt: &impl Abort, alloc: Global, seed: u64) -> Result<(), AllocError>
     let mut events = [tick(0); 48];
     let mut acts = [act(&tick(0)); 48];
     for i in 0..48 {
-        n = (n & 0xffff_ffff) * 0x5deece66 + 0xb;
+        n = (n & 0xffff_ffff) * 0x5deece6d + 0xb;
         let mut event = generated(rt, n >> 12);
         // The moments rise on the whole, and sometimes go back.
-        event.at = (event.at >> 1) + 100 * (i as u64);
+        event.at = (event.at >> 1) + 300 * (i as u64);
         events[i] = event;
         acts[i] = act(&event);
     }

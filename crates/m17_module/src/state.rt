@@ -1,4 +1,4 @@
-ghost use Rattle.std.specs.Prelude.{◌≡◌, ◌↔◌, ◌-◌, ◌+◌, ◌/◌, ◌^◌, ◌<◌, ◌≤◌, List, [], ◌∷◌, ◌++◌, false, length, map, nat_lt, is_some, IfOk, if◌then◌else◌};
+ghost use Rattle.std.specs.Prelude.{◌≡◌, ◌↔◌, ◌-◌, ◌+◌, ◌/◌, ◌^◌, ◌<◌, ◌≤◌, min, List, [], ◌∷◌, ◌++◌, false, length, map, nat_lt, is_some, IfOk, if◌then◌else◌};
 ghost use Rattle.m17_control.specs.declared.event.Event.{Event};
 ghost use Rattle.m17_control.specs.declared.item.Said.TheVariants as said;
 ghost use Rattle.m17_floor.specs.Acts.{is_packet};
@@ -67,6 +67,7 @@ fn count_admitted(admitted: u64, answer: &Option<Verdict>) -> u64
     ensures counted { admitted < 2 ^ 64 - 1 →
         result ≡ admitted + (if admits answer.now then 1 else 0) }
     ensures at_most { result ≤ admitted + 1 }
+    ensures at_least { admitted ≤ result }
 {
     match answer {
         Some(verdict) if verdict.is_admitted() => admitted.saturating_add(1),
@@ -118,6 +119,9 @@ impl Module {
             IsStep self.old.setup events event.now result self.new out.new }
         ensures setup { self.new.setup ≡ self.old.setup }
         ensures answer { is_some result ≡ is_packet (kind_of event.now.body) }
+        // Counts that have come to their type's end stay there.
+        ensures count { self.new.count ≡ min (self.old.count + 1) (2 ^ 64 - 1) }
+        ensures admitted { self.old.admitted ≤ self.new.admitted }
     {
         out.tray.clear();
         out.next = 0;
@@ -132,6 +136,8 @@ impl Module {
             IsStep self.old.setup events event.now result self.new out.new }
         ensures setup { self.new.setup ≡ self.old.setup }
         ensures answer { is_some result ≡ is_packet (kind_of event.now.body) }
+        ensures count { self.new.count ≡ min (self.old.count + 1) (2 ^ 64 - 1) }
+        ensures admitted { self.old.admitted ≤ self.new.admitted }
     {
         floor_laws::the_greatest_moment_counts();
         floor_laws::later_acts_change_nothing_before();
