@@ -33,4 +33,4 @@ for capacity in 1 64 256; do
     done
 done
 measure "lane, 10000 items with a rest of 100 us before each" calm 10000
-measure "a consumer that waits ten seconds" rest 10000
+measure "three threads that wait ten seconds" rest 10000

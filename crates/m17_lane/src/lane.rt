@@ -45,6 +45,9 @@ pub fn put<T, R: Wait>(
 /// No pop is missed, by the reason that `Announced` gives: announced first, tried then. One pop wakes one producer, and
 /// that is enough: a pop frees one place, each producer that sleeps wants one, and one that wakes up tries again. Where
 /// another producer took the place first, the queue is full again, and the pop that frees the next place wakes the next.
+/// The wake-up may go to a producer that announced after that, tried, and found the queue full: it sleeps again in vain,
+/// and nobody is left asleep beside a free place. For that it found the queue full says that the place was taken, and the
+/// one consumer rings after each pop and before its next, so the place that is freed next has a wake-up of its own.
 pub fn put_or_rest<T, R: Wait>(
     rt: &R,
     lane: &Lane<T>,

@@ -65,6 +65,7 @@ impl<T> Popper<T> {
             };
             match item {
                 Some(item) => return item,
+                None if backoff.is_completed() => {}
                 None => backoff.snooze(),
             }
         }

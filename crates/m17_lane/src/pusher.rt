@@ -77,7 +77,9 @@ impl<T> Pusher<T> {
                 Ok(()) => return,
                 Err(back) => item = back,
             }
-            backoff.snooze();
+            if !backoff.is_completed() {
+                backoff.snooze();
+            }
         }
         unreachable!()
     }

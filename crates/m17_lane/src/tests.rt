@@ -61,13 +61,13 @@ fn push_numbers<R: Wait>(rt: &R, end: Pusher<u32>, from: u32, count: u32) -> Pus
     end
 }
 
-// Tries the numbers from 1 to below `end`, and says how many were taken.
-fn try_numbers<R: Wait>(rt: &R, pusher: Pusher<u32>, end: u32) -> (Pusher<u32>, u32)
+// Tries the numbers from `from` to below `end`, and says how many were taken.
+fn try_numbers<R: Wait>(rt: &R, pusher: Pusher<u32>, from: u32, end: u32) -> (Pusher<u32>, u32)
     ensures { result.0.lane ≡ pusher.lane }
 {
     let mut pusher = pusher;
     let mut taken = 0u32;
-    for i in 1..end {
+    for i in from..end {
         if pusher.try_push(rt, i).is_ok() {
             taken = taken.saturating_add(1);
         }
@@ -177,13 +177,35 @@ fn a_full_lane_gives_the_item_back(rt: HostRuntime) -> Result<(), Fail> {
 #[test]
 fn what_is_left_comes_out_of_the_trail(rt: HostRuntime) -> Result<(), Fail> {
     let (pusher, popper) = make_one(rt.alloc(), 3)?;
-    let (pusher, taken) = try_numbers(&rt, pusher, 5);
+    let (pusher, taken) = try_numbers(&rt, pusher, 1, 5);
     assert_eq!(rt; taken, 3);
     let (popper, item) = pop_one(&rt, popper);
     assert_eq!(rt; item, 1);
     let mut trail = finish_one(pusher, popper);
     assert_eq!(rt; (trail.left(&rt), trail.left(&rt)), (Some(2), Some(3)));
     assert_eq!(rt; (trail.left(&rt), trail.left(&rt)), (None, None));
+    Ok(())
+}
+
+#[test]
+fn what_several_producers_left_comes_out_in_order(rt: HostRuntime) -> Result<(), Fail> {
+    let (mut pushers, popper) = make(rt.alloc(), 3, 4)?;
+    let third = pushers.pop().expect(&rt, "three pushers");
+    let second = pushers.pop().expect(&rt, "three pushers");
+    let first = pushers.pop().expect(&rt, "three pushers");
+    let (second, two) = try_numbers(&rt, second, 20, 22);
+    let (first, one) = try_numbers(&rt, first, 10, 11);
+    let (third, three) = try_numbers(&rt, third, 30, 33);
+    assert_eq!(rt; (one, two, three), (1, 2, 1), "the lane has room for four");
+    let (popper, item) = pop_one(&rt, popper);
+    assert_eq!(rt; item, 20);
+    pushers.push(third)?;
+    pushers.push(first)?;
+    pushers.push(second)?;
+    let mut trail = finish(pushers, popper);
+    assert_eq!(rt; (trail.left(&rt), trail.left(&rt)), (Some(21), Some(10)));
+    assert_eq!(rt; (trail.left(&rt), trail.left(&rt)), (Some(30), None));
+    assert_eq!(rt; trail.left(&rt), None);
     Ok(())
 }
 
@@ -311,7 +333,8 @@ fn take_bursts<R: Wait + Clock>(
     wrong
 }
 
-// A missed wake-up leaves both threads asleep for ever, and the test is then stopped as too long.
+// A missed wake-up leaves both threads asleep for ever. The bound of time is the gate's, which stops a test after 60
+// seconds: with every wake-up this one takes a few, 0.4 of them at rest, so only a missed one passes the bound.
 #[test]
 fn two_hundred_thousand_items_in_bursts_arrive(rt: HostRuntime) -> Result<(), Fail> {
     let (pusher, popper) = make_one(rt.alloc(), 16)?;

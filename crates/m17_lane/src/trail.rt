@@ -87,6 +87,7 @@ pub fn finish_one<T: Drop>(pusher: Pusher<T>, popper: Popper<T>) -> Trail<T>
     ensures logs { result.logs ≡ (pusher.number, pusher.pushed) ∷ [] }
     ensures refused { result.refused ≡ pusher.refused ∷ [] }
     ensures popped { result.popped ≡ popper.popped }
+    ensures whole { (rest : List T) × IsWhole result.logs result.popped result.order rest }
     ensures order { items_of result.order ≡ pusher.pushed }
     ensures settled { (rest : List T) × (pusher.pushed ≡ popper.popped ++ rest) }
 {

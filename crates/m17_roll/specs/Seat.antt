@@ -43,6 +43,12 @@ IsSeatOf roll seats places s = (s.roll ≡ roll) × (s.seats ≡ seats) × (s.pl
 abbrev pub IsSameSeat : RollView → RollView → Type 0
 IsSameSeat before after = IsSeatOf before.roll before.seats before.places after
 
+-- The seat's claims, the members that it gave back, and its refused askers are these. What it saw is
+-- not said. This profile.
+abbrev pub HasLists : List Member → List Member → List ℕ → RollView → Type 0
+HasLists claimed given refused s =
+    (s.claimed ≡ claimed) × (s.given ≡ given) × (s.refused ≡ refused)
+
 -- the seat as it was, and after these looks
 abbrev pub with_looks : RollView → List Sighting → RollView
 with_looks s looks = record s { seen = s.seen ++ looks }

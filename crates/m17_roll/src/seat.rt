@@ -1,8 +1,8 @@
 //! A seat at the roll: claim a place, give it back, look at its word.
-ghost use Rattle.std.specs.Prelude.{◌≡◌, ◌⊎◌, ℕ, ◌<◌, ◌≤◌, ◌↔◌, length, replicate, IfOk, IfSome, IfNone, IsNone, [], ◌∷◌, ◌++◌};
-ghost use Rattle.std.specs.Bool.{OnTrue, OnFalse};
+ghost use Rattle.std.specs.Prelude.{◌≡◌, ◌⊎◌, ℕ, ◌<◌, ◌≤◌, ◌↔◌, length, replicate, IfOk, IfSome, IfNone, IsNone, MatchOption, [], ◌∷◌, ◌++◌};
+ghost use Rattle.std.specs.Bool.{MatchBool, OnTrue, OnFalse};
 ghost use Rattle.m17_roll.specs.Sightings.{sighting, NeverFalls, RisesAtPlaces};
-ghost use Rattle.m17_roll.specs.Seat.{AreNew, IsSameSeat, with_looks, with_gift, IsClaim, IsRefusal, IsNotGiven, TakesAt, PassesAt};
+ghost use Rattle.m17_roll.specs.Seat.{AreNew, IsSameSeat, HasLists, with_looks, with_gift, IsClaim, IsRefusal, IsNotGiven, TakesAt, PassesAt};
 ghost use Rattle.m17_roll.specs.Rule.{SeenElse};
 
 use crate::rule::{Asker, ClaimsFor, Gives, Looks, LooksFor, Notes, Parting, RollRule, Shape};
@@ -56,6 +56,9 @@ impl RollSeat {
         ensures refused { IfNone result (IsRefusal self.old asker self.new) }
         ensures never_falls { NeverFalls self.new.seen }
         ensures rising { RisesAtPlaces self.new.claimed }
+        ensures lists { MatchOption result
+            (HasLists self.old.claimed self.old.given (self.old.refused ++ asker ∷ []) self.new)
+            (λ m. HasLists (self.old.claimed ++ m ∷ []) self.old.given self.old.refused self.new) }
         ensures seat { IsSameSeat self.old self.new }
     {
         for place in 0..self.places {
@@ -74,6 +77,9 @@ impl RollSeat {
     pub fn give(&mut self, member: Member) -> bool
         ensures given { OnTrue result (self.new ≡ with_gift self.old member) }
         ensures refused { OnFalse result (IsNotGiven self.old member self.new) }
+        ensures lists { MatchBool result
+            (HasLists self.old.claimed (self.old.given ++ member ∷ []) self.old.refused self.new)
+            (HasLists self.old.claimed self.old.given self.old.refused self.new) }
         ensures seat { IsSameSeat self.old self.new }
     {
         let place = member.place;
@@ -95,6 +101,7 @@ impl RollSeat {
         ensures none { IfNone result (self.new ≡ self.old) }
         ensures no_place { IsNone result ↔ (self.old.places ≤ place) }
         ensures never_falls { NeverFalls self.new.seen }
+        ensures lists { HasLists self.old.claimed self.old.given self.old.refused self.new }
         ensures seat { IsSameSeat self.old self.new }
     {
         if place >= self.places {

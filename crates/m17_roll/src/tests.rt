@@ -1,5 +1,5 @@
-ghost use Rattle.std.specs.Prelude.{◌≡◌, ◌<◌, ◌≤◌, ℕ, length, IfOk};
-ghost use Rattle.m17_roll.specs.Seat.{IsSeatOf, IsSameSeat};
+ghost use Rattle.std.specs.Prelude.{◌≡◌, ◌<◌, ◌≤◌, ◌++◌, ◌∷◌, [], ℕ, length, IfOk};
+ghost use Rattle.m17_roll.specs.Seat.{IsSeatOf, IsSameSeat, HasLists};
 ghost use Rattle.m17_roll.specs.Closing.{IsEnded};
 
 use crate::{RollEnd, RollSeat, close, make};
@@ -47,7 +47,7 @@ fn a_place_goes_from_seat_to_seat(rt: HostRuntime) -> Result<(), Fail> {
     let (mut first, mut second) = two_seats(rt.alloc(), 1)?;
     assert_eq!(rt; first.claim(0), Some(member(0, 0)));
     assert_eq!(rt; second.claim(0), None);
-    assert!(rt; first.give(member(0, 0)));
+    give_until_taken(&rt, &mut first, member(0, 0));
     assert!(rt; !first.give(member(0, 0)));
     assert_eq!(rt; second.claim(0), Some(member(0, 1)));
     assert_eq!(rt; first.look(0), Some(3));
@@ -129,6 +129,21 @@ fn play<R: Wait>(rt: &R, mut seat: RollSeat, mut members: Vec<Member>, rounds: u
         }
     }
     Played { seat, members }
+}
+
+// Gives the member back, and tries again where that was refused. The seat claims nothing meanwhile, and refuses nobody.
+fn give_until_taken<R: Wait>(rt: &R, seat: &mut RollSeat, member: Member)
+    ensures seat { IsSameSeat seat.old seat.new }
+    ensures lists { HasLists seat.old.claimed (seat.old.given ++ member ∷ []) seat.old.refused
+        seat.new }
+{
+    for _ in rt.forever() {
+        if seat.give(member) {
+            return;
+        }
+        yield_now();
+    }
+    unreachable!()
 }
 
 // Whether no member stands twice.
