@@ -51,7 +51,7 @@ begins_packet b head verdict packet h kind long value stream =
     let front = head_bytes 3 head.tag head.moment head.member in
     let one : take 31 b ≡ front ++ (verdict_code verdict ∷ []) = head_and_byte b head 3 h kind (omega arith) ∙ ap (λ n. front ++ (n ∷ [])) (sym value.1) in
     let two : take 43 b ≡ front ++ (verdict_code verdict ∷ []) ++ value_bytes verdict = take-add 31 12 b ∙ ap (λ xs. xs ++ take 12 (drop 31 b)) one
-        ∙ ap (λ xs. front ++ (verdict_code verdict ∷ []) ++ xs) (sym value.2) in
+    ∙ ap (λ xs. front ++ (verdict_code verdict ∷ []) ++ xs) (sym value.2) in
     record {
       some = omega arith;
       within = long;

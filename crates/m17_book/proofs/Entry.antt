@@ -30,12 +30,12 @@ datagram_bytes b ip bytes size at port len six within kind family moment port_is
     let m : take 9 b ≡ (1 ∷ []) ++ be_64 at = take-add 1 8 b ∙ ap (λ xs. xs ++ take 8 (drop 1 b)) k ∙ ap (λ xs. (1 ∷ []) ++ xs) (sym moment) in
     let f : take 10 b ≡ (1 ∷ []) ++ be_64 at ++ (get_or b 9 0 ∷ []) = take_one b 9 (omega arith) ∙ ap (λ xs. xs ++ get_or b 9 0 ∷ []) m in
     let a : take (10 + size) b ≡ (1 ∷ []) ++ be_64 at ++ family_bytes six ip = take-add 10 size b ∙ ap (λ xs. xs ++ take size (drop 10 b)) f
-        ∙ append_assoc ((1 ∷ []) ++ be_64 at) (get_or b 9 0 ∷ []) (take size (drop 10 b)) ∙ ap (λ xs. (1 ∷ []) ++ be_64 at ++ xs) (sym family) in
+    ∙ append_assoc ((1 ∷ []) ++ be_64 at) (get_or b 9 0 ∷ []) (take size (drop 10 b)) ∙ ap (λ xs. (1 ∷ []) ++ be_64 at ++ xs) (sym family) in
     let front = (1 ∷ []) ++ be_64 at ++ family_bytes six ip in
     let p : take (10 + size + 2) b ≡ front ++ be_16 port = take-add (10 + size) 2 b ∙ ap (λ xs. xs ++ take 2 (drop (10 + size) b)) a
-        ∙ ap (λ xs. front ++ xs) (sym port_is) in
+    ∙ ap (λ xs. front ++ xs) (sym port_is) in
     let l : take (10 + size + 2 + 1) b ≡ front ++ be_16 port ++ (length bytes ∷ []) = take_one b (10 + size + 2) (omega arith)
-        ∙ ap (λ xs. xs ++ get_or b (10 + size + 2) 0 ∷ []) p ∙ ap (λ n. front ++ be_16 port ++ (n ∷ [])) (sym len_is ∙ sym long) in
+    ∙ ap (λ xs. xs ++ get_or b (10 + size + 2) 0 ∷ []) p ∙ ap (λ n. front ++ be_16 port ++ (n ∷ [])) (sym len_is ∙ sym long) in
     take-add (10 + size + 2 + 1) len b ∙ ap (λ xs. xs ++ take len (drop (10 + size + 2 + 1) b)) l
     ∙ ap (λ xs. front ++ be_16 port ++ (length bytes ∷ []) ++ xs) (sym bytes_are)
 
@@ -123,7 +123,7 @@ pub begins_datagram : (b ip bytes : List ℕ) (size at port len : ℕ) → ((get
     → BeginsWith SpellsEntry b (Datagram (record { six = nat_eq size 16; ip = ip; port = port }) at bytes) (10 + size + 2 + 1 + len)
 begins_datagram b ip bytes size at port len family s =
     let P : ℕ → Type 0 = λ n. Stands b ip bytes n at port len
-        → BeginsWith SpellsEntry b (Datagram (record { six = nat_eq n 16; ip = ip; port = port }) at bytes) (10 + n + 2 + 1 + len) in
+    → BeginsWith SpellsEntry b (Datagram (record { six = nat_eq n 16; ip = ip; port = port }) at bytes) (10 + n + 2 + 1 + len) in
     elim family [
       | inl h ↦ subst P (sym h.1) (λ t. begins_4 b ip bytes at port len h.0 t) s
       | inr h ↦ subst P (sym h.1) (λ t. begins_6 b ip bytes at port len h.0 t) s

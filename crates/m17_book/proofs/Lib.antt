@@ -5,3 +5,6 @@ pub mod Entry
 pub mod Chunks
 pub mod Begun
 pub mod Magics
+pub mod Window
+pub mod NextStep
+pub mod Within

@@ -16,7 +16,7 @@ no_late law value found fits is high Repeat h = omega (arith, h.1)
 no_late law value found fits is high (Late last) h =
     let zeros : take 10 value ≡ zeros_10 = ap (take 10) (sym h.2) ∙ take_at zeros_10 (be_16 last) 10 refl in
     let number : take 2 (drop 10 value) ≡ be_16 last = ap (λ xs. take 2 (drop 10 xs)) (sym h.2) ∙ ap (take 2) (drop_at zeros_10 (be_16 last) 10 refl)
-        ∙ take_all 2 (be_16 last) (omega arith) in
+    ∙ take_all 2 (be_16 last) (omega arith) in
     let same : found ≡ last = law.one_number found last fits (omega (arith, h.0)) (is ∙ number) in
     omega (arith, h.0, high zeros)
 no_late law value found fits is high AfterEnd h = omega (arith, h.1)

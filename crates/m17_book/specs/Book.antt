@@ -76,8 +76,8 @@ TellsFlaw Flawed rest place NoMemory = ⊥
 abbrev pub LacksBookForm : List ℕ → FormRefusal → Type 0
 LacksBookForm bytes refusal = TellsFlaw BookHeaderFlaw bytes 0 refusal
     ⊎ ((letter : ℕ) × (records : List Record) × (front : List ℕ) × (rest : List ℕ)
-      × (bytes ≡ front ++ rest) × HasBookForm front letter records
-      × TellsFlaw RecordFlaw rest (length front) refusal)
+    × (bytes ≡ front ++ rest) × HasBookForm front letter records
+    × TellsFlaw RecordFlaw rest (length front) refusal)
 
 -- The bytes are refused as a book: too many bytes come before all other reasons. This profile.
 abbrev pub RefusesBook : List ℕ → FormRefusal → Type 0
@@ -94,8 +94,8 @@ HasTooMany bytes refusal = (entries : List Heard) × (front : List ℕ) × (rest
 abbrev pub LacksTraceForm : List ℕ → FormRefusal → Type 0
 LacksTraceForm bytes refusal = TellsFlaw (MagicFlaw trace_magic) bytes 0 refusal
     ⊎ ((entries : List Heard) × (front : List ℕ) × (rest : List ℕ) × (bytes ≡ front ++ rest)
-      × HasTraceForm front entries × (length entries < most_entries)
-      × TellsFlaw EntryFlaw rest (length front) refusal)
+    × HasTraceForm front entries × (length entries < most_entries)
+    × TellsFlaw EntryFlaw rest (length front) refusal)
 
 -- The bytes are refused as a trace: too many bytes come before all other reasons, and too many entries in
 -- their turn. This profile.

@@ -5,3 +5,5 @@ pub mod Entries
 pub mod Flaws
 pub mod Book
 pub mod Parsed
+pub mod Steps
+pub mod Reading

@@ -102,7 +102,7 @@ impl Cursor {
             → IsAhead (held self.new) (S.left source.new) ahead }
         ensures enough { OnOk result ((97 ≤ length (held self.new))
             ⊎ ((ahead : List ℕ) → IsAhead (held self.old) (S.left source.old) ahead
-                → (S.left source.new ≡ Some []) × (ahead ≡ held self.new))) }
+            → (S.left source.new ≡ Some []) × (ahead ≡ held self.new))) }
         ensures cause { HasCause (S.faults source.old) (S.faults source.new) result }
         ensures place { self.new.place ≡ self.old.place }
     {

@@ -10,12 +10,19 @@ mod parse_entry;
 mod parse_header;
 mod parse_record;
 mod parse_verdict;
+mod reader;
 mod record;
 mod refusal;
 mod spell_entry;
 mod spell_record;
+mod steps;
 
+pub use reader::Reader;
 pub use record::Record;
-pub use refusal::{Flaw, FormRefusal};
+pub(crate) use refusal::Flaw;
+pub use refusal::FormRefusal;
 pub use spell_entry::write_entry;
 pub use spell_record::{write_header, write_record};
+
+#[cfg(test)]
+mod tests;

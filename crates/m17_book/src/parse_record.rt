@@ -111,9 +111,22 @@ fn parse_join(head: Head, b: &[u8]) -> Result<(Record, usize), Flaw>
     let Some(callsign) = CallAddress::new(address) else {
         return Err(Flaw::Field(CALLSIGN_AT));
     };
-    let Head { tag, moment, member } = head;
+    let Head {
+        tag,
+        moment,
+        member,
+    } = head;
     let listen = listen == 1;
-    Ok((Record::Join { tag, moment, member, listen, callsign }, JOIN_BYTES))
+    Ok((
+        Record::Join {
+            tag,
+            moment,
+            member,
+            listen,
+            callsign,
+        },
+        JOIN_BYTES,
+    ))
 }
 
 /// The rest of a Leave.
@@ -128,8 +141,20 @@ fn parse_leave(head: Head, b: &[u8]) -> Result<(Record, usize), Flaw>
     let Some(why) = why_of(b[HEAD_BYTES]) else {
         return Err(Flaw::Field(HEAD_BYTES));
     };
-    let Head { tag, moment, member } = head;
-    Ok((Record::Leave { tag, moment, member, why }, LEAVE_BYTES))
+    let Head {
+        tag,
+        moment,
+        member,
+    } = head;
+    Ok((
+        Record::Leave {
+            tag,
+            moment,
+            member,
+            why,
+        },
+        LEAVE_BYTES,
+    ))
 }
 
 /// Why a member left, by its byte.
@@ -172,6 +197,19 @@ fn parse_packet(head: Head, b: &[u8]) -> Result<(Record, usize), Flaw>
     let Ok(packet) = m17_stream::read(&b[PACKET_AT..PACKET_BYTES]) else {
         return Err(Flaw::Field(PACKET_AT));
     };
-    let Head { tag, moment, member } = head;
-    Ok((Record::Packet { tag, moment, member, verdict, packet }, PACKET_BYTES))
+    let Head {
+        tag,
+        moment,
+        member,
+    } = head;
+    Ok((
+        Record::Packet {
+            tag,
+            moment,
+            member,
+            verdict,
+            packet,
+        },
+        PACKET_BYTES,
+    ))
 }

@@ -28,7 +28,7 @@ returns-in_default-read c =
     let value = c.in-Some.ensures.some in
     bad_field c.args.b.now Packet (omega arith, omega arith) c.requires.kind (omega arith)
     (sound_value c.args.b.now 43 (omega arith) c.requires.kind head.link head.place (omega arith, omega arith)
-      (c.in-Some.verdict, value.0, value.1, value.2))
+    (c.in-Some.verdict, value.0, value.1, value.2))
     (λ good. let is = (c.in_default-read.ensures.ok good.0).1 good.1 in cc)
 
 pub returns : goal.returns

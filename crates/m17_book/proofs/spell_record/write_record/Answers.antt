@@ -17,9 +17,9 @@ returns-in-Packet c =
     } in
     let head = head_bytes 3 p.tag p.moment p.member in
     let one = c.add-in-Packet.ensures.items ∙ ap (λ xs. xs ++ c.code_of_verdict.result ∷ []) c.head-bytes-in-Packet.ensures.items
-        ∙ ap (λ x. head ++ x ∷ []) c.code_of_verdict.ensures in
+    ∙ ap (λ x. head ++ x ∷ []) c.code_of_verdict.ensures in
     let two = c.add-in-Packet-2.ensures.items ∙ ap (λ xs. xs ++ c.value_of.result) one
-        ∙ ap (λ xs. head ++ (verdict_code p.verdict ∷ []) ++ xs) c.value_of.ensures.bytes in
+    ∙ ap (λ xs. head ++ (verdict_code p.verdict ∷ []) ++ xs) c.value_of.ensures.bytes in
     let three = c.add-in-Packet-3.ensures.items ∙ ap (λ xs. xs ++ c.write.result) two
-        ∙ ap (λ xs. head ++ (verdict_code p.verdict ∷ []) ++ value_bytes p.verdict ++ xs) written.spelling in
+    ∙ ap (λ xs. head ++ (verdict_code p.verdict ∷ []) ++ value_bytes p.verdict ++ xs) written.spelling in
     rw p.is ((c.head-bytes-in-Packet.ensures.fits, c.value_of.ensures.fits, stream), three)
