@@ -85,18 +85,18 @@ fn book(alloc: Global) -> Result<Vec<u8>, Fail> {
 fn a_book_is_written_field_by_field(rt: HostRuntime) -> Result<(), Fail> {
     let bytes = book(rt.alloc())?;
     assert_eq!(rt; bytes.len(), 9 + 37 + 97 + 97 + 31);
-    assert_eq!(rt; bytes[..9], *b"M17BOOK1C");
-    assert_eq!(rt; bytes[9..39], *HEAD);
-    assert_eq!(rt; bytes[39..46], *b"\x01\x00\x00\x00\x9f\xdd\x51");
+    assert_eq!(rt; &bytes[..9], b"M17BOOK1C".as_slice());
+    assert_eq!(rt; &bytes[9..39], HEAD.as_slice());
+    assert_eq!(rt; &bytes[39..46], b"\x01\x00\x00\x00\x9f\xdd\x51".as_slice());
     assert_eq!(rt; bytes[46], 3);
     assert_eq!(rt;
-        bytes[76..89],
-        *b"\x03\x00\x00\x00\x03\x00\x00\x00\x00\x00\x00\x00\x09"
+        &bytes[76..89],
+        b"\x03\x00\x00\x00\x03\x00\x00\x00\x00\x00\x00\x00\x09".as_slice()
     );
-    assert_eq!(rt; bytes[89..143], *STREAM);
+    assert_eq!(rt; &bytes[89..143], STREAM.as_slice());
     assert_eq!(rt;
-        bytes[173..186],
-        *b"\x05\x00\x00\x00\x00\x00\x00\x00\x00\x00\x00\x02\x01"
+        &bytes[173..186],
+        b"\x05\x00\x00\x00\x00\x00\x00\x00\x00\x00\x00\x02\x01".as_slice()
     );
     assert_eq!(rt; bytes[240], 2);
     assert_eq!(rt; bytes[270], 3);
