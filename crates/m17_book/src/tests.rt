@@ -1,3 +1,6 @@
+ghost use Rattle.std.specs.Prelude.{IfOk};
+ghost use Rattle.m17_book.specs.Records.{IsWritable, IsLowVerdict};
+
 use crate::{FormRefusal, Reader, Record, write_entry, write_header, write_record};
 use m17_callsign::{CallAddress, encode};
 use m17_control::{ModuleLetter, Tag, Why};
@@ -20,10 +23,6 @@ const HOLDER: Member = Member {
     generation: 9,
 };
 
-/// The 30 bytes that a record of `TAG` and `MEMBER` at moment 10 begins with.
-const HEAD: &[u8; 30] = b"\x01\x01\x00\x00\x00\x00\x00\x00\x00\x05\x00\x00\x00\x00\x00\x00\x00\x0a\
-\x00\x00\x00\x02\x00\x00\x00\x00\x00\x00\x00\x01";
-
 /// Frame 5 of stream 1234 hex, to everyone, from 9FDD51 hex.
 const STREAM: &[u8; 54] = b"M17 \x12\x34\xff\xff\xff\xff\xff\xff\x00\x00\x00\x9f\xdd\x51\x00\x05\
 \x00\x00\x00\x00\x00\x00\x00\x00\x00\x00\x00\x00\x00\x00\x00\x05\
@@ -33,73 +32,72 @@ fn stream() -> Result<StreamPacket, Fail> {
     Ok(m17_stream::read(STREAM).ok().ok_or("no packet")?)
 }
 
-fn records() -> Result<[Record; 4], Fail> {
-    let (tag, moment, member) = (TAG, 10, MEMBER);
+fn join() -> Result<Record, Fail>
+    ensures { IfOk result IsWritable }
+{
     let address = encode("AB1CD").ok().ok_or("no address")?;
-    let callsign = CallAddress::new(address).ok_or("no callsign")?;
-    let packet = stream()?;
-    Ok([
-        Record::Join {
-            tag,
-            moment,
-            member,
-            listen: true,
-            callsign,
-        },
-        Record::Packet {
-            tag,
-            moment,
-            member,
-            verdict: Verdict::Busy { holder: HOLDER },
-            packet,
-        },
-        Record::Packet {
-            tag,
-            moment,
-            member,
-            verdict: Verdict::Late { last: 513 },
-            packet,
-        },
-        Record::Leave {
-            tag,
-            moment,
-            member,
-            why: Why::Silent,
-        },
-    ])
+    Ok(Record::Join {
+        tag: TAG,
+        moment: 10,
+        member: MEMBER,
+        listen: true,
+        callsign: CallAddress::new(address).ok_or("no callsign")?,
+    })
 }
 
-/// The book of module C with these four records.
-fn book(alloc: Global) -> Result<Vec<u8>, Fail> {
-    let mut bytes = Vec::new(alloc);
-    let [join, busy, late, leave] = records()?;
-    bytes.extend_from_slice(&write_header(ModuleLetter::new(b'C').ok_or("no module")?))?;
-    bytes.extend_from_slice(&write_record(&join))?;
-    bytes.extend_from_slice(&write_record(&busy))?;
-    bytes.extend_from_slice(&write_record(&late))?;
-    bytes.extend_from_slice(&write_record(&leave))?;
-    Ok(bytes)
+fn packet(verdict: Verdict) -> Result<Record, Fail>
+    requires { IsLowVerdict verdict }
+    ensures { IfOk result IsWritable }
+{
+    Ok(Record::Packet {
+        tag: TAG,
+        moment: 10,
+        member: MEMBER,
+        verdict,
+        packet: stream()?,
+    })
 }
+
+fn leave() -> Record
+    ensures { IsWritable result }
+{
+    Record::Leave {
+        tag: TAG,
+        moment: 10,
+        member: MEMBER,
+        why: Why::Silent,
+    }
+}
+
+/// The book of module C with a Join, a Busy packet, a Late packet and a Leave.
+const BOOK: &[u8; 271] = b"M17BOOK1C\
+\x01\x01\x00\x00\x00\x00\x00\x00\x00\x05\x00\x00\x00\x00\x00\x00\x00\x0a\
+\x00\x00\x00\x02\x00\x00\x00\x00\x00\x00\x00\x01\x01\x00\x00\x00\x9f\xdd\x51\
+\x03\x01\x00\x00\x00\x00\x00\x00\x00\x05\x00\x00\x00\x00\x00\x00\x00\x0a\
+\x00\x00\x00\x02\x00\x00\x00\x00\x00\x00\x00\x01\
+\x03\x00\x00\x00\x03\x00\x00\x00\x00\x00\x00\x00\x09\
+M17 \x12\x34\xff\xff\xff\xff\xff\xff\x00\x00\x00\x9f\xdd\x51\x00\x05\
+\x00\x00\x00\x00\x00\x00\x00\x00\x00\x00\x00\x00\x00\x00\x00\x05\
+\x00\x00\x00\x00\x00\x00\x00\x00\x00\x00\x00\x00\x00\x00\x00\x00\x39\xe5\
+\x03\x01\x00\x00\x00\x00\x00\x00\x00\x05\x00\x00\x00\x00\x00\x00\x00\x0a\
+\x00\x00\x00\x02\x00\x00\x00\x00\x00\x00\x00\x01\
+\x05\x00\x00\x00\x00\x00\x00\x00\x00\x00\x00\x02\x01\
+M17 \x12\x34\xff\xff\xff\xff\xff\xff\x00\x00\x00\x9f\xdd\x51\x00\x05\
+\x00\x00\x00\x00\x00\x00\x00\x00\x00\x00\x00\x00\x00\x00\x00\x05\
+\x00\x00\x00\x00\x00\x00\x00\x00\x00\x00\x00\x00\x00\x00\x00\x00\x39\xe5\
+\x02\x01\x00\x00\x00\x00\x00\x00\x00\x05\x00\x00\x00\x00\x00\x00\x00\x0a\
+\x00\x00\x00\x02\x00\x00\x00\x00\x00\x00\x00\x01\x03";
 
 #[test]
 fn a_book_is_written_field_by_field(rt: HostRuntime) -> Result<(), Fail> {
-    let bytes = book(rt.alloc())?;
-    assert_eq!(rt; bytes.len(), 9 + 37 + 97 + 97 + 31);
-    assert_eq!(rt; &bytes[..9], b"M17BOOK1C".as_slice());
-    assert_eq!(rt; &bytes[9..39], HEAD.as_slice());
-    assert_eq!(rt; &bytes[39..46], b"\x01\x00\x00\x00\x9f\xdd\x51".as_slice());
-    assert_eq!(rt; bytes[46], 3);
-    assert_eq!(rt;
-        &bytes[76..89],
-        b"\x03\x00\x00\x00\x03\x00\x00\x00\x00\x00\x00\x00\x09".as_slice()
-    );
-    assert_eq!(rt; &bytes[89..143], STREAM.as_slice());
-    assert_eq!(rt;
-        &bytes[173..186],
-        b"\x05\x00\x00\x00\x00\x00\x00\x00\x00\x00\x00\x02\x01".as_slice()
-    );
-    assert_eq!(rt; bytes[240], 2);
-    assert_eq!(rt; bytes[270], 3);
+    let letter = ModuleLetter::new(b'C').ok_or("no module")?;
+    assert_eq!(rt; write_header(letter).as_slice(), &BOOK[..9]);
+    assert_eq!(rt; write_record(&join()?).as_slice(), &BOOK[9..46]);
+    let busy = packet(Verdict::Busy { holder: HOLDER })?;
+    let late = packet(Verdict::Late { last: 513 })?;
+    assert_eq!(rt; write_record(&busy).as_slice(), &BOOK[46..143]);
+    assert_eq!(rt; write_record(&late).as_slice(), &BOOK[143..240]);
+    assert_eq!(rt; write_record(&leave()).as_slice(), &BOOK[240..]);
     Ok(())
 }
 
@@ -130,11 +128,14 @@ fn read_all(
 #[test]
 fn a_reader_gives_each_record_and_then_the_end(rt: HostRuntime) -> Result<(), Fail> {
     let alloc = rt.alloc();
-    let mut source = BytesSource::new(book(alloc)?, Vec::new(alloc));
+    let mut source = BytesSource::new(BOOK.to_vec(alloc)?, Vec::new(alloc));
     let mut reader = Reader::new();
-    for record in &records()? {
-        assert_eq!(rt; reader.next(&mut source), Ok(Some(*record)));
-    }
+    let busy = packet(Verdict::Busy { holder: HOLDER })?;
+    let late = packet(Verdict::Late { last: 513 })?;
+    assert_eq!(rt; reader.next(&mut source), Ok(Some(join()?)));
+    assert_eq!(rt; reader.next(&mut source), Ok(Some(busy)));
+    assert_eq!(rt; reader.next(&mut source), Ok(Some(late)));
+    assert_eq!(rt; reader.next(&mut source), Ok(Some(leave())));
     assert_eq!(rt; reader.next(&mut source), Ok(None));
     assert_eq!(rt; reader.next(&mut source), Ok(None));
     Ok(())
@@ -143,9 +144,8 @@ fn a_reader_gives_each_record_and_then_the_end(rt: HostRuntime) -> Result<(), Fa
 #[test]
 fn each_part_of_a_book_is_a_shorter_book_or_cut(rt: HostRuntime) -> Result<(), Fail> {
     let alloc = rt.alloc();
-    let bytes = book(alloc)?;
-    for len in 0..bytes.len() {
-        let (count, refusal) = read_all(alloc, &bytes[..len], &[])?;
+    for len in 0..BOOK.len() {
+        let (count, refusal) = read_all(alloc, &BOOK[..len], &[])?;
         let whole = [9, 46, 143, 240].iter().position(|end| *end == len);
         match whole {
             Some(records) => assert_eq!(rt; (count, refusal), (records, None), "{len}"),
@@ -179,7 +179,7 @@ fn bad_fields_are_refused_at_their_places(rt: HostRuntime) -> Result<(), Fail> {
         (184, 128, field(174)),
         (270, 6, field(270)),
     ] {
-        let mut bytes = book(alloc)?;
+        let mut bytes = BOOK.to_vec(alloc)?;
         assert!(rt; at < bytes.len());
         bytes[at] = byte;
         assert_eq!(rt;
@@ -194,8 +194,7 @@ fn bad_fields_are_refused_at_their_places(rt: HostRuntime) -> Result<(), Fail> {
 #[test]
 fn a_failed_source_is_told_once_and_for_all(rt: HostRuntime) -> Result<(), Fail> {
     let alloc = rt.alloc();
-    let bytes = book(alloc)?;
-    let read = read_all(alloc, &bytes, &[0])?;
+    let read = read_all(alloc, BOOK, &[0])?;
     assert_eq!(rt; read, (0, Some(FormRefusal::ReadFault)));
     Ok(())
 }
