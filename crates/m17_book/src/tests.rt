@@ -91,13 +91,14 @@ M17 \x12\x34\xff\xff\xff\xff\xff\xff\x00\x00\x00\x9f\xdd\x51\x00\x05\
 #[test]
 fn a_book_is_written_field_by_field(rt: HostRuntime) -> Result<(), Fail> {
     let letter = ModuleLetter::new(b'C').ok_or("no module")?;
-    assert_eq!(rt; write_header(letter).as_slice(), &BOOK[..9]);
-    assert_eq!(rt; write_record(&join()?).as_slice(), &BOOK[9..46]);
+    let book = BOOK.as_slice();
+    assert_eq!(rt; write_header(letter).as_slice(), &book[..9]);
+    assert_eq!(rt; write_record(&join()?).as_slice(), &book[9..46]);
     let busy = packet(Verdict::Busy { holder: HOLDER })?;
     let late = packet(Verdict::Late { last: 513 })?;
-    assert_eq!(rt; write_record(&busy).as_slice(), &BOOK[46..143]);
-    assert_eq!(rt; write_record(&late).as_slice(), &BOOK[143..240]);
-    assert_eq!(rt; write_record(&leave()).as_slice(), &BOOK[240..]);
+    assert_eq!(rt; write_record(&busy).as_slice(), &book[46..143]);
+    assert_eq!(rt; write_record(&late).as_slice(), &book[143..240]);
+    assert_eq!(rt; write_record(&leave()).as_slice(), &book[240..]);
     Ok(())
 }
 
@@ -144,8 +145,9 @@ fn a_reader_gives_each_record_and_then_the_end(rt: HostRuntime) -> Result<(), Fa
 #[test]
 fn each_part_of_a_book_is_a_shorter_book_or_cut(rt: HostRuntime) -> Result<(), Fail> {
     let alloc = rt.alloc();
-    for len in 0..BOOK.len() {
-        let (count, refusal) = read_all(alloc, &BOOK[..len], &[])?;
+    let book = BOOK.as_slice();
+    for len in 0..book.len() {
+        let (count, refusal) = read_all(alloc, &book[..len], &[])?;
         let whole = [9, 46, 143, 240].iter().position(|end| *end == len);
         match whole {
             Some(records) => assert_eq!(rt; (count, refusal), (records, None), "{len}"),
