@@ -23,6 +23,3 @@ pub(crate) use refusal::Flaw;
 pub use refusal::FormRefusal;
 pub use spell_entry::write_entry;
 pub use spell_record::{write_header, write_record};
-
-#[cfg(test)]
-mod tests;
