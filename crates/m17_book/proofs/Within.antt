@@ -4,13 +4,13 @@ use Rattle.std.proofs.lemmas.List.{append-nil}
 use Rattle.std.specs.Bool.{MatchBool}
 use Rattle.m17_control.specs.Forms.{IsModule}
 use Rattle.m17_book.specs.Limits.{told, SpellsEach}
-use Rattle.m17_book.specs.Ahead.{held, IsAhead}
+use Rattle.m17_book.specs.Ahead.{IsAhead}
 use Rattle.m17_book.specs.Book.{HasBookForm, LacksBookForm, TellsFlaw, BookHeaderFlaw, book_header}
 use Rattle.m17_book.specs.Flaws.{RecordFlaw}
+use Rattle.m17_book.specs.Progress.{Progress}
 use Rattle.m17_book.specs.Reading.{HasRead, AnswersNext}
 use Rattle.m17_book.specs.Records.{SpellsRecord}
 use Rattle.m17_book.specs.Steps.{IsNext, PassesHeader}
-use Rattle.m17_book.specs.declared.reader.Reader.{Reader}
 use Rattle.m17_book.specs.declared.record.Record.{Record}
 use Rattle.m17_book.specs.declared.refusal.Flaw.{Flaw}
 use Rattle.m17_book.specs.declared.refusal.FormRefusal.{FormRefusal}
@@ -49,32 +49,32 @@ pub record IsWithin (held : List ℕ) (left : Option (List ℕ)) (place : ℕ) (
   pub ahead : IsAhead held left rest
   pub place_is : place ≡ told (length front)
 
-pub has_read : (reader : Reader) (left : Option (List ℕ)) (bytes : List ℕ) (records : List Record) → reader.begun ≡ true
-    → IsWithin (held reader.cursor) left reader.cursor.place bytes records → HasRead reader left bytes records
+pub has_read : (reader : Progress) (left : Option (List ℕ)) (bytes : List ℕ) (records : List Record) → reader.begun ≡ true
+    → IsWithin reader.unread left reader.place bytes records → HasRead reader left bytes records
 has_read reader left bytes records begun w =
     let P : Bool → Type 0 = λ b. MatchBool b
     ((letter : ℕ) × (front : List ℕ) × (rest : List ℕ) × (bytes ≡ front ++ rest) × HasBookForm front letter records
-    × IsAhead (held reader.cursor) left rest × (reader.cursor.place ≡ told (length front)))
-    (IsAhead (held reader.cursor) left bytes × (reader.cursor.place ≡ 0) × (records ≡ [])) in
+    × IsAhead reader.unread left rest × (reader.place ≡ told (length front)))
+    (IsAhead reader.unread left bytes × (reader.place ≡ 0) × (records ≡ [])) in
     subst P (sym begun) (w.letter, w.front, w.rest, w.split, w.form, w.ahead, w.place_is)
 
-pub is_within : (reader : Reader) (left : Option (List ℕ)) (bytes : List ℕ) (records : List Record) → reader.begun ≡ true
-    → HasRead reader left bytes records → IsWithin (held reader.cursor) left reader.cursor.place bytes records
+pub is_within : (reader : Progress) (left : Option (List ℕ)) (bytes : List ℕ) (records : List Record) → reader.begun ≡ true
+    → HasRead reader left bytes records → IsWithin reader.unread left reader.place bytes records
 is_within reader left bytes records begun h =
     let P : Bool → Type 0 = λ b. MatchBool b
     ((letter : ℕ) × (front : List ℕ) × (rest : List ℕ) × (bytes ≡ front ++ rest) × HasBookForm front letter records
-    × IsAhead (held reader.cursor) left rest × (reader.cursor.place ≡ told (length front)))
-    (IsAhead (held reader.cursor) left bytes × (reader.cursor.place ≡ 0) × (records ≡ [])) in
+    × IsAhead reader.unread left rest × (reader.place ≡ told (length front)))
+    (IsAhead reader.unread left bytes × (reader.place ≡ 0) × (records ≡ [])) in
     let k = subst P begun h in
     record { letter = k.0; front = k.1; rest = k.2; split = k.3; form = k.4; ahead = k.5; place_is = k.6 }
 
-pub is_fresh : (reader : Reader) (left : Option (List ℕ)) (bytes : List ℕ) (records : List Record) → reader.begun ≡ false
-    → HasRead reader left bytes records → IsAhead (held reader.cursor) left bytes × (reader.cursor.place ≡ 0) × (records ≡ [])
+pub is_fresh : (reader : Progress) (left : Option (List ℕ)) (bytes : List ℕ) (records : List Record) → reader.begun ≡ false
+    → HasRead reader left bytes records → IsAhead reader.unread left bytes × (reader.place ≡ 0) × (records ≡ [])
 is_fresh reader left bytes records begun h =
     let P : Bool → Type 0 = λ b. MatchBool b
     ((letter : ℕ) × (front : List ℕ) × (rest : List ℕ) × (bytes ≡ front ++ rest) × HasBookForm front letter records
-    × IsAhead (held reader.cursor) left rest × (reader.cursor.place ≡ told (length front)))
-    (IsAhead (held reader.cursor) left bytes × (reader.cursor.place ≡ 0) × (records ≡ [])) in
+    × IsAhead reader.unread left rest × (reader.place ≡ told (length front)))
+    (IsAhead reader.unread left bytes × (reader.place ≡ 0) × (records ≡ [])) in
     subst P begun h
 
 -- a book of no records
@@ -103,9 +103,9 @@ bad_header refusal bytes place (inr h) start =
     inr (inl (subst (λ (n : ℕ). TellsFlaw BookHeaderFlaw bytes n refusal) start h))
 
 -- what is next after the records that were read
-pub answers : (result : Result (Option Record) FormRefusal) (reader : Reader) (old : List ℕ) (left left' : Option (List ℕ)) (place : ℕ)
+pub answers : (result : Result (Option Record) FormRefusal) (reader : Progress) (old : List ℕ) (left left' : Option (List ℕ)) (place : ℕ)
     (bytes : List ℕ) (records : List Record) → reader.begun ≡ true → (w : IsWithin old left place bytes records)
-    → IsNext SpellsRecord RecordFlaw result w.rest place (held reader.cursor) left' reader.cursor.place
+    → IsNext SpellsRecord RecordFlaw result w.rest place reader.unread left' reader.place
     → AnswersNext result reader left' bytes records
 answers (Ok (Some value)) reader old left left' place bytes records begun w h =
     has_read reader left' bytes (records ++ value ∷ []) begun (record {

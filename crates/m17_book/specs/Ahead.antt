@@ -1,4 +1,4 @@
--- What is to come of an input before a cursor. No public clause of a function cites this module.
+-- What is to come of an input: what was taken from the source, and what is left there.
 use Rattle.std.specs.Prelude.{◌≡◌, ℕ, ◌≤◌, List, [], ◌++◌, length, take, drop, slice_range, Option, Some}
 use Rattle.m17_book.specs.declared.cursor.Cursor.{Cursor}
 

@@ -6,4 +6,5 @@ pub mod Flaws
 pub mod Book
 pub mod Parsed
 pub mod Steps
+pub mod Progress
 pub mod Reading

@@ -3,24 +3,24 @@ use Rattle.std.specs.Prelude.{◌≡◌, ◌⊎◌, ℕ, Bool, ◌≤◌, List, 
 use Rattle.std.specs.Bool.{MatchBool}
 use Rattle.m17_io.specs.Faults.{HasRisen}
 use Rattle.m17_book.specs.Limits.{told}
-use Rattle.m17_book.specs.Ahead.{held, IsAhead}
+use Rattle.m17_book.specs.Ahead.{IsAhead}
 use Rattle.m17_book.specs.Book.{HasBookForm, LacksBookForm}
+use Rattle.m17_book.specs.Progress.{Progress}
 use Rattle.m17_book.specs.declared.record.Record.{Record}
-use Rattle.m17_book.specs.declared.reader.Reader.{Reader}
 use Rattle.m17_book.specs.declared.refusal.FormRefusal.{FormRefusal}
 use Rattle.m17_book.specs.declared.refusal.FormRefusal.TheVariants.{ReadFault}
 
 -- The reader, over a source with so much left, has read these records from the front of the bytes: a header and the
 -- records stand there, or nothing was read yet; the rest of the bytes is to come.
-abbrev pub HasRead : Reader → Option (List ℕ) → List ℕ → List Record → Type 0
+abbrev pub HasRead : Progress → Option (List ℕ) → List ℕ → List Record → Type 0
 HasRead reader left bytes records = MatchBool reader.begun
     ((letter : ℕ) × (front : List ℕ) × (rest : List ℕ) × (bytes ≡ front ++ rest) × HasBookForm front letter records
-    × IsAhead (held reader.cursor) left rest × (reader.cursor.place ≡ told (length front)))
-    (IsAhead (held reader.cursor) left bytes × (reader.cursor.place ≡ 0) × (records ≡ []))
+    × IsAhead reader.unread left rest × (reader.place ≡ told (length front)))
+    (IsAhead reader.unread left bytes × (reader.place ≡ 0) × (records ≡ []))
 
 -- What the reader answers next, where it has read these records of the bytes: one record more; or nothing, and the
 -- bytes are a book with these records; or why the bytes are no book, unless the source failed. This profile.
-abbrev pub AnswersNext : Result (Option Record) FormRefusal → Reader → Option (List ℕ) → List ℕ → List Record → Type 0
+abbrev pub AnswersNext : Result (Option Record) FormRefusal → Progress → Option (List ℕ) → List ℕ → List Record → Type 0
 AnswersNext (Ok (Some record_)) reader left bytes records = HasRead reader left bytes (records ++ record_ ∷ [])
 AnswersNext (Ok None) reader left bytes records = HasRead reader left bytes records
     × ((letter : ℕ) × HasBookForm bytes letter records)

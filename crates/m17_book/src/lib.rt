@@ -1,7 +1,9 @@
-//! Traces and books as files: a trace holds all that a link heard, a book all that a module decided. It promises that
-//! writing spells an entry or a record, and that reading answers exactly the list that the bytes spell, or else the
-//! first refusal in the order of the input, with its place. What is heard or decided, and whether a book is legal, is
-//! left to the crates above.
+//! Traces and books as files: a trace holds all that a link heard, a book all that a module decided. This crate has
+//! their forms as bytes, and why other bytes are refused, each refusal with its place in the input.
+//! It promises that writing spells an entry, a record or a header, and that a reader of a book gives records that the
+//! bytes spell, one by one, the end only where they are the whole input, and else a refusal that the bytes have.
+//! Where the source fails it says so, and its count of faults rose.
+//! What is heard or decided, and whether a book is legal, is left to the crates above.
 #![tactic(auto)]
 
 mod cursor;
@@ -23,3 +25,6 @@ pub(crate) use refusal::Flaw;
 pub use refusal::FormRefusal;
 pub use spell_entry::write_entry;
 pub use spell_record::{write_header, write_record};
+
+#[cfg(test)]
+mod tests;

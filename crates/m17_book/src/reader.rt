@@ -8,6 +8,7 @@ use crate::cursor::Cursor;
 use crate::steps::{next_record, pass_header};
 use crate::{FormRefusal, Record};
 use m17_io::Source;
+use std::marker::Model;
 
 /// Gives the records of a book one by one. It knows no limit on the book's size. This profile.
 #[derive(Debug, Drop)]
@@ -15,6 +16,14 @@ pub struct Reader {
     cursor: Cursor,
     begun: bool,
     refusal: Option<FormRefusal>,
+}
+
+impl Model for Reader {
+    ghost use Rattle.m17_book.specs.Progress.{Progress, progress};
+
+    ghost Value = { Progress };
+
+    ghost view = { λ r. progress r.cursor r.begun r.refusal };
 }
 
 impl Reader {
@@ -33,8 +42,8 @@ impl Reader {
     }
 
     /// The next record; none at the end of a book that was read whole. Else why the bytes are no book: `Cut`, `Kind`
-    /// and `Field` with their places, and `ReadFault` where the source failed. After a refusal it answers that refusal
-    /// again, and reads nothing.
+    /// and `Field` with their places, and `ReadFault` where the source failed; never `Large` or `NoMemory`. After a
+    /// refusal it answers that refusal again, and reads nothing. This profile.
     pub fn next<S: Source>(&mut self, source: &mut S) -> Result<Option<Record>, FormRefusal>
         ensures answers { self.old.refusal ≡ None → (bytes : List ℕ) → (records : List Record)
             → HasRead self.old (S.left source.old) bytes records
