@@ -113,7 +113,7 @@ fn read_all(
     let mut count = 0;
     for _ in 0..u64::MAX {
         match reader.next(&mut source) {
-            Ok(Some(_)) => count = usize::min(count + 1, 9),
+            Ok(Some(_)) => count = usize::saturating_add(count, 1),
             Ok(None) => return Ok((count, None)),
             Err(refusal) => {
                 if reader.next(&mut source) != Err(refusal) {
