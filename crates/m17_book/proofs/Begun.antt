@@ -1,21 +1,17 @@
 -- The bytes of a record, field by field.
-use Rattle.std.proofs.Common.{◌≡◌, ℕ, ◌+◌, ◌<◌, ◌≤◌, ◌^◌, Bool, true, false, nat_eq, List, [], ◌∷◌, ◌++◌, length, take, drop, get_or, refl, sym, ap, subst, ◌∙◌, arith, if◌then◌else◌}
-use Rattle.std.proofs.lemmas.Grind.{common_steps}
+use Rattle.std.proofs.Common.{◌≡◌, ℕ, ◌<◌, ◌≤◌, nat_eq, List, [], ◌∷◌, ◌++◌, length, take, drop, get_or, sym, ap, subst, ◌∙◌, arith, if◌then◌else◌}
 use Rattle.std.proofs.lemmas.Bool.Decides.{nat_tests}
 use Rattle.std.proofs.Math.Seq.{take-add}
 use Rattle.m17_callsign.specs.AddressBytes.{address_bytes}
 use Rattle.m17_callsign.specs.Callsign.{HasCallsign}
-use Rattle.m17_control.specs.declared.event.Tag.{Tag}
-use Rattle.m17_control.specs.declared.event.Why.{Why}
-use Rattle.m17_values.specs.declared.member.Member.{Member}
 use Rattle.m17_floor.specs.declared.verdict.Verdict.{Verdict}
 use Rattle.m17_stream.specs.Stream.{SpellsStream}
 use Rattle.m17_stream.specs.declared.packet.StreamPacket.{StreamPacket}
-use Rattle.m17_book.specs.Records.{SpellsRecord, head_bytes, record_bytes, verdict_code, value_bytes, stream_bytes}
+use Rattle.m17_book.specs.Records.{SpellsRecord, head_bytes, verdict_code, value_bytes}
 use Rattle.m17_book.specs.Flaws.{kind_of}
 use Rattle.m17_book.specs.Parsed.{BeginsWith, HasHead, IsValueOf}
 use Rattle.m17_book.specs.declared.parse_record.Head.{Head}
-use Rattle.m17_book.specs.declared.record.Record.TheVariants.{Join, Leave, Packet}
+use Rattle.m17_book.specs.declared.record.Record.TheVariants.{Join, Packet}
 use Rattle.m17_book.proofs.Entry.{take_one}
 
 -- the head and one byte more

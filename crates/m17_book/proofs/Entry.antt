@@ -1,14 +1,12 @@
 -- The bytes of a datagram's entry, field by field.
 use Rattle.std.proofs.Common.{◌≡◌, ◌⊎◌, ℕ, ◌+◌, ◌-◌, ◌<◌, ◌≤◌, ◌^◌, Bool, true, false, nat_eq, List, [], ◌∷◌, ◌++◌, length, take, drop, get_or, slice_range, inl, inr, refl, sym, ap, subst, ◌∙◌, arith, append_assoc}
-use Rattle.std.proofs.lemmas.List.{take_all, length-take, length-drop, length-take-le}
+use Rattle.std.proofs.lemmas.List.{take_all, length-drop, length-take-le}
 use Rattle.std.proofs.lemmas.List.Elements.{All-take, All-drop}
 use Rattle.std.proofs.lemmas.Grind.{common_steps}
 use Rattle.std.proofs.Math.Seq.{take-add}
 use Rattle.m17_fields.specs.Fields.{be_16, be_64, IsBytes}
-use Rattle.m17_values.specs.declared.peer.Peer.{Peer}
-use Rattle.m17_values.specs.declared.heard.Heard.{Heard}
 use Rattle.m17_values.specs.declared.heard.Heard.TheVariants.{Datagram}
-use Rattle.m17_book.specs.Entries.{SpellsEntry, FitsPeer, entry_bytes, family_bytes}
+use Rattle.m17_book.specs.Entries.{SpellsEntry, entry_bytes, family_bytes}
 use Rattle.m17_book.specs.Records.{zeros_12}
 use Rattle.m17_book.specs.Flaws.{kind_of}
 use Rattle.m17_book.specs.Parsed.{BeginsWith, IsAddress}

@@ -1,5 +1,5 @@
 -- One step of a reader: what the held bytes say, said of what is to come.
-use Rattle.std.proofs.Common.{◌≡◌, ◌⊎◌, ℕ, ◌+◌, ◌<◌, ◌≤◌, ◌^◌, List, [], ◌∷◌, ◌++◌, length, take, drop, get_or, min, Option, Some, Ok, inl, inr, refl, sym, ap, subst, ◌∙◌, arith, length-append, append_assoc}
+use Rattle.std.proofs.Common.{◌≡◌, ◌⊎◌, ℕ, ◌+◌, ◌<◌, ◌≤◌, ◌^◌, List, [], ◌∷◌, ◌++◌, length, take, drop, get_or, Option, Some, Ok, inl, inr, refl, sym, ap, subst, ◌∙◌, arith, append_assoc}
 use Rattle.std.proofs.lemmas.List.{take-append-drop, length-take-le, nil_from_length}
 use Rattle.m17_book.specs.Limits.{told}
 use Rattle.m17_book.specs.Ahead.{IsAhead}
@@ -7,9 +7,7 @@ use Rattle.m17_control.specs.Forms.{IsModule}
 use Rattle.m17_book.specs.Book.{TellsFlaw, BookHeaderFlaw, book_header, book_magic}
 use Rattle.m17_book.specs.Flaws.{kind_of, RecordFlaw}
 use Rattle.m17_book.specs.Parsed.{BeginsWith}
-use Rattle.m17_book.specs.Records.{SpellsRecord}
 use Rattle.m17_book.specs.Steps.{tell, IsNext, PassesHeader}
-use Rattle.m17_book.specs.declared.record.Record.{Record}
 use Rattle.m17_book.specs.declared.refusal.Flaw.{Flaw}
 use Rattle.m17_book.specs.declared.refusal.Flaw.TheVariants as flaws
 use Rattle.m17_book.proofs.Window.{IsWindow, record_flaw, known_kind, short_below, header_flaw, cut_header}

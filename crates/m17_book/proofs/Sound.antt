@@ -1,7 +1,7 @@
 -- Which fields of a record are allowed so far, and what that says of its bytes.
-use Rattle.std.proofs.Common.{◌≡◌, ◌⊎◌, ℕ, ◌+◌, ◌<◌, ◌≤◌, List, length, inl, inr, refl, arith}
+use Rattle.std.proofs.Common.{◌≡◌, ℕ, ◌+◌, ◌<◌, ◌≤◌, List, length, refl, arith}
 use Rattle.m17_book.specs.Limits.{IsKind}
-use Rattle.m17_book.specs.Flaws.{kind_of, AreAllowed, IsFirstBad, RecordFlaw, RecordField, Link, Place, Listen, Callsign, Reason, Verdict_, Value, Packet, IsInRecord, record_field_at, record_field_size, IsAllowedInRecord, IsShortRecord}
+use Rattle.m17_book.specs.Flaws.{kind_of, AreAllowed, RecordFlaw, RecordField, Link, Place, Listen, Callsign, Reason, Verdict_, Value, Packet, IsInRecord, record_field_at, record_field_size, IsAllowedInRecord, IsShortRecord}
 use Rattle.m17_book.specs.declared.refusal.Flaw.TheVariants as flaws
 
 abbrev pub Sound : List ℕ → ℕ → Type 0

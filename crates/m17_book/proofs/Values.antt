@@ -1,5 +1,5 @@
 -- The values of verdicts that are not allowed.
-use Rattle.std.proofs.Common.{◌≡◌, ℕ, ◌<◌, ◌≤◌, ◌^◌, List, ◌++◌, length, take, drop, refl, sym, ap, ◌∙◌, arith}
+use Rattle.std.proofs.Common.{◌≡◌, ℕ, ◌<◌, ◌≤◌, ◌^◌, List, take, drop, refl, sym, ap, ◌∙◌, arith}
 use Rattle.std.proofs.lemmas.List.{take_at, drop_at, take_all}
 use Rattle.m17_fields.specs.Fields.{be_16, Fields16AreExact}
 use Rattle.m17_floor.specs.declared.verdict.Verdict.{Verdict}

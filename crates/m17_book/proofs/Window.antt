@@ -6,7 +6,7 @@ use Rattle.m17_stream.specs.Stream.{SpellsStream}
 use Rattle.m17_book.specs.Limits.{IsKind}
 use Rattle.m17_control.specs.Forms.{IsModule}
 use Rattle.m17_book.specs.Book.{BookHeaderFlaw}
-use Rattle.m17_book.specs.Flaws.{kind_of, IsFirstBad, RecordFlaw, RecordField, Link, Place, Listen, Callsign, Reason, Verdict_, Value, Packet, IsInRecord, record_field_at, record_field_size, IsAllowedInRecord, IsShortRecord, EntryFlaw, EntryField, Family, Length_4, Length_6, IsInEntry, entry_field_at, entry_field_size, IsAllowedInEntry, IsShortEntry}
+use Rattle.m17_book.specs.Flaws.{kind_of, IsFirstBad, RecordFlaw, RecordField, Link, Place, Listen, Callsign, Reason, Verdict_, Value, Packet, IsInRecord, record_field_at, record_field_size, IsAllowedInRecord, IsShortRecord}
 use Rattle.m17_book.specs.declared.refusal.Flaw.{Flaw}
 use Rattle.m17_book.specs.declared.refusal.Flaw.TheVariants as flaws
 

@@ -1,6 +1,6 @@
 -- One step of a reader over a source: a value is taken, nothing is left, or what is wrong is told. No public clause of
 -- a function cites this module.
-use Rattle.std.specs.Prelude.{◌≡◌, ◌⊎◌, ℕ, ◌+◌, ◌≤◌, List, [], ◌++◌, length, Option, None, Some, Result, Ok, Err}
+use Rattle.std.specs.Prelude.{◌≡◌, ◌⊎◌, ℕ, ◌+◌, List, [], ◌++◌, length, Option, None, Some, Result, Ok, Err}
 use Rattle.m17_book.specs.Limits.{told}
 use Rattle.m17_book.specs.Ahead.{IsAhead}
 use Rattle.m17_control.specs.Forms.{IsModule}
@@ -8,7 +8,7 @@ use Rattle.m17_book.specs.Book.{TellsFlaw, BookHeaderFlaw, book_header}
 use Rattle.m17_book.specs.declared.refusal.Flaw.{Flaw}
 use Rattle.m17_book.specs.declared.refusal.Flaw.TheVariants as flaws
 use Rattle.m17_book.specs.declared.refusal.FormRefusal.{FormRefusal}
-use Rattle.m17_book.specs.declared.refusal.FormRefusal.TheVariants.{Cut, Kind, Field, Large, ReadFault, NoMemory}
+use Rattle.m17_book.specs.declared.refusal.FormRefusal.TheVariants.{Cut, Kind, Field, ReadFault}
 
 -- how a flaw of the bytes from a place on is told, where so many bytes are there
 abbrev pub tell : Flaw → ℕ → ℕ → FormRefusal

@@ -1,4 +1,4 @@
-use Rattle.std.proofs.Common.{◌<◌, ◌^◌, rules, arith}
+use Rattle.std.proofs.Common.{◌<◌, ◌^◌, arith}
 use Rattle.std.proofs.lemmas.List.Elements.{All-from_get_or}
 use Rattle.m17_book.proofs.Entry.{begins_datagram}
 use Rattle.m17_book.proofs.parse_entry.parse_rest.Goals as goal

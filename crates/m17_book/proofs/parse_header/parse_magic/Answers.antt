@@ -1,4 +1,4 @@
-use Rattle.std.proofs.Common.{◌≡◌, ℕ, ◌<◌, get_or, subst, rules, arith}
+use Rattle.std.proofs.Common.{rules, arith}
 use Rattle.m17_book.proofs.Magics.{begins_so}
 use Rattle.m17_book.proofs.parse_header.parse_magic.Goals as goal
 

@@ -1,4 +1,4 @@
-use Rattle.std.proofs.Common.{◌≡◌, ◌<◌, ◌^◌, take, drop, refl, sym, ap, subst, ◌∙◌, arith}
+use Rattle.std.proofs.Common.{◌≡◌, refl, sym, ap, subst, ◌∙◌, arith}
 use Rattle.m17_callsign.specs.Callsign.{HasCallsign}
 use Rattle.m17_callsign.specs.AddressBytes.{address_bytes}
 use Rattle.m17_book.specs.Flaws.{Listen, Callsign}

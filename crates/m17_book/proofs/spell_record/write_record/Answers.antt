@@ -1,4 +1,4 @@
-use Rattle.std.proofs.Common.{◌≡◌, [], ◌∷◌, ◌++◌, refl, ap, ◌∙◌}
+use Rattle.std.proofs.Common.{[], ◌∷◌, ◌++◌, refl, ap, ◌∙◌}
 use Rattle.m17_stream.specs.Stream.{SpellsStream}
 use Rattle.m17_book.specs.Records.{head_bytes, verdict_code, value_bytes, stream_bytes}
 use Rattle.m17_book.proofs.spell_record.write_record.Goals as goal

@@ -1,4 +1,4 @@
-use Rattle.std.proofs.Common.{◌≡◌, ◌+◌, ℕ, length, inr, ap, ◌∙◌, rules, arith}
+use Rattle.std.proofs.Common.{◌≡◌, ◌+◌, length, inr, ap, ◌∙◌, rules, arith}
 use Rattle.m17_book.specs.Ahead.{held}
 use Rattle.m17_book.specs.Flaws.{RecordFlaw}
 use Rattle.m17_book.specs.Limits.{told}

@@ -1,4 +1,4 @@
-use Rattle.std.proofs.Common.{◌≡◌, ◌+◌, ℕ, inr, ap, ◌∙◌, arith}
+use Rattle.std.proofs.Common.{◌+◌, inr, ap, ◌∙◌, arith}
 use Rattle.m17_book.specs.Ahead.{held}
 use Rattle.m17_book.specs.Book.{BookHeaderFlaw}
 use Rattle.m17_book.specs.Limits.{told}
