@@ -11,7 +11,8 @@ abbrev pub IsAhead : List ℕ → Option (List ℕ) → List ℕ → Type 0
 IsAhead held left ahead = (rest : List ℕ) × (left ≡ Some rest) × (ahead ≡ held ++ rest)
 
 -- so many more bytes of the rest are held; none only where there is no rest
-pub record IsMoreOf (rest : List ℕ) (count : ℕ) (held held' : List ℕ) (left : Option (List ℕ)) : Type 0 where
+pub record IsMoreOf (rest : List ℕ) (count : ℕ) (held held' : List ℕ)
+    (left : Option (List ℕ)) : Type 0 where
   pub no_more : count ≤ length rest
   pub longer : held' ≡ held ++ take count rest
   pub rest_left : left ≡ Some (drop count rest)

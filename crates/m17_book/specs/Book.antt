@@ -35,12 +35,14 @@ IsBook bytes letter records = (length bytes ≤ most_bytes) × HasBookForm bytes
 
 -- The bytes are a trace with these entries, of whatever size. This profile.
 abbrev pub HasTraceForm : List ℕ → List Heard → Type 0
-HasTraceForm bytes entries = (body : List ℕ) × SpellsEach SpellsEntry entries body × (bytes ≡ trace_magic ++ body)
+HasTraceForm bytes entries = (body : List ℕ) × SpellsEach SpellsEntry entries body
+    × (bytes ≡ trace_magic ++ body)
 
 -- The bytes are the trace of a link that heard this: its entries and then the end, within the limits of
 -- 67,108,864 bytes and 1,000,000 entries. This profile.
 abbrev pub IsTrace : List ℕ → List Heard → Type 0
-IsTrace bytes heard = (length bytes ≤ most_bytes) × (entries : List Heard) × (length entries ≤ most_entries)
+IsTrace bytes heard = (length bytes ≤ most_bytes)
+    × (entries : List Heard) × (length entries ≤ most_entries)
     × HasTraceForm bytes entries × (heard ≡ entries ++ End ∷ [])
 
 -- Why bytes do not begin with a magic: they end inside it, or this is the first byte that differs. The magic is one
@@ -56,7 +58,8 @@ MagicFlaw magic bytes (flaws.Field place) = (8 ≤ length bytes) × (place < 8)
 abbrev pub LetterFlaw : List ℕ → Flaw → Type 0
 LetterFlaw bytes flaws.Cut = length bytes ≡ 8
 LetterFlaw bytes (flaws.Kind byte) = ⊥
-LetterFlaw bytes (flaws.Field place) = (place ≡ 8) × (9 ≤ length bytes) × (IsModule (slice_index bytes 8) → ⊥)
+LetterFlaw bytes (flaws.Field place) = (place ≡ 8) × (9 ≤ length bytes)
+    × (IsModule (slice_index bytes 8) → ⊥)
 
 abbrev pub BookHeaderFlaw : List ℕ → Flaw → Type 0
 BookHeaderFlaw bytes flaw = MagicFlaw book_magic bytes flaw
@@ -66,7 +69,8 @@ BookHeaderFlaw bytes flaw = MagicFlaw book_magic bytes flaw
 abbrev pub TellsFlaw : (List ℕ → Flaw → Type 0) → List ℕ → ℕ → FormRefusal → Type 0
 TellsFlaw Flawed rest place (Cut at) = Flawed rest flaws.Cut × (at ≡ told (place + length rest))
 TellsFlaw Flawed rest place (Kind at byte) = Flawed rest (flaws.Kind byte) × (at ≡ told place)
-TellsFlaw Flawed rest place (Field at) = (k : ℕ) × Flawed rest (flaws.Field k) × (at ≡ told (place + k))
+TellsFlaw Flawed rest place (Field at) = (k : ℕ) × Flawed rest (flaws.Field k)
+    × (at ≡ told (place + k))
 TellsFlaw Flawed rest place (Large at) = ⊥
 TellsFlaw Flawed rest place ReadFault = ⊥
 TellsFlaw Flawed rest place NoMemory = ⊥
@@ -86,7 +90,8 @@ RefusesBook bytes refusal = ((most_bytes < length bytes) × (refusal ≡ Large m
 
 -- After 1,000,000 entries there is more: the refusal of the entry that begins there.
 abbrev pub HasTooMany : List ℕ → FormRefusal → Type 0
-HasTooMany bytes refusal = (entries : List Heard) × (front : List ℕ) × (rest : List ℕ) × (bytes ≡ front ++ rest)
+HasTooMany bytes refusal = (entries : List Heard) × (front : List ℕ) × (rest : List ℕ)
+    × (bytes ≡ front ++ rest)
     × HasTraceForm front entries × (length entries ≡ most_entries) × (0 < length rest)
     × (refusal ≡ Large (length front))
 

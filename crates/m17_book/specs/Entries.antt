@@ -28,7 +28,8 @@ pub record FitsPeer (from : Peer) : Type 0 where
 
 -- each field of the entry fits its place; the end of what was heard is no entry
 abbrev pub FitsEntry : Heard → Type 0
-FitsEntry (Datagram from at bytes) = FitsPeer from × (at < 2 ^ 64) × (length bytes ≤ 64) × IsBytes bytes
+FitsEntry (Datagram from at bytes) = FitsPeer from × (at < 2 ^ 64)
+    × (length bytes ≤ 64) × IsBytes bytes
 FitsEntry (Quiet at) = at < 2 ^ 64
 FitsEntry Fault = Unit {0}
 FitsEntry End = ⊥

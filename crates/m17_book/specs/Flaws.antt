@@ -21,7 +21,8 @@ module _ {Field : Type 0} (IsIn : Field → List ℕ → Type 0) (at_of size_of 
     (IsAllowed : Field → List ℕ → Type 0) (IsShort : List ℕ → Type 0) where
   -- each field that ends within the first n bytes has a value that is allowed
   abbrev pub AreAllowed : List ℕ → ℕ → Type 0
-  AreAllowed bytes n = (field : Field) → IsIn field bytes → at_of field + size_of field ≤ n → IsAllowed field bytes
+  AreAllowed bytes n = (field : Field) → IsIn field bytes
+      → at_of field + size_of field ≤ n → IsAllowed field bytes
 
   -- the first field of the bytes with a value that is not allowed, all of whose bytes are there
   pub record IsFirstBad (bytes : List ℕ) (field : Field) : Type 0 where
@@ -91,7 +92,8 @@ IsAllowedInRecord Reason bytes = (1 ≤ slice_index bytes 30) × (slice_index by
 IsAllowedInRecord Verdict_ bytes = (1 ≤ slice_index bytes 30) × (slice_index bytes 30 ≤ 8)
 IsAllowedInRecord Value bytes = (verdict : Verdict) × FitsVerdict verdict
     × (verdict_code verdict ≡ slice_index bytes 30) × (value_bytes verdict ≡ field_at 31 12 bytes)
-IsAllowedInRecord Packet bytes = (packet : StreamPacket) × SpellsStream packet (field_at 43 54 bytes)
+IsAllowedInRecord Packet bytes = (packet : StreamPacket)
+    × SpellsStream packet (field_at 43 54 bytes)
 
 -- the bytes end before their record does
 pub record IsShortRecord (bytes : List ℕ) : Type 0 where
@@ -131,8 +133,10 @@ IsAllowedInEntry Length_6 bytes = slice_index bytes 28 ≤ 64
 
 -- the bytes end before their entry does; past the end of the bytes a length is 0 here
 pub record IsShortEntry (bytes : List ℕ) : Type 0 where
-  pub datagram_4 : kind_of bytes ≡ 1 → slice_index bytes 9 ≡ 4 → length bytes < 17 + slice_index bytes 16
-  pub datagram_6 : kind_of bytes ≡ 1 → slice_index bytes 9 ≡ 6 → length bytes < 29 + slice_index bytes 28
+  pub datagram_4 : kind_of bytes ≡ 1 → slice_index bytes 9 ≡ 4
+      → length bytes < 17 + slice_index bytes 16
+  pub datagram_6 : kind_of bytes ≡ 1 → slice_index bytes 9 ≡ 6
+      → length bytes < 29 + slice_index bytes 28
   pub quiet : kind_of bytes ≡ 2 → length bytes < 9
   pub fault : kind_of bytes ≡ 3 → ⊥
 

@@ -6,7 +6,8 @@ use Rattle.m17_book.specs.Records.{FitsHead, FitsVerdict, zeros_12, head_bytes, 
 use Rattle.m17_book.specs.declared.parse_record.Head.{Head}
 
 -- the bytes begin with so many bytes that spell the value
-pub record BeginsWith {Value : Type 0} (Spells : Value → List ℕ → Type 0) (bytes : List ℕ) (value : Value) (size : ℕ) : Type 0 where
+pub record BeginsWith {Value : Type 0} (Spells : Value → List ℕ → Type 0)
+    (bytes : List ℕ) (value : Value) (size : ℕ) : Type 0 where
   pub some : 0 < size
   pub within : size ≤ length bytes
   pub spelled : Spells value (take size bytes)

@@ -14,4 +14,9 @@ pub record Progress : Type 0 where
 
 -- what callers see of a reader's fields
 abbrev pub progress : Cursor → Bool → Option FormRefusal → Progress
-progress cursor begun refusal = record { unread = held cursor; place = cursor.place; begun = begun; refusal = refusal }
+progress cursor begun refusal = record {
+  unread = held cursor;
+  place = cursor.place;
+  begun = begun;
+  refusal = refusal;
+}

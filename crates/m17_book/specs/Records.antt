@@ -62,7 +62,8 @@ stream_bytes packet = front_bytes packet ++ be_16 (crc_of (front_bytes packet))
 -- The 30 bytes that all records begin with: kind, link, index, moment, place, generation. This profile.
 abbrev pub head_bytes : ℕ → Tag → ℕ → Member → List ℕ
 head_bytes kind tag moment member =
-    (kind ∷ tag.link ∷ []) ++ be_64 tag.index ++ be_64 moment ++ be_32 member.place ++ be_64 member.generation
+    (kind ∷ tag.link ∷ []) ++ be_64 tag.index ++ be_64 moment
+    ++ be_32 member.place ++ be_64 member.generation
 
 -- The bytes of a record: 37 of a Join, 31 of a Leave, 97 of a Packet. This profile.
 abbrev pub record_bytes : Record → List ℕ
@@ -70,7 +71,8 @@ record_bytes (Join tag moment member listen callsign) =
     head_bytes 1 tag moment member ++ ((if listen then 1 else 0) ∷ []) ++ address_bytes callsign
 record_bytes (Leave tag moment member why) = head_bytes 2 tag moment member ++ (why_code why ∷ [])
 record_bytes (Packet tag moment member verdict packet) =
-    head_bytes 3 tag moment member ++ (verdict_code verdict ∷ []) ++ value_bytes verdict ++ stream_bytes packet
+    head_bytes 3 tag moment member ++ (verdict_code verdict ∷ [])
+    ++ value_bytes verdict ++ stream_bytes packet
 
 -- The fields that all records have fit their places: there are four links and 256 places. This profile.
 pub record FitsHead (tag : Tag) (moment : ℕ) (member : Member) : Type 0 where
@@ -93,7 +95,8 @@ FitsVerdict ListenOnly = Unit {0}
 
 -- each field of the record fits its place
 abbrev pub FitsRecord : Record → Type 0
-FitsRecord (Join tag moment member listen callsign) = FitsHead tag moment member × HasCallsign callsign
+FitsRecord (Join tag moment member listen callsign) =
+    FitsHead tag moment member × HasCallsign callsign
 FitsRecord (Leave tag moment member why) = FitsHead tag moment member
 FitsRecord (Packet tag moment member verdict packet) =
     FitsHead tag moment member × FitsVerdict verdict × SpellsStream packet (stream_bytes packet)

@@ -19,14 +19,18 @@ tell (flaws.Field k) place len = Field (told (place + k))
 -- What the next answer says of what is to come, and what is to come after it.
 abbrev pub IsNext : {Value : Type 0} → (Value → List ℕ → Type 0) → (List ℕ → Flaw → Type 0)
     → Result (Option Value) FormRefusal → List ℕ → ℕ → List ℕ → Option (List ℕ) → ℕ → Type 0
-IsNext Spells Flawed (Ok (Some value)) ahead place held left after = (front : List ℕ) × (rest : List ℕ)
-    × (ahead ≡ front ++ rest) × Spells value front × IsAhead held left rest × (after ≡ told (place + length front))
-IsNext Spells Flawed (Ok None) ahead place held left after = (ahead ≡ []) × IsAhead held left [] × (after ≡ place)
+IsNext Spells Flawed (Ok (Some value)) ahead place held left after =
+    (front : List ℕ) × (rest : List ℕ)
+    × (ahead ≡ front ++ rest) × Spells value front × IsAhead held left rest
+    × (after ≡ told (place + length front))
+IsNext Spells Flawed (Ok None) ahead place held left after =
+    (ahead ≡ []) × IsAhead held left [] × (after ≡ place)
 IsNext Spells Flawed (Err refusal) ahead place held left after =
     (refusal ≡ ReadFault) ⊎ TellsFlaw Flawed ahead place refusal
 
 -- The header was passed, or what is wrong with it is told.
-abbrev pub PassesHeader : {T : Type 0} → Result T FormRefusal → List ℕ → ℕ → List ℕ → Option (List ℕ) → ℕ → Type 0
+abbrev pub PassesHeader : {T : Type 0} → Result T FormRefusal → List ℕ → ℕ → List ℕ
+    → Option (List ℕ) → ℕ → Type 0
 PassesHeader (Ok _) ahead place held left after = (letter : ℕ) × (rest : List ℕ) × IsModule letter
     × (ahead ≡ book_header letter ++ rest) × IsAhead held left rest × (after ≡ told (place + 9))
 PassesHeader (Err refusal) ahead place held left after =

@@ -31,7 +31,8 @@ const QUIET_BYTES: usize = 9;
 /// The entry that the bytes begin with, and how many bytes it has; else what is wrong first.
 pub(crate) fn parse_entry(b: &[u8]) -> Result<(Heard, usize), Flaw>
     requires { 0 < length b.now }
-    ensures { MatchResult result (λ found. BeginsWith SpellsEntry b.now found.0 found.1) (EntryFlaw b.now) }
+    ensures { MatchResult result (λ found. BeginsWith SpellsEntry b.now found.0 found.1)
+        (EntryFlaw b.now) }
 {
     match b[0] {
         DATAGRAM => parse_datagram(b),
@@ -50,7 +51,8 @@ pub(crate) fn parse_entry(b: &[u8]) -> Result<(Heard, usize), Flaw>
 /// A datagram: its family says how many bytes its address has.
 fn parse_datagram(b: &[u8]) -> Result<(Heard, usize), Flaw>
     requires { kind_of b.now ≡ 1 }
-    ensures { MatchResult result (λ found. BeginsWith SpellsEntry b.now found.0 found.1) (EntryFlaw b.now) }
+    ensures { MatchResult result (λ found. BeginsWith SpellsEntry b.now found.0 found.1)
+        (EntryFlaw b.now) }
 {
     if b.len() <= FAMILY_AT {
         return Err(Flaw::Cut);
@@ -65,8 +67,10 @@ fn parse_datagram(b: &[u8]) -> Result<(Heard, usize), Flaw>
 /// What stands after the family, where the address has so many bytes.
 fn parse_rest(b: &[u8], size: usize) -> Result<(Heard, usize), Flaw>
     requires kind { kind_of b.now ≡ 1 }
-    requires family { ((slice_index b.now 9 ≡ 4) × (size ≡ 4)) ⊎ ((slice_index b.now 9 ≡ 6) × (size ≡ 16)) }
-    ensures { MatchResult result (λ found. BeginsWith SpellsEntry b.now found.0 found.1) (EntryFlaw b.now) }
+    requires family { ((slice_index b.now 9 ≡ 4) × (size ≡ 4))
+        ⊎ ((slice_index b.now 9 ≡ 6) × (size ≡ 16)) }
+    ensures { MatchResult result (λ found. BeginsWith SpellsEntry b.now found.0 found.1)
+        (EntryFlaw b.now) }
 {
     let port_at = ADDRESS_AT + size;
     let length_at = port_at + 2;

@@ -22,7 +22,8 @@ pub(crate) fn parse_book_header(b: &[u8]) -> Result<(), Flaw>
 
 /// Whether the bytes begin with this magic; else what is wrong first.
 pub(crate) fn parse_magic(magic: &[u8; 8], b: &[u8]) -> Result<(), Flaw>
-    ensures { MatchResult result (λ _. (8 ≤ length b.now) × (take 8 b.now ≡ magic.now)) (MagicFlaw magic.now b.now) }
+    ensures { MatchResult result (λ _. (8 ≤ length b.now) × (take 8 b.now ≡ magic.now))
+        (MagicFlaw magic.now b.now) }
 {
     if b.len() < MAGIC_BYTES {
         return Err(Flaw::Cut);

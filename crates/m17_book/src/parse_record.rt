@@ -41,7 +41,8 @@ pub(crate) struct Head {
 /// The record that the bytes begin with, and how many bytes it has; else what is wrong first.
 pub(crate) fn parse_record(b: &[u8]) -> Result<(Record, usize), Flaw>
     requires { 0 < length b.now }
-    ensures { MatchResult result (λ found. BeginsWith SpellsRecord b.now found.0 found.1) (RecordFlaw b.now) }
+    ensures { MatchResult result (λ found. BeginsWith SpellsRecord b.now found.0 found.1)
+        (RecordFlaw b.now) }
 {
     let kind = b[0];
     if kind < JOIN || kind > PACKET {
@@ -94,7 +95,8 @@ fn parse_head(b: &[u8]) -> Result<Head, Flaw>
 fn parse_join(head: Head, b: &[u8]) -> Result<(Record, usize), Flaw>
     requires head { HasHead b.now head }
     requires kind { kind_of b.now ≡ 1 }
-    ensures { MatchResult result (λ found. BeginsWith SpellsRecord b.now found.0 found.1) (RecordFlaw b.now) }
+    ensures { MatchResult result (λ found. BeginsWith SpellsRecord b.now found.0 found.1)
+        (RecordFlaw b.now) }
 {
     m17_fields::laws::fields_of_48_bits_are_exact();
     if b.len() <= LISTEN_AT {
@@ -133,7 +135,8 @@ fn parse_join(head: Head, b: &[u8]) -> Result<(Record, usize), Flaw>
 fn parse_leave(head: Head, b: &[u8]) -> Result<(Record, usize), Flaw>
     requires head { HasHead b.now head }
     requires kind { kind_of b.now ≡ 2 }
-    ensures { MatchResult result (λ found. BeginsWith SpellsRecord b.now found.0 found.1) (RecordFlaw b.now) }
+    ensures { MatchResult result (λ found. BeginsWith SpellsRecord b.now found.0 found.1)
+        (RecordFlaw b.now) }
 {
     if b.len() <= HEAD_BYTES {
         return Err(Flaw::Cut);
@@ -176,7 +179,8 @@ fn why_of(code: u8) -> Option<Why>
 fn parse_packet(head: Head, b: &[u8]) -> Result<(Record, usize), Flaw>
     requires head { HasHead b.now head }
     requires kind { kind_of b.now ≡ 3 }
-    ensures { MatchResult result (λ found. BeginsWith SpellsRecord b.now found.0 found.1) (RecordFlaw b.now) }
+    ensures { MatchResult result (λ found. BeginsWith SpellsRecord b.now found.0 found.1)
+        (RecordFlaw b.now) }
 {
     if b.len() <= HEAD_BYTES {
         return Err(Flaw::Cut);

@@ -21,7 +21,8 @@ const BEFORE_NUMBER: [u8; 10] = [0; 10];
 pub(crate) fn parse_place(b: &[u8], at: usize) -> Option<u32>
     requires { at + 4 ≤ length b.now }
     ensures some { IfSome result (λ place. (place < 256) × (be_32 place ≡ field_at at 4 b.now)) }
-    ensures none { IfNone result ((place : ℕ) → place < 256 → be_32 place ≡ field_at at 4 b.now → ⊥) }
+    ensures none { IfNone result ((place : ℕ) → place < 256
+        → be_32 place ≡ field_at at 4 b.now → ⊥) }
 {
     m17_fields::laws::fields_of_32_bits_are_exact();
     let place = get_32(b, at);

@@ -51,7 +51,8 @@ impl Reader {
         ensures refused { IfErr result (λ refusal. self.new.refusal ≡ Some refusal) }
         ensures again { (refusal : FormRefusal) → self.old.refusal ≡ Some refusal
             → (result ≡ Err refusal) × (source.new ≡ source.old) }
-        ensures cause { self.old.refusal ≡ None → HasReadCause (S.faults source.old) (S.faults source.new) result }
+        ensures cause { self.old.refusal ≡ None
+            → HasReadCause (S.faults source.old) (S.faults source.new) result }
     {
         if let Some(refusal) = self.refusal {
             return Err(refusal);

@@ -31,7 +31,8 @@ fn refusal_of(flaw: Flaw, place: u64, len: usize) -> FormRefusal
 /// Passes the header of a book.
 pub(crate) fn pass_header<S: Source>(cursor: &mut Cursor, source: &mut S) -> Result<(), FormRefusal>
     ensures header { (ahead : List ℕ) → IsAhead (held cursor.old) (S.left source.old) ahead
-        → PassesHeader result ahead cursor.old.place (held cursor.new) (S.left source.new) cursor.new.place }
+        → PassesHeader result ahead cursor.old.place
+        (held cursor.new) (S.left source.new) cursor.new.place }
     ensures cause { HasReadCause (S.faults source.old) (S.faults source.new) result }
 {
     let Ok(()) = cursor.fill(source) else {
