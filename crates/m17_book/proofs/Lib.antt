@@ -1,0 +1,10 @@
+pub mod Held
+pub mod Sound
+pub mod Values
+pub mod Entry
+pub mod Chunks
+pub mod Begun
+pub mod Magics
+pub mod Window
+pub mod NextStep
+pub mod Within

@@ -1,0 +1,14 @@
+use Rattle.std.proofs.Common.{◌≡◌, ℕ, ◌-◌, List, length}
+use Rattle.m17_book.specs.Ahead.{held, IsAhead}
+use Rattle.m17_book.proofs.cursor.Cursor.fill.Given as goal
+
+-- the same is to come of the input, and the source has not failed
+abbrev pub invariant-reads : goal.invariant-reads
+invariant-reads g l = record {
+  kept : (ahead : List ℕ) → IsAhead (held l.fn.self) (g.S.Source.left l.fn.source) ahead → IsAhead (held l.self) (g.S.Source.left l.source) ahead;
+  sound : g.S.Source.faults l.source ≡ g.S.Source.faults l.fn.source;
+  place : l.self.place ≡ l.fn.self.place;
+}
+
+abbrev pub decreases-reads : goal.decreases-reads
+decreases-reads g l = 97 - length (held l.self)

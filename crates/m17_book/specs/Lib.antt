@@ -1,0 +1,10 @@
+pub mod Limits
+pub mod Ahead
+pub mod Records
+pub mod Entries
+pub mod Flaws
+pub mod Book
+pub mod Parsed
+pub mod Steps
+pub mod Progress
+pub mod Reading

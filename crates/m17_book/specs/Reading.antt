@@ -1,0 +1,39 @@
+-- What a reader of a book has read. This profile.
+use Rattle.std.specs.Prelude.{◌≡◌, ◌⊎◌, ℕ, ◌≤◌, List, [], ◌∷◌, ◌++◌, length, Option, None, Some, Result, Ok, Err}
+use Rattle.std.specs.Bool.{MatchBool}
+use Rattle.m17_io.specs.Faults.{HasRisen}
+use Rattle.m17_book.specs.Limits.{told}
+use Rattle.m17_book.specs.Ahead.{IsAhead}
+use Rattle.m17_book.specs.Book.{HasBookForm, LacksBookForm}
+use Rattle.m17_book.specs.Progress.{Progress}
+use Rattle.m17_book.specs.declared.record.Record.{Record}
+use Rattle.m17_book.specs.declared.refusal.FormRefusal.{FormRefusal}
+use Rattle.m17_book.specs.declared.refusal.FormRefusal.TheVariants.{ReadFault}
+
+-- The reader, over a source with so much left, has read these records from the front of the bytes: a header and the
+-- records stand there, or nothing was read yet; the rest of the bytes is to come.
+abbrev pub HasRead : Progress → Option (List ℕ) → List ℕ → List Record → Type 0
+HasRead reader left bytes records = MatchBool reader.begun
+    ((letter : ℕ) × (front : List ℕ) × (rest : List ℕ)
+    × (bytes ≡ front ++ rest) × HasBookForm front letter records
+    × IsAhead reader.unread left rest × (reader.place ≡ told (length front)))
+    (IsAhead reader.unread left bytes × (reader.place ≡ 0) × (records ≡ []))
+
+-- What the reader answers next, where it has read these records of the bytes: one record more; or nothing, and the
+-- bytes are a book with these records; or why the bytes are no book, unless the source failed. This profile.
+abbrev pub AnswersNext : Result (Option Record) FormRefusal → Progress → Option (List ℕ)
+    → List ℕ → List Record → Type 0
+AnswersNext (Ok (Some record_)) reader left bytes records =
+    HasRead reader left bytes (records ++ record_ ∷ [])
+AnswersNext (Ok None) reader left bytes records = HasRead reader left bytes records
+    × ((letter : ℕ) × HasBookForm bytes letter records)
+AnswersNext (Err refusal) reader left bytes records =
+    (refusal ≡ ReadFault) ⊎ LacksBookForm bytes refusal
+
+-- How a call that reads ended, by the count of the source's faults before and after: it rose where the answer is
+-- that the source failed, and else it stands. This profile.
+pub record HasReadCause {T : Type 0} (before after : ℕ)
+    (result : Result T FormRefusal) : Type 0 where
+  pub counted : before ≤ after
+  pub failed : result ≡ Err ReadFault → HasRisen before after
+  pub no_fault : (result ≡ Err ReadFault → ⊥) → after ≡ before

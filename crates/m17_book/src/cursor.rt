@@ -1,0 +1,118 @@
+ghost use Rattle.std.specs.Prelude.{◌≡◌, ◌⊎◌, ℕ, ◌+◌, ◌-◌, ◌^◌, ◌<◌, ◌≤◌, min, List, [], length, take, drop, Option, Some, IfOk, OnOk, OnErr};
+ghost use Rattle.m17_io.specs.Faults.{HasCause};
+
+use m17_io::Source;
+use m17_values::Failed;
+
+/// How many bytes of the input are held at a time.
+const SIZE: usize = 8192;
+
+/// The most bytes that an entry or a record has. So many bytes, or all that are left, say what stands first.
+pub(crate) const WINDOW: usize = 97;
+
+/// Goes through the bytes of a source. It reads a buffer at a time, and holds what it has not passed yet.
+#[derive(Debug, Drop)]
+pub(crate) struct Cursor {
+    bytes: [u8; SIZE],
+    start: usize,
+    end: usize,
+    place: u64,
+    ghost ordered: { start ≤ end },
+    ghost within: { end ≤ 8192 },
+}
+
+impl Cursor {
+    ghost use Rattle.m17_book.specs.Ahead.{held, IsAhead, IsMoreOf};
+    ghost use Rattle.m17_book.specs.Limits.{told};
+
+    /// A cursor at the beginning, which holds nothing.
+    pub(crate) fn new() -> Cursor
+        ensures held { held result ≡ [] }
+        ensures place { result.place ≡ 0 }
+    {
+        Cursor {
+            bytes: [0; SIZE],
+            start: 0,
+            end: 0,
+            place: 0,
+        }
+    }
+
+    /// The bytes that were read and are not passed yet.
+    #[inline]
+    pub(crate) fn held(&self) -> &[u8]
+        ensures { result.now ≡ held self.now }
+    {
+        &self.bytes[self.start..self.end]
+    }
+
+    /// How many bytes were passed.
+    #[inline]
+    pub(crate) fn place(&self) -> u64
+        ensures { result ≡ self.now.place }
+    {
+        self.place
+    }
+
+    /// Passes so many bytes.
+    #[inline]
+    pub(crate) fn pass(&mut self, count: usize)
+        requires { count ≤ length (held self.old) }
+        ensures held { held self.new ≡ drop count (held self.old) }
+        ensures place { self.new.place ≡ told (self.old.place + count) }
+    {
+        self.start += count;
+        self.place = self.place.saturating_add(count as u64);
+    }
+
+    // Makes room behind the bytes that are held.
+    fn move_to_front(&mut self)
+        ensures held { held self.new ≡ held self.old }
+        ensures size { self.new.end ≡ length (held self.old) }
+        ensures place { self.new.place ≡ self.old.place }
+    {
+        let (start, end) = (self.start, self.end);
+        self.bytes.copy_within(start..end, 0);
+        self.start = 0;
+        self.end = end - start;
+    }
+
+    // Reads once more from the source, and answers how many bytes came: none only at the end of the input.
+    fn read_more<S: Source>(&mut self, source: &mut S) -> Result<usize, Failed>
+        requires { length (held self.old) < 8192 }
+        ensures longer { IfOk result (λ n. length (held self.new) ≡ length (held self.old) + n) }
+        ensures more { IfOk result (λ n. (rest : List ℕ) → S.left source.old ≡ Some rest
+            → IsMoreOf rest n (held self.old) (held self.new) (S.left source.new)) }
+        ensures nothing_taken { OnErr result (S.left source.new ≡ S.left source.old) }
+        ensures held { OnErr result (held self.new ≡ held self.old) }
+        ensures cause { HasCause (S.faults source.old) (S.faults source.new) result }
+        ensures place { self.new.place ≡ self.old.place }
+    {
+        self.move_to_front();
+        let end = self.end;
+        let count = source.read(&mut self.bytes[end..])?;
+        self.end = end + count;
+        Ok(count)
+    }
+
+    /// Reads until as many bytes are held as say what stands first, or all that are left. What is to come of the input
+    /// stays the same.
+    pub(crate) fn fill<S: Source>(&mut self, source: &mut S) -> Result<(), Failed>
+        ensures kept { (ahead : List ℕ) → IsAhead (held self.old) (S.left source.old) ahead
+            → IsAhead (held self.new) (S.left source.new) ahead }
+        ensures enough { OnOk result ((97 ≤ length (held self.new))
+            ⊎ ((ahead : List ℕ) → IsAhead (held self.old) (S.left source.old) ahead
+            → (S.left source.new ≡ Some []) × (ahead ≡ held self.new))) }
+        ensures cause { HasCause (S.faults source.old) (S.faults source.new) result }
+        ensures place { self.new.place ≡ self.old.place }
+    {
+        'reads: loop {
+            if self.held().len() >= WINDOW {
+                return Ok(());
+            }
+            if self.read_more(source)? == 0 {
+                return Ok(());
+            }
+        }
+    }
+}

@@ -1,0 +1,30 @@
+//! Traces and books as files: a trace holds all that a link heard, a book all that a module decided. This crate has
+//! their forms as bytes, and why other bytes are refused, each refusal with its place in the input.
+//! It promises that writing spells an entry, a record or a header, and that a reader of a book gives records that the
+//! bytes spell, one by one, the end only where they are the whole input, and else a refusal that the bytes have.
+//! Where the source fails it says so, and its count of faults rose.
+//! What is heard or decided, and whether a book is legal, is left to the crates above.
+#![tactic(auto)]
+
+mod cursor;
+mod form;
+mod parse_entry;
+mod parse_header;
+mod parse_record;
+mod parse_verdict;
+mod reader;
+mod record;
+mod refusal;
+mod spell_entry;
+mod spell_record;
+mod steps;
+
+pub use reader::Reader;
+pub use record::Record;
+pub(crate) use refusal::Flaw;
+pub use refusal::FormRefusal;
+pub use spell_entry::write_entry;
+pub use spell_record::{write_header, write_record};
+
+#[cfg(test)]
+mod tests;

@@ -1,0 +1,104 @@
+ghost use Rattle.std.specs.Prelude.{◌≡◌, ◌⊎◌, ℕ, List, [], None, Some, Err, true, IfOk, IfErr};
+ghost use Rattle.m17_book.specs.declared.record.Record.{Record};
+ghost use Rattle.m17_book.specs.declared.refusal.FormRefusal.{FormRefusal};
+ghost use Rattle.m17_book.specs.declared.refusal.FormRefusal.TheVariants.{ReadFault};
+ghost use Rattle.m17_book.specs.Book.{LacksBookForm};
+
+use crate::cursor::Cursor;
+use crate::steps::{next_record, pass_header};
+use crate::{FormRefusal, Record};
+use m17_io::Source;
+use std::marker::Model;
+
+/// Gives the records of a book one by one. It knows no limit on the book's size. This profile.
+#[derive(Debug, Drop)]
+pub struct Reader {
+    cursor: Cursor,
+    begun: bool,
+    refusal: Option<FormRefusal>,
+}
+
+impl Model for Reader {
+    ghost use Rattle.m17_book.specs.Progress.{Progress, progress};
+
+    ghost Value = { Progress };
+
+    ghost view = { λ r. progress r.cursor r.begun r.refusal };
+}
+
+impl Reader {
+    ghost use Rattle.m17_book.specs.Reading.{HasRead, AnswersNext, HasReadCause};
+
+    /// A reader that has read nothing.
+    pub fn new() -> Reader
+        ensures fresh { (bytes : List ℕ) → HasRead result (Some bytes) bytes [] }
+        ensures not_refused { result.refusal ≡ None }
+    {
+        Reader {
+            cursor: Cursor::new(),
+            begun: false,
+            refusal: None,
+        }
+    }
+
+    /// The next record; none at the end of a book that was read whole. Else why the bytes are no book: `Cut`, `Kind`
+    /// and `Field` with their places, and `ReadFault` where the source failed; never `Large` or `NoMemory`. After a
+    /// refusal it answers that refusal again, and reads nothing. This profile.
+    pub fn next<S: Source>(&mut self, source: &mut S) -> Result<Option<Record>, FormRefusal>
+        ensures answers { self.old.refusal ≡ None → (bytes : List ℕ) → (records : List Record)
+            → HasRead self.old (S.left source.old) bytes records
+            → AnswersNext result self.new (S.left source.new) bytes records }
+        ensures refused { IfErr result (λ refusal. self.new.refusal ≡ Some refusal) }
+        ensures again { (refusal : FormRefusal) → self.old.refusal ≡ Some refusal
+            → (result ≡ Err refusal) × (source.new ≡ source.old) }
+        ensures cause { self.old.refusal ≡ None
+            → HasReadCause (S.faults source.old) (S.faults source.new) result }
+    {
+        if let Some(refusal) = self.refusal {
+            return Err(refusal);
+        }
+        match self.advance(source) {
+            Ok(next) => Ok(next),
+            Err(refusal) => {
+                self.refusal = Some(refusal);
+                Err(refusal)
+            }
+        }
+    }
+
+    // The next record, past the header where it comes first.
+    fn advance<S: Source>(&mut self, source: &mut S) -> Result<Option<Record>, FormRefusal>
+        ensures answers { (bytes : List ℕ) → (records : List Record)
+            → HasRead self.old (S.left source.old) bytes records
+            → AnswersNext result self.new (S.left source.new) bytes records }
+        ensures cause { HasReadCause (S.faults source.old) (S.faults source.new) result }
+    {
+        match self.begin(source) {
+            Ok(()) => next_record(&mut self.cursor, source),
+            Err(refusal) => Err(refusal),
+        }
+    }
+
+    // Passes the header where that was not done yet.
+    fn begin<S: Source>(&mut self, source: &mut S) -> Result<(), FormRefusal>
+        ensures begun { IfOk result (λ _. self.new.begun ≡ true) }
+        ensures passed { IfOk result (λ _. (bytes : List ℕ) → (records : List Record)
+            → HasRead self.old (S.left source.old) bytes records
+            → HasRead self.new (S.left source.new) bytes records) }
+        ensures refused { IfErr result (λ refusal. (bytes : List ℕ) → (records : List Record)
+            → HasRead self.old (S.left source.old) bytes records
+            → (refusal ≡ ReadFault) ⊎ LacksBookForm bytes refusal) }
+        ensures cause { HasReadCause (S.faults source.old) (S.faults source.new) result }
+    {
+        if self.begun {
+            return Ok(());
+        }
+        match pass_header(&mut self.cursor, source) {
+            Ok(()) => {
+                self.begun = true;
+                Ok(())
+            }
+            Err(refusal) => Err(refusal),
+        }
+    }
+}
