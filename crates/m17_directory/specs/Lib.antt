@@ -1,0 +1,7 @@
+-- What callers speak of: what a link heard, who is known, what an entry becomes, what a directory stands for.
+pub mod Entries
+pub mod Known
+pub mod Outcome
+pub mod Routed
+pub mod StandsFor
+pub mod Laws

@@ -1,0 +1,4 @@
+//! Looking back through lists by position.
+#![tactic(auto)]
+
+pub fn nothing() {}
