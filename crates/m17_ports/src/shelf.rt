@@ -14,7 +14,7 @@ pub struct Shelf<B> {
 }
 
 impl<B: Book> Book for Shelf<B> {
-    ghost use Rattle.m17_ports.proofs.ShelfLemmas.{of_inner-within};
+    ghost use Rattle.std.proofs.Common.{lit≤};
 
     type Label = Option<B::Label>;
 
@@ -26,7 +26,8 @@ impl<B: Book> Book for Shelf<B> {
 
     ghost label = { λ s. option_map B.label s.inner };
 
-    ghost faults_fit = { λ s. of_inner-within B.faults (2 ^ 64 - 1) B.faults_fit s.inner };
+    ghost faults_fit = { λ s. elim s.inner as (λ inner. of_inner B.faults 0 inner ≤ 2 ^ 64 - 1)
+        [ None ↦ lit≤ tt | Some book ↦ B.faults_fit book ] };
 
     fn write(&mut self, bytes: &[u8]) -> Result<(), Failed> {
         match &mut self.inner {
