@@ -1,0 +1,6 @@
+pub mod Told
+pub mod Marks
+pub mod Ear
+pub mod Tallies
+pub mod Mouth
+pub mod Shelf
