@@ -1,0 +1,6 @@
+//! The reflector.
+#![tactic(auto)]
+
+mod plan;
+
+pub use plan::Plan;

@@ -1,0 +1,19 @@
+use m17_callsign::CallAddress;
+use m17_control::Modules;
+
+/// How a reflector is run. This profile.
+#[derive(Clone, Copy, Debug, PartialEq, Eq)]
+pub struct Plan {
+    /// The reflector's own address.
+    pub name: CallAddress,
+    /// The modules that are served.
+    pub modules: Modules,
+    /// Those among them that are parrots.
+    pub parrots: Modules,
+    /// How many places there are for all links together, 1 to 256.
+    pub places: u32,
+    /// Whether each wait goes on until there is room, so that nothing is missed. With one link only.
+    pub patient: bool,
+    /// Of how many entries of a link, from the first, the verdicts are kept.
+    pub entries: u32,
+}
