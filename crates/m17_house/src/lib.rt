@@ -2,5 +2,11 @@
 #![tactic(auto)]
 
 mod plan;
+mod replay;
+mod rooms;
+mod run;
+mod stage;
+mod voice;
 
 pub use plan::Plan;
+pub use replay::replay_plain;
