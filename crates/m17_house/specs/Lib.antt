@@ -2,3 +2,4 @@
 pub mod Replay
 pub mod Tallied
 pub mod Carried
+pub mod SoFar

@@ -1,6 +1,7 @@
 //! The reflector.
 #![tactic(auto)]
 
+mod choice;
 mod plan;
 mod replay;
 mod rooms;

@@ -41,10 +41,10 @@ pub fn replay_plain(
         Err(_) => return Err(NoMemory),
     };
     for (index, h) in heard.iter().enumerate() {
-        let (verdict, packet) = run.hear(index as u64, h, mouth);
+        let (verdict, packet) = run.hear(plan, index as u64, h, mouth);
         verdicts.push_reserved(verdict);
         packets.push_reserved(packet);
-        if verdict == LinkVerdict::Ended {
+        if run.has_ended() {
             break;
         }
     }

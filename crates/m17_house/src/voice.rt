@@ -1,6 +1,6 @@
 //! What is said on a mouth, in the name of the reflector.
 
-ghost use Rattle.std.specs.Prelude.{[], ◌∷◌, map};
+ghost use Rattle.std.specs.Prelude.{◌≡◌, [], map};
 ghost use Rattle.std.specs.List.{filter_map};
 ghost use Rattle.std.specs.Option.{option_to_list};
 ghost use Rattle.m17_control.specs.declared.packet.Packet.TheVariants as packets;

@@ -1,0 +1,9 @@
+pub mod Lists
+pub mod Peers
+pub mod Magics
+pub mod Tallies
+pub mod Cells
+pub mod Carries
+pub mod Notes
+pub mod CarriesAll
+pub mod Places
