@@ -7,3 +7,10 @@ pub mod Carries
 pub mod Notes
 pub mod CarriesAll
 pub mod Places
+pub mod Posts
+pub mod Found
+pub mod Among
+pub mod Chosen
+pub mod HeardMore
+pub mod OneMore
+pub mod Played

@@ -70,9 +70,10 @@ past_with plan entries entry =
     past_at (setup_of plan) (entries ++ entry ∷ []) (length entries)
 
 -- how often each place was given
-abbrev pub AreCounts : List ℕ → List Entry → Type 0
-AreCounts given entries = (place : ℕ) → place < 256 →
-    slice_index given place ≡ given_before entries place (length entries)
+pub record AreCounts (given : List ℕ) (entries : List Entry) : Type 0 where
+  pub cells : length given ≡ 256
+  pub each : (place : ℕ) → place < 256 →
+      slice_index given place ≡ given_before entries place (length entries)
 
 abbrev pub AreChosen : Plan → List Entry → Type 0
 AreChosen plan entries =

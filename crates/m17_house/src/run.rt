@@ -7,6 +7,8 @@ ghost use Rattle.m17_directory.specs.declared.verdict.LinkVerdict.TheVariants as
 ghost use Rattle.m17_directory.specs.Entries.{Entry, Notice, Says};
 ghost use Rattle.m17_directory.specs.Outcome as outcome;
 ghost use Rattle.m17_directory.specs.Wanted as laws;
+ghost use Rattle.m17_control.specs.Forms.{Refuses, Spells};
+ghost use Rattle.m17_fields.specs.Reading.{HasOneReading};
 ghost use Rattle.m17_floor.specs.declared.verdict.Verdict.{Verdict};
 ghost use Rattle.m17_port_memory.specs.Kept.{TalliesKept};
 ghost use Rattle.m17_house.specs.declared.plan.Plan.{Plan};
@@ -60,19 +62,32 @@ fn note(directory: &mut Directory, dispatch: &Dispatch)
     }
 }
 
+// Bytes are a packet, or no packet.
+fn reads(bytes: &[u8])
+    ensures { HasOneReading Spells Refuses bytes.now }
+{
+    control_laws::decoding_is_exact();
+    let _bytes = bytes;
+}
+
 // What was heard says something.
 fn says_something(h: &Heard)
     ensures { (notice : Notice) × Says h.now notice }
 {
-    control_laws::decoding_is_exact();
     match h {
-        Heard::Datagram { bytes, .. } => {
-            let _bytes = bytes.bytes();
-        }
+        Heard::Datagram { bytes, .. } => reads(bytes.bytes()),
         Heard::Quiet { .. } => {}
         Heard::Fault => {}
         Heard::End => {}
     }
+}
+
+// No place was given yet.
+fn no_counts() -> [u64; MOST_PLACES]
+    ensures cells { length result ≡ 256 }
+    ensures none { (place : ℕ) → place < 256 → slice_index result place ≡ 0 }
+{
+    [0; MOST_PLACES]
 }
 
 impl Run {
@@ -91,7 +106,7 @@ impl Run {
             directory,
             post,
             stage,
-            given: [0; MOST_PLACES],
+            given: no_counts(),
         })
     }
 
@@ -209,10 +224,9 @@ impl Run {
         floor_laws::only_speakers_are_heard();
         says_something(h);
         let (verdict, answer) = self.take_in(index, h, mouth);
-        if verdict != LinkVerdict::Asks {
-            return (verdict, answer);
+        match verdict {
+            LinkVerdict::Asks => (self.give(plan, mouth), None),
+            _ => (verdict, answer),
         }
-        let verdict = self.give(plan, mouth);
-        (verdict, None)
     }
 }
