@@ -3,7 +3,8 @@ ghost use Rattle.std.specs.List.{list_any};
 ghost use Rattle.m17_directory.specs.Entries.{Notice, Entry, Claim, Says, is_fault, is_end};
 ghost use Rattle.m17_directory.specs.Entries as entries;
 ghost use Rattle.m17_directory.specs.Outcome.{has_place};
-ghost use Rattle.m17_directory.specs.StandsFor.{StandsFor, IsHeard, IsSettled, IsBounded, HasGrown, must_wait, without_member, unclaimed, claimed};
+ghost use Rattle.m17_directory.specs.StandsFor.{StandsFor, IsHeard, IsSettled, IsBounded, HasGrown, must_wait, without_member, unclaimed};
+ghost use Rattle.m17_directory.specs.StandsFor as stands;
 ghost use Rattle.m17_directory.specs.declared.verdict.LinkVerdict.TheVariants as link;
 
 use crate::people::People;
@@ -160,7 +161,7 @@ impl Directory {
         requires place { IfSome claimed (λ m. m.place < self.old.setup.places) }
         ensures settled { (entries : List Entry) → (notice : Notice) →
             StandsFor self.old (entries ++ unclaimed notice ∷ []) →
-            IsSettled self.old self.new entries (claimed notice
+            IsSettled self.old self.new entries (stands.claimed notice
             (option_map (λ m. record { member = m; after = after }) claimed))
             (record { verdict = result; posts = post.new }) }
         ensures setup { self.new.setup ≡ self.old.setup }

@@ -1,0 +1,6 @@
+pub mod Faults
+pub mod Later
+pub mod Named
+pub mod Peers
+pub mod Rows
+pub mod Same

@@ -1,0 +1,1 @@
+use Rattle.m17_directory.proofs.Named
