@@ -1,13 +1,24 @@
 -- What follows from the definitions for all that a link may hear. This profile.
-use Rattle.std.specs.Prelude.{◌≡◌, ℕ, suc, ◌<◌, Bool, true, false, List, [], ◌∷◌, ◌++◌, length, Option, None, Some}
+use Rattle.std.specs.Prelude.{◌≡◌, ℕ, suc, ◌<◌, Bool, true, false, List, [], ◌∷◌, ◌++◌, length, map, take, Option, None, Some, if◌then◌else◌}
 use Rattle.std.specs.List.{filter_map, AllByRecursion}
+use Rattle.m17_values.specs.declared.heard.Heard.{Heard}
+use Rattle.m17_values.specs.declared.heard.Heard.TheVariants as heard
+use Rattle.m17_values.specs.declared.member.Member.{Member}
 use Rattle.m17_values.specs.declared.peer.Peer.{Peer}
+use Rattle.m17_fields.specs.Fields.{IsBytes}
 use Rattle.m17_control.specs.declared.event.Body.{Body}
-use Rattle.m17_control.specs.declared.event.Body.TheVariants.{Stop}
+use Rattle.m17_control.specs.declared.event.Body.TheVariants.{Leave, Packet, Stop}
 use Rattle.m17_control.specs.declared.event.Event.{Event}
 use Rattle.m17_control.specs.Modules.{serves}
-use Rattle.m17_directory.specs.Entries.{Entry, Setup, ends_at}
-use Rattle.m17_directory.specs.Routed.{past_at, outcome_at, posts_at, posted, event_for, reply_for, routed, direct_replies}
+use Rattle.m17_directory.specs.declared.dispatch.Dispatch.{Dispatch}
+use Rattle.m17_directory.specs.declared.dispatch.Dispatch.TheVariants.{ToModule, ToDoor}
+use Rattle.m17_directory.specs.declared.known.Known.{Known}
+use Rattle.m17_directory.specs.declared.verdict.Act.TheVariants as act
+use Rattle.m17_directory.specs.declared.verdict.LinkVerdict.{LinkVerdict}
+use Rattle.m17_directory.specs.declared.verdict.LinkVerdict.TheVariants.{Routed, Ended}
+use Rattle.m17_directory.specs.Entries.{Notice, Says, Claim, Entry, Setup, notice_at, ends_at}
+use Rattle.m17_directory.specs.Known.{Past}
+use Rattle.m17_directory.specs.Routed.{heard_at, others_at, settled_at, past_at, outcome_at, link_verdict, posts_at, posted, event_for, reply_for, routed, direct_replies}
 
 -- What comes later changes nothing of what an entry comes to. This profile.
 abbrev pub LaterEntriesChangeNothing : Type 0
@@ -27,6 +38,72 @@ pub record OneEntryMore : Type 0 where
   pub answers : (setup : Setup) (entries : List Entry) (entry : Entry) (x : Peer) →
       direct_replies setup (entries ++ entry ∷ []) x ≡ direct_replies setup entries x
       ++ filter_map (reply_for x) (posts_at setup (entries ++ entry ∷ []) (length entries))
+
+-- What an entry comes to before its claim, and who the others are there, follows from the entries before it and from
+-- what it says itself, whatever its claim. This profile.
+pub record EntriesBeforeDecide : Type 0 where
+  pub heard : (setup : Setup) (a b : List Entry) (n : ℕ) → take n a ≡ take n b →
+      notice_at a n ≡ notice_at b n →
+      heard_at (past_at setup a n) ≡ heard_at (past_at setup b n)
+  pub others : (setup : Setup) (a b : List Entry) (n : ℕ) → take n a ≡ take n b →
+      notice_at a n ≡ notice_at b n →
+      others_at (past_at setup a n) ≡ others_at (past_at setup b n)
+
+-- What is posted to a module at a position carries the position. This profile.
+abbrev pub EventsCarryTheirIndex : Type 0
+EventsCarryTheirIndex =
+    (setup : Setup) (entries : List Entry) (n letter : ℕ) →
+    AllByRecursion (λ event. event.tag.index ≡ n)
+    (filter_map (event_for letter) (posts_at setup entries n))
+
+-- The body is a packet; and the module's letter, if this is a packet for a module. This profile.
+abbrev pub is_packet : Body → Bool
+is_packet (Packet k p) = true
+is_packet _ = false
+
+abbrev pub packet_letter : Dispatch → Option ℕ
+packet_letter (ToModule letter event) = if is_packet event.body then Some letter else None
+packet_letter (ToDoor direct) = None
+
+-- the same of a verdict
+abbrev pub packet_routed : LinkVerdict → List ℕ
+packet_routed (Routed letter act.Packet) = letter ∷ []
+packet_routed _ = []
+
+-- An entry posts one packet, to the module that its verdict names, or none. This profile.
+abbrev pub PacketsAreRouted : Type 0
+PacketsAreRouted =
+    (setup : Setup) (entries : List Entry) (n : ℕ) →
+    filter_map packet_letter (posts_at setup entries n)
+    ≡ packet_routed (link_verdict setup entries n)
+
+-- The member, if this is its Leave. This profile.
+abbrev pub leaver_of : Body → Option Member
+leaver_of (Leave k why) = Some k
+leaver_of _ = None
+
+abbrev pub left_member : Dispatch → Option Member
+left_member (ToModule letter event) = leaver_of event.body
+left_member (ToDoor direct) = None
+
+-- Those whose Leaves are posted are those that leave, in order. This profile.
+pub record EachWhoLeavesIsPosted : Type 0 where
+  pub heard : (past : Past) →
+      filter_map left_member (heard_at past).posts
+      ≡ map (λ (k : Known). k.member) (heard_at past).left
+  pub settled : (past : Past) (claim : Option Claim) →
+      filter_map left_member (settled_at past claim).posts
+      ≡ map (λ (k : Known). k.member) (settled_at past claim).left
+
+-- The verdict of an entry is Ended exactly where the link ends. This profile.
+abbrev pub is_ended : LinkVerdict → Bool
+is_ended Ended = true
+is_ended _ = false
+
+abbrev pub EndedWhereItEnds : Type 0
+EndedWhereItEnds =
+    (setup : Setup) (entries : List Entry) (n : ℕ) →
+    is_ended (heard_at (past_at setup entries n)).verdict ≡ ends_at entries n
 
 -- The link has ended, at its last entry, and at no entry before. This profile.
 pub record EndsOnce (entries : List Entry) : Type 0 where
@@ -58,3 +135,13 @@ abbrev pub OnlyServedAreRouted : Type 0
 OnlyServedAreRouted =
     (setup : Setup) (entries : List Entry) (letter : ℕ) → serves setup.modules letter ≡ false →
     routed setup entries letter ≡ []
+
+-- What a link hears, if it is a datagram, is bytes; and then it says exactly one thing. This profile.
+abbrev pub HasBytes : Heard → Type 0
+HasBytes (heard.Datagram from at bytes) = IsBytes bytes
+HasBytes _ = Unit {0}
+
+abbrev pub EachEntrySaysOneThing : Type 0
+EachEntrySaysOneThing =
+    (h : Heard) → HasBytes h →
+    (notice : Notice) × Says h notice × ((other : Notice) → Says h other → other ≡ notice)
