@@ -23,7 +23,7 @@ here_same setup a b l says =
     let f : ℕ → Here = λ m. record { setup = setup; index = length l; moment = m } in
     ap f (moment_same a b (suc (length l)) says)
 
-others_is : (past : Past) → others_at past ≡ others_than (notice_at past.entries (now past)) (still_by (here_of past) (known_at past) (notice_at past.entries (now past)))
+pub others_is : (past : Past) → others_at past ≡ others_than (notice_at past.entries (now past)) (still_by (here_of past) (known_at past) (notice_at past.entries (now past)))
 unfolding others_at
 others_is past = refl
 
@@ -77,7 +77,7 @@ outcome_same setup a b n says claims =
     comes_same setup a b l (says_less a b (suc n) (suc (length l)) (omega arith) says) (claims_less a b (suc n) (suc (length l)) (omega arith) claims)
     ∙ ap (λ m. comes_to (past_of setup b m)) (asked_same setup a b n (says_less a b (suc n) n (omega arith) says) (claims_less a b (suc n) n (omega arith) claims))
 
-get_first : {A : Type 0} (xs ys : List A) (i : ℕ) → i < length xs → slice_get (xs ++ ys) i ≡ slice_get xs i
+pub get_first : {A : Type 0} (xs ys : List A) (i : ℕ) → i < length xs → slice_get (xs ++ ys) i ≡ slice_get xs i
 get_first [] ys i h = absurd (omega arith)
 get_first (x ∷ xs) ys zero h = refl
 get_first (x ∷ xs) ys (suc i) h = get_first xs ys i (omega arith)

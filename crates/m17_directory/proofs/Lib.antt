@@ -1,6 +1,9 @@
 pub mod Faults
 pub mod Later
 pub mod LawMore
+pub mod LawPosts
+pub mod LawRouted
+pub mod LawSent
 pub mod Named
 pub mod Peers
 pub mod Rows

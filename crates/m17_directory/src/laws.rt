@@ -18,3 +18,33 @@ pub fn one_entry_more()
 pub fn entries_before_decide()
     ensures { law.EntriesBeforeDecide }
 {}
+
+/// What is posted to a module carries the index of its entry.
+pub fn events_carry_their_index()
+    ensures { law.EventsCarryTheirIndex }
+{}
+
+/// All that a link routes carries the number of the link.
+pub fn route_carries_link()
+    ensures { law.RouteCarriesLink }
+{}
+
+/// Nothing is routed to a module that is not served.
+pub fn only_served_are_routed()
+    ensures { law.OnlyServedAreRouted }
+{}
+
+/// An entry posts one packet, to the module that its verdict names as having been sent it, or none.
+pub fn packets_are_routed()
+    ensures { law.PacketsAreRouted }
+{}
+
+/// Those whose Leaves are posted are those that leave, in order.
+pub fn each_who_leaves_is_posted()
+    ensures { law.EachWhoLeavesIsPosted }
+{}
+
+/// The verdict of an entry is `Ended` exactly where the link ends.
+pub fn ended_where_it_ends()
+    ensures { law.EndedWhereItEnds }
+{}
