@@ -3,7 +3,9 @@ pub mod Later
 pub mod LawMore
 pub mod LawPosts
 pub mod LawRouted
+pub mod LawSays
 pub mod LawSent
+pub mod LawStops
 pub mod Named
 pub mod Peers
 pub mod Rows

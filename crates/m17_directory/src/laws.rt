@@ -48,3 +48,15 @@ pub fn each_who_leaves_is_posted()
 pub fn ended_where_it_ends()
     ensures { law.EndedWhereItEnds }
 {}
+
+/// What a link that ends once routes to a served module is events without a Stop, and then one Stop.
+pub fn route_ends_in_one_stop()
+    ensures { law.RouteEndsInOneStop }
+{}
+
+/// What a link hears says exactly one thing: a datagram of bytes is one packet or is refused for one reason.
+pub fn each_entry_says_one_thing()
+    ensures { law.EachEntrySaysOneThing }
+{
+    m17_control::laws::decoding_is_exact();
+}
