@@ -1,5 +1,5 @@
 -- What an entry comes to depends on the entries before it and on itself, and one entry more posts behind the others.
-use Rattle.std.proofs.Common.{◌≡◌, ◌⊎◌, inl, inr, ℕ, zero, suc, ◌+◌, ◌<◌, ◌≤◌, Bool, true, false, cond, not, List, [], ◌∷◌, ◌++◌, length, take, slice_get, option_and_then, filter_map, Option, None, Some, refl, ap, sym, ◌∙◌, arith}
+use Rattle.std.proofs.Common.{◌≡◌, ◌⊎◌, inl, inr, ℕ, zero, suc, ◌+◌, ◌<◌, Bool, cond, List, [], ◌∷◌, ◌++◌, length, take, slice_get, option_and_then, filter_map, Option, None, Some, refl, ap, sym, ◌∙◌, arith}
 use Rattle.std.specs.List.{flat_map, range_with_len}
 use Rattle.std.proofs.lemmas.Bool.{cases_eq}
 use Rattle.std.proofs.lemmas.List.{append-nil}
@@ -9,7 +9,7 @@ use Rattle.m17_values.specs.declared.peer.Peer.{Peer}
 use Rattle.m17_directory.specs.declared.dispatch.Dispatch.{Dispatch}
 use Rattle.m17_directory.specs.declared.known.Known.{Known}
 use Rattle.m17_directory.specs.declared.known.Request.{Request}
-use Rattle.m17_directory.specs.Entries.{Notice, Claim, Entry, Setup, notice_of, notice_at, claim_at, moment_at}
+use Rattle.m17_directory.specs.Entries.{Notice, Claim, Entry, Setup, notice_of, notice_at, claim_at}
 use Rattle.m17_directory.specs.Known.{Past, now, request_in, known_at}
 use Rattle.m17_directory.specs.Outcome.{Here, Outcome, settled}
 use Rattle.m17_directory.specs.Routed.{here_of, heard_at, others_than, others_at, settled_by, settled_at, is_asks, both, comes_to, asked_before, past_at, outcome_at, posts_at, posted, event_for, reply_for, routed, direct_replies}

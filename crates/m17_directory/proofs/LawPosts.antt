@@ -45,13 +45,13 @@ module _ {X : Type 0} (read : Dispatch → Option X) where
   each_leaves f here w [] h = refl
   each_leaves f here w (k ∷ rows) h = ap (λ o. cons_option o (filter_map read (map (leave here w) rows))) (h k) ∙ ap (λ xs. f k ∷ xs) (each_leaves f here w rows h)
 
-  no_ticks : (here : Here) (before : ℕ) → ((letter : ℕ) → read (to_module here letter body.Tick) ≡ None) → filter_map read (ticks_by here before) ≡ []
+  pub no_ticks : (here : Here) (before : ℕ) → ((letter : ℕ) → read (to_module here letter body.Tick) ≡ None) → filter_map read (ticks_by here before) ≡ []
   no_ticks here before h =
       elim (nat_lt (before / tick_ms) (here.moment / tick_ms)) as (λ b. filter_map read (cond b (to_each_module here body.Tick) []) ≡ [])
       [ true ↦ none_of here body.Tick (letters_of here.setup.modules) h | false ↦ refl ]
 
   -- all that is posted before what the entry says is the Leaves of the silent
-  read_heard : (here : Here) (before : ℕ) (ends : Bool) (rows : List Known) (notice : Notice) → ((letter : ℕ) → read (to_module here letter body.Tick) ≡ None)
+  pub read_heard : (here : Here) (before : ℕ) (ends : Bool) (rows : List Known) (notice : Notice) → ((letter : ℕ) → read (to_module here letter body.Tick) ≡ None)
       → filter_map read (heard_by here before ends rows notice).posts
       ≡ filter_map read (map (leave here why.Silent) (silent_by here rows notice)) ++ filter_map read (said_by here ends rows (still_by here rows notice) notice).posts
   read_heard here before ends rows notice h =

@@ -206,7 +206,7 @@ asks_served past request e w =
     asks_said (here_of past) (ends_at past.entries (now past)) (known_at past) (still_by (here_of past) (known_at past) (notice_at past.entries (now past))) (notice_at past.entries (now past)) request
     (ap (λ (o : Outcome). is_asks o.verdict) (sym (heard_is past)) ∙ e) w
 
-get_last : {A : Type 0} (xs : List A) (y : A) → slice_get (xs ++ y ∷ []) (length xs) ≡ Some y
+pub get_last : {A : Type 0} (xs : List A) (y : A) → slice_get (xs ++ y ∷ []) (length xs) ≡ Some y
 get_last [] y = refl
 get_last (x ∷ xs) y = get_last xs y
 

@@ -1,5 +1,7 @@
 pub mod Faults
 pub mod Later
+pub mod LawEnds
+pub mod LawJoins
 pub mod LawMore
 pub mod LawPosts
 pub mod LawRouted

@@ -1,24 +1,26 @@
 -- What follows from the definitions for all that a link may hear. This profile.
-use Rattle.std.specs.Prelude.{◌≡◌, ℕ, suc, ◌<◌, Bool, true, false, List, [], ◌∷◌, ◌++◌, length, map, take, Option, None, Some, if◌then◌else◌}
-use Rattle.std.specs.List.{filter_map, AllByRecursion}
+use Rattle.std.specs.Prelude.{◌≡◌, ◌==◌, ℕ, suc, ◌<◌, Bool, true, false, List, [], ◌∷◌, ◌++◌, length, map, filter, take, Option, None, Some, if◌then◌else◌}
+use Rattle.std.specs.List.{filter_map, flat_map, range_with_len, AllByRecursion}
 use Rattle.m17_values.specs.declared.heard.Heard.{Heard}
 use Rattle.m17_values.specs.declared.heard.Heard.TheVariants as heard
 use Rattle.m17_values.specs.declared.member.Member.{Member}
 use Rattle.m17_values.specs.declared.peer.Peer.{Peer}
 use Rattle.m17_fields.specs.Fields.{IsBytes}
 use Rattle.m17_control.specs.declared.event.Body.{Body}
-use Rattle.m17_control.specs.declared.event.Body.TheVariants.{Leave, Packet, Stop}
+use Rattle.m17_control.specs.declared.event.Body.TheVariants.{Join, Leave, Packet, Stop}
 use Rattle.m17_control.specs.declared.event.Event.{Event}
 use Rattle.m17_control.specs.Modules.{serves}
 use Rattle.m17_directory.specs.declared.dispatch.Dispatch.{Dispatch}
 use Rattle.m17_directory.specs.declared.dispatch.Dispatch.TheVariants.{ToModule, ToDoor}
 use Rattle.m17_directory.specs.declared.known.Known.{Known}
+use Rattle.m17_directory.specs.declared.known.Request.{Request}
 use Rattle.m17_directory.specs.declared.verdict.Act.TheVariants as act
 use Rattle.m17_directory.specs.declared.verdict.LinkVerdict.{LinkVerdict}
 use Rattle.m17_directory.specs.declared.verdict.LinkVerdict.TheVariants.{Routed, Ended}
-use Rattle.m17_directory.specs.Entries.{Notice, Says, Claim, Entry, Setup, notice_at, ends_at}
-use Rattle.m17_directory.specs.Known.{Past}
-use Rattle.m17_directory.specs.Routed.{heard_at, others_at, settled_at, past_at, outcome_at, link_verdict, posts_at, posted, event_for, reply_for, routed, direct_replies}
+use Rattle.m17_directory.specs.Entries.{Notice, Says, Claim, Entry, Setup, notice_at, claim_at, ends_at}
+use Rattle.m17_directory.specs.Known.{Past, request_in, known_at}
+use Rattle.m17_directory.specs.Outcome.{Here}
+use Rattle.m17_directory.specs.Routed.{here_of, heard_at, others_at, settled_at, asks_at, past_at, outcome_at, link_verdict, posts_at, posted, event_for, reply_for, routed, direct_replies}
 
 -- What comes later changes nothing of what an entry comes to. This profile.
 abbrev pub LaterEntriesChangeNothing : Type 0
@@ -145,3 +147,57 @@ abbrev pub EachEntrySaysOneThing : Type 0
 EachEntrySaysOneThing =
     (h : Heard) → HasBytes h →
     (notice : Notice) × Says h notice × ((other : Notice) → Says h other → other ≡ notice)
+
+-- The index of the entry, if the event is a packet; and the verdict is a packet for this module. This profile.
+abbrev pub packet_index : Event → Option ℕ
+packet_index event = if is_packet event.body then Some event.tag.index else None
+
+abbrev pub is_packet_for : ℕ → LinkVerdict → Bool
+is_packet_for letter (Routed to act.Packet) = to == letter
+is_packet_for letter _ = false
+
+-- The packets for a module are those of the entries whose verdicts say so, in order, each entry once. This profile.
+abbrev pub PacketsAreOfEntries : Type 0
+PacketsAreOfEntries =
+    (setup : Setup) (entries : List Entry) (letter : ℕ) →
+    filter_map packet_index (routed setup entries letter)
+    ≡ filter (λ n. is_packet_for letter (link_verdict setup entries n))
+    (range_with_len 0 (length entries))
+
+-- The Join of an entry that asked for this module and has a claim: with its link, index and moment. This profile.
+abbrev pub join_event : Here → Peer → Request → Claim → Event
+join_event here x request claim = record {
+  tag = record { link = here.setup.link; index = here.index };
+  at = here.moment;
+  body = Join claim.member x request.callsign request.listen claim.after;
+}
+
+abbrev pub joins_by : Here → ℕ → Notice → Option Request → Option Claim → List Event
+joins_by here letter (Notice.Sent from at p) (Some request) (Some claim) =
+    if request.letter == letter then join_event here from request claim ∷ [] else []
+joins_by here letter _ _ _ = []
+
+unfoldable pub joins_at : Setup → List Entry → ℕ → ℕ → List Event
+joins_at setup entries letter n =
+    if asks_at (past_at setup entries n)
+    then joins_by (here_of (past_at setup entries n)) letter (notice_at entries n)
+    (request_in (notice_at entries n)) (claim_at entries n) else []
+
+-- the event is a Join
+abbrev pub is_join : Body → Bool
+is_join (Join k x callsign listen after) = true
+is_join _ = false
+
+-- The Joins for a module are those of the entries that asked for it and have a claim, in order, each entry once. This
+-- profile.
+abbrev pub JoinsAreTheClaims : Type 0
+JoinsAreTheClaims =
+    (setup : Setup) (entries : List Entry) (letter : ℕ) →
+    filter (λ event. is_join event.body) (routed setup entries letter)
+    ≡ flat_map (joins_at setup entries letter) (range_with_len 0 (length entries))
+
+-- Where a link has ended nobody is known. This profile.
+abbrev pub NobodyIsKnownBehindTheEnd : Type 0
+NobodyIsKnownBehindTheEnd =
+    (setup : Setup) (entries : List Entry) → EndsOnce entries →
+    known_at (past_at setup entries (length entries)) ≡ []

@@ -60,3 +60,19 @@ pub fn each_entry_says_one_thing()
 {
     m17_control::laws::decoding_is_exact();
 }
+
+/// The packets for a module are those of the entries whose verdicts say so, in order, each entry once; so no two packets
+/// of one link have one index.
+pub fn packets_are_of_entries()
+    ensures { law.PacketsAreOfEntries }
+{}
+
+/// The Joins for a module are those of the entries that asked for it and have a claim, in order, each entry once.
+pub fn joins_are_the_claims()
+    ensures { law.JoinsAreTheClaims }
+{}
+
+/// Where a link has ended nobody is known.
+pub fn nobody_is_known_behind_the_end()
+    ensures { law.NobodyIsKnownBehindTheEnd }
+{}
