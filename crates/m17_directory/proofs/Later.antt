@@ -174,13 +174,13 @@ module _ (setup : Setup) (entries : List Entry) (l : List Bool) (v : Bool) where
   abbrev n : ℕ
   n = length l
 
-  now_after : now after ≡ suc n
+  pub now_after : now after ≡ suc n
   now_after = length_more l v
 
   asks_before : (x : Peer) (i : ℕ) → i < n → asks_for after x i ≡ asks_for before x i
   asks_before x i k = ap (λ o. unwrap_or o false && is_from x (notice_at entries i)) (get_before l v i k)
 
-  asks_now : (x : Peer) → asks_for after x n ≡ (v && is_from x (notice_at entries n))
+  pub asks_now : (x : Peer) → asks_for after x n ≡ (v && is_from x (notice_at entries n))
   asks_now x = ap (λ o. unwrap_or o false && is_from x (notice_at entries n)) (get_end l v)
 
   turned_before : (x : Peer) → last_below (turns after x) n ≡ last_below (turns before x) n

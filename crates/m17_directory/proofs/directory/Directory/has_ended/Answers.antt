@@ -1,1 +1,2 @@
-use Rattle.m17_directory.proofs.Named
+use Rattle.m17_directory.proofs.Taken
+use Rattle.m17_directory.proofs.Heard
