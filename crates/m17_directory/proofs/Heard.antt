@@ -68,7 +68,7 @@ known_later setup entries l Notice.End e c =
     (ends_is entries (length l) ∙ ap (λ y. is_end y || leb 16 (cond (is_fault y) (suc (faults_before entries (length l))) 0)) e)
 
 -- the same at the last position of a list
-known_last : (setup : Setup) (entries : List Entry) (n : ℕ) (notice : Notice) → notice_at entries n ≡ notice → claim_at entries n ≡ None
+pub known_last : (setup : Setup) (entries : List Entry) (n : ℕ) (notice : Notice) → notice_at entries n ≡ notice → claim_at entries n ≡ None
     → known_at (past_at setup entries (suc n))
     ≡ known_by (here_of (past_at setup entries n)) (ends_at entries n) (known_at (past_at setup entries n)) (still_by (here_of (past_at setup entries n)) (known_at (past_at setup entries n)) notice) notice
 unfolding asked_before
@@ -135,7 +135,7 @@ others_packet here from p rows None e asks =
 others_packet here from p rows (Some k) e asks =
     rows_if_left here from (of_packet here from (Some k) p).left rows (known_left here k p ∙ ap (λ b. b || is_disc p) asks)
 
-others_by : (here : Here) (ends : Bool) (rows still : List Known) (notice : Notice) → is_asks (said_by here ends rows still notice).verdict ≡ true → known_by here ends rows still notice ≡ others_than notice still
+pub others_by : (here : Here) (ends : Bool) (rows still : List Known) (notice : Notice) → is_asks (said_by here ends rows still notice).verdict ≡ true → known_by here ends rows still notice ≡ others_than notice still
 others_by here ends rows still (Notice.Sent from at p) e = others_packet here from p still (row_for from still) refl e
 others_by here ends rows still (Notice.Garbled from at refusal) e = absurd (false≢true e)
 others_by here ends rows still (Notice.Quiet at) e = absurd (false≢true e)

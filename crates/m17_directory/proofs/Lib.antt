@@ -5,4 +5,5 @@ pub mod Named
 pub mod Peers
 pub mod Rows
 pub mod Same
+pub mod Settled
 pub mod Taken

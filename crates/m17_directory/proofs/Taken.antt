@@ -128,7 +128,7 @@ fault_cond : (v s e : Bool) (k : Known) → cond ((((v && false) || false) || (f
 fault_cond true s e k = refl
 fault_cond false s e k = refl
 
-is_peer_swap : (a b : Peer) → is_peer a b ≡ is_peer b a
+pub is_peer_swap : (a b : Peer) → is_peer a b ≡ is_peer b a
 is_peer_swap a b = (eq_by_cmp_equiv peer_order).symm a b
 
 module _ (setup : Setup) (entries : List Entry) (l : List Bool) (unclaimed : claim_at entries (length l) ≡ None) where

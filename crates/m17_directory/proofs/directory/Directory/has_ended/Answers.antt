@@ -1,2 +1,0 @@
-use Rattle.m17_directory.proofs.Taken
-use Rattle.m17_directory.proofs.Heard
