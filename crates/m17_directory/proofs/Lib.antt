@@ -1,4 +1,5 @@
 pub mod Faults
+pub mod Filters
 pub mod Heard
 pub mod Later
 pub mod Named
@@ -6,4 +7,5 @@ pub mod Peers
 pub mod Rows
 pub mod Same
 pub mod Settled
+pub mod Tables
 pub mod Taken

@@ -221,9 +221,9 @@ module _ (old : Kept) (entries : List Entry) (notice : Notice) (claim : Option C
       let given : claim_at longer (length l) ≡ Some c = ap (claim_at longer) len ∙ claim_end entries (claimed notice claim) ∙ e in
       let moment : moment_at longer (length l) ≡ old.moment = ap (moment_at longer) len ∙ moment_longer in
       let plain_after : known_at (after old.setup plain l v) ≡ old.known =
-          ap (λ m. known_at (after old.setup plain m v)) (asked_same old.setup longer plain at_end less claims_plain)
-          ∙ ap (λ w. known_at (after old.setup plain (asked_before old.setup plain at_end) w)) (asks_longer ∙ sym asks_plain)
-          ∙ known_plain in
+      ap (λ m. known_at (after old.setup plain m v)) (asked_same old.setup longer plain at_end less claims_plain)
+      ∙ ap (λ w. known_at (after old.setup plain (asked_before old.setup plain at_end) w)) (asks_longer ∙ sym asks_plain)
+      ∙ known_plain in
       known_claimed old.setup longer plain l v alike claims none asked.peer parts.at parts.packet c asked.request asks_longer said given parts.request
       ∙ ap (λ m. with_row (record {
         peer = asked.peer;
@@ -250,7 +250,7 @@ settle_stands old new entries notice claim posts verdict asked stood waits setup
     let longer : List Entry = entries ++ claimed notice claim ∷ [] in
     let len : length longer ≡ suc (length entries) = length_more entries (claimed notice claim) in
     let out : settled_at (past_at old.setup longer (length entries)) claim ≡ settled (record { setup = old.setup; index = asked.index; moment = old.moment }) old.known asked.peer asked.request claim =
-        settled_now old entries notice claim stood asked waits in
+    settled_now old entries notice claim stood asked waits in
     record {
       stands = record {
         moment = moment ∙ sym (moment_longer old entries notice claim stood asked waits) ∙ ap (moment_before longer) (sym len);
