@@ -174,13 +174,13 @@ module _ (setup : Setup) (entries : List Entry) (l : List Bool) (v : Bool) where
   abbrev n : ℕ
   n = length l
 
-  now_after : now after ≡ suc n
+  pub now_after : now after ≡ suc n
   now_after = length_more l v
 
   asks_before : (x : Peer) (i : ℕ) → i < n → asks_for after x i ≡ asks_for before x i
   asks_before x i k = ap (λ o. unwrap_or o false && is_from x (notice_at entries i)) (get_before l v i k)
 
-  asks_now : (x : Peer) → asks_for after x n ≡ (v && is_from x (notice_at entries n))
+  pub asks_now : (x : Peer) → asks_for after x n ≡ (v && is_from x (notice_at entries n))
   asks_now x = ap (λ o. unwrap_or o false && is_from x (notice_at entries n)) (get_end l v)
 
   turned_before : (x : Peer) → last_below (turns after x) n ≡ last_below (turns before x) n
@@ -269,9 +269,9 @@ module _ (setup : Setup) (entries : List Entry) (l : List Bool) (v : Bool) where
       let does : asks_for after x n ≡ true = asks_now x ∙ ap (λ b. b && is_from x (notice_at entries n)) asks ∙ from in
       let place : ℕ = claim.member.place in
       let last : last_given after place ≡ Some n =
-          given_after place ∙ ap (λ o. cond (is_of_place place o) (Some n) (last_given before place)) given ∙ cond-true (eqb place place) (Some n) (last_given before place) (eq-eqb place place refl) in
+      given_after place ∙ ap (λ o. cond (is_of_place place o) (Some n) (last_given before place)) given ∙ cond-true (eqb place place) (Some n) (last_given before place) (eq-eqb place place refl) in
       let heard : last_heard entries x (now after) ≡ Some (moment_at entries n) =
-          heard_after x ∙ cond-true (is_from x (notice_at entries n)) (Some (moment_at entries n)) (last_heard entries x n) from in
+      heard_after x ∙ cond-true (is_from x (notice_at entries n)) (Some (moment_at entries n)) (last_heard entries x n) from in
       turns_here x (turns_if_asks (asks_for after x n) (says_disc x (notice_at entries n)) (is_silent_at entries x n) (ends_at entries n) does)
       ∙ cond-true (asks_for after x n) (row_by after x n (claim_at entries n)) None does
       ∙ ap (row_by after x n) given

@@ -1,4 +1,6 @@
 pub mod Faults
+pub mod Filters
+pub mod Heard
 pub mod Later
 pub mod LawEnds
 pub mod LawJoins
@@ -12,3 +14,6 @@ pub mod Named
 pub mod Peers
 pub mod Rows
 pub mod Same
+pub mod Settled
+pub mod Tables
+pub mod Taken

@@ -115,7 +115,7 @@ put_step x k r rows more Equal false e f h =
     cond-false (is_peer x k.peer) (Some k) (row_for x rows) (sym f) ∙ sym (cond-false (is_peer x r.peer) (Some r) (row_for x rows) other)
 put_step x k r rows more Greater true e f h =
     let other : is_peer x r.peer ≡ false =
-        ap (λ p. is_peer p r.peer) (is_peer_same x k.peer (sym f)) ∙ other_if_greater k.peer r.peer (sym e) in
+    ap (λ p. is_peer p r.peer) (is_peer_same x k.peer (sym f)) ∙ other_if_greater k.peer r.peer (sym e) in
     cond-false (is_peer x r.peer) (Some r) (row_for x more) other ∙ h
 put_step x k r rows more Greater false e f h = ap (cond (is_peer x r.peer) (Some r)) h
 

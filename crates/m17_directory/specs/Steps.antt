@@ -50,6 +50,11 @@ pub record IsTable (capacity : ℕ) (rows : List Known) (earliest : ℕ) : Type 
   pub order : IsInOrder rows
   pub first : IsEarliest earliest rows
 
+-- so many may be known, and so many known and departing together
+pub record AreFew (known : List Known) (departing : List Departed) : Type 0 where
+  pub few : length known ≤ 256
+  pub together : length known + length departing ≤ most_members
+
 -- the row of a peer that was heard at this moment; who is another; the rows with this one, in order
 abbrev pub heard_now : Peer → ℕ → Known → Known
 heard_now x moment k = if is_peer x k.peer then record k { heard_at = moment } else k

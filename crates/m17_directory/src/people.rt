@@ -39,14 +39,13 @@ pub(crate) struct People {
 }
 
 impl Model for People {
-    ghost use Rattle.std.specs.Prelude.{◌+◌, ◌≤◌, length};
-    ghost use Rattle.m17_directory.specs.Steps.{Lists};
+    ghost use Rattle.m17_directory.specs.Steps.{Lists, AreFew};
 
     ghost Value = { Lists };
 
     ghost view = { λ p. record { known = p.known; asked = p.asked; departing = p.departing } };
 
-    ghost invariant = { λ p. length p.known + length p.departing ≤ 512 };
+    ghost invariant = { λ p. AreFew p.known p.departing };
 }
 
 // Whether one that is known is known as what it asks for.

@@ -1,4 +1,4 @@
-ghost use Rattle.std.specs.Prelude.{◌≡◌, ◌+◌, ◌<◌, ◌≤◌, [], ◌∷◌, ◌++◌, length};
+ghost use Rattle.std.specs.Prelude.{◌≡◌, ◌+◌, ◌<◌, ◌≤◌, [], ◌∷◌, ◌++◌, length, if◌then◌else◌};
 ghost use Rattle.m17_directory.specs.Outcome.{to_module, to_each_module, to_door};
 ghost use Rattle.m17_directory.specs.Steps.{asked_as};
 
@@ -86,6 +86,17 @@ impl Stamp {
         });
     }
 
+    // Posts an event of a module, if it is served.
+    fn tell_if_served(&self, letter: ModuleLetter, body: &Body, post: &mut Post)
+        requires { length post.old < 300 }
+        ensures { post.new ≡ post.old ++ (if serves self.now.setup.modules letter
+            then to_module self.now letter body.now ∷ [] else []) }
+    {
+        if self.serves(letter) {
+            self.tell(letter, body, post);
+        }
+    }
+
     // Posts the same to each served module, in order of letters.
     pub(crate) fn tell_each(&self, body: &Body, post: &mut Post)
         requires { length post.old ≤ 274 }
@@ -93,11 +104,8 @@ impl Stamp {
         ensures few { length post.new ≤ length post.old + 26 }
     {
         for byte in b'A'..b'Z' + 1 {
-            if let Some(letter) = ModuleLetter::new(byte)
-                && self.modules.has(byte)
-            {
-                self.tell(letter, body, post);
-            }
+            let letter = ModuleLetter::new(byte).unwrap();
+            self.tell_if_served(letter, body, post);
         }
     }
 

@@ -107,9 +107,27 @@ impl Table {
         ensures { self.new ≡ with_row known.now self.old }
     {
         match self.find(&known.peer) {
-            Ok(row) => self.rows[row] = *known,
-            Err(gap) => self.rows.insert(gap, *known).unwrap(),
+            Ok(row) => self.replace(row, known),
+            Err(gap) => self.insert(gap, known),
         }
+    }
+
+    // The same, where this is the peer's row.
+    fn replace(&mut self, row: usize, known: &Known)
+        requires { IsRow self.old known.now.peer row }
+        ensures { self.new ≡ with_row known.now self.old }
+    {
+        self.rows[row] = *known;
+        self.earliest = self.earliest.min(known.heard_at);
+    }
+
+    // The same, where the peer has no row, and this is the gap.
+    fn insert(&mut self, gap: usize, known: &Known)
+        requires few { length self.old < 256 }
+        requires gap { IsGapFor self.old known.now.peer gap }
+        ensures { self.new ≡ with_row known.now self.old }
+    {
+        self.rows.insert(gap, *known).unwrap();
         self.earliest = self.earliest.min(known.heard_at);
     }
 

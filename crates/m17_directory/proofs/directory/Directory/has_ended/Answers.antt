@@ -1,1 +1,0 @@
-use Rattle.m17_directory.proofs.Named
