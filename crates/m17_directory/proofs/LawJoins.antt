@@ -29,7 +29,7 @@ use Rattle.m17_directory.proofs.LawRouted.{posts_sent}
 use Rattle.m17_directory.proofs.LawPosts.{packets_routed, none_of, no_leaves, read_heard}
 
 -- what is read off each position's posts, one position after another
-read_all : {X : Type 0} (read : Dispatch → Option X) (f : ℕ → List Dispatch) (g : ℕ → List X) → ((i : ℕ) → filter_map read (f i) ≡ g i) → (from n : ℕ) → filter_map read (flat_map f (range_with_len from n)) ≡ flat_map g (range_with_len from n)
+pub read_all : {X : Type 0} (read : Dispatch → Option X) (f : ℕ → List Dispatch) (g : ℕ → List X) → ((i : ℕ) → filter_map read (f i) ≡ g i) → (from n : ℕ) → filter_map read (flat_map f (range_with_len from n)) ≡ flat_map g (range_with_len from n)
 read_all read f g h from zero = refl
 read_all read f g h from (suc n) =
     filter_map-append read (f from) (flat_map f (range_with_len (from + 1) n))
@@ -93,7 +93,7 @@ packets_of_entries setup entries letter =
     ∙ flat_filter p 0 (length entries)
 
 -- a Join for a module
-abbrev join_for : ℕ → Dispatch → Option Event
+abbrev pub join_for : ℕ → Dispatch → Option Event
 join_for letter (ToModule to event) = cond (is_join event.body) (cond (eqb to letter) (Some event) None) None
 join_for letter (ToDoor direct) = None
 
@@ -105,7 +105,7 @@ joins_step event true xs ys h =
 joins_step event false xs ys h =
     h ∙ elim (is_join event.body) as (λ c. ys ≡ cons_option (cond c None None) ys) [ true ↦ refl | false ↦ refl ]
 
-joins_of_events : (letter : ℕ) (posts : List Dispatch) → filter (λ e. is_join e.body) (filter_map (event_for letter) posts) ≡ filter_map (join_for letter) posts
+pub joins_of_events : (letter : ℕ) (posts : List Dispatch) → filter (λ e. is_join e.body) (filter_map (event_for letter) posts) ≡ filter_map (join_for letter) posts
 joins_of_events letter [] = refl
 joins_of_events letter (ToModule to event ∷ posts) = joins_step event (eqb to letter) (filter_map (event_for letter) posts) (filter_map (join_for letter) posts) (joins_of_events letter posts)
 joins_of_events letter (ToDoor direct ∷ posts) = joins_of_events letter posts
@@ -198,7 +198,7 @@ joins_comes : (letter : ℕ) (b : Bool) (o u : Outcome) (xs : List Event) → Jo
 joins_comes letter true o u xs h k = filter_map-append (join_for letter) o.posts u.posts ∙ ap (λ ys. ys ++ filter_map (join_for letter) u.posts) h ∙ k
 joins_comes letter false o u xs h k = h
 
-joins_posted : (setup : Setup) (entries : List Entry) (letter n : ℕ) → filter_map (join_for letter) (posts_at setup entries n) ≡ joins_at setup entries letter n
+pub joins_posted : (setup : Setup) (entries : List Entry) (letter n : ℕ) → filter_map (join_for letter) (posts_at setup entries n) ≡ joins_at setup entries letter n
 unfolding posts_at joins_at
 joins_posted setup entries letter n =
     let past : Past = past_at setup entries n in

@@ -138,7 +138,7 @@ pub one_more : OneEntryMore
 one_more = record { posts = posted_more; routes = routed_more; answers = replies_more }
 
 -- lists that begin alike
-get_taken : {A : Type 0} (xs : List A) (n i : ℕ) → i < n → slice_get (take n xs) i ≡ slice_get xs i
+pub get_taken : {A : Type 0} (xs : List A) (n i : ℕ) → i < n → slice_get (take n xs) i ≡ slice_get xs i
 get_taken [] zero i h = refl
 get_taken [] (suc n) i h = refl
 get_taken (x ∷ xs) zero i h = absurd (omega arith)
@@ -152,13 +152,13 @@ says_alike_step : (a b : List Entry) (n i : ℕ) → Says a b n → notice_at a 
 says_alike_step a b n i h e l (inl same) = ap (notice_at a) same ∙ e ∙ ap (notice_at b) (sym same)
 says_alike_step a b n i h e l (inr less) = h i less
 
-says_alike : (a b : List Entry) (n : ℕ) → Says a b n → notice_at a n ≡ notice_at b n → Says a b (suc n)
+pub says_alike : (a b : List Entry) (n : ℕ) → Says a b n → notice_at a n ≡ notice_at b n → Says a b (suc n)
 says_alike a b n h e = λ i l. says_alike_step a b n i h e l (elim (cases_eq i n) [
   | inl same ↦ inl same
   | inr other ↦ inr (omega arith)
 ])
 
-others_at_same : (setup : Setup) (a b : List Entry) (n : ℕ) → Says a b (suc n) → Claims a b n → others_at (past_at setup a n) ≡ others_at (past_at setup b n)
+pub others_at_same : (setup : Setup) (a b : List Entry) (n : ℕ) → Says a b (suc n) → Claims a b n → others_at (past_at setup a n) ≡ others_at (past_at setup b n)
 others_at_same setup a b n says claims =
     let l : List Bool = asked_before setup a n in
     let len : length l ≡ n = length_asked setup a n in

@@ -1,5 +1,5 @@
 -- Which packets and Leaves an entry posts: the packet that its verdict names, and the Leaves of those that leave.
-use Rattle.std.proofs.Common.{◌≡◌, ℕ, suc, ◌/◌, nat_lt, Bool, true, false, cond, not, ◌||◌, leb, List, [], ◌∷◌, ◌++◌, length, map, filter, filter_map, Option, None, Some, refl, ap, sym, ◌∙◌, subst, arith}
+use Rattle.std.proofs.Common.{◌≡◌, ℕ, suc, ◌/◌, nat_lt, Bool, true, false, cond, not, ◌||◌, leb, List, [], ◌∷◌, ◌++◌, length, map, filter, filter_map, Option, None, Some, option_map, refl, ap, sym, ◌∙◌, subst, arith}
 use Rattle.std.specs.List.{cons_option, range_with_len}
 use Rattle.std.proofs.lemmas.List.{append-nil, map-append}
 use Rattle.std.proofs.lemmas.List.Elements.{filter_map-append}
@@ -15,6 +15,7 @@ use Rattle.m17_control.specs.declared.packet.Packet.{Packet}
 use Rattle.m17_control.specs.declared.packet.Packet.TheVariants as packets
 use Rattle.m17_control.specs.Modules.{serves, letters_of}
 use Rattle.m17_directory.specs.declared.dispatch.Dispatch.{Dispatch}
+use Rattle.m17_directory.specs.declared.dispatch.Dispatch.TheVariants.{ToModule, ToDoor}
 use Rattle.m17_directory.specs.declared.known.Known.{Known}
 use Rattle.m17_directory.specs.declared.known.Request.{Request}
 use Rattle.m17_directory.specs.declared.verdict.LinkVerdict.{LinkVerdict}
@@ -24,7 +25,7 @@ use Rattle.m17_directory.specs.Entries.{Notice, Claim, Entry, Setup, notice_at, 
 use Rattle.m17_directory.specs.Known.{Past, now, request_in, known_at}
 use Rattle.m17_directory.specs.Outcome.{Here, Outcome, only, to_module, to_each_module, to_door, leave, posting, leaving, is_what, has_place, known_asks, other_asks, of_packet, of_end, settled}
 use Rattle.m17_directory.specs.Routed.{tick_ms, here_of, row_for, heard_at, others_at, settled_by, settled_at, is_asks, asks_at, both, comes_to, past_at, link_verdict, posts_at}
-use Rattle.m17_directory.specs.Laws.{packet_letter, packet_routed, PacketsAreRouted, left_member, EachWhoLeavesIsPosted, is_ended, EndedWhereItEnds}
+use Rattle.m17_directory.specs.Laws.{packet_letter, packet_routed, PacketsAreRouted, leaver_of, left_member, EachWhoLeavesIsPosted, is_ended, EndedWhereItEnds}
 use Rattle.m17_directory.specs.StandsFor.{faults_before}
 use Rattle.m17_directory.specs.Steps.{silent_by, still_by, ticks_by, said_by, heard_by}
 use Rattle.m17_directory.proofs.Faults.{ends_is}
@@ -163,11 +164,15 @@ packets_routed setup entries n =
     packs_step (heard_at past) settles (asks_at past) refl (packs_heard past) (packs_settled past (claim_at entries (now past)))
 
 -- an outcome posts the Leaves of those that leave
-abbrev member_of : Known → Member
-member_of k = k.member
+abbrev pub seat_of : Known → ℕ × Member
+seat_of k = (k.letter, k.member)
 
-abbrev Leaves : Outcome → Type 0
-Leaves o = filter_map left_member o.posts ≡ map (λ (k : Known). k.member) o.left
+abbrev pub left_seat : Dispatch → Option (ℕ × Member)
+left_seat (ToModule letter event) = option_map (λ (m : Member). (letter, m)) (leaver_of event.body)
+left_seat (ToDoor direct) = None
+
+abbrev pub Leaves : Outcome → Type 0
+Leaves o = filter_map left_seat o.posts ≡ map seat_of o.left
 
 leaves_known_asks : (here : Here) (k : Known) (request : Request) → Leaves (known_asks here k request)
 leaves_known_asks here k request =
@@ -202,10 +207,10 @@ leaves_packet here x None (packets.Control control.Nack) = refl
 
 leaves_end : (here : Here) (rows : List Known) → Leaves (of_end here rows)
 leaves_end here rows =
-    filter_map-append left_member (map (leave here why.Stopped) rows) (to_each_module here body.Stop)
-    ∙ ap (λ xs. filter_map left_member (map (leave here why.Stopped) rows) ++ xs) (none_of left_member here body.Stop (letters_of here.setup.modules) (λ letter. refl))
-    ∙ append-nil (filter_map left_member (map (leave here why.Stopped) rows))
-    ∙ each_leaves left_member member_of here why.Stopped rows (λ k. refl)
+    filter_map-append left_seat (map (leave here why.Stopped) rows) (to_each_module here body.Stop)
+    ∙ ap (λ xs. filter_map left_seat (map (leave here why.Stopped) rows) ++ xs) (none_of left_seat here body.Stop (letters_of here.setup.modules) (λ letter. refl))
+    ∙ append-nil (filter_map left_seat (map (leave here why.Stopped) rows))
+    ∙ each_leaves left_seat seat_of here why.Stopped rows (λ k. refl)
 
 leaves_said : (here : Here) (ends : Bool) (rows still : List Known) (notice : Notice) → Leaves (said_by here ends rows still notice)
 leaves_said here ends rows still (Notice.Sent from at p) = leaves_packet here from (row_for from still) p
@@ -214,7 +219,7 @@ leaves_said here ends rows still (Notice.Quiet at) = refl
 leaves_said here ends rows still Notice.Fault = either Leaves ends (of_end here rows) (only verdict.Faulted) (leaves_end here rows) refl
 leaves_said here ends rows still Notice.End = leaves_end here rows
 
-leaves_heard : (past : Past) → Leaves (heard_at past)
+pub leaves_heard : (past : Past) → Leaves (heard_at past)
 leaves_heard past =
     let here : Here = here_of past in
     let ends : Bool = ends_at past.entries (now past) in
@@ -223,10 +228,10 @@ leaves_heard past =
     let out : Outcome = said_by here ends rows (still_by here rows notice) notice in
     let said : Leaves out = leaves_said here ends rows (still_by here rows notice) notice in
     subst Leaves (sym (heard_is past))
-    (read_heard left_member here (moment_before past.entries (now past)) ends rows notice (λ letter. refl)
-    ∙ ap (λ xs. xs ++ filter_map left_member out.posts) (each_leaves left_member member_of here why.Silent (silent_by here rows notice) (λ k. refl))
-    ∙ ap (λ xs. map member_of (silent_by here rows notice) ++ xs) said
-    ∙ sym (map-append member_of (silent_by here rows notice) out.left))
+    (read_heard left_seat here (moment_before past.entries (now past)) ends rows notice (λ letter. refl)
+    ∙ ap (λ xs. xs ++ filter_map left_seat out.posts) (each_leaves left_seat seat_of here why.Silent (silent_by here rows notice) (λ k. refl))
+    ∙ ap (λ xs. map seat_of (silent_by here rows notice) ++ xs) said
+    ∙ sym (map-append seat_of (silent_by here rows notice) out.left))
 
 leaves_settled_by : (past : Past) (claim : Option Claim) (notice : Notice) (request : Option Request) → Leaves (settled_by past claim notice request)
 leaves_settled_by past None (Notice.Sent from at p) (Some request) = refl
@@ -234,21 +239,41 @@ leaves_settled_by past (Some claim) (Notice.Sent from at p) (Some request) =
     let here : Here = here_of past in
     let replaced : List Known = filter (has_place claim.member.place) (others_at past) in
     let join : List Dispatch = to_module here request.letter (body.Join claim.member from request.callsign request.listen claim.after) ∷ [] in
-    filter_map-append left_member (map (leave here why.Replaced) replaced) join
-    ∙ append-nil (filter_map left_member (map (leave here why.Replaced) replaced))
-    ∙ each_leaves left_member member_of here why.Replaced replaced (λ k. refl)
+    filter_map-append left_seat (map (leave here why.Replaced) replaced) join
+    ∙ append-nil (filter_map left_seat (map (leave here why.Replaced) replaced))
+    ∙ each_leaves left_seat seat_of here why.Replaced replaced (λ k. refl)
 leaves_settled_by past claim (Notice.Sent from at p) None = refl
 leaves_settled_by past claim (Notice.Garbled from at refusal) request = refl
 leaves_settled_by past claim (Notice.Quiet at) request = refl
 leaves_settled_by past claim Notice.Fault request = refl
 leaves_settled_by past claim Notice.End request = refl
 
-leaves_settled : (past : Past) (claim : Option Claim) → Leaves (settled_at past claim)
+pub leaves_settled : (past : Past) (claim : Option Claim) → Leaves (settled_at past claim)
 unfolding settled_at
 leaves_settled past claim = leaves_settled_by past claim (notice_at past.entries (now past)) (request_in (notice_at past.entries (now past)))
 
+-- and so their members
+left_step : (o : Option Member) (letter : ℕ) (xs : List Member) (ys : List (ℕ × Member)) → xs ≡ map (λ (s : ℕ × Member). s.1) ys → cons_option o xs ≡ map (λ (s : ℕ × Member). s.1) (cons_option (option_map (λ (m : Member). (letter, m)) o) ys)
+left_step None letter xs ys h = h
+left_step (Some m) letter xs ys h = ap (λ zs. m ∷ zs) h
+
+left_members : (posts : List Dispatch) → filter_map left_member posts ≡ map (λ (s : ℕ × Member). s.1) (filter_map left_seat posts)
+left_members [] = refl
+left_members (ToModule letter event ∷ posts) = left_step (leaver_of event.body) letter (filter_map left_member posts) (filter_map left_seat posts) (left_members posts)
+left_members (ToDoor direct ∷ posts) = left_members posts
+
+seats_members : (rows : List Known) → map (λ (s : ℕ × Member). s.1) (map seat_of rows) ≡ map (λ (k : Known). k.member) rows
+seats_members [] = refl
+seats_members (k ∷ rows) = ap (λ xs. k.member ∷ xs) (seats_members rows)
+
+leaves_members : (o : Outcome) → Leaves o → filter_map left_member o.posts ≡ map (λ (k : Known). k.member) o.left
+leaves_members o h = left_members o.posts ∙ ap (map (λ (s : ℕ × Member). s.1)) h ∙ seats_members o.left
+
 pub leaves_posted : EachWhoLeavesIsPosted
-leaves_posted = record { heard = leaves_heard; settled = leaves_settled }
+leaves_posted = record {
+  heard = λ past. leaves_members (heard_at past) (leaves_heard past);
+  settled = λ past claim. leaves_members (settled_at past claim) (leaves_settled past claim);
+}
 
 -- where the link ends its verdict says so
 ended_known_asks : (here : Here) (k : Known) (request : Request) → is_ended (known_asks here k request).verdict ≡ false

@@ -2,8 +2,11 @@ pub mod Faults
 pub mod Filters
 pub mod Heard
 pub mod Later
+pub mod LawCounts
 pub mod LawEnds
+pub mod LawWho
 pub mod LawJoins
+pub mod LawLeaves
 pub mod LawMore
 pub mod LawPosts
 pub mod LawRouted

@@ -1,5 +1,5 @@
 -- What follows from the definitions for all that a link may hear. This profile.
-use Rattle.std.specs.Prelude.{◌≡◌, ◌==◌, ℕ, suc, ◌<◌, Bool, true, false, List, [], ◌∷◌, ◌++◌, length, map, filter, take, Option, None, Some, if◌then◌else◌}
+use Rattle.std.specs.Prelude.{◌≡◌, ◌==◌, ◌&&◌, ℕ, suc, ◌+◌, ◌<◌, Bool, true, false, List, [], ◌∷◌, ◌++◌, length, map, filter, count_by, take, Option, None, Some, if◌then◌else◌}
 use Rattle.std.specs.List.{filter_map, flat_map, range_with_len, AllByRecursion}
 use Rattle.m17_values.specs.declared.heard.Heard.{Heard}
 use Rattle.m17_values.specs.declared.heard.Heard.TheVariants as heard
@@ -201,3 +201,36 @@ abbrev pub NobodyIsKnownBehindTheEnd : Type 0
 NobodyIsKnownBehindTheEnd =
     (setup : Setup) (entries : List Entry) → EndsOnce entries →
     known_at (past_at setup entries (length entries)) ≡ []
+
+-- No entry has a claim but one that asks for a place. This profile.
+abbrev pub ClaimsAreAsked : Setup → List Entry → Type 0
+ClaimsAreAsked setup entries =
+    (n : ℕ) → n < length entries → asks_at (past_at setup entries n) ≡ false →
+    claim_at entries n ≡ None
+
+-- the member, if this is its Join
+abbrev pub joiner_of : Body → Option Member
+joiner_of (Join k x callsign listen after) = Some k
+joiner_of _ = None
+
+-- how many of the Joins, and of the Leaves, that a module is routed are of such a member
+abbrev pub joined_count : Setup → List Entry → ℕ → (Member → Bool) → ℕ
+joined_count setup entries letter test =
+    count_by test (filter_map (λ event. joiner_of event.body) (routed setup entries letter))
+
+abbrev pub left_count : Setup → List Entry → ℕ → (Member → Bool) → ℕ
+left_count setup entries letter test =
+    count_by test (filter_map (λ event. leaver_of event.body) (routed setup entries letter))
+
+-- Who has joined a module, as often, has left it or is known in it; so with the end of a link each has left. This
+-- profile.
+pub record WhoJoinsLeaves : Type 0 where
+  pub so_far : (setup : Setup) (entries : List Entry) (letter : ℕ) (test : Member → Bool) →
+      ClaimsAreAsked setup entries →
+      joined_count setup entries letter test
+      ≡ left_count setup entries letter test
+      + count_by (λ (k : Known). k.letter == letter && test k.member)
+      (known_at (past_at setup entries (length entries)))
+  pub at_the_end : (setup : Setup) (entries : List Entry) (letter : ℕ) (test : Member → Bool) →
+      ClaimsAreAsked setup entries → EndsOnce entries →
+      joined_count setup entries letter test ≡ left_count setup entries letter test

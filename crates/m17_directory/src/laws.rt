@@ -76,3 +76,8 @@ pub fn joins_are_the_claims()
 pub fn nobody_is_known_behind_the_end()
     ensures { law.NobodyIsKnownBehindTheEnd }
 {}
+
+/// Who has joined a module has left it, as often, or is known in it; so each has left where the link has ended.
+pub fn who_joins_leaves()
+    ensures { law.WhoJoinsLeaves }
+{}
