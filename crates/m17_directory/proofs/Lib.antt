@@ -2,6 +2,7 @@ pub mod Faults
 pub mod Filters
 pub mod Heard
 pub mod Later
+pub mod LawAskers
 pub mod LawCounts
 pub mod LawEnds
 pub mod LawWho

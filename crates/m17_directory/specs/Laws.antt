@@ -1,5 +1,5 @@
 -- What follows from the definitions for all that a link may hear. This profile.
-use Rattle.std.specs.Prelude.{◌≡◌, ◌==◌, ◌&&◌, ℕ, suc, ◌+◌, ◌<◌, Bool, true, false, List, [], ◌∷◌, ◌++◌, length, map, filter, count_by, take, Option, None, Some, if◌then◌else◌}
+use Rattle.std.specs.Prelude.{◌≡◌, ◌==◌, ◌&&◌, not, ℕ, suc, ◌+◌, ◌<◌, Bool, true, false, List, [], ◌∷◌, ◌++◌, length, map, filter, count_by, take, is_some, Option, None, Some, if◌then◌else◌}
 use Rattle.std.specs.List.{filter_map, flat_map, range_with_len, AllByRecursion}
 use Rattle.m17_values.specs.declared.heard.Heard.{Heard}
 use Rattle.m17_values.specs.declared.heard.Heard.TheVariants as heard
@@ -16,7 +16,7 @@ use Rattle.m17_directory.specs.declared.known.Known.{Known}
 use Rattle.m17_directory.specs.declared.known.Request.{Request}
 use Rattle.m17_directory.specs.declared.verdict.Act.TheVariants as act
 use Rattle.m17_directory.specs.declared.verdict.LinkVerdict.{LinkVerdict}
-use Rattle.m17_directory.specs.declared.verdict.LinkVerdict.TheVariants.{Routed, Ended}
+use Rattle.m17_directory.specs.declared.verdict.LinkVerdict.TheVariants.{Routed, Full, Ended}
 use Rattle.m17_directory.specs.Entries.{Notice, Says, Claim, Entry, Setup, notice_at, claim_at, ends_at}
 use Rattle.m17_directory.specs.Known.{Past, request_in, known_at}
 use Rattle.m17_directory.specs.Outcome.{Here}
@@ -182,6 +182,24 @@ joins_at setup entries letter n =
     if asks_at (past_at setup entries n)
     then joins_by (here_of (past_at setup entries n)) letter (notice_at entries n)
     (request_in (notice_at entries n)) (claim_at entries n) else []
+
+-- An entry is Full exactly where it asks for a place and has no claim, and a Join exactly where it asks and has one.
+-- This profile.
+abbrev pub is_full : LinkVerdict → Bool
+is_full Full = true
+is_full _ = false
+
+abbrev pub is_joining : LinkVerdict → Bool
+is_joining (Routed letter act.Join) = true
+is_joining _ = false
+
+pub record AskersJoinOrAreFull : Type 0 where
+  pub full : (setup : Setup) (entries : List Entry) (n : ℕ) →
+      is_full (link_verdict setup entries n)
+      ≡ (asks_at (past_at setup entries n) && not (is_some (claim_at entries n)))
+  pub joins : (setup : Setup) (entries : List Entry) (n : ℕ) →
+      is_joining (link_verdict setup entries n)
+      ≡ (asks_at (past_at setup entries n) && is_some (claim_at entries n))
 
 -- the event is a Join
 abbrev pub is_join : Body → Bool

@@ -67,6 +67,12 @@ pub fn packets_are_of_entries()
     ensures { law.PacketsAreOfEntries }
 {}
 
+/// An entry's verdict is `Full` exactly where it asks for a place and has no claim, and `Routed` as a Join exactly where
+/// it asks and has one.
+pub fn askers_join_or_are_full()
+    ensures { law.AskersJoinOrAreFull }
+{}
+
 /// The Joins for a module are those of the entries that asked for it and have a claim, in order, each entry once.
 pub fn joins_are_the_claims()
     ensures { law.JoinsAreTheClaims }
