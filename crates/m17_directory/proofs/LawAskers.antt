@@ -13,7 +13,7 @@ use Rattle.m17_directory.specs.declared.verdict.Act.TheVariants as act
 use Rattle.m17_directory.specs.declared.verdict.LinkVerdict.TheVariants as verdict
 use Rattle.m17_directory.specs.Entries.{Notice, Claim, Entry, Setup, notice_at, claim_at, ends_at}
 use Rattle.m17_directory.specs.Known.{Past, now, request_in, known_at}
-use Rattle.m17_directory.specs.Outcome.{Here, Outcome, only, to_module, to_door, posting, leaving, is_what, known_asks, other_asks, of_packet, of_end}
+use Rattle.m17_directory.specs.Outcome.{Here, Outcome, only, to_module, to_door, posting, leaving, is_what, known_asks, other_asks, of_packet}
 use Rattle.m17_directory.specs.Routed.{here_of, row_for, heard_at, settled_by, settled_at, asks_at, both, past_at, link_verdict}
 use Rattle.m17_directory.specs.Laws.{is_full, is_joining, AskersJoinOrAreFull}
 use Rattle.m17_directory.specs.Steps.{still_by, said_by}

@@ -1,8 +1,8 @@
 -- How many rows of a kind are known after an entry, and how many leave by it.
-use Rattle.std.proofs.Common.{◌≡◌, ◌⊎◌, ℕ, zero, suc, ◌+◌, ◌<◌, ◌≤◌, Bool, true, false, cond, not, ◌&&◌, eqb, List, [], ◌∷◌, ◌++◌, length, map, filter, find, count_by, Option, None, Some, Ordering, Less, Equal, Greater, inl, inr, refl, ap, sym, ◌∙◌, subst, arith}
-use Rattle.std.specs.List.{AllByRecursion, sum_by}
+use Rattle.std.proofs.Common.{◌≡◌, ◌⊎◌, ℕ, ◌+◌, Bool, true, false, cond, not, ◌&&◌, eqb, List, [], ◌∷◌, ◌++◌, map, filter, count_by, Option, None, Some, Ordering, Less, Equal, Greater, inl, inr, refl, ap, sym, ◌∙◌, arith}
+use Rattle.std.specs.List.{AllByRecursion}
 use Rattle.std.specs.Ordering.{match_ordering}
-use Rattle.std.proofs.lemmas.Bool.{false≢true, true≢false}
+use Rattle.std.proofs.lemmas.Bool.{false≢true}
 use Rattle.std.proofs.lemmas.Option.{same_Some, none-some}
 use Rattle.std.proofs.lemmas.List.Sums.{sum_by-append}
 use Rattle.m17_values.specs.declared.member.Member.{Member}
@@ -20,7 +20,7 @@ use Rattle.m17_directory.specs.declared.verdict.Act.TheVariants as act
 use Rattle.m17_directory.specs.Entries.{Notice, peer_cmp, is_peer}
 use Rattle.m17_directory.specs.Outcome.{Here, Outcome, only, to_module, to_door, posting, leaving, is_what, known_asks, other_asks, of_known, of_other, of_packet, of_end}
 use Rattle.m17_directory.specs.Routed.{is_silent, row_for}
-use Rattle.m17_directory.specs.Steps.{IsAllAfter, IsInOrder, heard_now, is_other, with_row, rows_by, silent_by, still_by, said_by, known_by}
+use Rattle.m17_directory.specs.Steps.{IsInOrder, heard_now, is_other, with_row, rows_by, silent_by, still_by, said_by, known_by}
 use Rattle.m17_directory.proofs.Peers.{peer_same, is_peer_same, is_peer_from}
 use Rattle.m17_directory.proofs.Rows.{after_none, after_same, order_filter}
 use Rattle.m17_directory.proofs.Taken.{no_row_other}
@@ -153,7 +153,7 @@ module _ (letter : ℕ) (test : Member → Bool) where
       let still : List Known = filter (λ k. not (is_silent at.moment k)) rows in
       let parts : count such (filter (is_silent at.moment) rows) + count such still ≡ count such rows = count_parts such (is_silent at.moment) rows in
       let packet : both_count at from still (of_packet at from (row_for from still) p).left ≡ count such still =
-          packet_count at from still p (row_for from still) (order_filter (λ k. not (is_silent at.moment k)) rows h) refl in
+      packet_count at from still p (row_for from still) (order_filter (λ k. not (is_silent at.moment k)) rows h) refl in
       sums (count such (rows_by at from (of_packet at from (row_for from still) p).left still)) (count such (filter (is_silent at.moment) rows)) (count such (of_packet at from (row_for from still) p).left) (count such still) (count such rows) parts packet
   known_count at ends rows (Notice.Garbled from m refusal) h = swaps _ _ _ (count_parts such (is_silent at.moment) rows)
   known_count at ends rows (Notice.Quiet m) h = swaps _ _ _ (count_parts such (is_silent at.moment) rows)

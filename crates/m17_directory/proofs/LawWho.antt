@@ -1,39 +1,26 @@
 -- Who has joined a module has left it or is known in it.
-use Rattle.std.proofs.Common.{◌≡◌, ◌⊎◌, ℕ, zero, suc, ◌+◌, ◌<◌, ◌≤◌, Bool, true, false, cond, not, ◌&&◌, eqb, List, [], ◌∷◌, ◌++◌, length, take, map, filter, filter_map, slice_get, option_and_then, option_map, count_by, Option, None, Some, inl, inr, refl, ap, sym, ◌∙◌, subst, arith}
-use Rattle.std.specs.List.{AllByRecursion, cons_option, flat_map, range_with_len}
-use Rattle.std.proofs.lemmas.Bool.{cases_eq, false≢true}
-use Rattle.std.proofs.lemmas.Option.{none-some}
-use Rattle.std.proofs.lemmas.List.Elements.{filter_map-append}
+use Rattle.std.proofs.Common.{◌≡◌, ℕ, zero, suc, ◌+◌, ◌<◌, ◌≤◌, Bool, true, false, cond, not, List, [], ◌∷◌, ◌++◌, length, take, filter, slice_get, option_and_then, Option, None, Some, refl, ap, sym, ◌∙◌, subst, arith}
+use Rattle.std.proofs.lemmas.Bool.{false≢true}
 use Rattle.m17_values.specs.declared.member.Member.{Member}
 use Rattle.m17_values.specs.declared.peer.Peer.{Peer}
-use Rattle.m17_control.specs.declared.event.Body.{Body}
-use Rattle.m17_control.specs.declared.event.Body.TheVariants.{Join, Leave, Packet, Reply, Tick, Stop}
-use Rattle.m17_control.specs.declared.event.Event.{Event}
 use Rattle.m17_control.specs.declared.packet.Control.TheVariants as control
 use Rattle.m17_control.specs.declared.packet.Packet as packet
 use Rattle.m17_control.specs.declared.packet.Packet.TheVariants as packets
-use Rattle.m17_directory.specs.declared.dispatch.Dispatch.{Dispatch}
-use Rattle.m17_directory.specs.declared.dispatch.Dispatch.TheVariants.{ToModule, ToDoor}
 use Rattle.m17_directory.specs.declared.known.Known.{Known}
 use Rattle.m17_directory.specs.declared.known.Request.{Request}
-use Rattle.m17_directory.specs.Entries.{Notice, Claim, Entry, Setup, notice_of, notice_at, claim_at, moment_at, ends_at, is_peer, peers_named}
-use Rattle.m17_directory.specs.Known.{Past, now, request_of, request_in, known_at}
+use Rattle.m17_directory.specs.Entries.{Notice, Claim, Entry, Setup, notice_of, notice_at, claim_at, moment_at, ends_at}
+use Rattle.m17_directory.specs.Known.{Past, now, request_of, known_at}
 use Rattle.m17_directory.specs.Outcome.{Here, Outcome, has_place, of_packet}
-use Rattle.m17_directory.specs.Routed.{here_of, row_for, heard_at, others_than, others_at, settled_by, settled_at, is_asks, asks_at, both, comes_to, asked_before, past_at, posts_at, posted, event_for, routed}
+use Rattle.m17_directory.specs.Routed.{here_of, row_for, heard_at, others_than, others_at, is_asks, asks_at, asked_before, past_at}
 use Rattle.m17_directory.specs.StandsFor.{unclaimed}
-use Rattle.m17_directory.specs.Laws.{EndsOnce, leaver_of, is_join, join_event, joins_by, joins_at, ClaimsAreAsked, joiner_of, joined_count, left_count, WhoJoinsLeaves}
 use Rattle.m17_directory.specs.Steps.{is_other, with_row, silent_by, still_by, said_by, known_by}
 use Rattle.m17_directory.proofs.Same.{Says, Claims, past_of, says_less, claims_less, length_asked, asked_same, heard_is, heard_at_same}
-use Rattle.m17_directory.proofs.Later.{after}
 use Rattle.m17_directory.proofs.Named.{known_order}
 use Rattle.m17_directory.proofs.Heard.{known_last, others_by}
 use Rattle.m17_directory.proofs.Settled.{known_claimed}
-use Rattle.m17_directory.proofs.LawMore.{posted_upto, get_first, get_taken, says_alike, others_is, others_at_same}
+use Rattle.m17_directory.proofs.LawMore.{get_first, get_taken, says_alike, others_is, others_at_same}
 use Rattle.m17_directory.proofs.LawSent.{all_filter, all_passed, get_last}
-use Rattle.m17_directory.proofs.LawPosts.{seat_of, left_seat, leaves_heard, leaves_settled}
-use Rattle.m17_directory.proofs.LawJoins.{joins_of_events, join_for, joins_posted}
-use Rattle.m17_directory.proofs.LawEnds.{nobody_known}
-use Rattle.m17_directory.proofs.LawCounts.{count, count_is, count_append, count_parts, count_map, is_such, known_count, NoneOf, put_count}
+use Rattle.m17_directory.proofs.LawCounts.{count, count_append, count_parts, is_such, known_count, NoneOf, put_count}
 
 -- an entry that asks is a packet that requests something
 pub record AsksFor (notice : Notice) : Type 0 where

@@ -34,7 +34,7 @@ pub fn only_served_are_routed()
     ensures { law.OnlyServedAreRouted }
 {}
 
-/// An entry posts one packet, to the module that its verdict names as having been sent it, or none.
+/// An entry posts one packet, to the module to which its verdict says that a packet was routed, or none.
 pub fn packets_are_routed()
     ensures { law.PacketsAreRouted }
 {}
