@@ -52,7 +52,7 @@ count_map p q f (x ∷ xs) h = ap (λ b. cond b 1 0 + count p (map f xs)) (h x) 
 abbrev pub is_such : ℕ → (Member → Bool) → Known → Bool
 is_such letter test k = eqb k.letter letter && test k.member
 
-such_heard : (letter : ℕ) (test : Member → Bool) (x : Peer) (m : ℕ) (k : Known) → is_such letter test (heard_now x m k) ≡ is_such letter test k
+pub such_heard : (letter : ℕ) (test : Member → Bool) (x : Peer) (m : ℕ) (k : Known) → is_such letter test (heard_now x m k) ≡ is_such letter test k
 such_heard letter test x m k = elim (is_peer x k.peer) as (λ b. is_such letter test (cond b (record k { heard_at = m }) k) ≡ is_such letter test k) [ true ↦ refl | false ↦ refl ]
 
 other_step : (p : Known → Bool) (x : Peer) (r k : Known) (rows : List Known) (b : Bool) → cond b (Some r) (row_for x rows) ≡ Some k → (b ≡ true → filter (is_other x) rows ≡ rows)
@@ -123,17 +123,14 @@ zeros r = omega arith
 zeros_right : (r : ℕ) → r + (0 + 0) ≡ r
 zeros_right r = omega arith
 
-module _ (letter : ℕ) (test : Member → Bool) where
-  abbrev such : Known → Bool
-  such = is_such letter test
-
+module _ (such : Known → Bool) (keeps : (x : Peer) (m : ℕ) (k : Known) → such (heard_now x m k) ≡ such k) where
   -- what is known and what has left, together
   abbrev both_count : Here → Peer → List Known → List Known → ℕ
   both_count here x still left = count such (rows_by here x left still) + count such left
 
   nobody_left : (here : Here) (x : Peer) (still left : List Known) → left ≡ [] → both_count here x still left ≡ count such still
   nobody_left at x still left e =
-      let same : count such (map (heard_now x at.moment) still) ≡ count such still = count_map such such (heard_now x at.moment) still (such_heard letter test x at.moment) in
+      let same : count such (map (heard_now x at.moment) still) ≡ count such still = count_map such such (heard_now x at.moment) still (keeps x at.moment) in
       ap (both_count at x still) e ∙ omega (arith, same)
 
   one_left : (here : Here) (x : Peer) (k : Known) (still left : List Known) → IsInOrder still → row_for x still ≡ Some k → left ≡ k ∷ [] → both_count here x still left ≡ count such still

@@ -21,7 +21,7 @@ use Rattle.m17_directory.proofs.LawMore.{posted_upto}
 use Rattle.m17_directory.proofs.LawPosts.{seat_of, left_seat, Leaves, leaves_heard, leaves_settled}
 use Rattle.m17_directory.proofs.LawJoins.{joins_of_events, joins_posted}
 use Rattle.m17_directory.proofs.LawEnds.{nobody_known}
-use Rattle.m17_directory.proofs.LawCounts.{count, count_is, count_append, count_map, is_such}
+use Rattle.m17_directory.proofs.LawCounts.{count, count_is, count_append, count_map, is_such, such_heard}
 use Rattle.m17_directory.proofs.LawWho.{AsksFor, asks_one, heard_count, known_next, claim_count}
 
 abbrev pub joiner : Event → Option Member
@@ -35,22 +35,22 @@ pulled : (read : Event → Option Member) (b : Bool) (event : Event) (xs : List 
 pulled read true event xs = refl
 pulled read false event xs = refl
 
-plus_zero : (n : ℕ) → n + 0 ≡ n
+pub plus_zero : (n : ℕ) → n + 0 ≡ n
 plus_zero n = omega arith
 
-zero_sum : (n : ℕ) → n ≡ 0 → 0 ≡ 0 + n
+pub zero_sum : (n : ℕ) → n ≡ 0 → 0 ≡ 0 + n
 zero_sum n e = omega arith
 
-no_more : (m n : ℕ) → m ≡ n → m ≡ n + 0
+pub no_more : (m n : ℕ) → m ≡ n → m ≡ n + 0
 no_more m n e = omega arith
 
-step_sum : (after before heard replaced left joined row : ℕ) → left ≡ heard + replaced → joined ≡ row → after + (heard + replaced) ≡ before + row → after + left ≡ before + joined
+pub step_sum : (after before heard replaced left joined row : ℕ) → left ≡ heard + replaced → joined ≡ row → after + (heard + replaced) ≡ before + row → after + left ≡ before + joined
 step_sum after before heard replaced left joined row l j e = omega arith
 
-none_sum : (after before heard left joined : ℕ) → left ≡ heard + 0 → joined ≡ 0 → after + heard ≡ before → after + left ≡ before + joined
+pub none_sum : (after before heard left joined : ℕ) → left ≡ heard + 0 → joined ≡ 0 → after + heard ≡ before → after + left ≡ before + joined
 none_sum after before heard left joined l j e = omega arith
 
-all_sum : (joins joins_before joined leaves leaves_before left after before : ℕ) → joins ≡ joins_before + joined → leaves ≡ leaves_before + left → joins_before ≡ leaves_before + before → after + left ≡ before + joined → joins ≡ leaves + after
+pub all_sum : (joins joins_before joined leaves leaves_before left after before : ℕ) → joins ≡ joins_before + joined → leaves ≡ leaves_before + left → joins_before ≡ leaves_before + before → after + left ≡ before + joined → joins ≡ leaves + after
 all_sum joins joins_before joined leaves leaves_before left after before j l b s = omega arith
 
 zero_more : (n : ℕ) → n ≡ 0 + n
@@ -64,7 +64,7 @@ leaves_step o u true h k =
     ∙ sym (map-append seat_of o.left u.left)
 leaves_step o u false h k = h
 
-settled_none : (past : Past) (notice : Notice) (request : Option Request) → (settled_by past None notice request).left ≡ []
+pub settled_none : (past : Past) (notice : Notice) (request : Option Request) → (settled_by past None notice request).left ≡ []
 settled_none past (Notice.Sent from at p) (Some request) = refl
 settled_none past (Notice.Sent from at p) None = refl
 settled_none past (Notice.Garbled from at refusal) request = refl
@@ -72,11 +72,11 @@ settled_none past (Notice.Quiet at) request = refl
 settled_none past Notice.Fault request = refl
 settled_none past Notice.End request = refl
 
-none_settled : (past : Past) → (settled_at past None).left ≡ []
+pub none_settled : (past : Past) → (settled_at past None).left ≡ []
 unfolding settled_at
 none_settled past = settled_none past (notice_at past.entries (now past)) (request_in (notice_at past.entries (now past)))
 
-settled_some : (past : Past) (claim : Claim) (one : AsksFor (notice_at past.entries (now past))) → (settled_at past (Some claim)).left ≡ filter (has_place claim.member.place) (others_at past)
+pub settled_some : (past : Past) (claim : Claim) (one : AsksFor (notice_at past.entries (now past))) → (settled_at past (Some claim)).left ≡ filter (has_place claim.member.place) (others_at past)
 unfolding settled_at
 settled_some past claim one =
     ap (λ y. (settled_by past (Some claim) y (request_in y)).left) one.says
@@ -172,7 +172,7 @@ module _ (letter : ℕ) (test : Member → Bool) where
 
     none_next : (n : ℕ) → claim_at entries n ≡ None → known_count (suc n) + count such (heard_at (past_at setup entries n)).left ≡ known_count n
     none_next n none =
-        ap (λ ks. count such ks + count such (heard_at (past_at setup entries n)).left) (known_next setup entries n none) ∙ heard_count (past_at setup entries n) letter test
+        ap (λ ks. count such ks + count such (heard_at (past_at setup entries n)).left) (known_next setup entries n none) ∙ heard_count (past_at setup entries n) such (such_heard letter test)
 
     step_claim : (n : ℕ) → n < length entries → (asks : asks_at (past_at setup entries n) ≡ true) (claim : Claim) → claim_at entries n ≡ Some claim → Step n true (Some claim)
     step_claim n l asks claim given =
@@ -189,7 +189,7 @@ module _ (letter : ℕ) (test : Member → Bool) where
         ∙ ap (λ o. joins_by (here_of past) letter (Notice.Sent one.from one.at one.packet) o (Some claim)) one.wants in
         let joined : count test (filter_map joiner (joins_by (here_of past) letter (notice_at entries n) (request_in (notice_at entries n)) (Some claim))) ≡ cond (eqb one.request.letter letter && test claim.member) 1 0 =
         ap (λ xs. count test (filter_map joiner xs)) joins ∙ one_joins (eqb one.request.letter letter) (join_event (here_of past) one.from one.request claim) claim.member refl in
-        step_sum (known_count (suc n)) (known_count n) (count such (heard_at past).left) (count such replaced) _ _ _ left joined (claim_count setup entries n l asks claim given letter test)
+        step_sum (known_count (suc n)) (known_count n) (count such (heard_at past).left) (count such replaced) _ _ _ left joined (claim_count setup entries n l asks claim given such (such_heard letter test))
 
     step_none : (n : ℕ) → claim_at entries n ≡ None → Step n true None
     step_none n none =

@@ -9,6 +9,7 @@ pub mod LawWho
 pub mod LawJoins
 pub mod LawLeaves
 pub mod LawMore
+pub mod LawPeers
 pub mod LawPosts
 pub mod LawRouted
 pub mod LawSays

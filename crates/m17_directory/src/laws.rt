@@ -73,6 +73,11 @@ pub fn askers_join_or_are_full()
     ensures { law.AskersJoinOrAreFull }
 {}
 
+/// Who asks for a place asks for it in a served module.
+pub fn askers_ask_for_served_modules()
+    ensures { law.AskersAskForServedModules }
+{}
+
 /// The Joins for a module are those of the entries that asked for it and have a claim, in order, each entry once.
 pub fn joins_are_the_claims()
     ensures { law.JoinsAreTheClaims }
@@ -86,4 +91,9 @@ pub fn nobody_is_known_behind_the_end()
 /// Who has joined a module has left it, as often, or is known in it; so each has left where the link has ended.
 pub fn who_joins_leaves()
     ensures { law.WhoJoinsLeaves }
+{}
+
+/// Who has joined has left, as often, or is known; and where a peer asks for a place, each member that it was has left.
+pub fn peers_come_and_go()
+    ensures { law.PeersComeAndGo }
 {}
