@@ -10,3 +10,4 @@ pub mod Same
 pub mod Settled
 pub mod Tables
 pub mod Taken
+pub mod Told
