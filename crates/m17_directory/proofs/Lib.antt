@@ -2,6 +2,7 @@ pub mod Bounds
 pub mod Faults
 pub mod Filters
 pub mod Heard
+pub mod Kept
 pub mod Later
 pub mod Named
 pub mod Peers
