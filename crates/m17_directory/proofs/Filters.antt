@@ -1,6 +1,9 @@
 -- Filtered rows so far, in a loop: how many there are, and what is posted of them.
-use Rattle.std.proofs.Common.{◌≡◌, ℕ, zero, suc, ◌+◌, ◌<◌, ◌≤◌, Bool, true, false, cond, List, [], ◌∷◌, ◌++◌, length, map, filter, ◌-◌, get_or, take, refl, ap, sym, ◌∙◌, subst, arith, length-append, append_assoc, Option, None, Some, IfSome}
+use Rattle.std.proofs.Common.{◌≡◌, ℕ, zero, suc, ◌+◌, ◌<◌, ◌≤◌, Bool, true, false, not, cond, List, [], ◌∷◌, ◌++◌, length, map, filter, ◌-◌, get_or, take, refl, ap, sym, ◌∙◌, subst, arith, length-append, append_assoc, append-nil, Option, None, Some, IfSome, Ordering, Less, Equal, Greater}
 use Rattle.std.specs.List.{range_with_len}
+use Rattle.std.specs.Ordering.{match_ordering}
+use Rattle.std.proofs.lemmas.List.Filters.{length-filter_both}
+use Rattle.m17_directory.specs.Entries.{peer_cmp}
 use Rattle.std.proofs.lemmas.Bool.{cond-true}
 use Rattle.std.proofs.lemmas.Option.{same_Some, none-some}
 use Rattle.std.proofs.lemmas.List.Elements.{filter_more}
@@ -8,6 +11,7 @@ use Rattle.m17_directory.specs.declared.dispatch.Dispatch.{Dispatch}
 use Rattle.m17_directory.specs.declared.known.Departed.{Departed}
 use Rattle.m17_directory.specs.declared.known.Known.{Known}
 use Rattle.m17_directory.specs.StandsFor.{with_left, departed_of}
+use Rattle.m17_directory.specs.Steps.{Lists, with_row}
 
 pub filter_le : {X : Type 0} (p : X → Bool) (xs : List X) → length (filter p xs) ≤ length xs
 filter_le p [] = omega arith
@@ -84,3 +88,53 @@ told_few b y post new e = omega (arith, ap length e, length-append post (cond b 
 pub letter_is : (o : Option ℕ) (letter byte : ℕ) → o ≡ Some letter → IfSome o (λ l. l ≡ byte) → letter ≡ byte
 letter_is None letter byte e h = absurd (none-some letter e)
 letter_is (Some l) letter byte e h = sym (same_Some l letter e) ∙ h
+
+pub all_pass : {X : Type 0} (xs : List X) → filter (λ x. true) xs ≡ xs
+all_pass [] = refl
+all_pass (x ∷ xs) = ap (λ ys. x ∷ ys) (all_pass xs)
+
+pub none_pass : {X : Type 0} (xs : List X) → filter (λ x. not true) xs ≡ []
+none_pass [] = refl
+none_pass (x ∷ xs) = none_pass xs
+
+keep_parts : {X : Type 0} (b : Bool) (x : X) (ys : List X) → cond b (x ∷ ys) ys ≡ [] → (b ≡ false) × (ys ≡ [])
+keep_parts true x ys e = cc
+keep_parts false x ys e = (refl, e)
+
+pub keep_all : {X : Type 0} (p : X → Bool) (xs : List X) → filter p xs ≡ [] → filter (λ x. not (p x)) xs ≡ xs
+keep_all p [] e = refl
+keep_all p (x ∷ xs) e =
+    let parts = keep_parts (p x) x (filter p xs) e in
+    ap (λ b. cond (not b) (x ∷ filter (λ y. not (p y)) xs) (filter (λ y. not (p y)) xs)) parts.0
+    ∙ ap (λ ys. x ∷ ys) (keep_all p xs parts.1)
+
+-- there is room for all that leave
+pub room_for : {X Y : Type 0} (p : X → Bool) (xs : List X) (post : List Y) → length xs ≤ 256 → post ≡ [] → length post + length (filter p xs) ≤ 300
+room_for p xs post few none = omega (arith, filter_le p xs, ap length none)
+
+pub few_told : {X Y : Type 0} (f : X → Y) (p : X → Bool) (xs : List X) (post new : List Y) → length xs ≤ 256 → post ≡ [] → new ≡ post ++ map f (filter p xs) → length new ≤ 256
+few_told f p xs post new few none e = omega (arith, filter_le p xs, ap length none, ap length e, length-append post (map f (filter p xs)), map_length f (filter p xs))
+
+pub left_none : (p : Known → Bool) (old : Lists) → filter p old.known ≡ [] → old ≡ record {
+  known = filter (λ k. not (p k)) old.known;
+  asked = old.asked;
+  departing = with_left old.departing (filter p old.known);
+}
+left_none p old e =
+    let lists : List Known → List Departed → Lists = λ ks ds. record { known = ks; asked = old.asked; departing = ds } in
+    ap (λ ks. lists ks old.departing) (sym (keep_all p old.known e))
+    ∙ ap (lists (filter (λ k. not (p k)) old.known)) (sym (ap (with_left old.departing) e ∙ append-nil old.departing))
+
+put_length : (k r : Known) (rows more : List Known) (o : Ordering) → length more ≤ suc (length rows) → length (match_ordering o (k ∷ r ∷ rows) (k ∷ rows) (r ∷ more)) ≤ suc (suc (length rows))
+put_length k r rows more Less h = omega arith
+put_length k r rows more Equal h = omega arith
+put_length k r rows more Greater h = omega arith
+
+pub with_row_length : (k : Known) (rows : List Known) → length (with_row k rows) ≤ suc (length rows)
+with_row_length k [] = omega arith
+with_row_length k (r ∷ rows) = put_length k r rows (with_row k rows) (peer_cmp k.peer r.peer) (with_row_length k rows)
+
+-- who leaves departs: together there are as many
+pub left_together : (p : Known → Bool) (old : Lists) → length (filter (λ k. not (p k)) old.known) + length (with_left old.departing (filter p old.known)) ≡ length old.known + length old.departing
+left_together p old =
+    omega (arith, length-filter_both p (λ k. not (p k)) (λ k. refl) old.known, length-append old.departing (map departed_of (filter p old.known)), map_length departed_of (filter p old.known))

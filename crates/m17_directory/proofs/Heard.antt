@@ -1,5 +1,5 @@
 -- Where an entry is taken in as the code does, the directory stands for the list with it.
-use Rattle.std.proofs.Common.{◌≡◌, ℕ, zero, suc, ◌+◌, ◌<◌, ◌≤◌, Bool, true, false, cond, not, ◌&&◌, ◌||◌, leb, List, [], ◌∷◌, ◌++◌, length, map, filter, max, slice_get, Option, None, Some, option_map, refl, ap, sym, ◌∙◌, subst, inl, inr, arith}
+use Rattle.std.proofs.Common.{◌≡◌, ℕ, zero, suc, ◌+◌, ◌<◌, ◌≤◌, Bool, true, false, cond, not, ◌&&◌, ◌||◌, leb, List, [], ◌∷◌, ◌++◌, length, map, filter, max, slice_get, Option, None, Some, option_map, refl, ap, sym, ◌∙◌, subst, inl, inr, arith, append-nil}
 use Rattle.std.specs.Option.{option_and_then}
 use Rattle.std.proofs.lemmas.Bool.{cases_Bool, cond-true, cond-false, false≢true, true≢false, lt-leb}
 use Rattle.std.proofs.lemmas.Option.{same_Some, none-some}
@@ -19,7 +19,7 @@ use Rattle.m17_control.specs.Modules.{serves}
 use Rattle.m17_directory.specs.Outcome.{Here, Outcome, only, posting, to_door, of_other, of_packet}
 use Rattle.m17_directory.specs.Routed.{here_of, is_silent, row_for, heard_at, still_at, is_asks, asks_at, asked_before, past_at, others_than, others_at}
 use Rattle.m17_directory.specs.StandsFor.{Kept, StandsFor, IsAsked, IsHeard, HasOutcome, Answer, faults_before, unclaimed, with_left}
-use Rattle.m17_directory.specs.Steps.{Lists, IsTaken, heard_now, is_other, rows_by, still_by, said_by, heard_by, known_by, asked_as, asked_by, asks_by}
+use Rattle.m17_directory.specs.Steps.{Lists, IsComeTo, IsTaken, heard_now, is_other, rows_by, still_by, said_by, heard_by, known_by, asked_as, asked_by, asks_by}
 use Rattle.m17_directory.proofs.Faults.{ends_is}
 use Rattle.m17_directory.proofs.Same.{past_of, moment_more, moment_same, faults_same, known_at_same, heard_is, length_more, length_asked}
 use Rattle.m17_directory.proofs.Same as same
@@ -113,7 +113,7 @@ rows_if_left : (here : Here) (x : Peer) (left rows : List Known) → is_left lef
 rows_if_left here x [] rows e = absurd (false≢true e)
 rows_if_left here x (k ∷ left) rows e = refl
 
-other_left : (here : Here) (x : Peer) (p : Packet) → (of_other here x p).left ≡ []
+pub other_left : (here : Here) (x : Peer) (p : Packet) → (of_other here x p).left ≡ []
 other_left here x (packets.Control (Conn from letter)) = elim (not (serves here.setup.modules letter)) as (λ b. (cond b (posting (NotServed letter) (to_door here x Nack)) (only Asks)).left ≡ []) [ true ↦ refl | false ↦ refl ]
 other_left here x (packets.Control (Lstn from letter)) = elim (not (serves here.setup.modules letter)) as (λ b. (cond b (posting (NotServed letter) (to_door here x Nack)) (only Asks)).left ≡ []) [ true ↦ refl | false ↦ refl ]
 other_left here x (packets.Control Ackn) = refl
@@ -123,6 +123,20 @@ other_left here x (packets.Control (Pong from)) = refl
 other_left here x (packets.Control (Disc None)) = refl
 other_left here x (packets.Control (Disc (Some from))) = refl
 other_left here x (packets.Stream p) = refl
+
+-- a packet of another peer changes nobody's row
+pub come_to_other : (here : Here) (x : Peer) (p : Packet) (old new : Lists) (before after : List Dispatch) (answer : LinkVerdict)
+    → new.known ≡ old.known → new.departing ≡ old.departing → new.asked ≡ asked_by here x (request_of p) (is_asks (of_other here x p).verdict) old.asked
+    → after ≡ before ++ (of_other here x p).posts → answer ≡ (of_other here x p).verdict
+    → (o : Option Known) → row_for x old.known ≡ None → o ≡ None → IsComeTo here x (request_of p) old new (of_packet here x o p) before after answer
+come_to_other here x p old new before after answer known departing asked posts verdict None none e = record {
+  verdict = verdict;
+  posts = posts;
+  known = known ∙ sym (ap (λ left. rows_by here x left old.known) (other_left here x p) ∙ no_row_heard x here.moment old.known none);
+  asked = asked;
+  departing = departing ∙ sym (ap (with_left old.departing) (other_left here x p) ∙ append-nil old.departing);
+}
+come_to_other here x p old new before after answer known departing asked posts verdict (Some k) none e = absurd (none-some k (sym e))
 
 none_left : (here : Here) (x : Peer) (p : Packet) → (of_packet here x None p).left ≡ []
 none_left here x p = other_left here x p

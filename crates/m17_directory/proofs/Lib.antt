@@ -1,6 +1,8 @@
+pub mod Bounds
 pub mod Faults
 pub mod Filters
 pub mod Heard
+pub mod Kept
 pub mod Later
 pub mod LawAskers
 pub mod LawCounts
@@ -22,3 +24,4 @@ pub mod Same
 pub mod Settled
 pub mod Tables
 pub mod Taken
+pub mod Told

@@ -82,7 +82,7 @@ row_found (r ∷ rows) (suc i) k h l e =
     cond-false (is_peer k.peer r.peer) (Some r) (row_for k.peer rows) (other_if_greater k.peer r.peer (greater_at r rows i k h.0 (omega arith) e))
     ∙ row_found rows i k h.1 (omega arith) e
 
-none_alike : (x : Peer) (rows : List Known) → IsAllAfter x rows → filter (λ r. is_peer x r.peer) rows ≡ []
+pub none_alike : (x : Peer) (rows : List Known) → IsAllAfter x rows → filter (λ r. is_peer x r.peer) rows ≡ []
 none_alike x [] h = refl
 none_alike x (r ∷ rows) h =
     cond-false (is_peer x r.peer) (r ∷ filter (λ (z : Known). is_peer x z.peer) rows) (filter (λ (z : Known). is_peer x z.peer) rows) (other_if_less x r.peer h.0)

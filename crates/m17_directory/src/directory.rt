@@ -134,11 +134,14 @@ impl Directory {
         ensures bounds { IsBounded self.new }
     {
         let before = self.moment;
-        self.moment = before.max(moment_of(h));
-        self.faults = faults_with(h, self.faults);
-        self.ended = ends_by(h, self.faults);
-        let stamp = self.stamp(index);
-        self.people.hear(before, self.ended, h, &stamp, post)
+        let moment = before.max(moment_of(h));
+        let faults = faults_with(h, self.faults);
+        let ends = ends_by(h, faults);
+        let stamp = self.stamp(index, moment);
+        self.moment = moment;
+        self.faults = faults;
+        self.ended = ends;
+        self.people.hear(before, ends, h, &stamp, post)
     }
 
     /// Whether a request is asked that must wait: its peer has a departing member, or known and departing together are
@@ -173,7 +176,7 @@ impl Directory {
         ensures bounds { IsBounded self.new }
     {
         let asked = self.people.asked().unwrap();
-        let stamp = self.stamp(asked.index);
+        let stamp = self.stamp(asked.index, self.moment);
         self.people.settle(&asked, claimed, after, &stamp, post)
     }
 
@@ -215,13 +218,9 @@ impl Directory {
         self.ended
     }
 
-    // What the entry with this index gives to all that it posts.
-    fn stamp(&self, index: u64) -> Stamp
-        ensures { result ≡ record {
-          setup = self.now.setup;
-          index = index;
-          moment = self.now.moment;
-        } }
+    // What the entry with this index, at this moment of the link, gives to all that it posts.
+    fn stamp(&self, index: u64, moment: u64) -> Stamp
+        ensures { result ≡ record { setup = self.now.setup; index = index; moment = moment } }
     {
         Stamp {
             link: self.link,
@@ -229,7 +228,7 @@ impl Directory {
             places: self.places,
             modules: self.modules,
             index,
-            moment: self.moment,
+            moment,
         }
     }
 }

@@ -1,5 +1,5 @@
 //! Who is known to a link and who departs, and what packets, time and the end of the link do to them.
-ghost use Rattle.std.specs.Prelude.{◌≡◌, ◌+◌, ◌<◌, ◌≤◌, ℕ, max, [], ◌∷◌, ◌++◌, length, map, filter, Some, None, IfOk, IsSome, IfSome, not, option_map};
+ghost use Rattle.std.specs.Prelude.{◌≡◌, ◌⊎◌, ◌+◌, ◌<◌, ◌≤◌, ℕ, max, [], ◌∷◌, ◌++◌, length, map, filter, Some, None, IfOk, IsSome, IfSome, not, option_map};
 ghost use Rattle.std.specs.List.{list_any};
 ghost use Rattle.m17_control.specs.declared.event.Why.TheVariants.{Silent, Stopped};
 ghost use Rattle.m17_directory.specs.Entries.{Notice, Claim, Says, moment_of};
@@ -7,7 +7,7 @@ ghost use Rattle.m17_directory.specs.Known.{request_of};
 ghost use Rattle.m17_directory.specs.Outcome.{has_place, is_what, leave, to_module, known_asks, other_asks, of_known, of_other, of_packet, of_end, only};
 ghost use Rattle.m17_directory.specs.Routed.{is_silent, is_asks, row_for};
 ghost use Rattle.m17_directory.specs.StandsFor.{with_left, without_member};
-ghost use Rattle.m17_directory.specs.Steps.{IsRowOf, IsComeTo, IsTaken, IsGiven, is_among, asked_by, lists_heard, lists_without, lists_wait, ticks_by};
+ghost use Rattle.m17_directory.specs.Steps.{AreFew, IsInOrder, IsRowOf, IsComeTo, IsTaken, IsGiven, is_among, asked_by, lists_heard, lists_without, lists_wait, ticks_by};
 ghost use Rattle.m17_directory.specs.declared.whom.Whom.TheVariants as whom;
 ghost use Rattle.m17_directory.specs.declared.verdict.LinkVerdict.TheVariants as link;
 ghost use Rattle.m17_control.specs.declared.event.Body.TheVariants as body;
@@ -241,6 +241,7 @@ impl People {
           departing = with_left self.old.departing self.old.known;
         } }
     {
+        let _known = &self.known;
         self.leave(&Whom::Everyone, Why::Stopped, stamp, post);
         stamp.tell_each(&Body::Stop, post);
         LinkVerdict::Ended
@@ -257,6 +258,31 @@ impl People {
     ) -> LinkVerdict
         requires nothing_posted { post.old ≡ [] }
         requires nothing_asked { self.old.asked ≡ None }
+        ensures says { (notice : Notice) × Says h.now notice }
+        ensures taken { (notice : Notice) → Says h.now notice →
+            stamp.now.moment ≡ max before (moment_of notice) →
+            IsTaken stamp.now before ends self.old self.new notice post.new result }
+        ensures order { IsInOrder self.old.known }
+        ensures few { AreFew self.new.known self.new.departing }
+    {
+        let _rows = self.known.rows();
+        let verdict = self.take_in(before, ends, h, stamp, post);
+        let _known = &self.known;
+        verdict
+    }
+
+    // The same, with what is true of it alone.
+    fn take_in(
+        &mut self,
+        before: u64,
+        ends: bool,
+        h: &Heard,
+        stamp: &Stamp,
+        post: &mut Post,
+    ) -> LinkVerdict
+        requires nothing_posted { post.old ≡ [] }
+        requires nothing_asked { self.old.asked ≡ None }
+        ensures says { (notice : Notice) × Says h.now notice }
         ensures taken { (notice : Notice) → Says h.now notice →
             stamp.now.moment ≡ max before (moment_of notice) →
             IsTaken stamp.now before ends self.old self.new notice post.new result }
@@ -278,6 +304,8 @@ impl People {
     // What a datagram becomes, after the time that went by.
     fn datagram(&mut self, from: &Peer, bytes: &[u8], stamp: &Stamp, post: &mut Post) -> LinkVerdict
         requires { length post.old ≤ 282 }
+        ensures reads { ((p : Packet) × Spells p bytes.now)
+            ⊎ ((refusal : Refusal) × Refuses bytes.now refusal) }
         ensures spelled { (p : Packet) → Spells p bytes.now →
             IsComeTo stamp.now from.now (request_of p) self.old self.new
             (of_packet stamp.now from.now (row_for from.now self.old.known) p)
@@ -554,11 +582,35 @@ impl People {
         requires members { length self.old.known + length self.old.departing < 512 }
         requires free { IfSome claimed (λ m. length (filter (λ k. not (has_place m.place k))
             self.old.known) < 256) }
+        ensures given { IsGiven stamp.now asked.now
+            (option_map (λ m. record { member = m; after = after }) claimed)
+            self.old self.new post.new result }
+        ensures few { AreFew self.new.known self.new.departing }
+    {
+        self.asked = None;
+        let verdict = self.give(asked, claimed, after, stamp, post);
+        let _known = &self.known;
+        verdict
+    }
+
+    // The same, where no request stands asked any more.
+    fn give(
+        &mut self,
+        asked: &Asked,
+        claimed: Option<Member>,
+        after: u64,
+        stamp: &Stamp,
+        post: &mut Post,
+    ) -> LinkVerdict
+        requires nothing_posted { post.old ≡ [] }
+        requires nothing_asked { self.old.asked ≡ None }
+        requires members { length self.old.known + length self.old.departing < 512 }
+        requires free { IfSome claimed (λ m. length (filter (λ k. not (has_place m.place k))
+            self.old.known) < 256) }
         ensures { IsGiven stamp.now asked.now
             (option_map (λ m. record { member = m; after = after }) claimed)
             self.old self.new post.new result }
     {
-        self.asked = None;
         let Some(member) = claimed else {
             stamp.answer(&asked.peer, &Control::Nack, post);
             return LinkVerdict::Full;
@@ -582,6 +634,7 @@ impl People {
         ensures { IsGiven stamp.now asked.now (Some (record { member = member; after = after }))
             self.old self.new post.new result }
     {
+        let _known = &self.known;
         let whom = Whom::Place(member.place);
         self.leave(&whom, Why::Replaced, stamp, post);
         self.known.put(&known_as(asked, member, stamp.moment()));

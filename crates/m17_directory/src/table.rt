@@ -2,7 +2,7 @@ ghost use Rattle.std.specs.Prelude.{◌≡◌, ◌<◌, ◌≤◌, ◌-◌, fals
 ghost use Rattle.std.specs.List.{list_any};
 ghost use Rattle.m17_directory.specs.Outcome.{has_place};
 ghost use Rattle.m17_directory.specs.Routed.{is_silent};
-ghost use Rattle.m17_directory.specs.Steps.{IsEarliest, IsRow, IsRowOf, IsGapFor, heard_now, is_among, with_row};
+ghost use Rattle.m17_directory.specs.Steps.{IsInOrder, IsEarliest, IsRow, IsRowOf, IsGapFor, heard_now, is_among, with_row};
 
 use crate::Known;
 use crate::whom::{SILENCE_MS, Whom};
@@ -58,6 +58,7 @@ impl Table {
     pub(crate) fn rows(&self) -> &[Known]
         ensures rows { result.now ≡ self.now }
         ensures few { length self.now ≤ 256 }
+        ensures order { IsInOrder self.now }
     {
         self.rows.as_slice()
     }
