@@ -7,6 +7,7 @@
 
 mod basket;
 pub mod laws;
+mod recorder;
 mod room;
 mod seat;
 mod state;
@@ -18,5 +19,9 @@ pub use state::{Module, PING_EVERY_MS};
 
 #[cfg(test)]
 mod list_tests;
+#[cfg(test)]
+mod parrot_tests;
+#[cfg(test)]
+mod plain_echo;
 #[cfg(test)]
 mod tests;
