@@ -10,3 +10,7 @@ mod FramesMine
 mod LifeParts
 mod Life
 mod Between
+mod Tuned
+mod TunedStep
+mod EchoesBefore
+mod EchoItems

@@ -76,9 +76,17 @@ recording_heard at k p Opened recording = Some (extended at p (begun k))
 recording_heard at k p Continued recording = option_map (extended at p) recording
 recording_heard at k p _ recording = recording
 
--- the recording after an event
-abbrev pub recording_then : List (Option Seat) → ℕ → Body → Option Verdict → Option Recording →
+-- the same of an answer, and the moment of the last frame heard
+abbrev pub recording_answered : ℕ → Member → StreamPacket → Option Verdict → Option Recording →
     Option Recording
-recording_then seats at (Packet k p) (Some verdict) recording =
-    recording_heard at k p verdict recording
-recording_then seats at body answer recording = unless_any (leaver seats body) recording
+recording_answered at k p None recording = recording
+recording_answered at k p (Some verdict) recording = recording_heard at k p verdict recording
+
+abbrev pub heard_then : ℕ → Option Verdict → ℕ → ℕ
+heard_then at answer heard = if admits answer then at else heard
+
+-- the recording after an event by which this one leaves
+abbrev pub recording_then : Option Member → ℕ → Body → Option Verdict → Option Recording →
+    Option Recording
+recording_then leaves at (Packet k p) answer recording = recording_answered at k p answer recording
+recording_then leaves at body answer recording = unless_any leaves recording

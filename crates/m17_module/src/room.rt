@@ -140,6 +140,7 @@ impl Room {
         requires { places ≤ 256 }
         ensures places { IfOk result (λ room. length room.seats ≡ places) }
         ensures stands { IfOk result (λ room. PeopleStandFor places room []) }
+        ensures free { IfOk result (λ room. room.floor ≡ None) }
     {
         let (Ok(mut seats), Ok(mut lasts)) = (
             Vec::with_capacity(alloc, places as usize),

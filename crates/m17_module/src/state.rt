@@ -48,7 +48,12 @@ impl Model for Module {
       recording = option_and_then (λ r. r.parrot) m.recorder;
     } };
 
-    ghost invariant = { λ m. m.admitted ≤ m.count };
+    ghost use Rattle.std.specs.Option.{ForSome};
+    ghost use Rattle.std.specs.Prelude.{◌≡◌};
+    ghost use Rattle.m17_module.specs.Following.{recorded_by, held_by};
+
+    ghost invariant = { λ m. (m.admitted ≤ m.count) × ForSome m.recorder
+        (λ r. recorded_by r.heard r.parrot ≡ held_by m.moment m.room.floor) };
 }
 
 // Asks each member whether it is there, where the moment passes a multiple of 3,000 ms. One question is enough, however

@@ -54,7 +54,7 @@ closed at r = record r { close = option_or r.close (Some at) }
 
 -- It is a recording of this member. This profile.
 abbrev pub is_of : Member → Recording → Bool
-is_of k r = (r.member.place == k.place) && (r.member.generation == k.generation)
+is_of k r = (k.place == r.member.place) && (k.generation == r.member.generation)
 
 -- Nothing is recorded any more, if it was this member's. This profile.
 abbrev pub unless_of : Member → Recording → Option Recording

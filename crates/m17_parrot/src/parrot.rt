@@ -120,7 +120,7 @@ impl Parrot {
         ensures { self.new ≡ option_and_then (unless_of m) self.old }
     {
         if let Some(k) = self.member
-            && k == m
+            && m == k
         {
             self.member = None;
         }
