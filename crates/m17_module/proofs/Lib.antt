@@ -14,3 +14,5 @@ mod Tuned
 mod TunedStep
 mod EchoesBefore
 mod EchoItems
+mod EchoesMore
+mod RecordingStep
