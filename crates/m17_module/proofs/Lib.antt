@@ -16,3 +16,4 @@ mod EchoesBefore
 mod EchoItems
 mod EchoesMore
 mod RecordingStep
+mod ParrotStep

@@ -1,4 +1,5 @@
 ghost use Rattle.std.specs.Prelude.{◌≡◌, ◌≤◌, ◌++◌, ℕ, List, [], ◌∷◌, length, max, is_some, option_and_then, option_map, None, Some, IfOk, IsTrue, if◌then◌else◌};
+ghost use Rattle.std.specs.Option.{ForSome};
 ghost use Rattle.m17_floor.specs.declared.verdict.Verdict.TheVariants.{Continued};
 ghost use Rattle.m17_control.specs.declared.event.Event.{Event};
 ghost use Rattle.m17_floor.specs.Acts.{is_packet, moment_before};
@@ -7,7 +8,7 @@ ghost use Rattle.m17_parrot.specs.Recording.{is_going_on, due_of, with_given};
 ghost use Rattle.m17_module.specs.Events.{kind_of, acts_of};
 ghost use Rattle.m17_module.specs.Items.{echo_items, says};
 ghost use Rattle.m17_module.specs.StandsFor.{PeopleStandFor};
-ghost use Rattle.m17_module.specs.Following.{leaver, held_by, recorded_by, turned, recording_heard, recording_then, heard_then, unless_any};
+ghost use Rattle.m17_module.specs.Following.{leaver, FloorFollows, held_by, recorded_by, turned, recording_heard, recording_then, heard_then, unless_any};
 
 use crate::basket::Tray;
 use crate::room::Room;
@@ -122,6 +123,8 @@ impl Recorder {
             ≡ recording_then (leaver room.old.seats event.now.body) at event.now.body result
             (option_map (with_given at) recording) }
         ensures length { length room.new.seats ≡ length room.old.seats }
+        ensures floor { FloorFollows room.old.seats at event.now.body result room.old.floor
+            room.new.floor }
         ensures answer { is_some result ≡ is_packet (kind_of event.now.body) }
         ensures stands { (places : ℕ) (events : List Event) →
             at ≡ max (moment_before (acts_of events) (length events)) event.now.at →
@@ -136,5 +139,47 @@ impl Recorder {
         let answer = room.happen(event, at, position, out);
         self.learn(&leaver, event, at, &answer);
         answer
+    }
+}
+
+// What an event does to the room, and to the recording of a parrot module, and what it gives.
+pub(crate) fn happen(
+    recorder: &mut Option<Recorder>,
+    room: &mut Room,
+    event: &Event,
+    at: u64,
+    position: u64,
+    out: &mut Tray,
+) -> Option<Verdict>
+    requires room { length out.old ≤ 256 }
+    requires tuned { ForSome recorder.old (λ r. recorded_by r.heard (turned r.heard at r.parrot)
+        ≡ held_by at room.old.floor) }
+    ensures tuned { ForSome recorder.new (λ r. recorded_by r.heard r.parrot
+        ≡ held_by at room.new.floor) }
+    ensures told { out.new ≡ (out.old ++ echo_items position room.old.seats
+        (option_and_then (λ r. option_and_then (due_of at) (turned r.heard at r.parrot))
+        recorder.old)) ++ says (record {
+          seats = room.old.seats;
+          position = position;
+          link = event.now.tag.link;
+          admitted = admits result;
+        }) event.now.body }
+    ensures stays { is_some recorder.new ≡ is_some recorder.old }
+    ensures recorded { (old new : Recorder) → recorder.old ≡ Some old → recorder.new ≡ Some new →
+        new.parrot ≡ recording_then (leaver room.old.seats event.now.body) at event.now.body result
+        (option_map (with_given at) (turned old.heard at old.parrot)) }
+    ensures length { length room.new.seats ≡ length room.old.seats }
+    ensures floor { FloorFollows room.old.seats at event.now.body result room.old.floor
+        room.new.floor }
+    ensures answer { is_some result ≡ is_packet (kind_of event.now.body) }
+    ensures stands { (places : ℕ) (events : List Event) →
+        at ≡ max (moment_before (acts_of events) (length events)) event.now.at →
+        PeopleStandFor places room.old events →
+        PeopleStandFor places room.new (events ++ event.now ∷ [])
+        × (result ≡ verdict_at places (acts_of (events ++ event.now ∷ [])) (length events)) }
+{
+    match recorder {
+        None => room.happen(event, at, position, out),
+        Some(recorder) => recorder.happen(room, event, at, position, out),
     }
 }

@@ -10,7 +10,7 @@ ghost use Rattle.m17_module.specs.StandsFor.{StandsFor, IsStep};
 
 use crate::Basket;
 use crate::basket::Tray;
-use crate::recorder::Recorder;
+use crate::recorder::{Recorder, happen};
 use crate::room::Room;
 use m17_control::Event;
 use m17_floor::{Verdict, laws as floor_laws};
@@ -169,10 +169,14 @@ impl Module {
         let before = self.moment;
         let moment = before.max(event.at);
         ask(&self.room, before, moment, out);
-        let answer = match &mut self.recorder {
-            None => self.room.happen(event, moment, self.count, out),
-            Some(recorder) => recorder.happen(&mut self.room, event, moment, self.count, out),
-        };
+        let answer = happen(
+            &mut self.recorder,
+            &mut self.room,
+            event,
+            moment,
+            self.count,
+            out,
+        );
         self.moment = moment;
         self.count = self.count.saturating_add(1);
         self.admitted = count_admitted(self.admitted, &answer);

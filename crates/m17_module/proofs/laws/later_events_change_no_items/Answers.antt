@@ -1,5 +1,4 @@
-use Rattle.m17_module.proofs.RecordingStep.{opened_is, moved_on, moved_silent, turned_is}
-use Rattle.m17_module.proofs.EchoesMore.{recording_opens, recording_goes_on, found}
+use Rattle.m17_module.proofs.ParrotStep.{parrot_echo, parrot_recording}
 use Rattle.m17_module.proofs.EchoesBefore.{Later}
 use Rattle.m17_module.proofs.EchoItems.{items_before}
 use Rattle.m17_module.proofs.laws.later_events_change_no_items.Goals as goal
