@@ -17,3 +17,4 @@ mod EchoItems
 mod EchoesMore
 mod RecordingStep
 mod ParrotStep
+mod ModuleStep

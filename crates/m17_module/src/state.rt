@@ -164,7 +164,9 @@ impl Module {
         ensures admitted { self.old.admitted ≤ self.new.admitted }
     {
         floor_laws::the_greatest_moment_counts();
+        floor_laws::later_acts_change_no_verdict();
         floor_laws::later_acts_change_nothing_before();
+        floor_laws::only_speakers_are_heard();
         floor_laws::admitted_positions_are_counted();
         let before = self.moment;
         let moment = before.max(event.at);

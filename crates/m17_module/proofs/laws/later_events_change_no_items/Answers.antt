@@ -1,4 +1,3 @@
-use Rattle.m17_module.proofs.ParrotStep.{parrot_echo, parrot_recording}
 use Rattle.m17_module.proofs.EchoesBefore.{Later}
 use Rattle.m17_module.proofs.EchoItems.{items_before}
 use Rattle.m17_module.proofs.laws.later_events_change_no_items.Goals as goal
