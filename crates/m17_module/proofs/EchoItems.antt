@@ -1,8 +1,6 @@
 -- What an event gives, when the list goes on.
-use Rattle.std.proofs.Common.{◌≡◌, ℕ, ◌<◌, cond, List, [], ◌++◌, length, Option, ap, sym, ◌∙◌, arith}
+use Rattle.std.proofs.Common.{◌≡◌, ℕ, ◌<◌, cond, List, [], ◌++◌, length, ap, sym, ◌∙◌, arith}
 use Rattle.m17_control.specs.declared.event.Event.{Event}
-use Rattle.m17_control.specs.declared.item.Item.{Item}
-use Rattle.m17_module.specs.declared.seat.Seat.{Seat}
 use Rattle.m17_module.specs.Events.{acts_of}
 use Rattle.m17_module.specs.Seats.{seats_at}
 use Rattle.m17_module.specs.Echoes.{echo_at}

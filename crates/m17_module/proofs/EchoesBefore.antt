@@ -1,6 +1,6 @@
 -- What a parrot plays back at a position is the same where the list goes on.
 use Rattle.std.proofs.Common.{◌≡◌, ℕ, zero, suc, ◌+◌, ◌-◌, ◌<◌, ◌≤◌, ◌&&◌, ◌||◌, Bool, true, false, cond, List, [], ◌∷◌, ◌++◌, length, take, drop, nat_lt, is_some, is_none, option_map, Option, None, Some, refl, ap, sym, ◌∙◌, arith}
-use Rattle.std.specs.List.{flat_map, range_with_len, count_by, find}
+use Rattle.std.specs.List.{range_with_len, count_by, find}
 use Rattle.std.specs.Option.{option_and_then, option_map_or}
 use Rattle.std.proofs.lemmas.List.{take-append-le}
 use Rattle.std.proofs.lemmas.Option.{same_Some}
@@ -9,12 +9,12 @@ use Rattle.m17_stream.specs.declared.packet.StreamPacket.{StreamPacket}
 use Rattle.m17_floor.specs.declared.act.Act.{Act}
 use Rattle.m17_floor.specs.declared.act.ActKind.{ActKind}
 use Rattle.m17_floor.specs.declared.act.ActKind.TheVariants.{Join, Leave, Packet, Other}
-use Rattle.m17_floor.specs.Acts.{last_below, kind_at, moment_at, joined_at}
+use Rattle.m17_floor.specs.Acts.{kind_at, moment_at}
 use Rattle.m17_floor.specs.Rule.{Frame, only_if, has_floor}
 use Rattle.m17_floor.specs.Floor.{Past, floor_frame, admits, past_with, admitted_before, past_at, verdict_at}
 use Rattle.m17_floor.specs.Laws.{LaterActsChangeNoVerdict, LaterActsChangeNoMembership, LaterActsChangeNoMoment, LaterActsChangeNoKind}
 use Rattle.m17_parrot.specs.Recording.{Recording, most_frames, due_of}
-use Rattle.m17_module.specs.Echoes.{is_admitted_at, opens, is_opened_at, holder_at, positions_from, packet_in, admitted_packet, held_before, has_end_bit, closes, close_before, is_in_since, recording_of, last_opened, recording_with, closed_if, echo_with, echoed_before, echo_at, recording_at}
+use Rattle.m17_module.specs.Echoes.{is_admitted_at, opens, is_opened_at, holder_at, packet_in, admitted_packet, held_before, has_end_bit, closes, close_before, is_in_since, recording_of, last_opened, recording_with, closed_if, echo_with, echoed_before, echo_at, recording_at}
 use Rattle.m17_module.proofs.Below.{last_below_same, last_below_lt, and_then_same, length_more}
 use Rattle.m17_module.proofs.ItemsMore.{flat_map_same}
 
@@ -117,9 +117,9 @@ unfolding recording_with
 recording_with_same later places acts more n echoed h =
     ap (option_and_then (λ o. recording_of places (acts ++ more) n echoed o (kind_at (acts ++ more) o))) (opened_same later places acts more n h)
     ∙ and_then_same (last_opened places acts n) _ _ (λ o e.
-        let l : o < n = last_below_lt (is_opened_at places acts) n o e in
-        ap (recording_of places (acts ++ more) n echoed o) (later.kinds acts more o (omega arith))
-        ∙ recording_of_same later places acts more n echoed o (kind_at acts o) l h)
+    let l : o < n = last_below_lt (is_opened_at places acts) n o e in
+    ap (recording_of places (acts ++ more) n echoed o) (later.kinds acts more o (omega arith))
+    ∙ recording_of_same later places acts more n echoed o (kind_at acts o) l h)
 
 echo_with_same : Later → (places : ℕ) (acts more : List Act) (n : ℕ) (echoed : List Bool) → n < length acts → echo_with places (acts ++ more) n echoed ≡ echo_with places acts n echoed
 echo_with_same later places acts more n echoed h =

@@ -1,5 +1,5 @@
 -- What is recorded, one position further on.
-use Rattle.std.proofs.Common.{◌≡◌, ℕ, zero, suc, ◌+◌, ◌-◌, ◌<◌, ◌≤◌, ◌&&◌, ◌||◌, Bool, true, false, cond, List, [], ◌∷◌, ◌++◌, length, take, drop, nat_lt, is_some, is_none, option_map, Option, None, Some, refl, ap, sym, ◌∙◌, arith}
+use Rattle.std.proofs.Common.{◌≡◌, ℕ, zero, suc, ◌+◌, ◌-◌, ◌<◌, ◌≤◌, ◌&&◌, ◌||◌, Bool, true, false, cond, List, [], ◌∷◌, ◌++◌, length, take, drop, nat_lt, is_none, option_map, Option, None, Some, refl, ap, sym, ◌∙◌, arith}
 use Rattle.std.specs.List.{flat_map, range_with_len, count_by, sum_by, find}
 use Rattle.std.specs.Option.{option_and_then, option_or, option_map_or}
 use Rattle.std.proofs.lemmas.Bool.{cond-true, cond-false, lt-ltb}
@@ -15,7 +15,6 @@ use Rattle.m17_floor.specs.declared.act.Act.{Act}
 use Rattle.m17_floor.specs.declared.act.ActKind.{ActKind}
 use Rattle.m17_floor.specs.declared.act.ActKind.TheVariants.{Join, Leave, Packet, Other}
 use Rattle.m17_floor.specs.Acts.{last_below, is_join_of, settles, kind_at, moment_at, joined_at}
-use Rattle.m17_floor.specs.Floor.{verdict_at}
 use Rattle.m17_parrot.specs.Recording.{Recording, most_frames}
 use Rattle.m17_module.specs.Events.{acts_of}
 use Rattle.m17_module.specs.Echoes.{is_admitted_at, is_opened_at, holder_at, positions_from, admitted_packet, held_before, has_end_bit, closes, close_before, is_in_since, recording_of, last_opened, recording_with}

@@ -1,24 +1,20 @@
 -- The parrot's part of a module's step, whether it is a parrot or not.
-use Rattle.std.proofs.Common.{◌≡◌, ℕ, ◌≤◌, Bool, true, false, cond, List, [], ◌∷◌, ◌++◌, length, max, is_some, option_map, Option, None, Some, refl, ap, sym, ◌∙◌, arith}
+use Rattle.std.proofs.Common.{◌≡◌, ℕ, Bool, true, false, cond, List, [], ◌∷◌, ◌++◌, length, is_some, option_map, Option, None, Some, refl, ap, sym, ◌∙◌, arith}
 use Rattle.std.specs.Option.{option_and_then}
 use Rattle.std.proofs.lemmas.Option.{same_Some}
 use Rattle.m17_values.specs.declared.member.Member.{Member}
 use Rattle.m17_stream.specs.declared.packet.StreamPacket.{StreamPacket}
 use Rattle.m17_control.specs.declared.event.Event.{Event}
 use Rattle.m17_floor.specs.declared.verdict.Verdict.{Verdict}
-use Rattle.m17_floor.specs.Acts.{last_below, is_packet, moment_before}
-use Rattle.m17_floor.specs.Floor.{verdict_at}
+use Rattle.m17_floor.specs.Acts.{last_below}
 use Rattle.m17_floor.specs.Laws.{MomentOfOneMore, StrangersGetNotMember}
-use Rattle.m17_floor.specs.Rule.{Frame}
 use Rattle.m17_parrot.specs.Recording.{Recording, due_of, with_given}
 use Rattle.m17_module.specs.declared.recorder.Recorder.{Recorder}
-use Rattle.m17_module.specs.declared.seat.Seat.{Seat}
-use Rattle.m17_module.specs.Events.{kind_of, acts_of}
 use Rattle.m17_module.specs.Seats.{seats_at}
-use Rattle.m17_module.specs.Echoes.{recording_with, echo_at, recording_at}
-use Rattle.m17_module.specs.Items.{Setup, echo_items, echoes_at}
-use Rattle.m17_module.specs.StandsFor.{People, PeopleStandFor, recorded}
-use Rattle.m17_module.specs.Following.{leaver, FloorFollows, held_by, recorded_by, turned, recording_then}
+use Rattle.m17_module.specs.Echoes.{recording_with, recording_at}
+use Rattle.m17_module.specs.Items.{echo_items, echoes_at}
+use Rattle.m17_module.specs.StandsFor.{People, recorded}
+use Rattle.m17_module.specs.Following.{leaver, turned, recording_then}
 use Rattle.m17_module.proofs.SeatsMore.{seats_at_before}
 use Rattle.m17_module.proofs.EchoesBefore.{Later}
 use Rattle.m17_module.proofs.ParrotStep.{Stepped, parrot_echo, parrot_recording}

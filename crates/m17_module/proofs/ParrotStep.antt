@@ -1,7 +1,7 @@
 -- A parrot's step: the echo at a new event, and what is recorded after it.
-use Rattle.std.proofs.Common.{◌≡◌, ℕ, suc, ◌+◌, ◌<◌, ◌≤◌, ◌&&◌, ◌||◌, Bool, true, false, cond, List, [], ◌∷◌, ◌++◌, length, get_or, max, nat_lt, eqb, is_some, is_none, option_map, Option, None, Some, refl, ap, sym, ◌∙◌, arith, inl, inr, subst}
-use Rattle.std.specs.Option.{option_and_then, option_or, option_map_or}
-use Rattle.std.proofs.lemmas.Bool.{cond-true, cond-false, lt-ltb, cases_Bool, true≢false, eq-eqb}
+use Rattle.std.proofs.Common.{◌≡◌, ℕ, suc, ◌+◌, ◌&&◌, ◌||◌, Bool, true, false, cond, List, [], ◌∷◌, ◌++◌, length, get_or, max, nat_lt, eqb, is_some, is_none, option_map, Option, None, Some, refl, ap, sym, ◌∙◌, arith}
+use Rattle.std.specs.Option.{option_and_then, option_map_or}
+use Rattle.std.proofs.lemmas.Bool.{cond-true, cond-false, lt-ltb, true≢false, eq-eqb}
 use Rattle.std.proofs.lemmas.Bool.Decides.{nat_tests}
 use Rattle.std.proofs.lemmas.List.{take_all}
 use Rattle.m17_values.specs.declared.member.Member.{Member}
@@ -17,23 +17,23 @@ use Rattle.m17_floor.specs.Acts.{is_packet, is_same, settles, kind_at, moment_be
 use Rattle.m17_floor.specs.Rule.{Frame, only_if, has_floor}
 use Rattle.m17_floor.specs.Floor.{Past, floor_frame, admits, admitted_before, past_at, verdict_at}
 use Rattle.m17_floor.specs.StandsFor.{past_of, FloorStandsFor}
-use Rattle.m17_floor.specs.Laws.{MomentOfOneMore, OnlyPacketsHaveVerdicts, StrangersGetNotMember}
-use Rattle.m17_parrot.specs.Recording.{Recording, most_frames, due_of, with_given, unless_of, begun}
+use Rattle.m17_floor.specs.Laws.{MomentOfOneMore, StrangersGetNotMember}
+use Rattle.m17_parrot.specs.Recording.{Recording, due_of, with_given, begun}
 use Rattle.m17_module.specs.declared.seat.Seat.{Seat}
-use Rattle.m17_module.specs.Events.{kind_of, act_of, acts_of}
+use Rattle.m17_module.specs.Events.{kind_of, acts_of}
 use Rattle.m17_module.specs.Seats.{seats_at, seat_in, if_of, seat_of}
-use Rattle.m17_module.specs.Echoes.{opens, is_opened_at, is_admitted_at, packet_in, admitted_packet, has_end_bit, holder_at, is_in_since, closed_if, recording_with, echoed_before, echo_at, recording_at}
+use Rattle.m17_module.specs.Echoes.{opens, packet_in, admitted_packet, has_end_bit, holder_at, is_in_since, closed_if, recording_with, echoed_before, echo_at, recording_at}
 use Rattle.m17_module.specs.StandsFor.{People, PeopleStandFor}
-use Rattle.m17_module.specs.Following.{seat_member, leaver, unless_any, FloorHears, FloorFollows, held_by, recorded_by, turned, extended, recording_heard, recording_then}
+use Rattle.m17_module.specs.Following.{seat_member, leaver, unless_any, FloorFollows, held_by, recorded_by, turned, extended, recording_heard, recording_then}
 use Rattle.m17_module.proofs.Acts.{acts_append, length_acts}
 use Rattle.m17_module.proofs.Below.{length_more}
-use Rattle.m17_module.proofs.SeatsMore.{HasSeat, joined_has_seat, seats_at_is, joined_below, is_same_self, same_from_is_same}
+use Rattle.m17_module.proofs.SeatsMore.{joined_has_seat, seats_at_is, joined_below, is_same_self, same_from_is_same}
 use Rattle.m17_module.proofs.PeopleMore.{kind_end}
 use Rattle.m17_module.proofs.FramesMine.{placed, seat_of_some, if_of_is}
 use Rattle.m17_module.proofs.Mine.{ArePlaced, other_place}
 use Rattle.m17_module.proofs.StepMore.{at_end}
 use Rattle.m17_module.proofs.EchoesBefore.{Later, past_at_same, recording_same, echoed_suc, length_echoed}
-use Rattle.m17_module.proofs.EchoesMore.{shuts, moved, unless_settled, recording_goes_on, recording_opens, IsFound, found}
+use Rattle.m17_module.proofs.EchoesMore.{moved, unless_settled, recording_goes_on, recording_opens, IsFound, found}
 use Rattle.m17_module.proofs.RecordingStep.{turned_is, moved_silent, moved_on, opened_is}
 
 -- the acts with the new event

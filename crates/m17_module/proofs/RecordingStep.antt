@@ -1,13 +1,13 @@
 -- What the code records is what is recorded one event further on.
-use Rattle.std.proofs.Common.{◌≡◌, ◌≢◌, ℕ, suc, ◌+◌, ◌-◌, ◌<◌, ◌≤◌, ◌&&◌, ◌||◌, Bool, true, false, cond, List, [], ◌∷◌, ◌++◌, length, take, get_or, nat_lt, nat_le, eqb, is_some, is_none, option_map, Option, None, Some, refl, ap, sym, ◌∙◌, arith, subst, inl, inr}
-use Rattle.std.specs.Option.{option_and_then, option_or, option_map_or}
-use Rattle.std.proofs.lemmas.Bool.{cond-true, cond-false, cases_lt, lt-ltb, cases_Bool, ne_eqb, eq-eqb}
+use Rattle.std.proofs.Common.{◌≡◌, ℕ, ◌+◌, ◌-◌, ◌≤◌, ◌||◌, Bool, true, false, cond, List, [], ◌∷◌, ◌++◌, length, take, nat_lt, nat_le, is_some, is_none, option_map, Option, None, Some, refl, ap, sym, ◌∙◌, arith, inl, inr}
+use Rattle.std.specs.Option.{option_or}
+use Rattle.std.proofs.lemmas.Bool.{cond-true, cond-false, cases_lt, lt-ltb}
 use Rattle.std.proofs.lemmas.Bool.Decides.{nat_tests}
 use Rattle.std.proofs.lemmas.List.{append-nil, take_all, take-append-le}
 use Rattle.m17_values.specs.declared.member.Member.{Member}
 use Rattle.m17_stream.specs.declared.packet.StreamPacket.{StreamPacket}
 use Rattle.m17_floor.specs.Rule.{Frame, floor_timeout_ms, only_if, has_floor}
-use Rattle.m17_parrot.specs.Recording.{Recording, most_frames, begun, goes_on, with_frame, closed, unless_of, due_of, with_given}
+use Rattle.m17_parrot.specs.Recording.{Recording, most_frames, begun, closed, due_of, with_given}
 use Rattle.m17_module.specs.Echoes.{closed_if}
 use Rattle.m17_module.specs.Following.{held_by, recorded_by, turned, ended, extended}
 use Rattle.m17_module.proofs.Below.{length_more}

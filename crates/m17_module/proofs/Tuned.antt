@@ -1,6 +1,6 @@
 -- A recording goes on exactly where somebody has the floor, and is that one's.
-use Rattle.std.proofs.Common.{◌≡◌, ℕ, ◌-◌, ◌<◌, ◌≤◌, ◌&&◌, Bool, true, false, not, cond, List, length, nat_lt, nat_le, is_some, is_none, option_map, [], ◌∷◌, ◌++◌, inl, inr, Option, None, Some, refl, ap, sym, ◌∙◌, arith, subst}
-use Rattle.std.specs.Option.{option_and_then, option_or, option_map_or}
+use Rattle.std.proofs.Common.{◌≡◌, ℕ, ◌-◌, ◌≤◌, ◌&&◌, Bool, true, false, not, cond, List, length, nat_lt, nat_le, is_some, is_none, option_map, [], ◌∷◌, ◌++◌, inl, inr, Option, None, Some, refl, ap, sym, ◌∙◌, arith}
+use Rattle.std.specs.Option.{option_and_then, option_or}
 use Rattle.std.proofs.lemmas.Option.{same_Some}
 use Rattle.std.proofs.lemmas.Bool.{cond-true, cond-false, cases_lt, lt-ltb, le-leb}
 use Rattle.std.proofs.lemmas.Bool.Decides.{nat_tests}
@@ -10,7 +10,7 @@ use Rattle.m17_floor.specs.Acts.{is_same}
 use Rattle.m17_floor.specs.Rule.{Frame, floor_timeout_ms, incoming, frame_from, only_if, has_floor}
 use Rattle.m17_floor.specs.StandsFor.{without}
 use Rattle.m17_parrot.specs.Recording.{Recording, most_frames, begun, goes_on, is_going_on, with_frame, closed, unless_of, due_of, with_given}
-use Rattle.m17_module.specs.Following.{held_by, recorded_by, turned, ended, extended, unless_any, without_any}
+use Rattle.m17_module.specs.Following.{held_by, recorded_by, turned, extended, unless_any, without_any}
 
 -- who it is, if it goes on
 abbrev going : Member → ℕ → Option ℕ → Option (Member × ℕ)

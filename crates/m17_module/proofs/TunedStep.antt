@@ -1,5 +1,5 @@
 -- An event leaves the recording and the floor in step.
-use Rattle.std.proofs.Common.{◌≡◌, ℕ, ◌-◌, Bool, true, false, List, is_some, option_map, Option, None, Some, refl, ap, sym, ◌∙◌, subst, IsTrue}
+use Rattle.std.proofs.Common.{◌≡◌, ℕ, true, false, List, is_some, option_map, Option, None, Some, refl, ap, sym, ◌∙◌}
 use Rattle.m17_values.specs.declared.member.Member.{Member}
 use Rattle.m17_stream.specs.declared.packet.StreamPacket.{StreamPacket}
 use Rattle.m17_control.specs.declared.event.Body.{Body}
@@ -11,8 +11,8 @@ use Rattle.m17_floor.specs.Rule.{Frame}
 use Rattle.m17_parrot.specs.Recording.{Recording, is_going_on, with_given}
 use Rattle.m17_module.specs.declared.seat.Seat.{Seat}
 use Rattle.m17_module.specs.Events.{kind_of}
-use Rattle.m17_module.specs.Following.{leaver, FloorHears, FloorFollows, held_by, recorded_by, turned, recording_heard, recording_then, heard_then, unless_any, without_any}
-use Rattle.m17_module.proofs.Tuned.{given_by, left_tuned, IsGoing, speaker_is_recorded, going_on_is, opened_tuned, continued_tuned}
+use Rattle.m17_module.specs.Following.{leaver, FloorHears, FloorFollows, held_by, recorded_by, recording_heard, recording_then, heard_then, unless_any, without_any}
+use Rattle.m17_module.proofs.Tuned.{given_by, left_tuned, speaker_is_recorded, going_on_is, opened_tuned, continued_tuned}
 
 -- whose recording it was stands for what was given too
 pub given_tuned : (at heard heard' : ℕ) (floor : Option Frame) (recording given : Option Recording) → heard' ≡ heard → given ≡ option_map (with_given at) recording → recorded_by heard recording ≡ held_by at floor → recorded_by heard' given ≡ held_by at floor

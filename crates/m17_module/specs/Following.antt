@@ -1,11 +1,10 @@
 -- How the code's recorder follows the room: who leaves by an event, what the floor is then, and what is recorded.
 -- This profile.
-use Rattle.std.specs.Prelude.{◌≡◌, ◌&&◌, ℕ, ◌-◌, Bool, List, [], ◌∷◌, nat_le, Option, None, Some, is_none, option_and_then, option_map, if◌then◌else◌}
+use Rattle.std.specs.Prelude.{◌≡◌, ℕ, ◌-◌, List, nat_le, Option, None, Some, option_and_then, option_map, if◌then◌else◌}
 use Rattle.m17_values.specs.declared.member.Member.{Member}
 use Rattle.m17_stream.specs.declared.packet.StreamPacket.{StreamPacket}
 use Rattle.m17_control.specs.declared.event.Body.{Body}
-use Rattle.m17_control.specs.declared.event.Body.TheVariants.{Join, Leave, Packet, Reply, Tick, Stop}
-use Rattle.m17_control.specs.declared.item.Item.{Item}
+use Rattle.m17_control.specs.declared.event.Body.TheVariants.{Join, Leave, Packet}
 use Rattle.m17_floor.specs.declared.verdict.Verdict.{Verdict}
 use Rattle.m17_floor.specs.declared.verdict.Verdict.TheVariants.{Opened, Continued}
 use Rattle.m17_floor.specs.Rule.{Frame, floor_timeout_ms, incoming, frame_from, only_if, has_floor}

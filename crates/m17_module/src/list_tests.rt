@@ -1,5 +1,5 @@
-use crate::tests::{event, join, leave, member, packet, tick};
 use crate::plain_echo::Looked;
+use crate::tests::{event, join, leave, member, packet, tick};
 use crate::{Basket, Module};
 use m17_control::{Body, Control, Event, Item, Said, Why};
 use m17_floor::{Act, ActKind, Verdict, plain};
@@ -183,12 +183,7 @@ fn act(event: &Event) -> Act {
 }
 
 // Steps through a list of events that comes of a number, beside the definition, and answers how many echoes there were.
-fn run_list(
-    rt: &impl Abort,
-    alloc: Global,
-    seed: u64,
-    parrot: bool,
-) -> Result<u32, AllocError> {
+fn run_list(rt: &impl Abort, alloc: Global, seed: u64, parrot: bool) -> Result<u32, AllocError> {
     let mut n = seed;
     let mut events = [tick(0); 48];
     let mut acts = [act(&tick(0)); 48];

@@ -1,4 +1,6 @@
-use crate::tests::{bye, event, frame_of, gives, hello, item, join, leave, member, packet, ping, tick};
+use crate::tests::{
+    bye, event, frame_of, gives, hello, item, join, leave, member, packet, ping, tick,
+};
 use crate::{Basket, Module};
 use m17_control::{Body, Event, Item, Said, Why};
 use m17_floor::Verdict;
@@ -81,7 +83,10 @@ fn comes_back(rt: &impl Abort, alloc: Global, frames: u16) {
         let want = echo(k, position, 0xedcb, n, n == 749);
         assert_eq!(rt; bench.first(rt, k, &tick(due)), Some(want));
     }
-    assert_eq!(rt; bench.first(rt, k, &tick(close.saturating_add(90_000))), None);
+    assert_eq!(rt;
+        bench.first(rt, k, &tick(close.saturating_add(90_000))),
+        None
+    );
 }
 
 #[test]
@@ -143,9 +148,21 @@ fn another_talker_during_the_echo_ends_it(rt: HostRuntime) -> Result<(), Fail> {
     let (a, b) = (member(0, 0), member(3, 0));
     bench.gives(&rt, &join(&rt, a, 0, false), &[hello(a)]);
     bench.gives(&rt, &join(&rt, b, 0, false), &[hello(b)]);
-    bench.opens(&rt, &sends(a, 0, 9, 0, false), &[frame_of(b, 2, 9, 0, false)]);
-    bench.goes_on(&rt, &sends(a, 40, 9, 1, false), &[frame_of(b, 3, 9, 1, false)]);
-    bench.goes_on(&rt, &sends(a, 80, 9, 2, true), &[frame_of(b, 4, 9, 2, true)]);
+    bench.opens(
+        &rt,
+        &sends(a, 0, 9, 0, false),
+        &[frame_of(b, 2, 9, 0, false)],
+    );
+    bench.goes_on(
+        &rt,
+        &sends(a, 40, 9, 1, false),
+        &[frame_of(b, 3, 9, 1, false)],
+    );
+    bench.goes_on(
+        &rt,
+        &sends(a, 80, 9, 2, true),
+        &[frame_of(b, 4, 9, 2, true)],
+    );
     bench.gives(&rt, &tick(1_080), &[echo(a, 5, 0xfff6, 0, false)]);
     // The frame that is due comes first, and then the packet, which forgets what was left of the recording.
     let told = [echo(a, 6, 0xfff6, 1, false), frame_of(a, 6, 8, 0, true)];

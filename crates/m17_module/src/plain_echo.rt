@@ -37,7 +37,11 @@ impl Looked<'_> {
             }
             match &event.body {
                 Body::Join { member, .. } if member.place == k.place => {
-                    found = if *member == k && k.place < self.places { Some(i) } else { None };
+                    found = if *member == k && k.place < self.places {
+                        Some(i)
+                    } else {
+                        None
+                    };
                 }
                 Body::Leave { member, .. } if *member == k => found = None,
                 _ => (),

@@ -36,7 +36,7 @@ pub struct Parrot {
 
 impl Model for Parrot {
     ghost use Rattle.std.specs.Prelude.{◌≤◌, Option, option_map, length, vec_capacity};
-    ghost use Rattle.m17_parrot.specs.Recording.{Recording};
+    ghost use Rattle.m17_parrot.specs.Recording.{Recording, most_frames};
 
     ghost Value = { Option Recording };
 
@@ -44,13 +44,13 @@ impl Model for Parrot {
         (λ k. record { member = k; frames = p.frames.items; close = p.close; given = p.given })
         p.member };
 
-    ghost invariant = { λ p. (750 ≤ vec_capacity p.frames) × (length p.frames.items ≤ 750)
-        × (p.given ≤ length p.frames.items) };
+    ghost invariant = { λ p. (most_frames ≤ vec_capacity p.frames)
+        × (length p.frames.items ≤ most_frames) × (p.given ≤ length p.frames.items) };
 }
 
 // How long after the close this frame is due, in milliseconds.
 fn due_after_ms(n: usize) -> u64
-    requires { n ≤ 750 }
+    requires { n ≤ most_frames }
     ensures { result ≡ due_after n }
 {
     FIRST_AFTER_MS + FRAME_EVERY_MS * n as u64
@@ -142,6 +142,9 @@ impl Parrot {
             return None;
         }
         self.given = n + 1;
-        Some((member, played_back(&self.frames[n], n + 1 == self.frames.len())))
+        Some((
+            member,
+            played_back(&self.frames[n], n + 1 == self.frames.len()),
+        ))
     }
 }

@@ -1,5 +1,4 @@
-use Rattle.std.proofs.Common.{◌≡◌, ◌+◌, ◌<◌, ◌≤◌, ℕ, Bool, Some, length, max, is_some, ap, sym, subst, ◌∙◌, arith}
-use Rattle.m17_module.specs.declared.recorder.Recorder.{Recorder}
+use Rattle.std.proofs.Common.{◌≡◌, ◌+◌, ◌<◌, ℕ, Bool, length, max, is_some, ap, sym, subst, ◌∙◌, arith}
 use Rattle.m17_module.specs.Items.{echo_items}
 use Rattle.m17_module.specs.StandsFor.{Kept, StandsFor, IsStep}
 use Rattle.m17_module.proofs.EchoesBefore.{Later}
