@@ -18,3 +18,4 @@ mod EchoesMore
 mod RecordingStep
 mod ParrotStep
 mod ModuleStep
+mod EchoOnce

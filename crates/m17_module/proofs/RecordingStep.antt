@@ -38,8 +38,8 @@ open_by heard r e = ap (λ close. cond (is_none close) (Some (r.member, heard)) 
 silent_is : (at heard : ℕ) (b : Bool) (r : Recording) (o : Option Frame) → r.close ≡ None → recorded_by heard (cond b (Some (closed at r)) (Some r)) ≡ option_map whose o → cond b (Some (closed at r)) (Some r) ≡ Some (cond (is_none o) (closed at r) r)
 silent_is at heard true r None e t = refl
 silent_is at heard false r (Some f) e t = refl
-silent_is at heard true r (Some f) e t = let never : None ≡ Some (whose f) = sym (closed_by at heard r None e) ∙ t in cc
-silent_is at heard false r None e t = let never : Some (r.member, heard) ≡ None = sym (open_by heard r e) ∙ t in cc
+silent_is at heard true r (Some f) e t = let never : ◌≡◌ {A = Option (Member × ℕ)} None (Some (whose f)) = sym (closed_by at heard r None e) ∙ t in cc
+silent_is at heard false r None e t = let never : ◌≡◌ {A = Option (Member × ℕ)} (Some (r.member, heard)) None = sym (open_by heard r e) ∙ t in cc
 
 -- a recording is closed in time exactly where nobody has the floor
 turned_cases : (at heard : ℕ) (b : Bool) (r : Recording) (close : Option ℕ) (o : Option Frame) → r.close ≡ close → recorded_by heard (cond b (Some (closed at r)) (Some r)) ≡ option_map whose o → cond b (Some (closed at r)) (Some r) ≡ Some (cond (is_none o) (closed at r) r)

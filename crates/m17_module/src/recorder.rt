@@ -39,7 +39,8 @@ impl Recorder {
     // Closes a recording whose floor nobody has any more, and gives a frame that is due.
     fn turn(&mut self, at: u64) -> Option<(Member, StreamPacket)>
         ensures heard { self.new.heard ≡ self.old.heard }
-        ensures echo { result ≡ option_and_then (due_of at) (turned self.old.heard at self.old.parrot) }
+        ensures echo { result
+            ≡ option_and_then (due_of at) (turned self.old.heard at self.old.parrot) }
         ensures given { self.new.parrot
             ≡ option_map (with_given at) (turned self.old.heard at self.old.parrot) }
     {

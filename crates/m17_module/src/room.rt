@@ -338,8 +338,8 @@ impl Room {
         requires { length out.old ≤ 257 }
         ensures told { out.new ≡ out.old ++ greets self.old.seats seat.now after }
         ensures length { length self.new.seats ≡ length self.old.seats }
-        ensures floor { self.new.floor
-            ≡ without_any (seat_member (seat_in self.old.seats seat.now.member.place)) self.old.floor }
+        ensures floor { self.new.floor ≡ without_any
+            (seat_member (seat_in self.old.seats seat.now.member.place)) self.old.floor }
         ensures stands { (places : ℕ) (events : List Event) (event : Event) →
             seat_from (Some event) ≡ Some seat.now → PeopleStandFor places self.old events →
             PeopleStandFor places self.new (events ++ event ∷ []) }
@@ -426,7 +426,8 @@ impl Room {
     // Plays a frame back to a member that is in.
     pub(crate) fn play(&self, k: Member, position: u64, p: &StreamPacket, out: &mut Tray)
         requires { length out.old ≤ 256 }
-        ensures { out.new ≡ out.old ++ to_one (said.Echo position p.now) (seat_of self.now.seats k) }
+        ensures { out.new ≡ out.old
+            ++ to_one (said.Echo position p.now) (seat_of self.now.seats k) }
     {
         let echo = Said::Echo {
             position,
