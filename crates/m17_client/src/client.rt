@@ -1,4 +1,5 @@
-ghost use Rattle.std.specs.Prelude.{◌≡◌, ◌+◌, ◌≤◌, ◌<◌, ℕ, length, List, [], Option, None, Some, IsTrue, ◌↔◌, Bool};
+ghost use Rattle.std.specs.Prelude.{◌≡◌, ◌+◌, ◌≤◌, ◌<◌, ℕ, length, ◌++◌, List, [], Option, None, Some, IsTrue, ◌↔◌, Bool};
+ghost use Rattle.std.specs.Option.{option_to_list};
 ghost use Rattle.m17_client.specs.Client.{ByBytes, join_packet, ByDatagram, ByLeave, ByPacket, BySend, ByTime, IsClientStep, Joins, Keeps, MayKeep, Says, SaysFrame};
 ghost use Rattle.m17_control.specs.declared.packet.Control.{Control};
 ghost use Rattle.m17_client.specs.declared.state.State.{State};
@@ -85,6 +86,76 @@ impl Client {
         ensures { result ≡ self.now.moment }
     {
         self.moment
+    }
+
+    /// One step: what the input does by the table. What is to be said or kept is appended to `out`, in order, and the
+    /// answer is the state then. A datagram gives at most two actions, and any other input at most one. This profile.
+    pub fn step(&mut self, input: &Input, out: &mut ArrayVec<Action, MOST_ACTIONS>) -> State
+        requires { out.old.items ≡ [] }
+        ensures step { IsClientStep self.old input.now out.new.items self.new }
+        ensures state { result ≡ self.new.state }
+        ensures short { length out.new.items ≤ 2 }
+    {
+        match input {
+            Input::Datagram { at, bytes } => {
+                let came = self.state;
+                let tick = self.tick(*at);
+                let answer = self.answer(came, bytes.bytes());
+                put(out, tick);
+                put(out, answer);
+            }
+            Input::Quiet { at } => put(out, self.tick(*at)),
+            Input::Send { packet } => put(out, self.send(packet)),
+            Input::Leave => put(out, self.leave()),
+        }
+        self.state
+    }
+
+    // What a packet of the user does.
+    fn send(&self, packet: &StreamPacket) -> Option<Action>
+        ensures { BySend self.now.state self.now.listens packet.now self.now result self.now }
+    {
+        match self.state {
+            State::Connected { .. } => {
+                if self.listens {
+                    None
+                } else {
+                    Some(say_frame(packet))
+                }
+            }
+            State::Idle => None,
+            State::Connecting { .. } => None,
+            State::Leaving => None,
+            State::Closed(_) => None,
+        }
+    }
+
+    // What the user's leaving does.
+    fn leave(&mut self) -> Option<Action>
+        ensures { ByLeave self.old.state self.old result self.new }
+    {
+        match self.state {
+            State::Idle => {
+                self.close(Ending::Asked);
+                None
+            }
+            State::Connecting { .. } => Some(self.part()),
+            State::Connected { .. } => Some(self.part()),
+            State::Leaving => None,
+            State::Closed(_) => None,
+        }
+    }
+
+    // Says the 10-byte DISC, and waits for the answer.
+    fn part(&mut self) -> Action
+        ensures { Says (Control.Disc (Some self.old.call)) (Some result)
+            × (self.new ≡ record self.old { leave_at = self.old.moment; state = State.Leaving }) }
+    {
+        self.leave_at = self.moment;
+        self.state = State::Leaving;
+        say(&Control::Disc {
+            from: Some(self.call),
+        })
     }
 
     // Brings the moment up to date, and does the time rule.
@@ -307,6 +378,16 @@ impl Client {
             None => true,
             Some(last) => last.sid != packet.sid || m17_stream::ahead(packet.number, last.number),
         }
+    }
+}
+
+// Appends an action, if there is one.
+fn put(out: &mut ArrayVec<Action, MOST_ACTIONS>, action: Option<Action>)
+    requires { length out.old.items ≤ 2 }
+    ensures { out.new.items ≡ out.old.items ++ option_to_list action }
+{
+    if let Some(action) = action {
+        out.push(action);
     }
 }
 

@@ -6,7 +6,13 @@
 #![tactic(auto)]
 
 mod client;
+mod deeds;
 mod state;
+mod talk;
 
 pub use client::Client;
 pub use state::{Action, Ending, Input, LastKept, State};
+pub use talk::{TalkEnd, talk};
+
+#[cfg(test)]
+mod tests;
