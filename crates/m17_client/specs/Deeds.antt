@@ -46,20 +46,23 @@ IsSaid to bytes before after =
 abbrev pub one_kept : Outside → Outside
 one_kept before = record before { kept = min (before.kept + 1) (2 ^ 64 - 1) }
 
--- A packet is kept at this moment: its record is written; or the book fails, and a prefix of it is; or the book had
--- failed, and nothing is written. This profile.
-abbrev pub IsKept : ℕ → StreamPacket → Outside → Outside → Type 0
-IsKept moment packet before after = (bytes : List ℕ) × IsKeptRecord moment packet bytes
-    × (((before.book_failed ≡ false) × (after ≡ record (one_kept before) {
-      written = told_then before.written bytes;
-    }))
-    ⊎ (((before.book_failed ≡ false) × HasRisen before.book_faults after.book_faults
-    × ((n : ℕ) × (after ≡ record (one_kept before) {
+-- The record is written in the book; or the book fails, and a prefix of it is. This profile.
+abbrev pub IsWritten : List ℕ → Outside → Outside → Type 0
+IsWritten bytes before after =
+    (after ≡ record before { written = told_then before.written bytes })
+    ⊎ (HasRisen before.book_faults after.book_faults × (n : ℕ) × (after ≡ record before {
       written = told_then before.written (take n bytes);
       book_faults = after.book_faults;
       book_failed = true;
-    })))
-    ⊎ ((before.book_failed ≡ true) × (after ≡ one_kept before))))
+    }))
+
+-- A packet is kept at this moment, and counted: its record is written, but in a book that had failed nothing is. This
+-- profile.
+abbrev pub IsKept : ℕ → StreamPacket → Outside → Outside → Type 0
+IsKept moment packet before after =
+    ((before.book_failed ≡ true) × (after ≡ one_kept before))
+    ⊎ ((before.book_failed ≡ false) × (bytes : List ℕ) × IsKeptRecord moment packet bytes
+    × IsWritten bytes (one_kept before) after)
 
 -- One action is done at this moment. This profile.
 abbrev pub IsDone : Peer → ℕ → Action → Outside → Outside → Type 0
