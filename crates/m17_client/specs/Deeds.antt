@@ -10,6 +10,7 @@ use Rattle.m17_ports.specs.declared.tally.Tally.{Tally}
 use Rattle.m17_ports.specs.Mouth.{Datagram}
 use Rattle.m17_ports.specs.Tallies.{IsTallied}
 use Rattle.m17_ports.specs.Told.{told_then}
+use Rattle.m17_client.specs.declared.deeds.Keeping.{Keeping}
 use Rattle.m17_client.specs.declared.state.Action.{Action}
 use Rattle.m17_client.specs.declared.state.Action.TheVariants.{Say, Keep}
 use Rattle.m17_client.specs.declared.state.Input.{Input}
@@ -89,3 +90,16 @@ IsClientRun to c before (s ∷ steps) new after = (mid : Outside)
     × IsClientStep c s.input s.actions s.after
     × AreDone to s.after.moment s.actions before mid
     × IsClientRun to s.after mid steps new after
+
+-- what a run has done to the outside, by what its devices tell and what it kept
+abbrev pub outside : Option (List Datagram) → (Peer → Option Tally) → ℕ → Option (List ℕ) → ℕ
+    → Keeping → Outside
+outside said tallies mouth_faults written book_faults k = record {
+  said = said;
+  tallies = tallies;
+  mouth_faults = mouth_faults;
+  written = written;
+  book_faults = book_faults;
+  kept = k.kept;
+  book_failed = k.book_failed;
+}

@@ -1,4 +1,9 @@
-ghost use Rattle.std.specs.Prelude.{◌≡◌, ℕ, ◌+◌, ◌-◌, ◌^◌, ◌≤◌, List, ◌++◌};
+ghost use Rattle.std.specs.Prelude.{◌≡◌, ◌≢◌, ◌⊎◌, ◌↔◌, ℕ, true, false, IsTrue, ◌<◌, ◌≤◌, List, [], ◌∷◌, length, map, take, slice_get, All, Some};
+ghost use Rattle.std.specs.Option.{option_to_list};
+ghost use Rattle.m17_stream.specs.declared.packet.StreamPacket.{StreamPacket};
+ghost use Rattle.m17_client.specs.declared.state.Input.{Input};
+ghost use Rattle.m17_client.specs.Deeds.{IsClientRun, Stepped, outside};
+ghost use Rattle.m17_client.specs.Talk.{IsConnected, IsOpened, Opens, inputs_of};
 
 use crate::deeds::{Keeping, turn};
 use crate::{Client, Input, State};
@@ -77,6 +82,8 @@ pub fn talk<R: Wait, E: Ear, M: Mouth, B: Book>(
 }
 
 impl Conversation {
+    ghost use Rattle.m17_client.specs.Course.{course_of};
+
     // What the talk does for an entry of its ear; whether it ends with it.
     fn take<M: Mouth, B: Book>(
         &mut self,
@@ -98,26 +105,74 @@ impl Conversation {
         self.open(entry, to, mouth, book);
         if self.is_connected() {
             self.send_due(script, to, mouth, book);
-            self.leave_in_time(script, stay, to, mouth, book);
         }
+        self.leave_in_time(script, stay, to, mouth, book);
         self.faults >= MOST_FAULTS || matches!(self.client.state(), State::Closed(_))
     }
 
     // Steps the client on what an entry is stepped as.
-    fn open<M: Mouth, B: Book>(&mut self, entry: &Heard, to: &Peer, mouth: &mut M, book: &mut B) {
-        let was = self.is_connected();
-        if let Some(input) = opening(entry, to) {
-            turn(&mut self.client, &input, to, mouth, book, &mut self.keeping);
-        }
-        if !was && self.is_connected() {
-            self.connected_at = self.client.moment();
-            self.since = self.connected_at;
+    fn open<M: Mouth, B: Book>(&mut self, entry: &Heard, to: &Peer, mouth: &mut M, book: &mut B)
+        ensures opened { (steps : List Stepped) × Opens to.now entry.now (inputs_of steps)
+            × IsClientRun to.now self.old.client
+            (outside (M.said mouth.old) (M.tallies mouth.old) (M.faults mouth.old)
+            (B.written book.old) (B.faults book.old) self.old.keeping)
+            steps self.new.client
+            (outside (M.said mouth.new) (M.tallies mouth.new) (M.faults mouth.new)
+            (B.written book.new) (B.faults book.new) self.new.keeping) }
+        ensures course { IsOpened (course_of self.old) self.new.client (course_of self.new) }
+        ensures ended { self.new.ended ≡ self.old.ended }
+    {
+        match opening(entry, to) {
+            Some(input) => self.enter(&input, to, mouth, book),
+            None => {}
         }
     }
 
+    // Steps the client on an input, and notes the moment where it became connected.
+    fn enter<M: Mouth, B: Book>(&mut self, input: &Input, to: &Peer, mouth: &mut M, book: &mut B)
+        ensures entered { (s : Stepped) × (s.input ≡ input.now)
+            × IsClientRun to.now self.old.client
+            (outside (M.said mouth.old) (M.tallies mouth.old) (M.faults mouth.old)
+            (B.written book.old) (B.faults book.old) self.old.keeping)
+            (s ∷ []) self.new.client
+            (outside (M.said mouth.new) (M.tallies mouth.new) (M.faults mouth.new)
+            (B.written book.new) (B.faults book.new) self.new.keeping) }
+        ensures course { IsOpened (course_of self.old) self.new.client (course_of self.new) }
+        ensures ended { self.new.ended ≡ self.old.ended }
+    {
+        let was = self.is_connected();
+        turn(&mut self.client, input, to, mouth, book, &mut self.keeping);
+        self.note_connected(was);
+    }
+
+    // Notes the moment where the client became connected.
+    fn note_connected(&mut self, was: bool)
+        ensures joins { was ≡ false → IsConnected self.old.client → self.new ≡ record self.old {
+          connected_at = self.old.client.moment;
+          since = self.old.client.moment;
+        } }
+        ensures stays_in { was ≡ true → self.new ≡ self.old }
+        ensures stays_out { (IsConnected self.old.client → ⊥) → self.new ≡ self.old }
+    {
+        if was || !self.is_connected() {
+            return;
+        }
+        let moment = self.client.moment();
+        self.connected_at = moment;
+        self.since = moment;
+    }
+
     // Whether the client is connected.
-    fn is_connected(&self) -> bool {
-        matches!(self.client.state(), State::Connected { .. })
+    fn is_connected(&self) -> bool
+        ensures { IsTrue result ↔ IsConnected self.now.client }
+    {
+        match self.client.state() {
+            State::Connected { .. } => true,
+            State::Idle => false,
+            State::Connecting { .. } => false,
+            State::Leaving => false,
+            State::Closed(_) => false,
+        }
     }
 
     // Sends what is due.
@@ -127,17 +182,43 @@ impl Conversation {
         to: &Peer,
         mouth: &mut M,
         book: &mut B,
-    ) {
+    )
+        requires { self.old.sent ≤ length script.now }
+    {
         let elapsed = self.client.moment().saturating_sub(self.connected_at);
         let rest = &script[self.sent..];
-        let due = &rest[..due_of(rest, elapsed)];
+        let due = due_of(rest, elapsed);
+        self.send_all(&rest[..due], to, mouth, book);
+        if due > 0 {
+            self.sent += due;
+            self.since = self.client.moment();
+        }
+    }
+
+    // Sends these records.
+    fn send_all<M: Mouth, B: Book>(
+        &mut self,
+        due: &[(u64, StreamPacket)],
+        to: &Peer,
+        mouth: &mut M,
+        book: &mut B,
+    )
+        ensures sent { (steps : List Stepped)
+            × (inputs_of steps ≡ map (λ entry. Input.Send entry.1) due.now)
+            × IsClientRun to.now self.old.client
+            (outside (M.said mouth.old) (M.tallies mouth.old) (M.faults mouth.old)
+            (B.written book.old) (B.faults book.old) self.old.keeping)
+            steps self.new.client
+            (outside (M.said mouth.new) (M.tallies mouth.new) (M.faults mouth.new)
+            (B.written book.new) (B.faults book.new) self.new.keeping) }
+        ensures same { self.new ≡ record self.old {
+          client = self.new.client;
+          keeping = self.new.keeping;
+        } }
+    {
         for entry in due {
             let input = Input::Send { packet: entry.1 };
             turn(&mut self.client, &input, to, mouth, book, &mut self.keeping);
-        }
-        if !due.is_empty() {
-            self.sent += due.len();
-            self.since = self.client.moment();
         }
     }
 
@@ -176,25 +257,50 @@ impl Conversation {
 }
 
 // What an entry is stepped as; nothing for a fault and for the end.
-fn opening(entry: &Heard, to: &Peer) -> Option<Input> {
+fn opening(entry: &Heard, to: &Peer) -> Option<Input>
+    ensures { Opens to.now entry.now (option_to_list result) }
+{
     match entry {
-        Heard::Datagram { from, at, bytes } => {
-            if *from == *to {
-                Some(Input::Datagram {
-                    at: *at,
-                    bytes: Gram::of(bytes.bytes()),
-                })
-            } else {
-                Some(Input::Quiet { at: *at })
-            }
-        }
+        Heard::Datagram { from, at, bytes } => Some(datagram_from(from, *at, bytes, to)),
         Heard::Quiet { at } => Some(Input::Quiet { at: *at }),
         Heard::Fault => None,
         Heard::End => None,
     }
 }
 
+// What a datagram is stepped as: as it is where it came from the peer.
+fn datagram_from(from: &Peer, at: u64, bytes: &Gram, to: &Peer) -> Input
+    ensures { ((from.now ≡ to.now) × (result ≡ Input.Datagram at bytes.now))
+        ⊎ ((from.now ≢ to.now) × (result ≡ Input.Quiet at)) }
+{
+    if *from == *to {
+        Input::Datagram {
+            at,
+            bytes: copy_of(bytes),
+        }
+    } else {
+        Input::Quiet { at }
+    }
+}
+
+// The same bytes.
+fn copy_of(bytes: &Gram) -> Gram
+    ensures { result ≡ bytes.now }
+{
+    Gram::of(bytes.bytes())
+}
+
 // How many of the records, from the first on, are due so many milliseconds after the client became connected.
-fn due_of(rest: &[(u64, StreamPacket)], elapsed: u64) -> usize {
-    rest.iter().take_while(|entry| entry.0 <= elapsed).count()
+fn due_of(rest: &[(u64, StreamPacket)], elapsed: u64) -> usize
+    ensures within { result ≤ length rest.now }
+    ensures due { All (λ entry. entry.0 ≤ elapsed) (take result rest.now) }
+    ensures next { (entry : ℕ × StreamPacket) → slice_get rest.now result ≡ Some entry
+        → elapsed < entry.0 }
+{
+    for (i, entry) in rest.iter().enumerate() {
+        if entry.0 > elapsed {
+            return i;
+        }
+    }
+    rest.len()
 }
