@@ -75,12 +75,12 @@ IsDue k entry = entry.0 ≤ k.client.moment - k.connected_at
 
 -- The records from the first that was not sent up to the first that is not due are sent, in order, and it stays from
 -- the last of them on. This profile.
-pub record SendsDue (plan : Plan) (before : Course) (steps : List Stepped) (after : Course) : Type 0 where
+pub record SendsDue (script : List (ℕ × StreamPacket)) (before : Course) (steps : List Stepped) (after : Course) : Type 0 where
   pub count : ℕ
-  pub within : before.sent + count ≤ length plan.script
-  pub sent : inputs_of steps ≡ map (λ entry. Send entry.1) (take count (drop before.sent plan.script))
-  pub due : All (IsDue before) (take count (drop before.sent plan.script))
-  pub next : (entry : ℕ × StreamPacket) → slice_get plan.script (before.sent + count) ≡ Some entry
+  pub within : before.sent + count ≤ length script
+  pub sent : inputs_of steps ≡ map (λ entry. Send entry.1) (take count (drop before.sent script))
+  pub due : All (IsDue before) (take count (drop before.sent script))
+  pub next : (entry : ℕ × StreamPacket) → slice_get script (before.sent + count) ≡ Some entry
       → IsDue before entry → ⊥
   pub after_is : after ≡ record before {
     client = after.client;
@@ -122,7 +122,7 @@ pub record Follows (plan : Plan) (before : Course) (entry : Heard) (steps : List
   pub parts : steps ≡ opening ++ (sending ++ leaving)
   pub opens : Opens plan.to entry (inputs_of opening)
   pub opened_is : IsOpened (hears_one before entry) opened.client opened
-  pub sends : IsConnected opened.client → SendsDue plan opened sending all_sent
+  pub sends : IsConnected opened.client → SendsDue plan.script opened sending all_sent
   pub sends_not : (IsConnected opened.client → ⊥) → (sending ≡ []) × (all_sent ≡ opened)
   pub leaves : LeavesInTime plan all_sent leaving after
 

@@ -1,9 +1,9 @@
-ghost use Rattle.std.specs.Prelude.{◌≡◌, ◌≢◌, ◌⊎◌, ◌↔◌, ℕ, true, false, IsTrue, ◌<◌, ◌≤◌, List, [], ◌∷◌, length, map, take, slice_get, All, Some};
+ghost use Rattle.std.specs.Prelude.{◌≡◌, ◌≢◌, ◌⊎◌, ◌↔◌, ℕ, true, false, IsTrue, ◌<◌, ◌≤◌, List, [], ◌∷◌, length, map, take, slice_get, nat_lt, if◌then◌else◌, All, Some, ◌+◌, ◌-◌, ◌^◌};
 ghost use Rattle.std.specs.Option.{option_to_list};
 ghost use Rattle.m17_stream.specs.declared.packet.StreamPacket.{StreamPacket};
 ghost use Rattle.m17_client.specs.declared.state.Input.{Input};
 ghost use Rattle.m17_client.specs.Deeds.{IsClientRun, Stepped, outside};
-ghost use Rattle.m17_client.specs.Talk.{IsConnected, IsOpened, Opens, inputs_of};
+ghost use Rattle.m17_client.specs.Talk.{IsConnected, IsOpened, LeavesInTime, Opens, SendsDue, inputs_of};
 
 use crate::deeds::{Keeping, turn};
 use crate::{Client, Input, State};
@@ -153,6 +153,7 @@ impl Conversation {
         } }
         ensures stays_in { was ≡ true → self.new ≡ self.old }
         ensures stays_out { (IsConnected self.old.client → ⊥) → self.new ≡ self.old }
+        ensures same { (self.new.client ≡ self.old.client) × (self.new.keeping ≡ self.old.keeping) }
     {
         if was || !self.is_connected() {
             return;
@@ -175,7 +176,7 @@ impl Conversation {
         }
     }
 
-    // Sends what is due.
+    // Sends what is due, where it is connected.
     fn send_due<M: Mouth, B: Book>(
         &mut self,
         script: &[(u64, StreamPacket)],
@@ -184,11 +185,31 @@ impl Conversation {
         book: &mut B,
     )
         requires { self.old.sent ≤ length script.now }
+        ensures sent { (steps : List Stepped)
+            × SendsDue script.now (course_of self.old) steps (course_of self.new)
+            × IsClientRun to.now self.old.client
+            (outside (M.said mouth.old) (M.tallies mouth.old) (M.faults mouth.old)
+            (B.written book.old) (B.faults book.old) self.old.keeping)
+            steps self.new.client
+            (outside (M.said mouth.new) (M.tallies mouth.new) (M.faults mouth.new)
+            (B.written book.new) (B.faults book.new) self.new.keeping) }
+        ensures ended { self.new.ended ≡ self.old.ended }
     {
         let elapsed = self.client.moment().saturating_sub(self.connected_at);
         let rest = &script[self.sent..];
         let due = due_of(rest, elapsed);
         self.send_all(&rest[..due], to, mouth, book);
+        self.note_sent(due);
+    }
+
+    // Notes that so many records more were sent.
+    fn note_sent(&mut self, due: usize)
+        requires { self.old.sent + due < 2 ^ 64 }
+        ensures { self.new ≡ record self.old {
+          sent = self.old.sent + due;
+          since = if nat_lt 0 due then self.old.client.moment else self.old.since;
+        } }
+    {
         if due > 0 {
             self.sent += due;
             self.since = self.client.moment();
@@ -230,18 +251,55 @@ impl Conversation {
         to: &Peer,
         mouth: &mut M,
         book: &mut B,
-    ) {
-        let stayed = self.client.moment().saturating_sub(self.since);
-        if self.is_connected() && self.sent >= script.len() && stayed >= stay {
-            turn(
-                &mut self.client,
-                &Input::Leave,
-                to,
-                mouth,
-                book,
-                &mut self.keeping,
-            );
+    )
+        ensures left { (steps : List Stepped)
+            × LeavesInTime (record { to = to.now; script = script.now; stay = stay })
+            (course_of self.old) steps (course_of self.new)
+            × IsClientRun to.now self.old.client
+            (outside (M.said mouth.old) (M.tallies mouth.old) (M.faults mouth.old)
+            (B.written book.old) (B.faults book.old) self.old.keeping)
+            steps self.new.client
+            (outside (M.said mouth.new) (M.tallies mouth.new) (M.faults mouth.new)
+            (B.written book.new) (B.faults book.new) self.new.keeping) }
+        ensures ended { self.new.ended ≡ self.old.ended }
+    {
+        if !self.is_time_to_leave(script.len(), stay) {
+            return;
         }
+        self.leave(to, mouth, book);
+    }
+
+    // Whether it is time to leave.
+    fn is_time_to_leave(&self, records: usize, stay: u64) -> bool
+        ensures { IsTrue result ↔ (IsConnected self.now.client × (records ≤ self.now.sent)
+            × (stay ≤ self.now.client.moment - self.now.since)) }
+    {
+        let stayed = self.client.moment().saturating_sub(self.since);
+        self.is_connected() && self.sent >= records && stayed >= stay
+    }
+
+    // Leaves.
+    fn leave<M: Mouth, B: Book>(&mut self, to: &Peer, mouth: &mut M, book: &mut B)
+        ensures left { (s : Stepped) × (s.input ≡ Input.Leave)
+            × IsClientRun to.now self.old.client
+            (outside (M.said mouth.old) (M.tallies mouth.old) (M.faults mouth.old)
+            (B.written book.old) (B.faults book.old) self.old.keeping)
+            (s ∷ []) self.new.client
+            (outside (M.said mouth.new) (M.tallies mouth.new) (M.faults mouth.new)
+            (B.written book.new) (B.faults book.new) self.new.keeping) }
+        ensures same { self.new ≡ record self.old {
+          client = self.new.client;
+          keeping = self.new.keeping;
+        } }
+    {
+        turn(
+            &mut self.client,
+            &Input::Leave,
+            to,
+            mouth,
+            book,
+            &mut self.keeping,
+        );
     }
 
     // How the talk ended.
