@@ -4,6 +4,17 @@
 //! where its room does not suffice). What is heard, said and written is left to the caller.
 #![tactic(auto)]
 
+mod list_book;
+mod list_mouth;
+mod script_ear;
+mod script_ports;
 mod tally_mouth;
 
+pub use list_book::ListBook;
+pub use list_mouth::ListMouth;
+pub use script_ear::ScriptEar;
+pub use script_ports::ScriptPorts;
 pub use tally_mouth::TallyMouth;
+
+#[cfg(test)]
+mod tests;

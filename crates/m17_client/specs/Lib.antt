@@ -1,0 +1,5 @@
+pub mod Standing
+pub mod Client
+pub mod Deeds
+pub mod Talk
+pub mod Course
