@@ -22,8 +22,7 @@ use Rattle.m17_directory.specs.declared.verdict.LinkVerdict.TheVariants.{Routed}
 use Rattle.m17_directory.specs.declared.verdict.Act.TheVariants as act
 use Rattle.m17_directory.specs.Entries.{Entry}
 use Rattle.m17_directory.specs.Routed.{event_for, outcome_at, link_verdict, posts_at, posted, routed}
-use Rattle.m17_directory.specs.Laws.{LaterEntriesChangeNothing, OneEntryMore}
-use Rattle.m17_directory.specs.Wanted.{EventsCarryTheirIndex, is_packet, packet_letter, packet_routed}
+use Rattle.m17_directory.specs.Laws.{LaterEntriesChangeNothing, OneEntryMore, EventsCarryTheirIndex, is_packet, packet_letter, packet_routed}
 use Rattle.m17_house.specs.declared.plan.Plan.{Plan}
 use Rattle.m17_house.specs.Replay.{setup_of, is_packet_body, is_packet_from, verdict_among, verdict_routed, packet_verdict}
 use Rattle.m17_house.specs.Carried.{events_of}

@@ -8,7 +8,7 @@ use Rattle.m17_floor.specs.declared.verdict.Verdict.{Verdict}
 use Rattle.m17_module.specs.StandsFor as modules
 use Rattle.m17_directory.specs.declared.dispatch.Dispatch.{Dispatch}
 use Rattle.m17_directory.specs.StandsFor.{Kept}
-use Rattle.m17_directory.specs.Wanted.{left_member}
+use Rattle.m17_directory.specs.Laws.{left_member}
 use Rattle.m17_port_memory.specs.Kept.{TalliesKept}
 use Rattle.m17_house.specs.declared.plan.Plan.{Plan}
 use Rattle.m17_house.specs.Tallied.{IsSameMouth}

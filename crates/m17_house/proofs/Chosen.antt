@@ -10,7 +10,7 @@ use Rattle.m17_directory.specs.Entries.{Claim, Entry, Notice, Setup, notice_of, 
 use Rattle.m17_directory.specs.Known.{Past, is_of_place}
 use Rattle.m17_directory.specs.StandsFor.{unclaimed, claimed}
 use Rattle.m17_directory.specs.Routed.{past_at, heard_at, others_at, asks_at, is_asks}
-use Rattle.m17_directory.specs.Wanted.{EntriesBeforeDecide}
+use Rattle.m17_directory.specs.Laws.{EntriesBeforeDecide}
 use Rattle.m17_house.specs.declared.plan.Plan.{Plan}
 use Rattle.m17_house.specs.Replay.{setup_of, given_before, IsFreeClaim, IsLeastFree, IsChosenAt}
 use Rattle.m17_house.specs.SoFar.{IsFreeMember, IsChoice, AreCounts, AreChosen, claim_of}

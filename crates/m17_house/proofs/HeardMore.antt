@@ -18,8 +18,7 @@ use Rattle.m17_directory.specs.Entries.{Claim, Entry, Notice, Says, Setup, notic
 use Rattle.m17_directory.specs.Known.{Past, request_in}
 use Rattle.m17_directory.specs.Routed.{past_at, heard_at, others_at, settled_at, settled_by, request_at, asks_at, is_asks, link_verdict, posts_at, posted}
 use Rattle.m17_directory.specs.StandsFor.{Kept, StandsFor, IsHeard, IsSettled, unclaimed, claimed, departed_of}
-use Rattle.m17_directory.specs.Laws.{OneEntryMore, OnlyServedAreRouted}
-use Rattle.m17_directory.specs.Wanted.{EntriesBeforeDecide, EachWhoLeavesIsPosted, EndedWhereItEnds, EventsCarryTheirIndex, PacketsAreRouted, is_ended, left_member, packet_letter, packet_routed}
+use Rattle.m17_directory.specs.Laws.{OneEntryMore, OnlyServedAreRouted, EntriesBeforeDecide, EachWhoLeavesIsPosted, EndedWhereItEnds, EventsCarryTheirIndex, PacketsAreRouted, is_ended, left_member, packet_letter, packet_routed}
 use Rattle.m17_port_memory.specs.Kept.{TalliesKept}
 use Rattle.m17_house.specs.declared.plan.Plan.{Plan}
 use Rattle.m17_house.specs.declared.run.Run.{Run}

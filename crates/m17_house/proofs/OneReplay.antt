@@ -6,52 +6,22 @@ use Rattle.std.proofs.lemmas.List.{take_all}
 use Rattle.std.proofs.lemmas.Bool.{cases_lt, false≢true, true≢false}
 use Rattle.std.proofs.lemmas.Option.{same_Some}
 use Rattle.m17_values.specs.declared.heard.Heard.{Heard}
-use Rattle.m17_values.specs.declared.heard.Heard.TheVariants as heard
-use Rattle.m17_values.specs.declared.member.Member.{Member}
-use Rattle.m17_values.specs.declared.peer.Peer.{Peer}
-use Rattle.m17_fields.specs.Fields.{IsBytes}
-use Rattle.m17_fields.specs.Reading.{HasOneReading}
-use Rattle.m17_control.specs.declared.packet.Packet.{Packet}
-use Rattle.m17_control.specs.declared.packet.Refusal.{Refusal}
-use Rattle.m17_control.specs.Forms.{Spells, Refuses}
 use Rattle.m17_directory.specs.declared.known.Known.{Known}
 use Rattle.m17_directory.specs.Entries.{Claim, Entry, Notice, Says, Setup, notice_of, notice_at, claim_at, ends_at}
 use Rattle.m17_directory.specs.Known.{Past, is_of_place}
 use Rattle.m17_directory.specs.Outcome.{has_place}
 use Rattle.m17_directory.specs.Routed.{past_at, heard_at, others_at, asks_at, is_asks}
-use Rattle.m17_directory.specs.Laws.{EndsOnce}
-use Rattle.m17_directory.specs.Wanted.{EntriesBeforeDecide, EndedWhereItEnds, is_ended}
+use Rattle.m17_directory.specs.Laws.{EndsOnce, EntriesBeforeDecide, EndedWhereItEnds, EachEntrySaysOneThing, HasBytes, is_ended}
 use Rattle.m17_house.specs.declared.plan.Plan.{Plan}
 use Rattle.m17_house.specs.Replay.{SaysEach, IsLeastFree, IsFreeClaim, IsChosenAt, IsReplayOf, given_before, setup_of}
-use Rattle.m17_house.specs.Laws.{HasBytes, OneReplay}
+use Rattle.m17_house.specs.Laws.{OneReplay}
 use Rattle.m17_house.proofs.Chosen.{count_range}
 
 -- What was heard says one thing.
-packet_one : (bytes : List ℕ) (p q : Packet) → HasOneReading Spells Refuses bytes → Spells p bytes → Spells q bytes → p ≡ q
-packet_one bytes p q (inl one) sp sq = one.1.no_other p sp ∙ sym (one.1.no_other q sq)
-packet_one bytes p q (inr one) sp sq = absurd (one.1.no_value p sp)
-
-refusal_one : (bytes : List ℕ) (p q : Refusal) → HasOneReading Spells Refuses bytes → Refuses bytes p → Refuses bytes q → p ≡ q
-refusal_one bytes p q (inl one) rp rq = absurd (one.1.no_refusal p rp)
-refusal_one bytes p q (inr one) rp rq = one.1.no_other p rp ∙ sym (one.1.no_other q rq)
-
-not_both : (bytes : List ℕ) (p : Packet) (r : Refusal) → HasOneReading Spells Refuses bytes → Spells p bytes → Refuses bytes r → ⊥
-not_both bytes p r (inl one) sp rr = one.1.no_refusal r rr
-not_both bytes p r (inr one) sp rr = one.1.no_value p sp
-
-says_by : (from : Peer) (at : ℕ) (bytes : List ℕ) (a b : Notice) → HasOneReading Spells Refuses bytes →
-    ((p : Packet) × Spells p bytes × (a ≡ Notice.Sent from at p)) ⊎ ((r : Refusal) × Refuses bytes r × (a ≡ Notice.Garbled from at r)) →
-    ((p : Packet) × Spells p bytes × (b ≡ Notice.Sent from at p)) ⊎ ((r : Refusal) × Refuses bytes r × (b ≡ Notice.Garbled from at r)) → a ≡ b
-says_by from at bytes a b one (inl x) (inl y) = x.2 ∙ ap (Notice.Sent from at) (packet_one bytes x.0 y.0 one x.1 y.1) ∙ sym y.2
-says_by from at bytes a b one (inl x) (inr y) = absurd (not_both bytes x.0 y.0 one x.1 y.1)
-says_by from at bytes a b one (inr x) (inl y) = absurd (not_both bytes y.0 x.0 one y.1 x.1)
-says_by from at bytes a b one (inr x) (inr y) = x.2 ∙ ap (Notice.Garbled from at) (refusal_one bytes x.0 y.0 one x.1 y.1) ∙ sym y.2
-
-says_one : ((bytes : List ℕ) → IsBytes bytes → HasOneReading Spells Refuses bytes) → (h : Heard) (a b : Notice) → HasBytes h → Says h a → Says h b → a ≡ b
-says_one reading (heard.Datagram from at bytes) a b is sa sb = says_by from at bytes a b (reading bytes is) sa sb
-says_one reading (heard.Quiet at) a b is sa sb = sa ∙ sym sb
-says_one reading heard.Fault a b is sa sb = sa ∙ sym sb
-says_one reading heard.End a b is sa sb = sa ∙ sym sb
+says_one : EachEntrySaysOneThing → (h : Heard) (a b : Notice) → HasBytes h → Says h a → Says h b → a ≡ b
+says_one law h a b is sa sb =
+    let one = law h is in
+    one.2 a sa ∙ sym (one.2 b sb)
 
 -- what one entry of a replay says, of what was heard
 says_there : (front rest : List Heard) (entries : List Entry) (n : ℕ) → SaysEach front entries → n < length entries → (h : Heard) × (slice_get (front ++ rest) n ≡ Some h) × Says h (notice_at entries n)
@@ -127,7 +97,7 @@ choice_one : (rows : List Known) (one other : List Entry) (n : ℕ) (a b : Optio
 choice_one rows one other n a b true same fa fb = free_one rows one other n a b same fa fb
 choice_one rows one other n a b false same na nb = na ∙ sym nb
 
-module _ (reading : (bytes : List ℕ) → IsBytes bytes → HasOneReading Spells Refuses bytes) (law : EntriesBeforeDecide) (ends : EndedWhereItEnds) (plan : Plan) (heard : List Heard) (are : AllByRecursion HasBytes heard) (one other : List Entry) (r : IsReplayOf plan heard one) (s : IsReplayOf plan heard other) where
+module _ (reading : EachEntrySaysOneThing) (law : EntriesBeforeDecide) (ends : EndedWhereItEnds) (plan : Plan) (heard : List Heard) (are : AllByRecursion HasBytes heard) (one other : List Entry) (r : IsReplayOf plan heard one) (s : IsReplayOf plan heard other) where
   notice_one : (n : ℕ) → n < length one → n < length other → notice_at one n ≡ notice_at other n
   notice_one n below within =
       let x = says_there r.front r.rest one n r.says below in
@@ -184,5 +154,5 @@ module _ (reading : (bytes : List ℕ) → IsBytes bytes → HasOneReading Spell
       let len : length other ≡ length one = sym s.ends.is_last ∙ ap suc (sym same_last) ∙ r.ends.is_last in
       sym (take_all (length one) one (omega arith)) ∙ fronts (length one) (omega arith) (omega (arith, len)) ∙ take_all (length one) other (omega (arith, len))
 
-pub one_replay : ((bytes : List ℕ) → IsBytes bytes → HasOneReading Spells Refuses bytes) → EntriesBeforeDecide → EndedWhereItEnds → OneReplay
+pub one_replay : EachEntrySaysOneThing → EntriesBeforeDecide → EndedWhereItEnds → OneReplay
 one_replay reading law ends plan heard one other are r s = same_replay reading law ends plan heard are one other r s

@@ -12,8 +12,7 @@ use Rattle.m17_directory.specs.declared.verdict.LinkVerdict.{LinkVerdict}
 use Rattle.m17_directory.specs.Entries.{Entry, Says, notice_at, claim_at, ends_at}
 use Rattle.m17_directory.specs.Known.{is_of_place}
 use Rattle.m17_directory.specs.Routed.{past_at, heard_at, link_verdict, posted, routed, direct_replies}
-use Rattle.m17_directory.specs.Laws.{LaterEntriesChangeNothing, OneEntryMore, EndsOnce}
-use Rattle.m17_directory.specs.Wanted.{EntriesBeforeDecide, EndedWhereItEnds, EventsCarryTheirIndex, is_ended}
+use Rattle.m17_directory.specs.Laws.{LaterEntriesChangeNothing, OneEntryMore, EndsOnce, EntriesBeforeDecide, EndedWhereItEnds, EventsCarryTheirIndex, is_ended}
 use Rattle.m17_port_memory.specs.Kept.{TalliesKept}
 use Rattle.m17_house.specs.declared.plan.Plan.{Plan}
 use Rattle.m17_house.specs.declared.run.Run.{Run}

@@ -15,8 +15,7 @@ use Rattle.m17_directory.specs.Entries.{Notice, Claim, Entry, Setup, notice_of, 
 use Rattle.m17_directory.specs.Known.{Past}
 use Rattle.m17_directory.specs.Outcome.{Outcome}
 use Rattle.m17_directory.specs.Routed.{past_at, asks_at, heard_at, others_at, settled_at, asked_before, both, comes_to, link_verdict, posts_at, posted, event_for, routed}
-use Rattle.m17_directory.specs.Laws.{OneEntryMore, OnlyServedAreRouted}
-use Rattle.m17_directory.specs.Wanted.{EntriesBeforeDecide}
+use Rattle.m17_directory.specs.Laws.{OneEntryMore, OnlyServedAreRouted, EntriesBeforeDecide}
 use Rattle.m17_house.specs.declared.plan.Plan.{Plan}
 use Rattle.m17_house.specs.Replay.{setup_of}
 use Rattle.m17_house.specs.Carried.{IsServed}

@@ -3,19 +3,14 @@ use Rattle.std.specs.Prelude.{◌≡◌, List, [], ◌∷◌, ◌++◌}
 use Rattle.std.specs.List.{AllByRecursion}
 use Rattle.m17_values.specs.declared.heard.Heard.{Heard}
 use Rattle.m17_values.specs.declared.heard.Heard.TheVariants as heard
-use Rattle.m17_fields.specs.Fields.{IsBytes}
 use Rattle.m17_directory.specs.Entries.{Entry}
+use Rattle.m17_directory.specs.Laws.{HasBytes}
 use Rattle.m17_house.specs.declared.plan.Plan.{Plan}
 use Rattle.m17_house.specs.Replay.{EndsSomewhere, IsReplayOf}
 
 -- What was heard ends the link, where it has an End. This profile.
 abbrev pub EndEndsIt : Type 0
 EndEndsIt = (front rest : List Heard) → EndsSomewhere (front ++ heard.End ∷ rest)
-
--- a datagram holds bytes
-abbrev pub HasBytes : Heard → Type 0
-HasBytes (heard.Datagram from at bytes) = IsBytes bytes
-HasBytes _ = Unit {0}
 
 -- A plan and what was heard have one replay at most. This profile.
 abbrev pub OneReplay : Type 0

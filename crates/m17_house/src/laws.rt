@@ -2,7 +2,6 @@
 //! profile.
 ghost use Rattle.m17_house.specs.Laws as law;
 
-use m17_control::laws as control_laws;
 use m17_directory::laws as directory_laws;
 
 /// What was heard ends the link where nothing more comes.
@@ -14,7 +13,7 @@ pub fn an_end_ends_it()
 pub fn one_replay()
     ensures { law.OneReplay }
 {
-    control_laws::decoding_is_exact();
+    directory_laws::each_entry_says_one_thing();
     directory_laws::entries_before_decide();
     directory_laws::ended_where_it_ends();
 }
