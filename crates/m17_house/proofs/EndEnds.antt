@@ -1,10 +1,10 @@
 -- Where nothing more comes, the link ends.
-use Rattle.std.proofs.Common.{◌≡◌, ◌||◌, ℕ, suc, ◌+◌, ◌<◌, ◌≤◌, Bool, true, List, [], ◌∷◌, ◌++◌, length, slice_get, Option, Some, refl, ap, ◌∙◌, arith}
+use Rattle.std.proofs.Common.{◌≡◌, ℕ, true, List, [], ◌∷◌, ◌++◌, length, slice_get, Some, refl, ap, ◌∙◌}
 use Rattle.std.proofs.lemmas.Option.{slice_get_within}
 use Rattle.m17_values.specs.declared.heard.Heard.{Heard}
 use Rattle.m17_values.specs.declared.heard.Heard.TheVariants as heard
-use Rattle.m17_directory.specs.Entries.{Entry, Notice, Says, notice_of, notice_at, is_end, ends_at}
-use Rattle.m17_house.specs.Replay.{SaysEach, EndsSomewhere}
+use Rattle.m17_directory.specs.Entries.{Entry, Notice, Says, notice_of, notice_at, ends_at}
+use Rattle.m17_house.specs.Replay.{SaysEach}
 use Rattle.m17_house.specs.Laws.{EndEndsIt}
 
 -- what one of those that were heard says

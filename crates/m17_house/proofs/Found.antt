@@ -1,15 +1,13 @@
 -- The verdict on the packet among what an entry posts.
-use Rattle.std.proofs.Common.{◌≡◌, ℕ, zero, suc, ◌+◌, ◌<◌, ◌≤◌, Bool, true, false, cond, List, [], ◌∷◌, ◌++◌, length, slice_get, Option, None, Some, refl, ap, sym, subst, ◌∙◌, arith, append_assoc}
-use Rattle.std.specs.List.{filter_map, cons_option, AllByRecursion}
+use Rattle.std.proofs.Common.{◌≡◌, ℕ, Bool, true, false, cond, List, [], ◌∷◌, ◌++◌, length, slice_get, Option, None, Some, refl, ap, sym, subst, ◌∙◌, append_assoc}
+use Rattle.std.specs.List.{filter_map, cons_option}
 use Rattle.std.specs.Option.{option_or, option_map}
-use Rattle.std.proofs.lemmas.List.{append-nil, map-append, length-map}
+use Rattle.std.proofs.lemmas.List.{append-nil}
 use Rattle.std.proofs.lemmas.Option.{slice_get-map}
 use Rattle.std.proofs.lemmas.Bool.{true≢false}
 use Rattle.m17_control.specs.declared.event.Body.{Body}
 use Rattle.m17_control.specs.declared.event.Body.TheVariants as body
 use Rattle.m17_control.specs.declared.event.Event.{Event}
-use Rattle.m17_floor.specs.declared.act.ActKind.{ActKind}
-use Rattle.m17_floor.specs.declared.act.ActKind.TheVariants.{Other}
 use Rattle.m17_floor.specs.declared.verdict.Verdict.{Verdict}
 use Rattle.m17_floor.specs.Acts.{kind_at, kind_or_other}
 use Rattle.m17_floor.specs.Acts as acts

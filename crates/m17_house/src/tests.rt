@@ -117,12 +117,7 @@ fn plan(rt: &impl Abort, places: u32) -> Plan
 }
 
 // Replays the rows, with the mouth's tallies of the peers 1 to 4.
-fn replay(
-    rt: &impl Abort,
-    alloc: Global,
-    places: u32,
-    rows: &[Row],
-) -> Result<Evening, Fail>
+fn replay(rt: &impl Abort, alloc: Global, places: u32, rows: &[Row]) -> Result<Evening, Fail>
     requires some { 0 < places }
     requires at_most { places < 257 }
 {
@@ -178,7 +173,10 @@ fn floor_verdict(evening: &Evening, index: usize) -> Option<Verdict> {
 #[test]
 fn an_empty_evening_only_ends(rt: HostRuntime) -> Result<(), Fail> {
     let evening = replay(&rt, rt.alloc(), 256, &[])?;
-    assert_eq!(rt; evening.verdicts.as_slice(), [LinkVerdict::Ended].as_slice());
+    assert_eq!(rt;
+        evening.verdicts.as_slice(),
+        [LinkVerdict::Ended].as_slice()
+    );
     assert_eq!(rt; evening.packets.as_slice(), [None].as_slice());
     assert!(rt; evening.mouth.tally(&peer(1)) == Some(tally(0, 0, 0, 0, 0, 0)));
     assert!(rt; evening.mouth.tally(&peer(5)) == None);
