@@ -1,7 +1,7 @@
 -- An entry was heard, and its request settled: what the run then stands for.
 use Rattle.std.proofs.Common.{◌≡◌, ◌↔◌, ℕ, ◌+◌, ◌-◌, ◌^◌, ◌<◌, ◌≤◌, Bool, true, false, List, [], ◌∷◌, ◌++◌, length, map, Option, None, Some, IsSome, refl, ap, sym, subst, ◌∙◌, arith, append_assoc}
 use Rattle.std.specs.List.{filter_map, AllByRecursion}
-use Rattle.std.proofs.lemmas.List.{append-nil, length-append}
+use Rattle.std.proofs.lemmas.List.{append-nil, length-append, length-map}
 use Rattle.std.proofs.lemmas.Bool.{false≢true}
 use Rattle.m17_values.specs.declared.member.Member.{Member}
 use Rattle.m17_floor.specs.declared.verdict.Verdict.{Verdict}
@@ -22,6 +22,7 @@ use Rattle.m17_house.specs.declared.run.Run.{Run}
 use Rattle.m17_house.specs.Replay.{setup_of}
 use Rattle.m17_house.specs.Carried.{HasCarried, IsServed}
 use Rattle.m17_house.specs.SoFar.{IsCarriedOut, IsChoice, IsGiven, IsSoFar, IsTakenIn, AreCounts, claim_of, noting, past_with, without_members}
+use Rattle.m17_house.proofs.Few.{few_heard, few_settled}
 use Rattle.m17_house.proofs.Notes.{all_noted, noting_stands}
 use Rattle.m17_house.proofs.Posts.{heard_same, claim_end, asked_posts, posts_begin, served_part}
 
@@ -77,15 +78,17 @@ pub taken_in : EachWhoLeavesIsPosted → EndedWhereItEnds → OneEntryMore → O
     length entries < 2 ^ 58 → IsSoFar plan entries old mouth →
     IsHeard old.directory mid entries notice (record { verdict = verdict; posts = posts }) →
     mid.setup ≡ old.directory.setup → (mid.ended ≡ true) ↔ (verdict ≡ link.Ended) → length mid.known ≤ mid.setup.places →
-    length posts + length mid.known ≤ length old.directory.known + 52 →
+    length mid.known + length mid.departing ≡ length old.directory.known + length old.directory.departing →
     run.directory ≡ noting (filter_map left_member posts) mid → run.stage.name ≡ old.stage.name → run.given ≡ old.given →
     ((before : List Dispatch) → old.stage.name ≡ plan.name → AllByRecursion (IsServed plan) posts → length before + length posts < 2 ^ 64 - 1 → HasCarried plan before old.stage.rooms mouth → IsCarriedOut plan before posts run.stage.rooms mouth' answer) →
     IsTakenIn plan entries notice run mouth' verdict answer
-taken_in leaves ends more only plan entries notice old run mouth mouth' mid verdict posts answer few so_far heard setup ended bounded count noted name given carry =
+taken_in leaves ends more only plan entries notice old run mouth mouth' mid verdict posts answer few so_far heard setup ended bounded together noted name given carry =
     let entry : Entry = unclaimed notice in
     let longer : List Entry = entries ++ entry ∷ [] in
     let past : Past = past_with plan entries entry in
     let has : HasHeard (setup_of plan) entries notice mid verdict posts = has_heard plan entries notice old.directory mid verdict posts so_far.idle.setup so_far.idle.departing heard in
+    let count : length posts + length mid.known ≤ length old.directory.known + 52 =
+    omega (arith, together, ap length so_far.idle.departing, ap length has.departing, length-map (heard_at past).left departed_of, ap length has.are_posts, few_heard past) in
     let begin = posts_begin (setup_of plan) longer (length entries) in
     let all : posted (setup_of plan) longer ≡ (posted (setup_of plan) entries ++ posts) ++ begin.0 =
     more.posts (setup_of plan) entries entry ∙ ap (λ ds. posted (setup_of plan) entries ++ ds) (begin.1 ∙ ap (λ ds. ds ++ begin.0) (sym has.are_posts)) ∙ sym (append_assoc (posted (setup_of plan) entries) posts begin.0) in
@@ -152,17 +155,19 @@ pub given_place : EachWhoLeavesIsPosted → EntriesBeforeDecide → OneEntryMore
     IsChoice old.directory.known plan.places old.given member run.given →
     IsSettled old.directory mid entries (claimed notice (claim_of member)) (record { verdict = verdict; posts = posts }) →
     mid.setup ≡ old.directory.setup → mid.ended ≡ old.directory.ended → mid.asked ≡ None → length mid.known ≤ mid.setup.places →
-    length posts + length mid.known ≤ length old.directory.known + 2 →
+    length mid.known + length mid.departing ≤ length old.directory.known + length old.directory.departing + 1 →
     run.directory ≡ noting (filter_map left_member posts) mid → run.stage.name ≡ old.stage.name →
     ((before : List Dispatch) → old.stage.name ≡ plan.name → AllByRecursion (IsServed plan) posts → length before + length posts < 2 ^ 64 - 1 → HasCarried plan before old.stage.rooms mouth → IsCarriedOut plan before posts run.stage.rooms mouth' answer) →
     IsGiven plan entries notice old run mouth' verdict
-given_place leaves law more only plan entries notice old run mouth mouth' mid member verdict posts found answer few taken choice settled setup ended asked bounded count noted name carry =
+given_place leaves law more only plan entries notice old run mouth mouth' mid member verdict posts found answer few taken choice settled setup ended asked bounded together noted name carry =
     let entry : Entry = claimed notice (claim_of member) in
     let longer : List Entry = entries ++ entry ∷ [] in
     let past : Past = past_with plan entries entry in
     let heard : List Dispatch = (heard_at (past_with plan entries (unclaimed notice))).posts in
     let before : List Dispatch = posted (setup_of plan) entries ++ heard in
     let has : HasSettled (setup_of plan) entries entry mid verdict posts = has_settled plan entries entry old.directory mid verdict posts taken.idle.setup taken.idle.departing settled in
+    let count : length posts + length mid.known ≤ length old.directory.known + 2 =
+    omega (arith, together, ap length taken.idle.departing, ap length has.departing, length-map (settled_at past (claim_of member)).left departed_of, ap length has.are_posts, few_settled past (claim_of member)) in
     let all : posted (setup_of plan) longer ≡ (before ++ posts) ++ [] =
     more.posts (setup_of plan) entries entry ∙ ap (λ ds. posted (setup_of plan) entries ++ ds) (asked_all law more plan entries notice (claim_of member) taken.is_verdict ∙ ap (λ ds. heard ++ ds) (sym has.are_posts))
     ∙ sym (append_assoc (posted (setup_of plan) entries) heard posts) ∙ sym (append-nil (before ++ posts)) in

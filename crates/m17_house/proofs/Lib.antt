@@ -11,6 +11,7 @@ pub mod Posts
 pub mod Found
 pub mod Among
 pub mod Chosen
+pub mod Few
 pub mod HeardMore
 pub mod OneMore
 pub mod Played

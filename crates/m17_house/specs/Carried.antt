@@ -33,7 +33,8 @@ said_past_modules x done = map packets.Control (filter_map (reply_for x) done)
 
 unfoldable pub said_after : Plan → List Dispatch → Peer → List Packet
 said_after plan done x = said_past_modules x done
-    ++ flat_map (λ letter. said_by_events plan x letter (events_of letter done)) (letters_of plan.modules)
+    ++ flat_map (λ letter. said_by_events plan x letter (events_of letter done))
+    (letters_of plan.modules)
 
 -- what there is in the cell of a letter that was not made yet: nothing, or a new module
 abbrev pub IsNewRoom : Plan → ℕ → Option Kept → Type 0
@@ -64,7 +65,8 @@ pub record HasCarried (plan : Plan) (done : List Dispatch) (rooms : List (Option
 -- the verdict on a dispatch, carried out after these: only a packet has one
 abbrev pub answer_to : Plan → List Dispatch → Dispatch → Option Verdict
 answer_to plan done (ToModule letter event) =
-    verdict_at plan.places (acts_of (events_of letter done ++ event ∷ [])) (length (events_of letter done))
+    verdict_at plan.places (acts_of (events_of letter done ++ event ∷ []))
+    (length (events_of letter done))
 answer_to plan done (ToDoor direct) = None
 
 -- the dispatch goes to a served module, or past all modules

@@ -45,7 +45,8 @@ found_from plan before found (d ∷ more) =
 
 -- The dispatches were carried out after others, with this verdict on the last packet among them. This profile.
 pub record IsCarriedOut (plan : Plan) (before posts : List Dispatch)
-    (rooms : List (Option modules.Kept)) (mouth : TalliesKept) (answer : Option Verdict) : Type 0 where
+    (rooms : List (Option modules.Kept)) (mouth : TalliesKept) (answer : Option Verdict)
+    : Type 0 where
   pub carried : HasCarried plan (before ++ posts) rooms mouth
   pub found : answer ≡ found_from plan before None posts
 
@@ -88,12 +89,14 @@ pub record IsIdle (plan : Plan) (run : Run) : Type 0 where
   pub known : length run.directory.known ≤ plan.places
 
 -- The run has come through these entries. This profile.
-pub record IsSoFar (plan : Plan) (entries : List Entry) (run : Run) (mouth : TalliesKept) : Type 0 where
+pub record IsSoFar (plan : Plan) (entries : List Entry) (run : Run) (mouth : TalliesKept)
+    : Type 0 where
   pub idle : IsIdle plan run
   pub asked : run.directory.asked ≡ None
   pub stands : StandsFor run.directory entries
   pub carried : HasCarried plan (posted (setup_of plan) entries) run.stage.rooms mouth
-  pub few : length (posted (setup_of plan) entries) + length run.directory.known ≤ 54 * length entries
+  pub few : length (posted (setup_of plan) entries) + length run.directory.known
+      ≤ 54 * length entries
   pub given : AreCounts run.given entries
   pub chosen : AreChosen plan entries
 
@@ -145,8 +148,8 @@ pub record IsGiven (plan : Plan) (entries : List Entry) (notice : Notice) (old r
   pub choice : IsChoice old.directory.known plan.places old.given member run.given
 
 -- One entry more was heard, and what became of it is in all that the run stands for. This profile.
-pub record IsOneMore (plan : Plan) (entries : List Entry) (h : Heard) (run : Run) (mouth : TalliesKept)
-    (verdict : LinkVerdict) (packet : Option Verdict) : Type 0 where
+pub record IsOneMore (plan : Plan) (entries : List Entry) (h : Heard) (run : Run)
+    (mouth : TalliesKept) (verdict : LinkVerdict) (packet : Option Verdict) : Type 0 where
   pub entry : Entry
   pub says : Says h entry.notice
   pub so_far : IsSoFar plan (entries ++ entry ∷ []) run mouth

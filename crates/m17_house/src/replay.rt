@@ -75,7 +75,8 @@ pub fn replay_plain(
     requires nothing_said { HasNoTallies mouth.old }
     ensures judged { IfOk result (λ out.
         IsReplayed plan.now heard.now out.0.items out.1.items mouth.new) }
-    ensures same_peers { IfOk result (λ _. named_in mouth.new.entries ≡ named_in mouth.old.entries) }
+    ensures same_peers { IfOk result
+        (λ _. named_in mouth.new.entries ≡ named_in mouth.old.entries) }
     ensures same_mouth { IfOk result (λ _. mouth.new.number ≡ mouth.old.number) }
 {
     let mut run = Run::make(alloc, plan)?;

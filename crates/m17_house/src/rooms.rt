@@ -75,8 +75,10 @@ impl Rooms {
         ensures by_rule { (plan : Plan) (events : List Event) →
             RoomStands plan letter events self.old → length events < 2 ^ 64 - 1 →
             IsRoomStep plan letter events event.now self.new result
-            × (out.new ≡ items_at (module_setup plan letter) (events ++ event.now ∷ []) (length events)) }
-        ensures others { (plan : Plan) (other : ℕ) (events : List Event) → 65 ≤ other → other ≢ letter →
+            × (out.new ≡ items_at (module_setup plan letter)
+            (events ++ event.now ∷ []) (length events)) }
+        ensures others { (plan : Plan) (other : ℕ) (events : List Event) →
+            65 ≤ other → other ≢ letter →
             RoomStands plan other events self.old → RoomStands plan other events self.new }
     {
         let place = (letter.byte() - b'A') as usize;

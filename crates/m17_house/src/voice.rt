@@ -36,7 +36,8 @@ pub(crate) fn say_all(out: &mut Basket, name: CallAddress, mouth: &mut TallyMout
 
 /// Says a reply that goes past all modules.
 pub(crate) fn answer(direct: &Direct, mouth: &mut TallyMouth)
-    ensures { HasSaidMore (λ x. map packets.Control (option_to_list (reply_for x (ToDoor direct.now))))
+    ensures { HasSaidMore
+        (λ x. map packets.Control (option_to_list (reply_for x (ToDoor direct.now))))
         mouth.old mouth.new }
 {
     let _ = mouth.say(&direct.peer, write(&direct.control).as_slice());

@@ -10,6 +10,6 @@ returns-clause-given c = λ entries notice found few taken.
     given_place c.each_who_leaves_is_posted.ensures c.entries_before_decide.ensures c.one_entry_more.ensures c.only_served_are_routed.ensures
     c.args.plan.now entries notice c.args.self.now c.carry_out-none.new.self c.args.mouth.now c.carry_out-none.new.mouth c.settle-verdict.new.self c.choose-member.result c.settle-verdict.result c.settle-verdict.new.post found c.carry_out-none.result
     few taken choice (c.settle-verdict.ensures.settled entries notice taken.stands)
-    c.settle-verdict.ensures.setup c.settle-verdict.ensures.ended c.settle-verdict.ensures.nothing_asked c.settle-verdict.ensures.bounds.known c.settle-verdict.ensures.few
+    c.settle-verdict.ensures.setup c.settle-verdict.ensures.ended c.settle-verdict.ensures.nothing_asked c.settle-verdict.ensures.bounds.known c.settle-verdict.ensures.together
     c.carry_out-none.ensures.noted c.carry_out-none.ensures.name
     (λ before. c.carry_out-none.ensures.carried c.args.plan.now before)
