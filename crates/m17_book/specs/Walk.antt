@@ -28,7 +28,7 @@ IsAt spot ahead = IsAhead spot.held spot.left ahead
 
 -- what is said after so many entries, where they end and more is to come: there are too many, or what is wrong
 abbrev pub WrongEntry : ℕ → List ℕ → ℕ → FormRefusal → Type 0
-WrongEntry count rest place refusal = ((most_entries ≤ count) × (0 < length rest) × (refusal ≡ Large place))
+WrongEntry count rest place refusal = ((count ≡ most_entries) × (0 < length rest) × (refusal ≡ Large place))
     ⊎ ((count < most_entries) × TellsFlaw EntryFlaw rest place refusal)
 
 -- the same of records, of which there may be any number
@@ -43,15 +43,15 @@ module _ {Value : Type 0} (Spells : Value → List ℕ → Type 0) where
     pub split : ahead ≡ front ++ rest
     pub spelled : SpellsEach Spells values front
     pub rest_is : IsAt spot rest
-    pub place_is : spot.place ≡ told (place + length front)
+    pub place_is : told spot.place ≡ told (place + length front)
 
 module _ {Value : Type 0} (Spells : Value → List ℕ → Type 0)
     (Wrong : ℕ → List ℕ → ℕ → FormRefusal → Type 0) where
-  -- what stops a reader that has passed these values
+  -- what stops a reader that has passed these values: too many bytes, or what is wrong with those to come
   abbrev pub Stops : ℕ → List ℕ → List Value → Spot → FormRefusal → Type 0
   Stops place ahead values spot refusal = (passed : HasPassed Spells place ahead values spot)
       × (((most_bytes < spot.place) × (refusal ≡ Large most_bytes))
-      ⊎ Wrong (length values) passed.rest spot.place refusal)
+      ⊎ ((spot.place ≤ most_bytes) × Wrong (length values) passed.rest spot.place refusal))
 
   -- one value more was read, or nothing was left, or it stopped, and passed nothing
   abbrev pub AddsOne : Result Bool FormRefusal → ℕ → List ℕ → List Value → List Value → Spot → Type 0
@@ -65,8 +65,8 @@ module _ {Value : Type 0} (Spells : Value → List ℕ → Type 0)
 
   -- all was read, within the limit of bytes; or it stopped
   abbrev pub AddsAll : {T : Type 0} → Result T FormRefusal → ℕ → List ℕ → List Value → Spot → Type 0
-  AddsAll (Ok _) place ahead new spot = HasPassed Spells place ahead new spot
-      × IsAt spot [] × (spot.place ≤ most_bytes)
+  AddsAll (Ok _) place ahead new spot = (passed : HasPassed Spells place ahead new spot)
+      × (passed.rest ≡ []) × (spot.left ≡ Some []) × (spot.place ≤ most_bytes)
   AddsAll (Err refusal) place ahead new spot = IsOutside refusal
       ⊎ ((values : List Value) × Stops place ahead values spot refusal)
 

@@ -10,6 +10,7 @@ ghost use Rattle.m17_book.specs.declared.refusal.FormRefusal.{FormRefusal};
 
 use crate::cursor::Cursor;
 use crate::form::MOST_BYTES;
+use crate::laws::books_are_exact;
 use crate::settle::{add_to, finish};
 use crate::steps::{next_record, pass_header};
 use crate::{FormRefusal, Record};
@@ -34,6 +35,7 @@ pub fn read_book<S: Source>(alloc: Global, s: &mut S) -> Result<Vec<Record>, For
         → S.left s.new ≡ Some []) }
     ensures cause { HasReadCause (S.faults s.old) (S.faults s.new) result }
 {
+    books_are_exact();
     let mut cursor = Cursor::new();
     let mut records = Vec::new(alloc);
     let read = add_book(&mut cursor, s, &mut records);

@@ -1,4 +1,4 @@
-ghost use Rattle.std.specs.Prelude.{◌≡◌, ◌↔◌, ◌<◌, ℕ, Bool, true, ◌+◌, ◌∷◌, [], ◌++◌, List, length, Result, Err, IsOk, IsTrue, IfOk, OnOk, OnErr, IfErr};
+ghost use Rattle.std.specs.Prelude.{◌≡◌, ◌↔◌, ◌<◌, ℕ, Bool, true, ◌+◌, ◌∷◌, [], ◌++◌, List, length, Result, Err, IsOk, IsErr, IsTrue, IfOk, OnOk, OnErr, IfErr};
 ghost use Rattle.m17_io.specs.Faults.{HasCause};
 ghost use Rattle.m17_book.specs.Ahead.{held, IsAhead};
 ghost use Rattle.m17_book.specs.Answers.{IsOutside};
@@ -19,6 +19,7 @@ use m17_values::Failed;
 pub(crate) fn add_to<T: Drop>(list: &mut Vec<T>, value: T) -> Result<(), FormRefusal>
     ensures added { OnOk result (list.new.items ≡ list.old.items ++ value ∷ []) }
     ensures no_memory { IfErr result (λ refusal. refusal ≡ NoMemory) }
+    ensures kept { OnErr result (list.new.items ≡ list.old.items) }
 {
     match list.push(value) {
         Ok(()) => Ok(()),
@@ -36,6 +37,7 @@ pub(crate) fn finish<T: Drop, S: Source>(
 ) -> Result<Vec<T>, FormRefusal>
     ensures ok { IfOk result (λ found. IsOk read × (found.items ≡ list.items)
         × (source.new ≡ source.old)) }
+    ensures err { OnErr result (IsErr read) }
     ensures outside { IfErr read (λ found. IsOutside found → IfErr result IsOutside) }
     ensures settled { IfErr read (λ found. (total : ℕ) → (ahead : List ℕ)
         → IsAhead (held cursor.old) (S.left source.old) ahead

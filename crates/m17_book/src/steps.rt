@@ -1,5 +1,6 @@
-ghost use Rattle.std.specs.Prelude.{◌≡◌, ◌⊎◌, ℕ, ◌≤◌, ◌+◌, ◌<◌, List, length, Option, Ok, IfOk, OnErr};
+ghost use Rattle.std.specs.Prelude.{◌≡◌, ◌⊎◌, ℕ, ◌≤◌, ◌+◌, ◌<◌, List, length, Option, Ok, IfOk, IfErr, OnErr};
 ghost use Rattle.m17_book.specs.Ahead.{held, IsAhead};
+ghost use Rattle.m17_book.specs.Answers.{IsOutside};
 ghost use Rattle.m17_book.specs.Flaws.{RecordFlaw};
 ghost use Rattle.m17_book.specs.Limits.{told};
 ghost use Rattle.m17_book.specs.Reading.{HasReadCause};
@@ -18,7 +19,8 @@ use m17_values::Heard;
 
 /// What is said of a flaw of the bytes at a place, of which so many are there.
 fn refusal_of(flaw: Flaw, place: u64, len: usize) -> FormRefusal
-    ensures { result ≡ tell flaw place len }
+    ensures told { result ≡ tell flaw place len }
+    ensures inside { IsOutside result → ⊥ }
 {
     match flaw {
         Flaw::Cut => FormRefusal::Cut {
@@ -111,6 +113,7 @@ pub(crate) fn take_entry(cursor: &mut Cursor) -> Result<Heard, FormRefusal>
         → (97 ≤ length (held cursor.old)) ⊎ (ahead ≡ held cursor.old)
         → TakesEntry result cursor.old.place ahead (spot cursor.new left) }
     ensures kept { OnErr result (cursor.new ≡ cursor.old) }
+    ensures inside { IfErr result (λ refusal. IsOutside refusal → ⊥) }
 {
     let held = cursor.held();
     match parse_entry(held) {

@@ -12,6 +12,7 @@ ghost use Rattle.m17_book.specs.declared.refusal.FormRefusal.{FormRefusal};
 use crate::FormRefusal;
 use crate::cursor::Cursor;
 use crate::form::{MOST_BYTES, MOST_ENTRIES};
+use crate::laws::traces_are_exact;
 use crate::settle::{add_to, finish};
 use crate::steps::{pass_magic, take_entry};
 use m17_io::Source;
@@ -37,6 +38,7 @@ pub fn read_trace<S: Source>(alloc: Global, s: &mut S) -> Result<Vec<Heard>, For
         → S.left s.new ≡ Some []) }
     ensures cause { HasReadCause (S.faults s.old) (S.faults s.new) result }
 {
+    traces_are_exact();
     let mut cursor = Cursor::new();
     let mut heard = Vec::new(alloc);
     let read = add_trace(&mut cursor, s, &mut heard);
