@@ -17,3 +17,7 @@ pub mod Exact
 pub mod Pieces
 pub mod EntryClear
 pub mod OneFlaw
+pub mod Told
+pub mod Readable
+pub mod EntryReads
+pub mod TraceExact

@@ -5,7 +5,10 @@ ghost use Rattle.m17_book.specs.Laws.{TracesAreExact, BooksAreExact, BookFormsAr
 #[inline]
 pub fn traces_are_exact()
     ensures { TracesAreExact }
-{}
+{
+    m17_fields::laws::fields_of_16_bits_are_exact();
+    m17_fields::laws::fields_of_64_bits_are_exact();
+}
 
 /// Each byte list is the book of one module and one list of records, or is refused as a book for one reason, and not
 /// both. This profile.
