@@ -1,6 +1,7 @@
-ghost use Rattle.std.specs.Prelude.{◌≡◌, ◌⊎◌, ℕ, ◌+◌, ◌-◌, ◌^◌, ◌<◌, ◌≤◌, min, List, [], length, take, drop, Option, Some, IfOk, OnOk, OnErr};
+ghost use Rattle.std.specs.Prelude.{◌≡◌, ◌⊎◌, ◌↔◌, IsTrue, ℕ, ◌+◌, ◌-◌, ◌^◌, ◌<◌, ◌≤◌, min, List, [], length, take, drop, Option, Some, IfOk, OnOk, OnErr};
 ghost use Rattle.m17_io.specs.Faults.{HasCause};
 
+use crate::form::MOST_BYTES;
 use m17_io::Source;
 use m17_values::Failed;
 
@@ -112,6 +113,26 @@ impl Cursor {
             }
             if self.read_more(source)? == 0 {
                 return Ok(());
+            }
+        }
+    }
+
+    /// Whether the input has more bytes than a trace or a book may have. It goes on to the end of the input, or past that
+    /// many bytes, and holds none of them.
+    pub(crate) fn goes_too_far<S: Source>(&mut self, source: &mut S) -> Result<bool, Failed>
+        ensures far { IfOk result (λ far. (ahead : List ℕ)
+            → IsAhead (held self.old) (S.left source.old) ahead
+            → IsTrue far ↔ (67108864 < self.old.place + length ahead)) }
+        ensures cause { HasCause (S.faults source.old) (S.faults source.new) result }
+    {
+        'reads: loop {
+            let count = self.held().len();
+            self.pass(count);
+            if self.place > MOST_BYTES {
+                return Ok(true);
+            }
+            if self.read_more(source)? == 0 {
+                return Ok(false);
             }
         }
     }
