@@ -1,13 +1,17 @@
-// A library with one function.
+//! The devices of a reflector in memory, for tests and for runs over what is there: an ear that follows a script, a
+//! mouth that keeps a list, a mouth that keeps tallies alone, a book of a fixed room, and ports that hand these out.
+//! Each tells all of its content, and fails exactly at the calls that it was told to fail at (a mouth or a book also
+//! where its room does not suffice). What is heard, said and written is left to the caller.
 #![tactic(auto)]
 
-ghost use Rattle.std.specs.Prelude.{◌≡◌};
-ghost use Rattle.m17_port_memory.specs.Echo.{echo_of};
+mod list_book;
+mod list_mouth;
+mod script_ear;
+mod script_ports;
+mod tally_mouth;
 
-// The `ensures` clause is the contract: what `echo` returns is `echo_of` of its argument, a definition
-// in `specs/Echo.antt`, which a caller's clause can cite too.
-pub fn echo(x: usize) -> usize
-    ensures { result ≡ echo_of x }
-{
-    x
-}
+pub use list_book::ListBook;
+pub use list_mouth::ListMouth;
+pub use script_ear::ScriptEar;
+pub use script_ports::ScriptPorts;
+pub use tally_mouth::TallyMouth;

@@ -4,3 +4,4 @@ pub mod Ear
 pub mod Tallies
 pub mod Mouth
 pub mod Shelf
+pub mod Ports

@@ -1,5 +1,5 @@
 -- The marks of devices, which no call changes. This profile.
-use Rattle.std.specs.Prelude.{ℕ, List, Option, None, Some}
+use Rattle.std.specs.Prelude.{◌≡◌, ℕ, List, Option, None, Some}
 use Rattle.m17_values.specs.declared.heard.Heard.{Heard}
 use Rattle.m17_values.specs.declared.peer.Peer.{Peer}
 
@@ -22,3 +22,17 @@ script_of (Some mark) = mark.script
 abbrev pub peers_of : Option MouthMark → Option (List Peer)
 peers_of None = None
 peers_of (Some mark) = mark.peers
+
+-- the number of an ear, if it tells one
+abbrev pub ear_number : Option EarMark → Option ℕ
+ear_number None = None
+ear_number (Some mark) = Some mark.number
+
+-- the number of a mouth, if it tells one
+abbrev pub mouth_number : Option MouthMark → Option ℕ
+mouth_number None = None
+mouth_number (Some mark) = Some mark.number
+
+-- The number is this one, where it is told. This profile.
+abbrev pub IsNumbered : Option ℕ → ℕ → Type 0
+IsNumbered told n = (number : ℕ) → told ≡ Some number → number ≡ n

@@ -8,11 +8,15 @@
 mod book;
 mod ear;
 mod mouth;
+mod ports;
+mod question;
 mod shelf;
 mod tally;
 
 pub use book::Book;
 pub use ear::Ear;
 pub use mouth::Mouth;
+pub use ports::Ports;
+pub use question::Question;
 pub use shelf::Shelf;
 pub use tally::Tally;

@@ -1,0 +1,165 @@
+ghost use Rattle.std.specs.Prelude.{◌≡◌, ℕ, ◌-◌, ◌^◌, ◌≤◌, min, IsTrue, false, None, Some, IfOk, OnOk, OnErr};
+ghost use Rattle.m17_io.specs.Faults.{HasCause};
+
+use crate::{ListBook, ListMouth, ScriptEar};
+use arrayvec::ArrayVec;
+use m17_ports::{Ports, Question};
+use m17_values::{Failed, Gram};
+use std::marker::Model;
+
+/// The most questions that are told.
+const QUESTIONS: usize = 64;
+
+/// The most bytes of a question's text that are told.
+const TEXT_BYTES: usize = 64;
+
+// A question, with the blank that a place of a list of fixed size holds before it is used.
+#[derive(Drop)]
+struct Asked(Question);
+
+impl Model for Asked {
+    ghost use Rattle.m17_ports.specs.declared.question.Question.{Question};
+
+    ghost Value = { Question };
+
+    ghost view = { λ a. a.0 };
+}
+
+impl Default for Asked {
+    fn default() -> Asked {
+        Asked(Question::Book {
+            name: Gram::of(&[]),
+        })
+    }
+}
+
+/// Ports that hand out the links and books that they were given, in order, and can be told to fail. What they hand out
+/// is as it was when it was new, and has the number of the call. They tell what was asked as long as that is at most 64
+/// questions with texts of at most 64 bytes. This profile.
+#[derive(Drop)]
+pub struct ScriptPorts {
+    links: Vec<(ScriptEar, ListMouth)>,
+    books: Vec<ListBook>,
+    fails: Vec<u64>,
+    calls: u64,
+    faults: u64,
+    asked: ArrayVec<Asked, QUESTIONS>,
+    is_told: bool,
+}
+
+impl Model for ScriptPorts {
+    ghost use Rattle.std.specs.Prelude.{reverse, Some, None, if◌then◌else◌};
+    ghost use Rattle.m17_port_memory.specs.Kept.{PortsKept};
+
+    ghost Value = { PortsKept };
+
+    ghost view = { λ p. record {
+      links = reverse p.links.items;
+      books = reverse p.books.items;
+      fails = p.fails.items;
+      calls = p.calls;
+      faults = p.faults;
+      asked = if p.is_told then Some p.asked.items else None;
+    } };
+}
+
+impl ScriptPorts {
+    ghost use Rattle.m17_port_memory.specs.Kept.{PortsKept, new_ports};
+    ghost use Rattle.m17_ports.specs.Ports.{IsAsked, next_number};
+
+    /// Ports with these links and books to hand out. `fails` lists the numbers of calls, from 0, that are to fail; a
+    /// call for which none is left fails too. This profile.
+    pub fn new(
+        links: Vec<(ScriptEar, ListMouth)>,
+        books: Vec<ListBook>,
+        fails: Vec<u64>,
+    ) -> ScriptPorts
+        ensures { result ≡ new_ports links.items books.items fails.items }
+    {
+        let mut links = links;
+        let mut books = books;
+        links.reverse();
+        books.reverse();
+        ScriptPorts {
+            links,
+            books,
+            fails,
+            calls: 0,
+            faults: 0,
+            asked: ArrayVec::new(),
+            is_told: true,
+        }
+    }
+
+    // Notes the question of a call, where it fits as a whole and there is room, and answers the call's number.
+    fn note(&mut self, question: Question, fits: bool) -> u64
+        ensures number { result ≡ self.old.calls }
+        ensures noted { self.new ≡ record self.old {
+          calls = next_number self.old.calls;
+          asked = self.new.asked;
+        } }
+        ensures asked { (IsTrue fits → IsAsked self.old.asked question self.new.asked)
+            × (fits ≡ false → self.new.asked ≡ None) }
+    {
+        let call = self.calls;
+        self.calls = self.calls.saturating_add(1);
+        if !fits || self.asked.is_full() {
+            self.is_told = false;
+        } else {
+            self.asked.push(Asked(question));
+        }
+        call
+    }
+
+    // Counts a fault.
+    fn fault(&mut self) -> Failed
+        ensures counted { self.new ≡ record self.old { faults = next_number self.old.faults } }
+    {
+        self.faults = self.faults.saturating_add(1);
+        Failed
+    }
+}
+
+impl Ports for ScriptPorts {
+    ghost use Rattle.std.proofs.Math.Nat.{min-le_right};
+
+    type Ear = ScriptEar;
+
+    type Mouth = ListMouth;
+
+    type Book = ListBook;
+
+    ghost faults = { λ p. min p.faults (2 ^ 64 - 1) };
+
+    ghost asked = { λ p. p.asked };
+
+    ghost calls = { λ p. p.calls };
+
+    ghost faults_fit = { λ p. min-le_right p.faults (2 ^ 64 - 1) };
+
+    fn link(&mut self, bind: &str, until: Option<u64>) -> Result<(ScriptEar, ListMouth), Failed> {
+        let fits = bind.len() <= TEXT_BYTES;
+        let bind = Gram::of(bind.as_bytes());
+        let call = self.note(Question::Link { bind, until }, fits);
+        if self.fails.contains(&call) {
+            return Err(self.fault());
+        }
+        match self.links.pop() {
+            Some((ear, mouth)) => Ok((ear.renewed(call), mouth.renewed(call))),
+            None => Err(self.fault()),
+        }
+    }
+
+    fn book(&mut self, name: &str) -> Result<ListBook, Failed> {
+        let fits = name.len() <= TEXT_BYTES;
+        let name = Gram::of(name.as_bytes());
+        let call = self.note(Question::Book { name }, fits);
+        if self.fails.contains(&call) {
+            return Err(self.fault());
+        }
+        match self.books.pop() {
+            Some(book) => Ok(book.renewed(call)),
+            None => Err(self.fault()),
+        }
+    }
+}
