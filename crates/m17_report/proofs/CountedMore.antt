@@ -43,9 +43,9 @@ some_counted counts before o kind place n is at below n-is short h = record {
     | inl same ↦
         let room : place < length counts = omega (arith, h.of_all) in
         let found : get_or (set counts place n) q 0 ≡ n =
-            ap (λ x. get_or (set counts place n) x 0) same.1 ∙ get_or-set_same counts place n 0 room in
+        ap (λ x. get_or (set counts place n) x 0) same.1 ∙ get_or-set_same counts place n 0 room in
         let was : get_or counts place 0 ≡ count_at q before =
-            ap (λ x. get_or counts x 0) (sym same.1) ∙ h.each q q-below in
+        ap (λ x. get_or counts x 0) (sym same.1) ∙ h.each q q-below in
         let few : count_at q before ≤ length before = count_by-le-length _ before in
         found ∙ n-is ∙ (omega (arith, was, few)) ∙ sym (count_it q place before o kind is at same.1)
     | inr other ↦

@@ -12,3 +12,6 @@ pub use counts::Counts;
 pub use kind::{Kind, kind_of};
 pub use summary::{make_entries_line, make_kind_line, make_peer_line};
 pub use verdict_line::make_verdict_line;
+
+#[cfg(test)]
+mod tests;
