@@ -198,7 +198,7 @@ def shrunk(case, got):
             else:
                 at += size
         size //= 2
-    return case, got
+    return case._replace(name=case.name + "-shrunk"), got
 
 
 # ---- reports

@@ -104,6 +104,13 @@ class Trail:
                 return "late", y.number
         return ("opened" if holder is None else "continued"), None
 
+    def value(self, n):
+        """The bytes that a book keeps beside a verdict."""
+        value = self.verdicts[n][1]
+        if isinstance(value, Place):
+            return value.place.to_bytes(4, "big") + value.generation.to_bytes(8, "big")
+        return (value or 0).to_bytes(12, "big")
+
     def _echo(self, n):
         opened = [o for o in range(n) if self.verdicts[o] is not None and self.verdicts[o][0] == "opened"]
         if not opened:
@@ -147,6 +154,41 @@ class Trail:
         if event.kind == "reply" and self.is_in(event.member, n):
             items.append((event.member, event.datagram))
         return items
+
+
+def breach(records):
+    """The first position of a book that breaks a rule, with the first rule that it breaks; else None."""
+    kinds = {1: "join", 2: "leave", 3: "packet"}
+    members = [Place(record.place, record.generation) for record in records]
+    trail = Trail(
+        [
+            Event(n, record.moment, kinds[record.kind], member, listens=record.listens, packet=record.packet)
+            for n, (record, member) in enumerate(zip(records, members))
+        ],
+        256,
+        False,
+        0,
+    )
+    for n, (record, member) in enumerate(zip(records, members)):
+        if n and record.moment < records[n - 1].moment:
+            return n, "moment"
+        if record.kind == 1 and any(other.place == member.place for other in trail.those_in(n)):
+            return n, "member"
+        if record.kind == 2 and not trail.is_in(member, n):
+            return n, "member"
+        if record.kind == 3 and (record.verdict, record.value) != (trail.verdicts[n][0], trail.value(n)):
+            return n, "verdict"
+    return None
+
+
+def judged(records):
+    """The verdicts of moments, talkers and packets, None for a refused one: every talker has joined at moment 0."""
+    talkers = sorted({talker for _, talker, _ in records})
+    events = [Event(n, 0, "join", Place(talker, 0), listens=False) for n, talker in enumerate(talkers)]
+    for moment, talker, packet in records:
+        kind = "packet" if isinstance(packet, Stream) else "other"
+        events.append(Event(len(events), moment, kind, Place(talker, 0), packet=packet))
+    return Trail(events, 65536, False, 0).verdicts[len(talkers) :]
 
 
 class House:

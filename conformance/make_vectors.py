@@ -12,7 +12,7 @@ import os
 import made
 import reference
 from books import book_record
-from draws import LAST_MOMENT, named, sealed, stream
+from draws import LAST_MOMENT, named, stream
 from files import BOOK_MAGIC, TRACE_MAGIC
 from generate import judge_record
 from packets import encode

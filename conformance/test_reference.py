@@ -1,5 +1,5 @@
 #!/usr/bin/env python3
-"""Tests of the reference: worked examples, and the rules looked up in whole lists.
+"""Tests of the reference: worked examples.
 
     python3 conformance/test_reference.py
 """
@@ -8,14 +8,11 @@ import collections
 import os
 import unittest
 
-import definitions
-import generate
 import made
-import packets
 import reference
 from books import book_record
 from draws import named, sealed, stream
-from files import BOOK_MAGIC, TRACE_MAGIC, InputRefused, read_trace
+from files import TRACE_MAGIC, InputRefused, read_trace
 from generate import judge_record
 from packets import Control, Refused, Stream, address_text, crc, decode, encode
 from reflector import Peer, peer_text
@@ -557,57 +554,6 @@ class Examples(unittest.TestCase):
             with open(os.path.join(REPOSITORY, "examples", name), "rb") as file:
                 data = file.read()
             self.assertEqual(output([command], data), (0, self.shown("%s < examples/%s" % (command, name))))
-
-
-class WholeLists(unittest.TestCase):
-    """`reflector.py` keeps a small state; `definitions.py` looks everything up in the whole list."""
-
-    def agree(self, kind, index):
-        words, data = generate.case(kind, 5, index)
-        try:
-            entries = read_trace(data)[: 90 if kind == "replay-parrot" else 40]
-        except InputRefused:
-            return
-        names = ("call", "modules", "parrots", "places")
-        options, _ = reference.read_words([word.decode() for word in words[1:]], names, ("summary",), 0)
-        plan = reference.read_plan(options)
-        house = definitions.House(plan, entries)
-        tallies = collections.Counter()
-        heard, is_lost = reference.reflect(plan, entries, lambda peer, datagram: tallies.update([(peer, datagram)]))
-        self.assertEqual([text for _, text in heard], house.replay_lines())
-        self.assertEqual(tallies, house.said())
-        self.assertEqual(is_lost, house.is_lost)
-
-    def test_evenings(self):
-        for kind in generate.selected(["replay"]):
-            for index in range(1 if kind == "replay-many" else 12):
-                if kind != "replay-parrot-full":
-                    with self.subTest(kind=kind, index=index):
-                        self.agree(kind, index)
-
-
-class Generator(unittest.TestCase):
-    def test_a_case_is_the_same_each_time(self):
-        for kind in generate.KINDS:
-            self.assertEqual(generate.case(kind, 1, 2), generate.case(kind, 1, 2))
-
-    def test_all_words_and_reasons_come(self):
-        """Each line that a command can print, but for those at the limits of size, comes in some case."""
-        words = collections.Counter()
-        for kind in generate.KINDS:
-            for index in range(40):
-                _, out = reference.run(*self.with_input(generate.case(kind, 1, index)))
-                for line in out.split(b"\n") if not kind.startswith("make") else ():
-                    words.update(line.split(b" "))
-        wanted = set(reference.COUNTED) - {"not-member"}
-        wanted |= {"cut", "kind", "field", "moment", "member", "verdict", "odd", "digit", "long"}
-        wanted |= {"conn", "lstn", "ackn", "nack", "ping", "disc", "stream", "broadcast", "legal", "lost", "words"}
-        wanted |= {"length", "magic", "address", "module", "crc", "packet", "voice", "data", "both", "reserved"}
-        self.assertEqual([word for word in sorted(wanted) if not words[word.encode()]], [])
-
-    def with_input(self, case):
-        words, data = case
-        return words, lambda: data
 
 
 if __name__ == "__main__":
