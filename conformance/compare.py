@@ -152,7 +152,7 @@ def parts_of(words, data):
     if command == b"judge":
         return b"", [data[at : at + 64] for at in range(0, len(data), 64)]
     if command == b"show":
-        return b"", data.splitlines(True)
+        return b"", [line + b"\n" for line in data.split(b"\n")]
     if command == b"replay":
         return data[:8], chunks(data, 8, entry_length)
     if command == b"check":

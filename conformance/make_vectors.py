@@ -12,10 +12,12 @@ import os
 import made
 import reference
 from books import book_record
+from compare import parts_of
 from draws import LAST_MOMENT, named, stream
-from files import BOOK_MAGIC, TRACE_MAGIC
+from files import BOOK_MAGIC, TRACE_MAGIC, InputRefused, read_book, read_trace
 from generate import judge_record
-from packets import encode
+from packets import Refused, Stream, decode, encode, number, packet_text
+from reflector import Datagram, Quiet, peer_text
 from traces import FAULT, datagram, quiet
 
 FOLDER = os.path.join(os.path.dirname(os.path.abspath(__file__)), "vectors")
@@ -245,7 +247,12 @@ vector(
     "A packet that is none is refused in its line, and the run goes on.",
 )
 vector("judge-cut", "judge", records((0, 3, stream(1, 0))) + b"\0", "The lines before a cut record stand.")
-vector("judge-last-moment", "judge", records((LAST_MOMENT, 65535, stream(1, 0)), (0, 0, stream(2, 0))), "The bounds.")
+vector(
+    "judge-last-moment",
+    "judge",
+    records((LAST_MOMENT, 65535, stream(1, 0)), (0, 0, stream(2, 0))),
+    "The greatest moment and the greatest talker.",
+)
 
 # ---- replay
 
@@ -560,18 +567,76 @@ the bytes of the standard output, and `NAME.status` the status with which the pr
 
     python3 conformance/compare.py --program ./m17 --vectors conformance/vectors
 
-The inputs are spelled out in `../make_vectors.py`, which writes this folder. `show` reads datagrams in hex, `judge`
-moments, talkers and stream packets, `replay` what a link heard, and `check` what a module did.
+`show` reads datagrams in hex, `judge` moments, talkers and stream packets, `replay` what a link heard, and `check` what
+a module did; `inputs.txt` tells in words what the inputs of the last three hold. All of them are spelled out in
+`../make_vectors.py`, which writes this folder.
 
 | name | words | status | what it shows |
 |---|---|---|---|
 """
 
 
+# ---- the inputs in words
+
+MOST_PARTS = 40
+
+
+def input_text(words, data):
+    head, parts = parts_of([word.encode() for word in words[:1]], data)
+    told = [part_text(words, part) for part in parts]
+    if head and head not in (TRACE_MAGIC, BOOK_MAGIC + b"A"):
+        told.insert(0, "bytes " + head.hex().upper())
+    if len(told) > MOST_PARTS:
+        told[MOST_PARTS:] = ["and %d more" % (len(told) - MOST_PARTS)]
+    return "".join("  %s\n" % line for line in told)
+
+
+def part_text(words, part):
+    """An entry or a record."""
+    try:
+        if words[:1] == ["replay"]:
+            return entry_text(read_trace(TRACE_MAGIC + part)[0])
+        if words[:1] == ["check"]:
+            return record_text(read_book(BOOK_MAGIC + b"A" + part)[0])
+    except InputRefused:
+        pass
+    if words[:1] == ["judge"] and len(part) == 64:
+        return "at %d talker %d %s" % (number(part[:8]), number(part[8:10]), short_text(part[10:]))
+    return "bytes " + part.hex().upper()
+
+
+def entry_text(entry):
+    if isinstance(entry, Datagram):
+        return "at %d from %s: %s" % (entry.moment, peer_text(entry.peer), short_text(entry.bytes))
+    return "at %d quiet" % entry.moment if isinstance(entry, Quiet) else "fault"
+
+
+def record_text(record):
+    who = "at %d place %d generation %d" % (record.moment, record.place, record.generation)
+    if record.kind == 1:
+        return who + (" joins to listen" if record.listens else " joins")
+    if record.kind == 2:
+        return who + " leaves"
+    value = ""
+    if record.verdict == "busy":
+        value = " by place %d generation %d" % (number(record.value[:4]), number(record.value[4:]))
+    elif record.verdict == "late":
+        value = " %d" % number(record.value)
+    return "%s %s: %s%s" % (who, short_text(record.packet.bytes), record.verdict, value)
+
+
+def short_text(data):
+    packet = decode(data)
+    if isinstance(packet, Stream):
+        return "stream %04X number %d%s" % (packet.sid, packet.number, " end" if packet.last else "")
+    return packet_text(packet) + (", bytes " + data.hex().upper() if isinstance(packet, Refused) else "")
+
+
 def files():
     """The contents of the folder, by name."""
     contents = {}
     rows = []
+    inputs = []
     for name, words, data, shows in VECTORS:
         status, output = reference.run([word.encode() for word in words], lambda: data)
         contents[name + ".args"] = "".join(word + "\n" for word in words).encode()
@@ -579,7 +644,10 @@ def files():
         contents[name + ".out"] = output
         contents[name + ".status"] = b"%d\n" % status
         rows.append("| `%s` | %s | %d | %s |\n" % (name, "`%s`" % " ".join(words) if words else "none", status, shows))
+        if data and words[:1] != ["show"]:
+            inputs.append("%s\n%s" % (name, input_text(words, data)))
     contents["README.md"] = (README + "".join(rows)).encode()
+    contents["inputs.txt"] = "\n".join(inputs).encode()
     return contents
 
 
