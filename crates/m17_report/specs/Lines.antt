@@ -1,6 +1,7 @@
 -- The line of an entry of a link: its index, and what it came to. This profile.
 use Rattle.std.specs.Prelude.{◌≡◌, ℕ, Bool, true, false, List, [], ◌∷◌, ◌++◌, codes, decimal, Option, None, Some}
 use Rattle.m17_floor.specs.declared.verdict.Verdict.{Verdict}
+use Rattle.m17_floor.specs.declared.verdict.Verdict.TheVariants.{Busy}
 use Rattle.m17_print.specs.Line.{CanEnd}
 use Rattle.m17_print.specs.Packets.{refusal_text}
 use Rattle.m17_print.specs.Verdicts.{verdict_text}
@@ -21,11 +22,17 @@ act_word act.Packet = []
 abbrev pub of_module : ℕ → List ℕ → List ℕ
 of_module letter text = letter ∷ codes " " ++ text
 
+-- The verdict on a packet: its word, and after `late` the last number, as in `late 5`; who holds the floor is not told.
+-- This profile.
+abbrev pub packet_text : Verdict → List ℕ
+packet_text (Busy holder) = codes "busy"
+packet_text verdict = verdict_text verdict
+
 -- What was routed: its module, and for a packet the verdict of the floor rule; nothing of a packet without one. This
 -- profile.
 abbrev pub routed_text : ℕ → Act → Option Verdict → Option (List ℕ)
 routed_text letter act.Packet None = None
-routed_text letter act.Packet (Some verdict) = Some (of_module letter (verdict_text verdict))
+routed_text letter act.Packet (Some verdict) = Some (of_module letter (packet_text verdict))
 routed_text letter what verdict = Some (of_module letter (act_word what))
 
 -- What an entry came to, in the order of the table; nothing of one that still asks. The entry that ends a link by its

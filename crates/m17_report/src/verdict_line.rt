@@ -1,6 +1,6 @@
 ghost use Rattle.std.specs.Prelude.{◌≡◌, ◌++◌, ◌≤◌, [], ◌∷◌, length, decimal, codes};
 ghost use Rattle.m17_print.specs.Line.{IsBegun, CanEnd};
-ghost use Rattle.m17_report.specs.Lines.{verdict_line, of_module, link_text, routed_text, OfText};
+ghost use Rattle.m17_report.specs.Lines.{verdict_line, of_module, link_text, packet_text, routed_text, OfText};
 
 use m17_control::ModuleLetter;
 use m17_directory::{Act, LinkVerdict};
@@ -67,11 +67,23 @@ fn push_routed(line: &mut Line, letter: ModuleLetter, act: Act, v: &Option<Verdi
             None => return false,
             Some(verdict) => {
                 push_about(line, letter, "");
-                line.push_verdict(*verdict);
+                push_verdict(line, verdict);
             }
         },
     }
     true
+}
+
+// Appends the verdict on a packet, without who holds the floor.
+fn push_verdict(line: &mut Line, verdict: &Verdict)
+    requires { IsBegun line.old }
+    ensures appended { line.new ≡ line.old ++ packet_text verdict.now }
+    ensures ends { CanEnd line.new }
+{
+    match verdict {
+        Verdict::Busy { .. } => line.push_text("busy"),
+        _ => line.push_verdict(*verdict),
+    }
 }
 
 // Appends the letter of a module, a space, and a word about it, if there is one.
