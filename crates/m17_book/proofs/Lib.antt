@@ -21,3 +21,5 @@ pub mod Told
 pub mod Readable
 pub mod EntryReads
 pub mod TraceExact
+pub mod WholeBook
+pub mod RecordClear

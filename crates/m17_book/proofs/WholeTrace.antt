@@ -29,7 +29,7 @@ cut_at_end Flawed rest place total NoMemory e h = tt
 pub large_is_no_cut : (total at : ℕ) (refusal : FormRefusal) → refusal ≡ Large at → IsCutAt total refusal
 large_is_no_cut total at refusal e = subst (λ (r : FormRefusal). IsCutAt total r) (sym e) tt
 
-fault_is_outside : (refusal : FormRefusal) → refusal ≡ ReadFault → IsOutside refusal
+pub fault_is_outside : (refusal : FormRefusal) → refusal ≡ ReadFault → IsOutside refusal
 fault_is_outside refusal e = subst IsOutside (sym e) tt
 
 no_memory_is_outside : (refusal : FormRefusal) → refusal ≡ NoMemory → IsOutside refusal
