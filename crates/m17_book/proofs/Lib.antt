@@ -23,3 +23,6 @@ pub mod EntryReads
 pub mod TraceExact
 pub mod WholeBook
 pub mod RecordClear
+pub mod BookExact
+pub mod VerdictReads
+pub mod RecordReads

@@ -1,5 +1,5 @@
 -- Bytes have one flaw at most: the first field that is bad, where the fields do not overlap.
-use Rattle.std.proofs.Common.{◌≡◌, ◌⊎◌, ℕ, ◌+◌, ◌<◌, ◌≤◌, List, length, inl, inr, refl, sym, ap, subst, ◌∙◌, arith}
+use Rattle.std.proofs.Common.{◌≡◌, ◌⊎◌, ℕ, ◌+◌, ◌<◌, ◌≤◌, List, inl, inr, refl, sym, ap, subst, ◌∙◌, arith}
 use Rattle.std.proofs.lemmas.Bool.{cases_lt}
 use Rattle.m17_book.specs.Limits.{IsKind}
 use Rattle.m17_book.specs.Flaws.{kind_of, HasFlaw, IsFirstBad, RecordFlaw, RecordField, Link, Place, Listen, Callsign, Reason, Verdict_, Value, Packet, IsInRecord, record_field_at, record_field_size, IsAllowedInRecord, IsShortRecord, EntryFlaw, IsInEntry, entry_field_at, entry_field_size, IsAllowedInEntry, IsShortEntry}

@@ -1,5 +1,5 @@
 -- Records of a book: no spelling begins another, and what begins with one has no flaw.
-use Rattle.std.proofs.Common.{◌≡◌, ◌≢◌, ◌⊎◌, ℕ, ◌+◌, ◌<◌, ◌≤◌, ◌^◌, Bool, true, false, if◌then◌else◌, nat_eq, List, [], ◌∷◌, ◌++◌, length, take, drop, get_or, inl, inr, refl, sym, ap, subst, ◌∙◌, arith, append_assoc, length-append}
+use Rattle.std.proofs.Common.{◌≡◌, ℕ, ◌+◌, ◌<◌, ◌≤◌, ◌^◌, Bool, true, false, if◌then◌else◌, nat_eq, List, [], ◌∷◌, ◌++◌, length, take, drop, refl, sym, ap, subst, ◌∙◌, arith, append_assoc, length-append}
 use Rattle.std.proofs.lemmas.List.{take_at, drop_at}
 use Rattle.m17_fields.specs.Fields.{be_16, be_32, be_48, be_64, Fields16AreExact, Fields32AreExact, Fields48AreExact, Fields64AreExact}
 use Rattle.m17_callsign.specs.AddressBytes.{address_bytes}
@@ -17,7 +17,7 @@ use Rattle.m17_crc.specs.Crc.{crc_of}
 use Rattle.m17_stream.specs.declared.packet.StreamPacket.{StreamPacket}
 use Rattle.m17_values.specs.declared.member.Member.{Member}
 use Rattle.m17_book.specs.Limits.{IsKind}
-use Rattle.m17_book.specs.Records.{SpellsRecord, FitsRecord, FitsHead, FitsVerdict, record_bytes, head_bytes, value_bytes, stream_bytes, verdict_code, why_code, zeros_10, zeros_12}
+use Rattle.m17_book.specs.Records.{SpellsRecord, FitsRecord, FitsHead, FitsVerdict, record_bytes, head_bytes, value_bytes, stream_bytes, verdict_code, why_code, zeros_10}
 use Rattle.m17_book.specs.Flaws.{kind_of, RecordFlaw, RecordField, Link, Place, Listen, Callsign, Reason, Verdict_, Value, Packet, IsInRecord, IsAllowedInRecord, IsShortRecord}
 use Rattle.m17_book.specs.declared.record.Record.{Record}
 use Rattle.m17_book.specs.declared.record.Record.TheVariants as records
@@ -102,10 +102,10 @@ same_head law h k f g e =
     }
 
 -- what comes after the head
-why_at : ℕ → Why
+pub why_at : ℕ → Why
 why_at k = if nat_eq k 1 then Asked else (if nat_eq k 2 then Moved else (if nat_eq k 3 then Silent else (if nat_eq k 4 then Stopped else Replaced)))
 
-why_back : (w : Why) → why_at (why_code w) ≡ w
+pub why_back : (w : Why) → why_at (why_code w) ≡ w
 unfolding why_at
 why_back Asked = refl
 why_back Moved = refl
@@ -116,26 +116,26 @@ why_back Replaced = refl
 why_eq : (a b : Why) → why_code a ≡ why_code b → a ≡ b
 why_eq a b e = sym (why_back a) ∙ ap why_at e ∙ why_back b
 
-listen_eq : (a b : Bool) → (if a then 1 else 0) ≡ (if b then 1 else 0) → a ≡ b
+listen_eq : (a b : Bool) → ◌≡◌ {A = ℕ} (if a then 1 else 0) (if b then 1 else 0) → a ≡ b
 listen_eq true true e = refl
 listen_eq false false e = refl
 listen_eq true false e = absurd (omega arith)
 listen_eq false true e = absurd (omega arith)
 
 -- verdicts by their bytes
-holder_of : Verdict → Member
+pub holder_of : Verdict → Member
 holder_of (Busy holder) = holder
 holder_of _ = record { place = 0; generation = 0 }
 
-last_of : Verdict → ℕ
+pub last_of : Verdict → ℕ
 last_of (Late last) = last
 last_of _ = 0
 
-verdict_at : ℕ → Member → ℕ → Verdict
+unfoldable pub verdict_at : ℕ → Member → ℕ → Verdict
 verdict_at k holder last = if nat_eq k 1 then Opened else (if nat_eq k 2 then Continued else (if nat_eq k 3 then Busy holder else (if nat_eq k 4 then Repeat else
     (if nat_eq k 5 then Late last else (if nat_eq k 6 then AfterEnd else (if nat_eq k 7 then NotMember else ListenOnly))))))
 
-verdict_back : (v : Verdict) → verdict_at (verdict_code v) (holder_of v) (last_of v) ≡ v
+pub verdict_back : (v : Verdict) → verdict_at (verdict_code v) (holder_of v) (last_of v) ≡ v
 unfolding verdict_at holder_of last_of
 verdict_back Opened = refl
 verdict_back Continued = refl
@@ -147,7 +147,7 @@ verdict_back NotMember = refl
 verdict_back ListenOnly = refl
 
 -- the verdict with another's code
-with_code : (v : Verdict) (k : ℕ) → k ≡ verdict_code v → verdict_at k (holder_of v) (last_of v) ≡ v
+pub with_code : (v : Verdict) (k : ℕ) → k ≡ verdict_code v → verdict_at k (holder_of v) (last_of v) ≡ v
 with_code v k e = ap (λ n. verdict_at n (holder_of v) (last_of v)) e ∙ verdict_back v
 
 same_holder : FieldLaws → (a b : Member) → (a.place < 256) × (a.generation < 2 ^ 64) → (b.place < 256) × (b.generation < 2 ^ 64)
@@ -214,8 +214,15 @@ long_lsd l f = omega (arith, length-append (be_48 l.dst ++ be_48 l.src ++ be_16 
 long_stream : (p : StreamPacket) → SpellsStream p (stream_bytes p) → length (stream_bytes p) ≡ 54
 long_stream p s =
     let number = be_16 (frame_field p.last p.number) in
-    omega (arith, length-append (front_bytes p) (be_16 (crc_of (front_bytes p))), length-append (magic ++ be_16 p.sid ++ lsd_bytes p.lsd ++ number) p.payload,
-    length-append (magic ++ be_16 p.sid ++ lsd_bytes p.lsd) number, length-append (magic ++ be_16 p.sid) (lsd_bytes p.lsd), long_lsd p.lsd s.lsd, s.payload_length)
+    omega (
+      arith,
+      length-append (front_bytes p) (be_16 (crc_of (front_bytes p))),
+      length-append (magic ++ be_16 p.sid ++ lsd_bytes p.lsd ++ number) p.payload,
+      length-append (magic ++ be_16 p.sid ++ lsd_bytes p.lsd) number,
+      length-append (magic ++ be_16 p.sid) (lsd_bytes p.lsd),
+      long_lsd p.lsd s.lsd,
+      s.payload_length,
+    )
 
 same_join : FieldLaws → (tag tag' : Tag) (moment moment' : ℕ) (member member' : Member) (listen listen' : Bool) (call call' : ℕ) (x y : List ℕ)
     → HasCallsign call → HasCallsign call' → tag ≡ tag' → moment ≡ moment' → member ≡ member'

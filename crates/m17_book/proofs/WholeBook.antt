@@ -1,12 +1,13 @@
 -- A whole book as it was read: its header and its records.
-use Rattle.std.proofs.Common.{◌≡◌, ◌⊎◌, ℕ, ◌+◌, ◌<◌, ◌≤◌, ◌^◌, List, [], ◌∷◌, ◌++◌, length, Option, Some, Result, Ok, Err, OnErr, IfOk, IfErr, IsOk, IsErr, inl, inr, refl, sym, ap, subst, ◌∙◌, arith, append_assoc, length-append}
+use Rattle.std.proofs.Common.{◌≡◌, ◌⊎◌, ℕ, ◌+◌, ◌<◌, List, [], ◌++◌, length, Option, Some, Result, Ok, Err, OnErr, IfOk, IfErr, IsOk, IsErr, inl, inr, refl, sym, ap, subst, ◌∙◌, arith, append_assoc, length-append}
 use Rattle.std.proofs.lemmas.List.{append-nil}
 use Rattle.std.proofs.lemmas.Result.{IfOk-weaker}
 use Rattle.std.proofs.lemmas.Bool.{false≢true}
 use Rattle.m17_control.specs.Forms.{IsModule}
 use Rattle.m17_book.specs.Answers.{IsOutside, IsBookOf}
-use Rattle.m17_book.specs.Book.{TellsFlaw, BookHeaderFlaw, book_header, HasBookForm, LacksBookForm, RefusesBook}
+use Rattle.m17_book.specs.Book.{TellsFlaw, BookHeaderFlaw, book_header, LacksBookForm, RefusesBook}
 use Rattle.m17_book.specs.Flaws.{RecordFlaw}
+use Rattle.m17_book.specs.Laws.{Kept, BooksAreExact}
 use Rattle.m17_book.specs.Limits.{told, most_bytes}
 use Rattle.m17_book.specs.Records.{SpellsRecord}
 use Rattle.m17_book.specs.Steps.{PassesHeader}
@@ -140,3 +141,11 @@ pub refused_with : {T U : Type 0} (read : Result T FormRefusal) (result : Result
 refused_with read (Ok u) Left records spot reads is outside settled = tt
 refused_with {U = U} read (Err refusal) Left records spot reads is outside settled = λ bytes left.
     refusal_of {U = U} read (Err refusal) Left records spot reads read refusal is bytes (reads bytes left) outside settled
+
+-- the law of books, of their records alone
+pub one_book : BooksAreExact → (bytes : List ℕ) (a b : List Record) → IsBookOf bytes a → IsBookOf bytes b → a ≡ b
+one_book law bytes a b h k =
+    ap (λ (kept : Kept). kept.records) (law.one_value bytes (record { letter = h.0; records = a }) (record { letter = k.0; records = b }) h.1 k.1)
+
+pub book_or_refused : BooksAreExact → (bytes : List ℕ) (records : List Record) (refusal : FormRefusal) → IsBookOf bytes records → RefusesBook bytes refusal → ⊥
+book_or_refused law bytes records refusal h k = law.not_both bytes (record { letter = h.0; records = records }) refusal h.1 k

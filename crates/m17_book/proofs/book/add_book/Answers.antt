@@ -1,4 +1,4 @@
-use Rattle.std.proofs.Common.{◌≡◌, ℕ, []}
+use Rattle.std.proofs.Common.{ℕ, []}
 use Rattle.m17_book.specs.Ahead.{held}
 use Rattle.m17_book.specs.Walk.{spot}
 use Rattle.m17_book.proofs.WholeBook.{bad_header, behind_header}

@@ -1,4 +1,4 @@
-use Rattle.std.proofs.Common.{◌≡◌, inl, inr, refl, sym, ap, ◌∙◌}
+use Rattle.std.proofs.Common.{inl, inr, refl}
 use Rattle.m17_book.specs.Flaws.{RecordFlaw}
 use Rattle.m17_book.specs.Records.{SpellsRecord}
 use Rattle.m17_book.specs.Ahead.{held}
@@ -7,9 +7,12 @@ use Rattle.m17_book.proofs.WholeTrace.{fault_is_outside}
 use Rattle.m17_book.proofs.book.add_record.Goals as goal
 
 pub returns-in-Ok-clause-read : goal.returns-in-Ok-clause-read
-returns-in-Ok-clause-read g c = λ ahead before.
-    (c.in-Ok-Some.record, c.in-Ok.ensures.added, some_passed SpellsRecord RecordFlaw c.in-Ok-Some.field-0 c.in-Ok-Some.record ahead (held c.next_record.new.cursor)
-    (g.S.Source.left c.next_record.new.source) c.args.cursor.now.place c.next_record.new.cursor.place c.in-Ok-Some.field-0-is (c.in-Ok-Some.ensures.next ahead before))
+returns-in-Ok-clause-read g c = λ ahead before. (
+  c.in-Ok-Some.record,
+  c.in-Ok.ensures.added,
+  some_passed SpellsRecord RecordFlaw c.in-Ok-Some.field-0 c.in-Ok-Some.record ahead (held c.next_record.new.cursor)
+      (g.S.Source.left c.next_record.new.source) c.args.cursor.now.place c.next_record.new.cursor.place c.in-Ok-Some.field-0-is (c.in-Ok-Some.ensures.next ahead before),
+)
 
 pub returns-in-Ok-None-clause-read : goal.returns-in-Ok-None-clause-read
 returns-in-Ok-None-clause-read g c = λ ahead before. let h = none_next SpellsRecord RecordFlaw c.in-Ok-None.field-0 ahead (held c.next_record.new.cursor)

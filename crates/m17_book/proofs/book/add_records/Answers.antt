@@ -1,4 +1,4 @@
-use Rattle.std.proofs.Common.{◌≡◌, ℕ, List, rules, arith}
+use Rattle.std.proofs.Common.{ℕ, rules, arith}
 use Rattle.m17_book.specs.Records.{SpellsRecord}
 use Rattle.m17_book.specs.Walk.{spot, WrongRecord}
 use Rattle.m17_book.proofs.Passing.{first_passed, added, ended, stopped}
