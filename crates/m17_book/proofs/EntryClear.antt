@@ -1,13 +1,13 @@
 -- Entries of a trace: no spelling begins another, and what begins with one has no flaw.
-use Rattle.std.proofs.Common.{◌≡◌, ◌≢◌, ◌⊎◌, ℕ, ◌+◌, ◌<◌, ◌≤◌, ◌^◌, Bool, true, false, List, [], ◌∷◌, ◌++◌, length, take, drop, get_or, inl, inr, refl, sym, ap, subst, ◌∙◌, arith, append_assoc, length-append}
+use Rattle.std.proofs.Common.{◌≡◌, ◌⊎◌, ℕ, ◌+◌, ◌<◌, ◌≤◌, ◌^◌, Bool, true, false, List, [], ◌∷◌, ◌++◌, length, take, drop, get_or, inl, inr, refl, sym, ap, subst, ◌∙◌, arith, append_assoc, length-append}
 use Rattle.std.proofs.lemmas.List.{take-append-drop, length-take-le}
-use Rattle.m17_fields.specs.Fields.{be_16, be_64, IsBytes, Fields16AreExact, Fields64AreExact}
+use Rattle.m17_fields.specs.Fields.{be_16, be_64, Fields16AreExact, Fields64AreExact}
 use Rattle.m17_values.specs.declared.peer.Peer.{Peer}
 use Rattle.m17_values.specs.declared.heard.Heard.{Heard}
 use Rattle.m17_values.specs.declared.heard.Heard.TheVariants.{Datagram, Quiet, Fault, End}
-use Rattle.m17_book.specs.Entries.{SpellsEntry, FitsEntry, FitsPeer, entry_bytes, family_bytes}
+use Rattle.m17_book.specs.Entries.{SpellsEntry, FitsEntry, entry_bytes, family_bytes}
 use Rattle.m17_book.specs.Limits.{IsKind}
-use Rattle.m17_book.specs.Flaws.{kind_of, EntryFlaw, EntryField, Family, Length_4, Length_6, IsInEntry, entry_field_at, entry_field_size, IsAllowedInEntry, IsShortEntry}
+use Rattle.m17_book.specs.Flaws.{kind_of, EntryFlaw, EntryField, Family, Length_4, Length_6, IsInEntry, IsAllowedInEntry, IsShortEntry}
 use Rattle.m17_book.specs.declared.refusal.Flaw.{Flaw}
 use Rattle.m17_book.specs.declared.refusal.Flaw.TheVariants as flaws
 use Rattle.m17_book.proofs.Pieces.{parts, cons_parts, behind}
@@ -33,8 +33,13 @@ long_16 n = refl
 
 long_before : (from : Peer) (at : ℕ) → length (before_length from at) ≡ 11 + length (family_bytes from.six from.ip)
 unfolding before_length
-long_before from at = omega (arith, length-append ((1 ∷ []) ++ be_64 at ++ family_bytes from.six from.ip) (be_16 from.port),
-  length-append ((1 ∷ []) ++ be_64 at) (family_bytes from.six from.ip), long_64 at, long_16 from.port)
+long_before from at = omega (
+  arith,
+  length-append ((1 ∷ []) ++ be_64 at ++ family_bytes from.six from.ip) (be_16 from.port),
+  length-append ((1 ∷ []) ++ be_64 at) (family_bytes from.six from.ip),
+  long_64 at,
+  long_16 from.port,
+)
 
 long_family : (six : Bool) (ip : List ℕ) → length ip ≡ 16 → ((six ≡ false) × (length (family_bytes six ip) ≡ 5)) ⊎ ((six ≡ true) × (length (family_bytes six ip) ≡ 17))
 long_family false ip long = inl (refl, omega (arith, length-take-le 4 ip (omega arith)))

@@ -1,21 +1,21 @@
 -- Bytes begin with an entry, or with a flaw of one.
-use Rattle.std.proofs.Common.{◌≡◌, ◌⊎◌, ℕ, ◌+◌, ◌<◌, ◌≤◌, ◌^◌, Bool, true, false, List, [], ◌∷◌, ◌++◌, length, take, drop, get_or, slice_range, inl, inr, refl, sym, ap, subst, ◌∙◌, arith, length-append}
+use Rattle.std.proofs.Common.{◌≡◌, ◌⊎◌, ℕ, ◌+◌, ◌<◌, ◌≤◌, ◌^◌, List, [], ◌∷◌, ◌++◌, length, take, drop, get_or, slice_range, inl, inr, refl, sym, ap, ◌∙◌, arith, length-append}
 use Rattle.std.proofs.lemmas.Bool.{cases_lt, cases_eq}
-use Rattle.std.proofs.lemmas.List.{take-append-drop, length-take-le, length-drop, take_at, drop_at, take_all, drop_all}
-use Rattle.std.proofs.lemmas.List.Elements.{All-take, All-drop, All-append, All-from_get_or}
+use Rattle.std.proofs.lemmas.List.{length-take-le, length-drop, take_at, drop_at, take_all, drop_all}
+use Rattle.std.proofs.lemmas.List.Elements.{All-take, All-drop, All-append}
 use Rattle.std.proofs.lemmas.Grind.{common_steps}
 use Rattle.std.proofs.Math.Seq.{take-add}
-use Rattle.m17_fields.specs.Fields.{be_16, be_64, IsBytes, Fields16AreExact, Fields64AreExact}
+use Rattle.m17_fields.specs.Fields.{be_64, IsBytes, Fields16AreExact, Fields64AreExact}
 use Rattle.m17_values.specs.declared.heard.Heard.{Heard}
-use Rattle.m17_values.specs.declared.heard.Heard.TheVariants.{Datagram, Quiet, Fault, End}
+use Rattle.m17_values.specs.declared.heard.Heard.TheVariants.{Quiet, Fault}
 use Rattle.m17_book.specs.Entries.{SpellsEntry}
 use Rattle.m17_book.specs.Limits.{IsKind}
 use Rattle.m17_book.specs.Parsed.{BeginsWith, IsAddress}
 use Rattle.m17_book.specs.Records.{zeros_12}
-use Rattle.m17_book.specs.Flaws.{kind_of, AreAllowed, EntryFlaw, EntryField, Family, Length_4, Length_6, IsInEntry, entry_field_at, entry_field_size, IsAllowedInEntry, IsShortEntry}
+use Rattle.m17_book.specs.Flaws.{kind_of, AreAllowed, EntryFlaw, Family, Length_4, Length_6, IsInEntry, entry_field_at, entry_field_size, IsAllowedInEntry, IsShortEntry}
 use Rattle.m17_book.specs.declared.refusal.Flaw.{Flaw}
 use Rattle.m17_book.specs.declared.refusal.Flaw.TheVariants as flaws
-use Rattle.m17_book.proofs.Entry.{take_one, begins_datagram, Stands}
+use Rattle.m17_book.proofs.Entry.{take_one, begins_datagram}
 
 -- the bytes begin with an entry, or with a flaw
 abbrev pub Begins : List ℕ → Type 0
@@ -100,21 +100,43 @@ reads_4 : Fields16AreExact → Fields64AreExact → (b : List ℕ) → IsBytes b
 reads_4 law16 law64 b bytes kind four long =
     let kinds = is_kind b 1 kind (omega arith) (omega arith) in
     elim (cases_lt (length b) 17) [
-      | inl cut ↦ inr (flaws.Cut, (omega arith, kinds, short b kind (λ f. omega arith) (λ f. absurd (omega arith)),
-        sound b (length b) (λ w. inl four) (λ f w. absurd (omega arith)) (λ f w. absurd (omega arith))))
+      | inl cut ↦ inr (
+        flaws.Cut,
+        (
+          omega arith,
+          kinds,
+          short b kind (λ f. omega arith) (λ f. absurd (omega arith)),
+          sound b (length b) (λ w. inl four) (λ f w. absurd (omega arith)) (λ f w. absurd (omega arith)),
+        ),
+      )
       | inr there ↦ elim (cases_lt 64 (get_or b 16 0)) [
-        | inl high ↦ inr (flaws.Field 16, (kinds, Length_4, record {
-          is_in = (kind, four);
-          whole = there;
-          before = sound b 16 (λ w. inl four) (λ f w. absurd (omega arith)) (λ f w. absurd (omega arith));
-          bad = λ good. omega (arith, good, high);
-        }, refl))
+        | inl high ↦ inr (
+          flaws.Field 16,
+          (
+            kinds,
+            Length_4,
+            record {
+              is_in = (kind, four);
+              whole = there;
+              before = sound b 16 (λ w. inl four) (λ f w. absurd (omega arith)) (λ f w. absurd (omega arith));
+              bad = λ good. omega (arith, good, high);
+            },
+            refl,
+          ),
+        )
         | inr low ↦ elim (cases_lt (length b) (17 + get_or b 16 0)) [
-          | inl cut ↦ inr (flaws.Cut, (omega arith, kinds, short b kind (λ f. cut) (λ f. absurd (omega arith)),
-            sound b (length b) (λ w. inl four) (λ f w. low) (λ f w. absurd (omega arith))))
+          | inl cut ↦ inr (
+            flaws.Cut,
+            (
+              omega arith,
+              kinds,
+              short b kind (λ f. cut) (λ f. absurd (omega arith)),
+              sound b (length b) (λ w. inl four) (λ f w. low) (λ f w. absurd (omega arith)),
+            ),
+          )
           | inr within ↦ let field = take 4 (drop 10 b) in
-            whole_datagram law16 law64 b (field ++ zeros_12) 4 bytes kind (inl (four, refl)) (All-append (λ byte. byte < 2 ^ 8) field zeros_12 (part_bytes 10 4 b bytes) zeros_bytes)
-            (address_4 field (long_part 10 4 b (omega arith))) low (omega arith)
+              whole_datagram law16 law64 b (field ++ zeros_12) 4 bytes kind (inl (four, refl)) (All-append (λ byte. byte < 2 ^ 8) field zeros_12 (part_bytes 10 4 b bytes) zeros_bytes)
+              (address_4 field (long_part 10 4 b (omega arith))) low (omega arith)
         ]
       ]
     ]
@@ -123,21 +145,43 @@ reads_6 : Fields16AreExact → Fields64AreExact → (b : List ℕ) → IsBytes b
 reads_6 law16 law64 b bytes kind six long =
     let kinds = is_kind b 1 kind (omega arith) (omega arith) in
     elim (cases_lt (length b) 29) [
-      | inl cut ↦ inr (flaws.Cut, (omega arith, kinds, short b kind (λ f. absurd (omega arith)) (λ f. omega arith),
-        sound b (length b) (λ w. inr six) (λ f w. absurd (omega arith)) (λ f w. absurd (omega arith))))
+      | inl cut ↦ inr (
+        flaws.Cut,
+        (
+          omega arith,
+          kinds,
+          short b kind (λ f. absurd (omega arith)) (λ f. omega arith),
+          sound b (length b) (λ w. inr six) (λ f w. absurd (omega arith)) (λ f w. absurd (omega arith)),
+        ),
+      )
       | inr there ↦ elim (cases_lt 64 (get_or b 28 0)) [
-        | inl high ↦ inr (flaws.Field 28, (kinds, Length_6, record {
-          is_in = (kind, six);
-          whole = there;
-          before = sound b 28 (λ w. inr six) (λ f w. absurd (omega arith)) (λ f w. absurd (omega arith));
-          bad = λ good. omega (arith, good, high);
-        }, refl))
+        | inl high ↦ inr (
+          flaws.Field 28,
+          (
+            kinds,
+            Length_6,
+            record {
+              is_in = (kind, six);
+              whole = there;
+              before = sound b 28 (λ w. inr six) (λ f w. absurd (omega arith)) (λ f w. absurd (omega arith));
+              bad = λ good. omega (arith, good, high);
+            },
+            refl,
+          ),
+        )
         | inr low ↦ elim (cases_lt (length b) (29 + get_or b 28 0)) [
-          | inl cut ↦ inr (flaws.Cut, (omega arith, kinds, short b kind (λ f. absurd (omega arith)) (λ f. cut),
-            sound b (length b) (λ w. inr six) (λ f w. absurd (omega arith)) (λ f w. low)))
+          | inl cut ↦ inr (
+            flaws.Cut,
+            (
+              omega arith,
+              kinds,
+              short b kind (λ f. absurd (omega arith)) (λ f. cut),
+              sound b (length b) (λ w. inr six) (λ f w. absurd (omega arith)) (λ f w. low),
+            ),
+          )
           | inr within ↦ let field = take 16 (drop 10 b) in
-            whole_datagram law16 law64 b field 16 bytes kind (inr (six, refl)) (part_bytes 10 16 b bytes)
-            (address_6 field (long_part 10 16 b (omega arith))) low (omega arith)
+              whole_datagram law16 law64 b field 16 bytes kind (inr (six, refl)) (part_bytes 10 16 b bytes)
+              (address_6 field (long_part 10 16 b (omega arith))) low (omega arith)
         ]
       ]
     ]
@@ -150,29 +194,50 @@ reads_datagram : Fields16AreExact → Fields64AreExact → (b : List ℕ) → Is
 reads_datagram law16 law64 b bytes kind some =
     let kinds = is_kind b 1 kind (omega arith) (omega arith) in
     elim (cases_lt (length b) 10) [
-      | inl cut ↦ inr (flaws.Cut, (some, kinds, short b kind (λ f. omega arith) (λ f. omega arith),
-        sound b (length b) (λ w. absurd (omega arith)) (λ f w. absurd (omega arith)) (λ f w. absurd (omega arith))))
+      | inl cut ↦ inr (
+        flaws.Cut,
+        (
+          some,
+          kinds,
+          short b kind (λ f. omega arith) (λ f. omega arith),
+          sound b (length b) (λ w. absurd (omega arith)) (λ f w. absurd (omega arith)) (λ f w. absurd (omega arith)),
+        ),
+      )
       | inr there ↦ elim (cases_eq (get_or b 9 0) 4) [
         | inl four ↦ reads_4 law16 law64 b bytes kind four there
         | inr not_4 ↦ elim (cases_eq (get_or b 9 0) 6) [
           | inl six ↦ reads_6 law16 law64 b bytes kind six there
-          | inr not_6 ↦ inr (flaws.Field 9, (kinds, Family, record {
-            is_in = kind;
-            whole = there;
-            before = sound b 9 (λ w. absurd (omega arith)) (λ f w. absurd (omega arith)) (λ f w. absurd (omega arith));
-            bad = other_family b not_4 not_6;
-          }, refl))
+          | inr not_6 ↦ inr (
+            flaws.Field 9,
+            (
+              kinds,
+              Family,
+              record {
+                is_in = kind;
+                whole = there;
+                before = sound b 9 (λ w. absurd (omega arith)) (λ f w. absurd (omega arith)) (λ f w. absurd (omega arith));
+                bad = other_family b not_4 not_6;
+              },
+              refl,
+            ),
+          )
         ]
       ]
     ]
 
 reads_quiet : Fields64AreExact → (b : List ℕ) → IsBytes b → kind_of b ≡ 2 → 0 < length b → Begins b
 reads_quiet law b bytes kind some = elim (cases_lt (length b) 9) [
-  | inl cut ↦ inr (flaws.Cut, (some, is_kind b 2 kind (omega arith) (omega arith),
-    record { datagram_4 = λ k f. absurd (omega arith); datagram_6 = λ k f. absurd (omega arith); quiet = λ k. cut; fault = λ k. omega arith },
-    no_fields b (length b) 2 kind (λ e. omega arith)))
+  | inl cut ↦ inr (
+    flaws.Cut,
+    (
+      some,
+      is_kind b 2 kind (omega arith) (omega arith),
+      record { datagram_4 = λ k f. absurd (omega arith); datagram_6 = λ k f. absurd (omega arith); quiet = λ k. cut; fault = λ k. omega arith },
+      no_fields b (length b) 2 kind (λ e. omega arith),
+    ),
+  )
   | inr there ↦ let at = law.each_bytes (take 8 (drop 1 b)) (long_part 1 8 b there) (part_bytes 1 8 b bytes) in
-    inl (Quiet at.0, 9, record { some = omega arith; within = there; spelled = (at.1, quiet_bytes b at.0 kind there at.2) })
+      inl (Quiet at.0, 9, record { some = omega arith; within = there; spelled = (at.1, quiet_bytes b at.0 kind there at.2) })
 ]
 
 fault_bytes : (b : List ℕ) → kind_of b ≡ 3 → 0 < length b → BeginsWith SpellsEntry b Fault 1

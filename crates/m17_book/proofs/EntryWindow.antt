@@ -1,7 +1,6 @@
 -- What is wrong with the first bytes of what is to come of a trace is wrong with all of it.
-use Rattle.std.proofs.Common.{◌≡◌, ◌≢◌, ◌⊎◌, ℕ, ◌+◌, ◌<◌, ◌≤◌, ◌^◌, List, [], ◌∷◌, ◌++◌, length, take, drop, get_or, Option, inl, inr, refl, sym, ap, subst, ◌∙◌, arith, length-append}
+use Rattle.std.proofs.Common.{◌≡◌, ◌⊎◌, ℕ, ◌+◌, ◌<◌, ◌≤◌, ◌^◌, List, ◌++◌, length, get_or, inl, inr, refl, sym, ap, subst, ◌∙◌, arith, length-append}
 use Rattle.m17_book.specs.Limits.{told, IsKind}
-use Rattle.m17_book.specs.Ahead.{IsAhead}
 use Rattle.m17_book.specs.Book.{TellsFlaw, MagicFlaw}
 use Rattle.m17_book.specs.Flaws.{kind_of, IsFirstBad, EntryFlaw, EntryField, Family, Length_4, Length_6, IsInEntry, entry_field_at, entry_field_size, IsAllowedInEntry, IsShortEntry}
 use Rattle.m17_book.specs.Steps.{tell}

@@ -1,5 +1,5 @@
 -- A reader that is right answers each value and each refusal of a form that is exact.
-use Rattle.std.proofs.Common.{◌≡◌, ◌⊎◌, ℕ, List, Result, Ok, Err, IfOk, IfErr, MatchResult, inl, inr, refl, sym, ap, subst, ◌∙◌}
+use Rattle.std.proofs.Common.{◌≡◌, ◌⊎◌, ℕ, List, Result, Ok, Err, IfOk, IfErr, MatchResult, inl, inr}
 use Rattle.m17_book.specs.Answers.{IsOutside}
 use Rattle.m17_book.specs.declared.refusal.FormRefusal.{FormRefusal}
 

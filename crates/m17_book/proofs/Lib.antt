@@ -21,3 +21,8 @@ pub mod Told
 pub mod Readable
 pub mod EntryReads
 pub mod TraceExact
+pub mod WholeBook
+pub mod RecordClear
+pub mod BookExact
+pub mod VerdictReads
+pub mod RecordReads

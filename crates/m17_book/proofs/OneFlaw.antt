@@ -1,8 +1,8 @@
 -- Bytes have one flaw at most: the first field that is bad, where the fields do not overlap.
-use Rattle.std.proofs.Common.{◌≡◌, ◌⊎◌, ℕ, ◌+◌, ◌<◌, ◌≤◌, List, length, inl, inr, refl, sym, ap, subst, ◌∙◌, arith}
+use Rattle.std.proofs.Common.{◌≡◌, ◌⊎◌, ℕ, ◌+◌, ◌<◌, ◌≤◌, List, inl, inr, refl, sym, ap, subst, ◌∙◌, arith}
 use Rattle.std.proofs.lemmas.Bool.{cases_lt}
 use Rattle.m17_book.specs.Limits.{IsKind}
-use Rattle.m17_book.specs.Flaws.{kind_of, HasFlaw, IsFirstBad, EntryFlaw, IsInEntry, entry_field_at, entry_field_size, IsAllowedInEntry, IsShortEntry}
+use Rattle.m17_book.specs.Flaws.{kind_of, HasFlaw, IsFirstBad, RecordFlaw, RecordField, Link, Place, Listen, Callsign, Reason, Verdict_, Value, Packet, IsInRecord, record_field_at, record_field_size, IsAllowedInRecord, IsShortRecord, EntryFlaw, IsInEntry, entry_field_at, entry_field_size, IsAllowedInEntry, IsShortEntry}
 use Rattle.m17_book.specs.declared.refusal.Flaw.{Flaw}
 use Rattle.m17_book.specs.declared.refusal.Flaw.TheVariants as flaws
 
@@ -39,3 +39,40 @@ module _ {Field : Type 0} (IsIn : Field → List ℕ → Type 0) (at_of size_of 
 
 pub one_entry_flaw : (b : List ℕ) (f g : Flaw) → EntryFlaw b f → EntryFlaw b g → f ≡ g
 one_entry_flaw = one_flaw IsInEntry entry_field_at entry_field_size IsAllowedInEntry IsShortEntry (λ f g low. omega arith)
+
+-- where each field of a record begins, and that it ends before the next place where one does
+Ends : RecordField → Type 0
+Ends f = ((record_field_at f ≡ 1) × (record_field_size f ≤ 17)) ⊎ ((record_field_at f ≡ 18) × (record_field_size f ≤ 12))
+    ⊎ ((record_field_at f ≡ 30) × (record_field_size f ≤ 1)) ⊎ ((record_field_at f ≡ 31) × (record_field_size f ≤ 12)) ⊎ (record_field_at f ≡ 43)
+
+ends : (f : RecordField) → Ends f
+unfolding Ends
+ends Link = inl (refl, omega arith)
+ends Place = inr (inl (refl, omega arith))
+ends Listen = inr (inr (inl (refl, omega arith)))
+ends Callsign = inr (inr (inr (inl (refl, omega arith))))
+ends Reason = inr (inr (inl (refl, omega arith)))
+ends Verdict_ = inr (inr (inl (refl, omega arith)))
+ends Value = inr (inr (inr (inl (refl, omega arith))))
+ends Packet = inr (inr (inr (inr refl)))
+
+apart_by : (a s b : ℕ) → ((a ≡ 1) × (s ≤ 17)) ⊎ ((a ≡ 18) × (s ≤ 12)) ⊎ ((a ≡ 30) × (s ≤ 1)) ⊎ ((a ≡ 31) × (s ≤ 12)) ⊎ (a ≡ 43)
+    → (b ≡ 1) ⊎ (b ≡ 18) ⊎ (b ≡ 30) ⊎ (b ≡ 31) ⊎ (b ≡ 43) → a < b → a + s ≤ b
+apart_by a s b h k low = grind arith
+
+begins_at : (f : RecordField) → (record_field_at f ≡ 1) ⊎ (record_field_at f ≡ 18) ⊎ (record_field_at f ≡ 30) ⊎ (record_field_at f ≡ 31) ⊎ (record_field_at f ≡ 43)
+begins_at Link = inl refl
+begins_at Place = inr (inl refl)
+begins_at Listen = inr (inr (inl refl))
+begins_at Callsign = inr (inr (inr (inl refl)))
+begins_at Reason = inr (inr (inl refl))
+begins_at Verdict_ = inr (inr (inl refl))
+begins_at Value = inr (inr (inr (inl refl)))
+begins_at Packet = inr (inr (inr (inr refl)))
+
+apart : (f g : RecordField) → record_field_at f < record_field_at g → record_field_at f + record_field_size f ≤ record_field_at g
+unfolding Ends
+apart f g low = apart_by (record_field_at f) (record_field_size f) (record_field_at g) (ends f) (begins_at g) low
+
+pub one_record_flaw : (b : List ℕ) (f g : Flaw) → RecordFlaw b f → RecordFlaw b g → f ≡ g
+one_record_flaw = one_flaw IsInRecord record_field_at record_field_size IsAllowedInRecord IsShortRecord apart

@@ -1,5 +1,5 @@
 -- Values passed one after another.
-use Rattle.std.proofs.Common.{◌≡◌, ◌⊎◌, ℕ, ◌+◌, ◌<◌, ◌≤◌, List, [], ◌∷◌, ◌++◌, length, take, drop, Option, Some, Ok, Err, Bool, true, false, inl, inr, refl, sym, ap, subst, ◌∙◌, arith, append_assoc, length-append}
+use Rattle.std.proofs.Common.{◌≡◌, ℕ, ◌+◌, ◌≤◌, List, [], ◌∷◌, ◌++◌, length, take, drop, Option, None, Some, Ok, Err, Bool, true, false, inl, inr, refl, sym, ap, subst, ◌∙◌, arith, append_assoc, length-append}
 use Rattle.std.proofs.lemmas.List.{append-nil, take-append-drop}
 use Rattle.m17_book.specs.Limits.{told, most_bytes, SpellsEach}
 use Rattle.m17_book.specs.Ahead.{IsAhead}
@@ -24,6 +24,19 @@ next_passed Spells Flawed value ahead held left place after h =
       rest_is = h.4;
       place_is = omega (arith, h.5);
     }
+
+-- the same, where the value stands in an option
+pub some_passed : {Value : Type 0} (Spells : Value → List ℕ → Type 0) (Flawed : List ℕ → Flaw → Type 0) (next : Option Value) (value : Value) (ahead held : List ℕ)
+    (left : Option (List ℕ)) (place after : ℕ) → next ≡ Some value → IsNext Spells Flawed (Ok next) ahead place held left after
+    → HasPassed Spells place ahead (value ∷ []) (record { held = held; left = left; place = after })
+some_passed {Value = Value} Spells Flawed next value ahead held left place after e h =
+    next_passed Spells Flawed value ahead held left place after (subst (λ (n : Option Value). IsNext Spells Flawed (Ok n) ahead place held left after) e h)
+
+pub none_next : {Value : Type 0} (Spells : Value → List ℕ → Type 0) (Flawed : List ℕ → Flaw → Type 0) (next : Option Value) (ahead held : List ℕ)
+    (left : Option (List ℕ)) (place after : ℕ) → next ≡ None → IsNext Spells Flawed (Ok next) ahead place held left after
+    → (ahead ≡ []) × IsAhead held left [] × (after ≡ place)
+none_next {Value = Value} Spells Flawed next ahead held left place after e h =
+    subst (λ (n : Option Value). IsNext Spells Flawed (Ok n) ahead place held left after) e h
 
 pub one_passed : {Value : Type 0} (Spells : Value → List ℕ → Type 0) (Flawed : List ℕ → Flaw → Type 0) (value : Value) (b held ahead : List ℕ)
     (size place after : ℕ) (left : Option (List ℕ)) → IsAhead b left ahead → BeginsWith Spells b value size → held ≡ drop size b

@@ -1,5 +1,5 @@
 -- Values spelled one after another: where none of their spellings begins another, bytes have one reading.
-use Rattle.std.proofs.Common.{◌≡◌, ◌⊎◌, ℕ, ◌+◌, ◌<◌, ◌≤◌, List, [], ◌∷◌, ◌++◌, length, inl, inr, refl, sym, ap, subst, ◌∙◌, arith, append_assoc, length-append}
+use Rattle.std.proofs.Common.{◌≡◌, ◌⊎◌, ℕ, ◌<◌, ◌≤◌, List, [], ◌∷◌, ◌++◌, length, inl, inr, refl, sym, ap, subst, ◌∙◌, arith, append_assoc, length-append}
 use Rattle.std.proofs.lemmas.List.{append-nil, append_cancel_left}
 use Rattle.m17_book.specs.Limits.{SpellsEach}
 use Rattle.m17_book.specs.declared.refusal.Flaw.{Flaw}
@@ -37,6 +37,11 @@ module _ {Value : Type 0} (Spells : Value → List ℕ → Type 0) (Flawed : Lis
   stuck [] f r flaw h bad = (refl, h)
   stuck (v ∷ vs) f r flaw h bad =
       let e = ap (λ xs. xs ++ r) h.4 ∙ append_assoc h.0 h.1 r in absurd (clear.not_both v h.0 (h.1 ++ r) flaw h.2 (subst (λ (xs : List ℕ). Flawed xs flaw) e bad))
+
+  -- there are no more values than bytes
+  pub few_values : (vs : List Value) (f : List ℕ) → SpellsEach Spells vs f → length vs ≤ length f
+  few_values [] f h = omega arith
+  few_values (v ∷ vs) f h = omega (arith, few_values vs h.1 h.3, clear.some v h.0 h.2, ap length h.4, length-append h.0 h.1)
 
   goes_on_from_none : (ws : List Value) (f₁ f₂ r₁ r₂ : List ℕ) → f₁ ≡ [] → SpellsEach Spells ws f₂ → f₁ ++ r₁ ≡ f₂ ++ r₂
       → GoesOn Spells [] ws f₁ f₂ r₁ r₂
@@ -92,8 +97,8 @@ module _ {Value : Type 0} (Spells : Value → List ℕ → Type 0) (Flawed : Lis
       elim (compare vs ws f₁ f₂ [] r h k (append-nil f₁ ∙ e)) [
         | inl g ↦ let empty = empty_both g.middle r g.rest in clear.no_flaw flaw (subst (λ (xs : List ℕ). Flawed xs flaw) empty.1 bad)
         | inr g ↦ let same = stuck g.more g.middle [] flaw g.spelled (subst (λ (xs : List ℕ). Flawed xs flaw) g.rest bad) in
-          let empty : r ≡ [] = g.rest ∙ ap (λ xs. xs ++ []) same.1 in
-          clear.no_flaw flaw (subst (λ (xs : List ℕ). Flawed xs flaw) empty bad)
+            let empty : r ≡ [] = g.rest ∙ ap (λ xs. xs ++ []) same.1 in
+            clear.no_flaw flaw (subst (λ (xs : List ℕ). Flawed xs flaw) empty bad)
       ]
 
   same_stop : (vs ws : List Value) (f₁ f₂ r₁ r₂ : List ℕ) (f : Flaw) → GoesOn Spells vs ws f₁ f₂ r₁ r₂ → Flawed r₁ f
@@ -111,9 +116,9 @@ module _ {Value : Type 0} (Spells : Value → List ℕ → Type 0) (Flawed : Lis
   one_stop vs ws f₁ f₂ r₁ r₂ f g h k e bad bad' =
       elim (compare vs ws f₁ f₂ r₁ r₂ h k e) [
         | inl on ↦ let same = same_stop vs ws f₁ f₂ r₁ r₂ f on bad in
-          (same.0, same.1, clear.one_flaw r₂ f g (subst (λ (xs : List ℕ). Flawed xs f) same.1 bad) bad')
+            (same.0, same.1, clear.one_flaw r₂ f g (subst (λ (xs : List ℕ). Flawed xs f) same.1 bad) bad')
         | inr on ↦ let same = same_stop ws vs f₂ f₁ r₂ r₁ g on bad' in
-          (sym same.0, sym same.1, clear.one_flaw r₁ f g bad (subst (λ (xs : List ℕ). Flawed xs g) same.1 bad'))
+            (sym same.0, sym same.1, clear.one_flaw r₁ f g bad (subst (λ (xs : List ℕ). Flawed xs g) same.1 bad'))
       ]
 
   spelled_none : (vs : List Value) (f : List ℕ) → length vs ≡ 0 → SpellsEach Spells vs f → f ≡ []
@@ -127,8 +132,8 @@ module _ {Value : Type 0} (Spells : Value → List ℕ → Type 0) (Flawed : Lis
       elim (compare vs ws f₁ f₂ [] r h k (append-nil f₁ ∙ e)) [
         | inl g ↦ omega (arith, ap length (empty_both g.middle r g.rest).1, more)
         | inr g ↦ let count : length g.more ≡ 0 = omega (arith, ap length g.values, length-append ws g.more, few) in
-          let empty : g.middle ≡ [] = spelled_none g.more g.middle count g.spelled in
-          omega (arith, ap length (g.rest ∙ ap (λ xs. xs ++ []) empty), more)
+            let empty : g.middle ≡ [] = spelled_none g.more g.middle count g.spelled in
+            omega (arith, ap length (g.rest ∙ ap (λ xs. xs ++ []) empty), more)
       ]
 
   -- two readings of as many values, of the same bytes, have the same front
@@ -137,9 +142,9 @@ module _ {Value : Type 0} (Spells : Value → List ℕ → Type 0) (Flawed : Lis
   same_many vs ws f₁ f₂ r₁ r₂ h k e same =
       elim (compare vs ws f₁ f₂ r₁ r₂ h k e) [
         | inl g ↦ let count : length g.more ≡ 0 = omega (arith, ap length g.values, length-append vs g.more) in
-          sym (g.front ∙ ap (λ xs. f₁ ++ xs) (spelled_none g.more g.middle count g.spelled) ∙ append-nil f₁)
+            sym (g.front ∙ ap (λ xs. f₁ ++ xs) (spelled_none g.more g.middle count g.spelled) ∙ append-nil f₁)
         | inr g ↦ let count : length g.more ≡ 0 = omega (arith, ap length g.values, length-append ws g.more) in
-          g.front ∙ ap (λ xs. f₂ ++ xs) (spelled_none g.more g.middle count g.spelled) ∙ append-nil f₂
+            g.front ∙ ap (λ xs. f₂ ++ xs) (spelled_none g.more g.middle count g.spelled) ∙ append-nil f₂
       ]
 
   -- after as many values as there may be, and not sooner, a flaw

@@ -1,5 +1,5 @@
 -- Refusals by the flaws that they tell, and magics.
-use Rattle.std.proofs.Common.{◌≡◌, ◌≢◌, ◌⊎◌, ℕ, zero, suc, ◌+◌, ◌<◌, ◌≤◌, List, [], ◌∷◌, ◌++◌, length, take, drop, get_or, inl, inr, refl, sym, ap, subst, ◌∙◌, arith, length-append}
+use Rattle.std.proofs.Common.{◌≡◌, ◌≢◌, ◌⊎◌, ℕ, zero, suc, ◌+◌, ◌<◌, List, ◌++◌, length, drop, get_or, inl, inr, refl, sym, ap, subst, ◌∙◌, arith, length-append}
 use Rattle.std.proofs.lemmas.Bool.{cases_lt, cases_eq}
 use Rattle.std.proofs.lemmas.List.{take-append-drop}
 use Rattle.std.proofs.Math.ListN.{get_or-append}
@@ -43,7 +43,7 @@ one_told Flawed one rest place a b h k =
 at_magic : (magic rest : List ℕ) (k : ℕ) → length magic ≡ 8 → k < 8 → get_or (magic ++ rest) k 0 ≡ get_or magic k 0
 at_magic magic rest k long low = get_or-append magic rest 0 k (omega arith)
 
-magic_no_flaw : (magic rest : List ℕ) (flaw : Flaw) → length magic ≡ 8 → MagicFlaw magic (magic ++ rest) flaw → ⊥
+pub magic_no_flaw : (magic rest : List ℕ) (flaw : Flaw) → length magic ≡ 8 → MagicFlaw magic (magic ++ rest) flaw → ⊥
 magic_no_flaw magic rest flaws.Cut long h = omega (arith, length-append magic rest)
 magic_no_flaw magic rest (flaws.Kind byte) long h = h
 magic_no_flaw magic rest (flaws.Field k) long h = h.2 (at_magic magic rest k long h.1)

@@ -1,5 +1,5 @@
 -- Bytes are the trace of one heard list, or are refused as one for one reason.
-use Rattle.std.proofs.Common.{◌≡◌, ◌⊎◌, ℕ, ◌+◌, ◌<◌, ◌≤◌, ◌^◌, List, [], ◌∷◌, ◌++◌, length, drop, inl, inr, refl, sym, ap, subst, ◌∙◌, arith, append_assoc, length-append}
+use Rattle.std.proofs.Common.{◌≡◌, ◌⊎◌, ℕ, ◌<◌, ◌≤◌, ◌^◌, List, [], ◌∷◌, ◌++◌, length, drop, inl, inr, refl, sym, ap, subst, ◌∙◌, arith, append_assoc}
 use Rattle.std.proofs.lemmas.Bool.{cases_lt}
 use Rattle.std.proofs.lemmas.List.{append_cancel_left, append-nil}
 use Rattle.std.proofs.lemmas.List.Elements.{All-drop}
@@ -7,18 +7,18 @@ use Rattle.m17_fields.specs.Fields.{IsBytes, Fields16AreExact, Fields64AreExact}
 use Rattle.m17_fields.specs.Reading.{HasOneReading}
 use Rattle.m17_values.specs.declared.heard.Heard.{Heard}
 use Rattle.m17_values.specs.declared.heard.Heard.TheVariants.{End}
-use Rattle.m17_book.specs.Book.{TellsFlaw, MagicFlaw, trace_magic, IsTrace, HasTraceForm, HasTooMany, LacksTraceForm, RefusesTrace}
+use Rattle.m17_book.specs.Book.{MagicFlaw, trace_magic, IsTrace, HasTraceForm, HasTooMany, LacksTraceForm, RefusesTrace}
 use Rattle.m17_book.specs.Entries.{SpellsEntry}
 use Rattle.m17_book.specs.Flaws.{EntryFlaw}
-use Rattle.m17_book.specs.Laws.{IsExactForm, TracesAreExact}
-use Rattle.m17_book.specs.Limits.{told, most_bytes, most_entries, SpellsEach}
+use Rattle.m17_book.specs.Laws.{TracesAreExact}
+use Rattle.m17_book.specs.Limits.{most_bytes, most_entries, SpellsEach}
 use Rattle.m17_book.specs.declared.refusal.Flaw.{Flaw}
 use Rattle.m17_book.specs.declared.refusal.FormRefusal.{FormRefusal}
 use Rattle.m17_book.specs.declared.refusal.FormRefusal.TheVariants.{Large}
 use Rattle.m17_book.proofs.EntryClear.{clear}
 use Rattle.m17_book.proofs.EntryReads.{reads_entry}
 use Rattle.m17_book.proofs.OneFlaw.{one_entry_flaw}
-use Rattle.m17_book.proofs.Readable.{Reading, Stop, at_end, too_many, wrong, reads_all}
+use Rattle.m17_book.proofs.Readable.{Stop, at_end, too_many, wrong, reads_all}
 use Rattle.m17_book.proofs.Readings.{IsClear, one_list, whole_or_flawed, one_stop, whole_or_many, same_many, many_or_flawed}
 use Rattle.m17_book.proofs.Told.{say, flaw_of, tells, one_told, magic_not_refused, one_magic_flaw, reads_magic}
 
@@ -117,11 +117,38 @@ by_stop bytes entries front rest size e spelled few (at_end none) =
     let whole : bytes ≡ trace_magic ++ front = e ∙ ap (λ xs. trace_magic ++ (front ++ xs)) none ∙ ap (λ xs. trace_magic ++ xs) (append-nil front) in
     inl (entries ++ End ∷ [], (size, entries, few, (front, spelled, whole), refl))
 by_stop bytes entries front rest size e spelled few (too_many all more) =
-    inr (Large (length (trace_magic ++ front)), inr (size, inl (entries, trace_magic ++ front, rest, e ∙ sym (append_assoc trace_magic front rest),
-    (front, spelled, refl), all, more, refl)))
+    inr (
+      Large (length (trace_magic ++ front)),
+      inr (
+        size,
+        inl (
+          entries,
+          trace_magic ++ front,
+          rest,
+          e ∙ sym (append_assoc trace_magic front rest),
+          (front, spelled, refl),
+          all,
+          more,
+          refl,
+        ),
+      ),
+    )
 by_stop bytes entries front rest size e spelled few (wrong flaw low bad) =
-    inr (say flaw (length (trace_magic ++ front)) (length rest), inr (size, inr (inr (entries, trace_magic ++ front, rest,
-    e ∙ sym (append_assoc trace_magic front rest), (front, spelled, refl), low, tells EntryFlaw rest (length (trace_magic ++ front)) flaw bad))))
+    inr (
+      say flaw (length (trace_magic ++ front)) (length rest),
+      inr (
+        size,
+        inr (inr (
+          entries,
+          trace_magic ++ front,
+          rest,
+          e ∙ sym (append_assoc trace_magic front rest),
+          (front, spelled, refl),
+          low,
+          tells EntryFlaw rest (length (trace_magic ++ front)) flaw bad,
+        )),
+      ),
+    )
 
 reads_trace : Fields16AreExact → Fields64AreExact → (n : ℕ) → n ≡ most_entries → (bytes : List ℕ) → IsBytes bytes → Reads bytes
 reads_trace law16 law64 n most bytes all = elim (cases_lt most_bytes (length bytes)) [
@@ -129,25 +156,31 @@ reads_trace law16 law64 n most bytes all = elim (cases_lt most_bytes (length byt
   | inr size ↦ elim (reads_magic trace_magic bytes refl) [
     | inr bad ↦ inr (say bad.0 0 (length bytes), inr (size, inr (inl (tells (MagicFlaw trace_magic) bytes 0 bad.0 bad.1))))
     | inl found ↦ let body : IsBytes found.0 = subst (λ (xs : List ℕ). IsBytes xs) (ap (drop 8) found.1) (All-drop (λ byte. byte < 2 ^ 8) 8 bytes all) in
-      let r = reads_all SpellsEntry EntryFlaw (reads_entry law16 law64) n found.0 body in
-      by_stop bytes r.values r.front r.rest size (found.1 ∙ ap (λ xs. trace_magic ++ xs) r.split) r.spelled (omega (arith, r.few))
-      (subst (λ (m : ℕ). Stop EntryFlaw m r.values r.rest) most r.stop)
+        let r = reads_all SpellsEntry EntryFlaw (reads_entry law16 law64) n found.0 body in
+        by_stop bytes r.values r.front r.rest size (found.1 ∙ ap (λ xs. trace_magic ++ xs) r.split) r.spelled (omega (arith, r.few))
+        (subst (λ (m : ℕ). Stop EntryFlaw m r.values r.rest) most r.stop)
   ]
 ]
 
 one_reading : IsClear SpellsEntry EntryFlaw → (bytes : List ℕ) → Reads bytes → HasOneReading (λ heard b. IsTrace b heard) RefusesTrace bytes
 one_reading c bytes (inl found) =
-    inl (found.0, record {
-      spelled = found.1;
-      no_other = λ other h. one_trace c bytes other found.0 h found.1;
-      no_refusal = λ refusal k. trace_not_refused c bytes found.0 refusal found.1 k;
-    })
+    inl (
+      found.0,
+      record {
+        spelled = found.1;
+        no_other = λ other h. one_trace c bytes other found.0 h found.1;
+        no_refusal = λ refusal k. trace_not_refused c bytes found.0 refusal found.1 k;
+      },
+    )
 one_reading c bytes (inr found) =
-    inr (found.0, record {
-      refused = found.1;
-      no_other = λ other k. one_trace_refusal c bytes other found.0 k found.1;
-      no_value = λ heard h. trace_not_refused c bytes heard found.0 h found.1;
-    })
+    inr (
+      found.0,
+      record {
+        refused = found.1;
+        no_other = λ other k. one_trace_refusal c bytes other found.0 k found.1;
+        no_value = λ heard h. trace_not_refused c bytes heard found.0 h found.1;
+      },
+    )
 
 pub traces_are_exact : Fields16AreExact → Fields64AreExact → TracesAreExact
 traces_are_exact law16 law64 =

@@ -1,5 +1,5 @@
 -- A whole trace as it was read: its magic, its entries, and its end.
-use Rattle.std.proofs.Common.{◌≡◌, ◌⊎◌, ℕ, ◌+◌, ◌<◌, ◌≤◌, ◌^◌, List, [], ◌∷◌, ◌++◌, length, Option, Some, Result, Ok, Err, OnOk, OnErr, IfOk, IfErr, IsOk, IsErr, inl, inr, refl, sym, ap, subst, ◌∙◌, arith, append_assoc, length-append}
+use Rattle.std.proofs.Common.{◌≡◌, ◌⊎◌, ℕ, ◌+◌, ◌<◌, ◌≤◌, List, [], ◌∷◌, ◌++◌, length, Some, Result, Ok, Err, OnOk, OnErr, IfOk, IfErr, IsOk, IsErr, inl, inr, refl, sym, ap, subst, ◌∙◌, arith, append_assoc, length-append}
 use Rattle.std.proofs.lemmas.List.{append-nil}
 use Rattle.std.proofs.lemmas.Result.{IfOk-weaker}
 use Rattle.std.proofs.lemmas.Bool.{false≢true}
@@ -12,7 +12,6 @@ use Rattle.m17_book.specs.Flaws.{EntryFlaw}
 use Rattle.m17_book.specs.Limits.{told, most_bytes, most_entries}
 use Rattle.m17_book.specs.Walk.{Spot, IsAt, HasPassed, Stops, AddsAll, PassesMagic, WrongEntry, ReadsTrace, IsCutAt, IsSettled}
 use Rattle.m17_book.specs.declared.refusal.Flaw.{Flaw}
-use Rattle.m17_book.specs.declared.refusal.Flaw.TheVariants as flaws
 use Rattle.m17_book.specs.declared.refusal.FormRefusal.{FormRefusal}
 use Rattle.m17_book.specs.declared.refusal.FormRefusal.TheVariants.{Cut, Kind, Field, Large, ReadFault, NoMemory}
 
@@ -29,7 +28,7 @@ cut_at_end Flawed rest place total NoMemory e h = tt
 pub large_is_no_cut : (total at : ℕ) (refusal : FormRefusal) → refusal ≡ Large at → IsCutAt total refusal
 large_is_no_cut total at refusal e = subst (λ (r : FormRefusal). IsCutAt total r) (sym e) tt
 
-fault_is_outside : (refusal : FormRefusal) → refusal ≡ ReadFault → IsOutside refusal
+pub fault_is_outside : (refusal : FormRefusal) → refusal ≡ ReadFault → IsOutside refusal
 fault_is_outside refusal e = subst IsOutside (sym e) tt
 
 no_memory_is_outside : (refusal : FormRefusal) → refusal ≡ NoMemory → IsOutside refusal

@@ -2,7 +2,6 @@
 use Rattle.std.specs.Prelude.{◌≡◌, ℕ, List}
 use Rattle.m17_fields.specs.Fields.{IsBytes}
 use Rattle.m17_fields.specs.Reading.{HasOneReading}
-use Rattle.m17_values.specs.declared.heard.Heard.{Heard}
 use Rattle.m17_book.specs.Book.{IsTrace, RefusesTrace, IsBook, RefusesBook, HasBookForm, LacksBookForm}
 use Rattle.m17_book.specs.declared.record.Record.{Record}
 use Rattle.m17_book.specs.declared.refusal.FormRefusal.{FormRefusal}

@@ -1,7 +1,8 @@
-ghost use Rattle.std.specs.Prelude.{◌≡◌, ◌⊎◌, ℕ, ◌+◌, ◌<◌, ◌≤◌, List, [], ◌∷◌, ◌++◌, length, Option, Some, IfOk, IfErr, OnErr, MatchResult};
+ghost use Rattle.std.specs.Prelude.{◌≡◌, ◌⊎◌, ℕ, ◌+◌, ◌<◌, ◌≤◌, List, [], ◌∷◌, ◌++◌, length, Option, Some, IsTrue, IfOk, IfErr, OnErr, MatchResult};
 ghost use Rattle.m17_book.specs.Ahead.{held, IsAhead};
 ghost use Rattle.m17_book.specs.Answers.{IsOutside, IsBookOf};
 ghost use Rattle.m17_book.specs.Book.{RefusesBook};
+ghost use Rattle.m17_book.specs.Limits.{told};
 ghost use Rattle.m17_book.specs.Records.{SpellsRecord};
 ghost use Rattle.m17_book.specs.Reading.{HasReadCause};
 ghost use Rattle.m17_book.specs.Walk.{spot, IsAt, AddsOne, AddsAll, ReadsBook, WrongRecord};
@@ -93,6 +94,8 @@ fn add_record<S: Source>(
     ensures read { (ahead : List ℕ) → IsAt (spot cursor.old (S.left source.old)) ahead
         → AddsOne SpellsRecord WrongRecord result cursor.old.place ahead
         records.old.items records.new.items (spot cursor.new (S.left source.new)) }
+    ensures goes_on { IfOk result (λ more. IsTrue more
+        → told (cursor.old.place + 1) ≤ cursor.new.place) }
     ensures cause { HasReadCause (S.faults source.old) (S.faults source.new) result }
 {
     match next_record(cursor, source) {

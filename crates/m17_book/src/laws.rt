@@ -15,10 +15,24 @@ pub fn traces_are_exact()
 #[inline]
 pub fn books_are_exact()
     ensures { BooksAreExact }
-{}
+{
+    m17_fields::laws::fields_of_16_bits_are_exact();
+    m17_fields::laws::fields_of_32_bits_are_exact();
+    m17_fields::laws::fields_of_48_bits_are_exact();
+    m17_fields::laws::fields_of_64_bits_are_exact();
+    m17_stream::laws::one_spelling();
+    m17_stream::laws::reading_is_exact();
+}
 
 /// The same of books of whatever size, as `Reader` has them. This profile.
 #[inline]
 pub fn book_forms_are_exact()
     ensures { BookFormsAreExact }
-{}
+{
+    m17_fields::laws::fields_of_16_bits_are_exact();
+    m17_fields::laws::fields_of_32_bits_are_exact();
+    m17_fields::laws::fields_of_48_bits_are_exact();
+    m17_fields::laws::fields_of_64_bits_are_exact();
+    m17_stream::laws::one_spelling();
+    m17_stream::laws::reading_is_exact();
+}

@@ -1,4 +1,4 @@
-ghost use Rattle.std.specs.Prelude.{◌≡◌, ◌⊎◌, ℕ, ◌≤◌, ◌+◌, ◌<◌, List, length, Option, Ok, IfOk, IfErr, OnErr};
+ghost use Rattle.std.specs.Prelude.{◌≡◌, ◌⊎◌, ℕ, ◌≤◌, ◌+◌, ◌<◌, List, length, Option, IsSome, Ok, IfOk, IfErr, OnErr};
 ghost use Rattle.m17_book.specs.Ahead.{held, IsAhead};
 ghost use Rattle.m17_book.specs.Answers.{IsOutside};
 ghost use Rattle.m17_book.specs.Flaws.{RecordFlaw};
@@ -69,6 +69,8 @@ pub(crate) fn next_record<S: Source>(
         → IsAhead (held cursor.old) (S.left source.old) ahead
         → IsAhead (held cursor.new) (S.left source.new) ahead) }
     ensures place { OnErr result (cursor.new.place ≡ cursor.old.place) }
+    ensures goes_on { IfOk result (λ next. IsSome next
+        → told (cursor.old.place + 1) ≤ cursor.new.place) }
     ensures cause { HasReadCause (S.faults source.old) (S.faults source.new) result }
 {
     let Ok(()) = cursor.fill(source) else {

@@ -1,5 +1,4 @@
-use Rattle.std.proofs.Common.{◌≡◌, ◌+◌, ◌++◌, inr, sym, ap, ◌∙◌, take, drop, append_assoc, arith}
-use Rattle.std.proofs.lemmas.List.{take-append-drop}
+use Rattle.std.proofs.Common.{◌+◌, inr, ap, ◌∙◌}
 use Rattle.m17_book.specs.Ahead.{held}
 use Rattle.m17_book.specs.Book.{MagicFlaw, trace_magic}
 use Rattle.m17_book.specs.Limits.{told}
@@ -21,5 +20,9 @@ returns-in-Err-clause-magic g c = λ ahead before.
     let b = held c.fill.new.self in
     let enough = is_enough _ _ ahead _ _ before c.in-Ok.ensures.enough in
     let tells = magic_told trace_magic b ahead c.in-Err.flaw c.fill.new.self.place (window b ahead (g.S.Source.left c.fill.new.source) is enough) (rw c.held-held.ensures at c.in-Err.ensures) in
-    inr (is, c.fill.ensures.place, (rw c.refusal_of.ensures.told (same_told (MagicFlaw trace_magic) ahead c.fill.new.self.place c.args.cursor.now.place c.place.result c.held-held.result.now b c.in-Err.flaw
-    c.fill.ensures.place c.place.ensures c.held-held.ensures tells)))
+    inr (
+      is,
+      c.fill.ensures.place,
+      (rw c.refusal_of.ensures.told (same_told (MagicFlaw trace_magic) ahead c.fill.new.self.place c.args.cursor.now.place c.place.result c.held-held.result.now b c.in-Err.flaw
+          c.fill.ensures.place c.place.ensures c.held-held.ensures tells)),
+    )

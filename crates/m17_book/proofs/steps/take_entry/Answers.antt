@@ -1,8 +1,7 @@
-use Rattle.std.proofs.Common.{◌≡◌, ◌+◌, length, ap, ◌∙◌, refl, rules, arith}
+use Rattle.std.proofs.Common.{refl, arith}
 use Rattle.m17_book.specs.Ahead.{held}
 use Rattle.m17_book.specs.Entries.{SpellsEntry}
 use Rattle.m17_book.specs.Flaws.{EntryFlaw}
-use Rattle.m17_book.specs.Limits.{told}
 use Rattle.m17_book.proofs.NextStep.{window, same_told}
 use Rattle.m17_book.proofs.EntryWindow.{entry_told}
 use Rattle.m17_book.proofs.Passing.{one_passed}

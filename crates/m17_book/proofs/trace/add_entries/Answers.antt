@@ -1,4 +1,4 @@
-use Rattle.std.proofs.Common.{◌≡◌, ℕ, List, rules, arith}
+use Rattle.std.proofs.Common.{ℕ, rules, arith}
 use Rattle.m17_book.specs.Entries.{SpellsEntry}
 use Rattle.m17_book.specs.Walk.{spot, WrongEntry}
 use Rattle.m17_book.proofs.Passing.{first_passed, added, ended, stopped}

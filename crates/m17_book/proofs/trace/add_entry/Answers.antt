@@ -1,4 +1,4 @@
-use Rattle.std.proofs.Common.{◌≡◌, ℕ, ◌<◌, List, [], ◌∷◌, ◌++◌, length, inl, inr, refl, sym, ap, subst, ◌∙◌, rules, arith, length-append}
+use Rattle.std.proofs.Common.{◌≡◌, ℕ, ◌<◌, [], ◌∷◌, length, inl, inr, refl, sym, ap, subst, ◌∙◌, rules, arith, length-append}
 use Rattle.m17_book.specs.Ahead.{held, IsAhead}
 use Rattle.m17_book.specs.Entries.{SpellsEntry}
 use Rattle.m17_book.specs.Flaws.{EntryFlaw}
@@ -29,9 +29,12 @@ returns-in-Ok-add_to-clause-read g c = λ ahead before.
     let is = c.fill.ensures.kept ahead before in
     let enough = is_enough _ _ ahead _ _ before c.in-Ok.ensures.enough in
     let entry = c.in-Ok-take_entry.entry in
-    let left = g.S.Source.left c.fill.new.source in
-    (entry, c.in-Ok-add_to.ensures.added, subst (λ (n : ℕ). HasPassed SpellsEntry n ahead (entry ∷ []) (spot c.take_entry.new.cursor left)) c.fill.ensures.place
-    (c.in-Ok-take_entry.ensures.entry ahead left is enough))
+    let left = g.S.Source.left c.fill.new.source in (
+      entry,
+      c.in-Ok-add_to.ensures.added,
+      subst (λ (n : ℕ). HasPassed SpellsEntry n ahead (entry ∷ []) (spot c.take_entry.new.cursor left)) c.fill.ensures.place
+          (c.in-Ok-take_entry.ensures.entry ahead left is enough),
+    )
 
 pub returns-in-Err-clause-read : goal.returns-in-Err-clause-read
 returns-in-Err-clause-read g c = λ ahead before.

@@ -1,5 +1,4 @@
-use Rattle.std.proofs.Common.{◌≡◌, ℕ, ◌+◌, List, [], ◌∷◌, ◌++◌, Result, Ok, Err, refl, sym, ap, subst, ◌∙◌, arith}
-use Rattle.m17_values.specs.declared.heard.Heard.TheVariants.{End}
+use Rattle.std.proofs.Common.{ℕ, ◌+◌, [], ap, ◌∙◌}
 use Rattle.m17_book.specs.Limits.{told}
 use Rattle.m17_book.specs.Walk.{spot}
 use Rattle.m17_book.proofs.WholeTrace.{bad_magic, trace_ended, all_stops}

@@ -1,8 +1,8 @@
-use Rattle.std.proofs.Common.{◌≡◌, ℕ, ◌+◌, ◌<◌, true, false, List, length, sym, ap, refl, ◌∙◌, arith, rules}
+use Rattle.std.proofs.Common.{◌≡◌, ◌+◌, ◌<◌, length, ap, refl, ◌∙◌, arith, rules}
 use Rattle.std.proofs.lemmas.Bool.{false≢true}
-use Rattle.m17_book.specs.Ahead.{held, IsAhead}
+use Rattle.m17_book.specs.Ahead.{held}
 use Rattle.m17_book.specs.Limits.{told}
-use Rattle.m17_book.proofs.Far.{IsOf, passed_all, read_on, all_read, drop_whole}
+use Rattle.m17_book.proofs.Far.{passed_all, read_on, all_read, drop_whole}
 use Rattle.m17_book.proofs.cursor.Cursor.goes_too_far.Goals as goal
 
 pub reads-preserved : goal.reads-preserved
