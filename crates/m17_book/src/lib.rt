@@ -18,19 +18,20 @@ mod reader;
 mod record;
 mod refusal;
 mod settle;
+mod silent;
 mod spell_entry;
 mod spell_record;
 mod steps;
 mod trace;
 
-pub use book::read_book;
+pub use book::{read_book, read_book_for};
 pub use reader::Reader;
 pub use record::Record;
 pub(crate) use refusal::Flaw;
 pub use refusal::FormRefusal;
 pub use spell_entry::write_entry;
 pub use spell_record::{write_header, write_record};
-pub use trace::read_trace;
+pub use trace::{read_trace, read_trace_for};
 
 #[cfg(test)]
 mod tests;

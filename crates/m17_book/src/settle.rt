@@ -11,7 +11,7 @@ ghost use Rattle.m17_book.specs.declared.refusal.FormRefusal.TheVariants.{NoMemo
 use crate::FormRefusal;
 use crate::cursor::Cursor;
 use crate::form::MOST_BYTES;
-use m17_io::Source;
+use m17_io::{Input, Sink};
 use m17_values::Failed;
 
 /// Adds a value at the end of the list.
@@ -29,12 +29,14 @@ pub(crate) fn add_to<T: Drop>(list: &mut Vec<T>, value: T) -> Result<(), FormRef
 
 /// The list that was read, or why it was not. A refusal of the bytes gives way to the one that there are too many of
 /// them, so the input is gone through to its end, or past the bound.
-pub(crate) fn finish<T: Drop, S: Source>(
+pub(crate) fn finish<T: Drop, S: Input<K>, K: Sink>(
     read: Result<(), FormRefusal>,
     list: Vec<T>,
     cursor: &mut Cursor,
     source: &mut S,
+    out: &K,
 ) -> Result<Vec<T>, FormRefusal>
+    requires quiet { K.held_back out.now ≡ 0 }
     ensures ok { IfOk result (λ found. IsOk read × (found.items ≡ list.items)
         × (source.new ≡ source.old)) }
     ensures err { OnErr result (IsErr read) }
@@ -50,7 +52,7 @@ pub(crate) fn finish<T: Drop, S: Source>(
         Ok(()) => Ok(list),
         Err(FormRefusal::NoMemory) => Err(FormRefusal::NoMemory),
         Err(FormRefusal::ReadFault) => Err(FormRefusal::ReadFault),
-        Err(found) => match is_large(found, cursor, source) {
+        Err(found) => match is_large(found, cursor, source, out) {
             Ok(true) => Err(FormRefusal::Large { at: MOST_BYTES }),
             Ok(false) => Err(found),
             Err(_) => Err(FormRefusal::ReadFault),
@@ -59,11 +61,13 @@ pub(crate) fn finish<T: Drop, S: Source>(
 }
 
 /// Whether the input has more bytes than the bound, where this refusal was found. The place of a cut is its length.
-fn is_large<S: Source>(
+fn is_large<S: Input<K>, K: Sink>(
     found: FormRefusal,
     cursor: &mut Cursor,
     source: &mut S,
+    out: &K,
 ) -> Result<bool, Failed>
+    requires quiet { K.held_back out.now ≡ 0 }
     ensures large { IfOk result (λ large. (total : ℕ) → (ahead : List ℕ)
         → IsAhead (held cursor.old) (S.left source.old) ahead
         → told total ≡ told (cursor.old.place + length ahead) → IsCutAt total found
@@ -72,6 +76,6 @@ fn is_large<S: Source>(
 {
     match found {
         FormRefusal::Cut { at } => Ok(at > MOST_BYTES),
-        _ => cursor.goes_too_far(source),
+        _ => cursor.goes_too_far(source, out),
     }
 }

@@ -14,7 +14,7 @@ use crate::parse_entry::parse_entry;
 use crate::parse_header::{parse_book_header, parse_magic};
 use crate::parse_record::parse_record;
 use crate::{Flaw, FormRefusal, Record};
-use m17_io::Source;
+use m17_io::{Input, Sink};
 use m17_values::Heard;
 
 /// What is said of a flaw of the bytes at a place, of which so many are there.
@@ -34,7 +34,12 @@ fn refusal_of(flaw: Flaw, place: u64, len: usize) -> FormRefusal
 }
 
 /// Passes the header of a book.
-pub(crate) fn pass_header<S: Source>(cursor: &mut Cursor, source: &mut S) -> Result<(), FormRefusal>
+pub(crate) fn pass_header<S: Input<K>, K: Sink>(
+    cursor: &mut Cursor,
+    source: &mut S,
+    out: &K,
+) -> Result<(), FormRefusal>
+    requires quiet { K.held_back out.now ≡ 0 }
     ensures header { (ahead : List ℕ) → IsAhead (held cursor.old) (S.left source.old) ahead
         → PassesHeader result ahead cursor.old.place
         (held cursor.new) (S.left source.new) cursor.new.place }
@@ -44,7 +49,7 @@ pub(crate) fn pass_header<S: Source>(cursor: &mut Cursor, source: &mut S) -> Res
     ensures place { OnErr result (cursor.new.place ≡ cursor.old.place) }
     ensures cause { HasReadCause (S.faults source.old) (S.faults source.new) result }
 {
-    let Ok(()) = cursor.fill(source) else {
+    let Ok(()) = cursor.fill(source, out) else {
         return Err(FormRefusal::ReadFault);
     };
     let held = cursor.held();
@@ -58,10 +63,12 @@ pub(crate) fn pass_header<S: Source>(cursor: &mut Cursor, source: &mut S) -> Res
 }
 
 /// The next record; none at the end of the input.
-pub(crate) fn next_record<S: Source>(
+pub(crate) fn next_record<S: Input<K>, K: Sink>(
     cursor: &mut Cursor,
     source: &mut S,
+    out: &K,
 ) -> Result<Option<Record>, FormRefusal>
+    requires quiet { K.held_back out.now ≡ 0 }
     ensures next { (ahead : List ℕ) → IsAhead (held cursor.old) (S.left source.old) ahead
         → IsNext SpellsRecord RecordFlaw result ahead cursor.old.place
         (held cursor.new) (S.left source.new) cursor.new.place }
@@ -73,7 +80,7 @@ pub(crate) fn next_record<S: Source>(
         → told (cursor.old.place + 1) ≤ cursor.new.place) }
     ensures cause { HasReadCause (S.faults source.old) (S.faults source.new) result }
 {
-    let Ok(()) = cursor.fill(source) else {
+    let Ok(()) = cursor.fill(source, out) else {
         return Err(FormRefusal::ReadFault);
     };
     let held = cursor.held();
@@ -90,12 +97,17 @@ pub(crate) fn next_record<S: Source>(
 }
 
 /// Passes the magic of a trace.
-pub(crate) fn pass_magic<S: Source>(cursor: &mut Cursor, source: &mut S) -> Result<(), FormRefusal>
+pub(crate) fn pass_magic<S: Input<K>, K: Sink>(
+    cursor: &mut Cursor,
+    source: &mut S,
+    out: &K,
+) -> Result<(), FormRefusal>
+    requires quiet { K.held_back out.now ≡ 0 }
     ensures magic { (ahead : List ℕ) → IsAt (spot cursor.old (S.left source.old)) ahead
         → PassesMagic result cursor.old.place ahead (spot cursor.new (S.left source.new)) }
     ensures cause { HasReadCause (S.faults source.old) (S.faults source.new) result }
 {
-    let Ok(()) = cursor.fill(source) else {
+    let Ok(()) = cursor.fill(source, out) else {
         return Err(FormRefusal::ReadFault);
     };
     let held = cursor.held();

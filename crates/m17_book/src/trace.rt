@@ -14,8 +14,9 @@ use crate::cursor::Cursor;
 use crate::form::{MOST_BYTES, MOST_ENTRIES};
 use crate::laws::traces_are_exact;
 use crate::settle::{add_to, finish};
+use crate::silent::Silent;
 use crate::steps::{pass_magic, take_entry};
-use m17_io::Source;
+use m17_io::{Input, Sink, Source};
 use m17_values::Heard;
 use std::alloc::Global;
 
@@ -38,27 +39,53 @@ pub fn read_trace<S: Source>(alloc: Global, s: &mut S) -> Result<Vec<Heard>, For
         → S.left s.new ≡ Some []) }
     ensures cause { HasReadCause (S.faults s.old) (S.faults s.new) result }
 {
+    read_trace_for(alloc, s, &Silent)
+}
+
+/// The same for a command that prints into this sink: its source is read while the sink holds nothing back, and the
+/// sink is left as it is. This profile.
+pub fn read_trace_for<S: Input<K>, K: Sink>(
+    alloc: Global,
+    s: &mut S,
+    out: &K,
+) -> Result<Vec<Heard>, FormRefusal>
+    requires quiet { K.held_back out.now ≡ 0 }
+    ensures trace { IfOk result (λ heard. (bytes : List ℕ) → S.left s.old ≡ Some bytes
+        → IsTrace bytes heard.items) }
+    ensures refused { IfErr result (λ refusal. (bytes : List ℕ) → S.left s.old ≡ Some bytes
+        → IsOutside refusal ⊎ RefusesTrace bytes refusal) }
+    ensures each_trace { (bytes : List ℕ) → (heard : List Heard) → S.left s.old ≡ Some bytes
+        → IsTrace bytes heard → MatchResult result (λ found. found.items ≡ heard) IsOutside }
+    ensures each_refusal { (bytes : List ℕ) → (refusal : FormRefusal) → S.left s.old ≡ Some bytes
+        → RefusesTrace bytes refusal
+        → MatchResult result (λ _. ⊥) (λ told. IsOutside told ⊎ (told ≡ refusal)) }
+    ensures nothing_left { IfOk result (λ _. (bytes : List ℕ) → S.left s.old ≡ Some bytes
+        → S.left s.new ≡ Some []) }
+    ensures cause { HasReadCause (S.faults s.old) (S.faults s.new) result }
+{
     traces_are_exact();
     let mut cursor = Cursor::new();
     let mut heard = Vec::new(alloc);
-    let read = add_trace(&mut cursor, s, &mut heard);
-    finish(read, heard, &mut cursor, s)
+    let read = add_trace(&mut cursor, s, out, &mut heard);
+    finish(read, heard, &mut cursor, s, out)
 }
 
 /// Adds the entries of a trace and then the end. The size of the input is looked at only so far as it was read.
-fn add_trace<S: Source>(
+fn add_trace<S: Input<K>, K: Sink>(
     cursor: &mut Cursor,
     source: &mut S,
+    out: &K,
     heard: &mut Vec<Heard>,
 ) -> Result<(), FormRefusal>
-    requires { heard.old.items ≡ [] }
+    requires quiet { K.held_back out.now ≡ 0 }
+    requires fits { heard.old.items ≡ [] }
     ensures read { (bytes : List ℕ) → cursor.old.place ≡ 0
         → IsAt (spot cursor.old (S.left source.old)) bytes
         → ReadsTrace result bytes heard.new.items (spot cursor.new (S.left source.new)) }
     ensures cause { HasReadCause (S.faults source.old) (S.faults source.new) result }
 {
-    match pass_magic(cursor, source) {
-        Ok(()) => match add_entries(cursor, source, heard) {
+    match pass_magic(cursor, source, out) {
+        Ok(()) => match add_entries(cursor, source, out, heard) {
             Ok(()) => add_to(heard, Heard::End),
             Err(refusal) => Err(refusal),
         },
@@ -67,12 +94,14 @@ fn add_trace<S: Source>(
 }
 
 /// Adds each entry that is to come.
-fn add_entries<S: Source>(
+fn add_entries<S: Input<K>, K: Sink>(
     cursor: &mut Cursor,
     source: &mut S,
+    out: &K,
     heard: &mut Vec<Heard>,
 ) -> Result<(), FormRefusal>
-    requires { heard.old.items ≡ [] }
+    requires quiet { K.held_back out.now ≡ 0 }
+    requires fits { heard.old.items ≡ [] }
     ensures read { (ahead : List ℕ) → IsAt (spot cursor.old (S.left source.old)) ahead
         → AddsAll SpellsEntry WrongEntry result cursor.old.place ahead heard.new.items
         (spot cursor.new (S.left source.new)) }
@@ -83,7 +112,7 @@ fn add_entries<S: Source>(
         if cursor.place() > MOST_BYTES {
             return Err(FormRefusal::Large { at: MOST_BYTES });
         }
-        match add_entry(cursor, source, heard) {
+        match add_entry(cursor, source, out, heard) {
             Ok(true) => {}
             Ok(false) => return Ok(()),
             Err(refusal) => return Err(refusal),
@@ -92,12 +121,14 @@ fn add_entries<S: Source>(
 }
 
 /// Adds the next entry, and answers whether there was one.
-fn add_entry<S: Source>(
+fn add_entry<S: Input<K>, K: Sink>(
     cursor: &mut Cursor,
     source: &mut S,
+    out: &K,
     heard: &mut Vec<Heard>,
 ) -> Result<bool, FormRefusal>
-    requires { length heard.old.items ≤ 1000000 }
+    requires quiet { K.held_back out.now ≡ 0 }
+    requires fits { length heard.old.items ≤ 1000000 }
     ensures read { (ahead : List ℕ) → IsAt (spot cursor.old (S.left source.old)) ahead
         → AddsOne SpellsEntry WrongEntry result cursor.old.place ahead
         heard.old.items heard.new.items (spot cursor.new (S.left source.new)) }
@@ -106,7 +137,7 @@ fn add_entry<S: Source>(
         → length heard.new.items ≡ length heard.old.items + 1) }
     ensures cause { HasReadCause (S.faults source.old) (S.faults source.new) result }
 {
-    let Ok(()) = cursor.fill(source) else {
+    let Ok(()) = cursor.fill(source, out) else {
         return Err(FormRefusal::ReadFault);
     };
     if cursor.held().is_empty() {
