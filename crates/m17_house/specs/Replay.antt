@@ -19,6 +19,9 @@ use Rattle.m17_module.specs.Events.{acts_of}
 use Rattle.m17_module.specs.Items as module_items
 use Rattle.m17_lookup.specs.Lookup.{last_below}
 use Rattle.m17_ports.specs.declared.tally.Tally.{Tally}
+use Rattle.m17_ports.specs.Tallies.{no_tally}
+use Rattle.m17_port_memory.specs.Kept.{TalliesKept}
+use Rattle.m17_port_memory.specs.Peers.{tally_at}
 use Rattle.m17_directory.specs.declared.known.Known.{Known}
 use Rattle.m17_directory.specs.declared.verdict.LinkVerdict.{LinkVerdict}
 use Rattle.m17_directory.specs.declared.verdict.LinkVerdict.TheVariants.{Routed}
@@ -187,3 +190,19 @@ tally_of said = record {
   disc = count_of is_disc said;
   frame = count_of is_stream said;
 }
+
+-- Nothing was said by the mouth yet: each tally that it tells is 0. This profile.
+abbrev pub HasNoTallies : TalliesKept → Type 0
+HasNoTallies mouth =
+    (x : Peer) (tally : Tally) → tally_at mouth.entries x ≡ Some tally → tally ≡ no_tally
+
+-- These are the verdicts of the replay's entries, and this mouth said what it says: each tally that the mouth tells is
+-- that of what is said to its peer. This profile.
+pub record IsReplayed (plan : Plan) (heard : List Heard) (verdicts : List LinkVerdict)
+    (packets : List (Option Verdict)) (mouth : TalliesKept) : Type 0 where
+  pub entries : List Entry
+  pub replay : IsReplayOf plan heard entries
+  pub each : verdicts ≡ verdicts_of plan entries
+  pub each_packet : packets ≡ packet_verdicts_of plan entries
+  pub tallies : (x : Peer) (tally : Tally) → tally_at mouth.entries x ≡ Some tally →
+      tally ≡ tally_of (said_to plan entries x)

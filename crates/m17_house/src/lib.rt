@@ -2,5 +2,7 @@
 #![tactic(auto)]
 
 mod plan;
+mod replay;
 
 pub use plan::Plan;
+pub use replay::replay_plain;

@@ -1,6 +1,8 @@
 -- What `replay` prints: a line for each entry that was heard, or a summary. This profile.
-use Rattle.std.specs.Prelude.{◌≡◌, ◌⊎◌, ℕ, ◌-◌, Bool, true, false, List, [], ◌++◌, length, map, Option, Some, if◌then◌else◌}
+use Rattle.std.specs.Prelude.{◌≡◌, ◌⊎◌, ℕ, ◌-◌, Bool, true, false, List, [], ◌++◌, length, map, Option, None, Some, if◌then◌else◌}
 use Rattle.std.specs.List.{flat_map, range_with_len}
+use Rattle.m17_io.specs.declared.fault.Fault.{Fault}
+use Rattle.m17_io.specs.declared.fault.Fault.TheVariants.{Read, Write}
 use Rattle.m17_values.specs.declared.heard.Heard.{Heard}
 use Rattle.m17_values.specs.declared.peer.Peer.{Peer}
 use Rattle.m17_ports.specs.declared.tally.Tally.{Tally}
@@ -84,3 +86,20 @@ PrintsReplay plan summary ReadFailed input text = text ≡ []
 PrintsReplay plan summary WriteFailed input text = (text ≡ [])
     ⊎ ((lost : Bool) × (whole after : List ℕ) × IsReplayText plan summary lost input whole
     × (whole ≡ text ++ after))
+
+-- the device that failed, where `replay` ended so
+abbrev pub failed_device : ReplayEnding → Option Fault
+failed_device Finished = None
+failed_device LinkLost = None
+failed_device (Refused place reason) = None
+failed_device ReadFailed = Some Read
+failed_device WriteFailed = Some Write
+
+-- `replay` came to this ending: what it says of the input and of what is left of it holds, and what it prints was
+-- appended to what was written before. This profile.
+pub record ComesToReplay (plan : Plan) (summary : Bool) (ending : ReplayEnding) (input : List ℕ)
+    (left first written : Option (List ℕ)) : Type 0 where
+  pub said : SaysReplay plan summary ending input left
+  pub printed : (before : List ℕ) → first ≡ Some before
+      → (text : List ℕ) × (written ≡ Some (before ++ text))
+      × PrintsReplay plan summary ending input text

@@ -6,6 +6,8 @@
 
 mod ending;
 mod reason;
+mod replay_command;
 
 pub use ending::ReplayEnding;
 pub use reason::TraceReason;
+pub use replay_command::replay;
