@@ -1,4 +1,4 @@
-ghost use Rattle.std.specs.Prelude.{◌≡◌, ℕ, ◌-◌, ◌^◌, ◌≤◌, min, IsTrue, false, None, Some, IfOk, OnOk, OnErr};
+ghost use Rattle.std.specs.Prelude.{◌≡◌, ℕ, ◌-◌, ◌^◌, ◌≤◌, min, true, false, None, Some, IfOk, OnOk, OnErr};
 ghost use Rattle.m17_io.specs.Faults.{HasCause};
 
 use crate::{ListBook, ListMouth, ScriptEar};
@@ -98,8 +98,8 @@ impl ScriptPorts {
           calls = next_number self.old.calls;
           asked = self.new.asked;
         } }
-        ensures asked { (IsTrue fits → IsAsked self.old.asked question self.new.asked)
-            × (fits ≡ false → self.new.asked ≡ None) }
+        ensures asked { fits ≡ true → IsAsked self.old.asked question self.new.asked }
+        ensures untold { fits ≡ false → self.new.asked ≡ None }
     {
         let call = self.calls;
         self.calls = self.calls.saturating_add(1);
@@ -109,6 +109,32 @@ impl ScriptPorts {
             self.asked.push(Asked(question));
         }
         call
+    }
+
+    // Notes that a link was asked for, and answers the call's number.
+    fn note_link(&mut self, bind: &str, until: Option<u64>) -> u64
+        ensures number { result ≡ self.old.calls }
+        ensures noted { self.new ≡ record self.old {
+          calls = next_number self.old.calls;
+          asked = self.new.asked;
+        } }
+        ensures asked { IsAsked self.old.asked (Question.Link bind.now until) self.new.asked }
+    {
+        let (text, fits) = text_of(bind);
+        self.note(Question::Link { bind: text, until }, fits)
+    }
+
+    // Notes that a book was asked for, and answers the call's number.
+    fn note_book(&mut self, name: &str) -> u64
+        ensures number { result ≡ self.old.calls }
+        ensures noted { self.new ≡ record self.old {
+          calls = next_number self.old.calls;
+          asked = self.new.asked;
+        } }
+        ensures asked { IsAsked self.old.asked (Question.Book name.now) self.new.asked }
+    {
+        let (text, fits) = text_of(name);
+        self.note(Question::Book { name: text }, fits)
     }
 
     // Counts a fault.
@@ -138,9 +164,7 @@ impl Ports for ScriptPorts {
     ghost faults_fit = { λ p. min-le_right p.faults (2 ^ 64 - 1) };
 
     fn link(&mut self, bind: &str, until: Option<u64>) -> Result<(ScriptEar, ListMouth), Failed> {
-        let fits = bind.len() <= TEXT_BYTES;
-        let bind = Gram::of(bind.as_bytes());
-        let call = self.note(Question::Link { bind, until }, fits);
+        let call = self.note_link(bind, until);
         if self.fails.contains(&call) {
             return Err(self.fault());
         }
@@ -151,9 +175,7 @@ impl Ports for ScriptPorts {
     }
 
     fn book(&mut self, name: &str) -> Result<ListBook, Failed> {
-        let fits = name.len() <= TEXT_BYTES;
-        let name = Gram::of(name.as_bytes());
-        let call = self.note(Question::Book { name }, fits);
+        let call = self.note_book(name);
         if self.fails.contains(&call) {
             return Err(self.fault());
         }
@@ -162,4 +184,11 @@ impl Ports for ScriptPorts {
             None => Err(self.fault()),
         }
     }
+}
+
+// As much of a text as is told, and whether that is all.
+fn text_of(text: &str) -> (Gram, bool)
+    ensures { result.1 ≡ true → result.0 ≡ text.now }
+{
+    (Gram::of(text.as_bytes()), text.len() <= TEXT_BYTES)
 }

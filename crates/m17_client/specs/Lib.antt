@@ -1,0 +1,4 @@
+pub mod Standing
+pub mod Client
+pub mod Deeds
+pub mod Talk
