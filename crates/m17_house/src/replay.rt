@@ -17,7 +17,7 @@ use std::alloc::Global;
 /// none for the modules or the verdicts; nothing is said of the mouth then. Nothing allocates once the first entry is
 /// heard. This profile.
 pub fn replay_plain(
-    alloc: Global,
+    _alloc: Global,
     plan: &Plan,
     heard: &[Heard],
     mouth: &mut TallyMouth,
@@ -30,6 +30,5 @@ pub fn replay_plain(
     ensures same_peers { IfOk result (λ _. named_in mouth.new.entries ≡ named_in mouth.old.entries) }
     ensures same_mouth { IfOk result (λ _. mouth.new.number ≡ mouth.old.number) }
 {
-    let _ = (alloc, plan, heard, mouth);
     Err(NoMemory)
 }

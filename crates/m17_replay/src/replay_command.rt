@@ -35,6 +35,5 @@ pub fn replay<S: Input<K>, K: Sink>(
     ensures no_fault { OnErr result ((S.faults input.new ≡ S.faults input.old)
         × (K.faults out.new ≡ K.faults out.old)) }
 {
-    let _ = (alloc, plan, summary, input, out);
     Err(NoMemory)
 }
