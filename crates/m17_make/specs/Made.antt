@@ -45,9 +45,9 @@ entry_length (Pong i) = 27
 entry_length (Frame i sid number last) = 71
 entry_length Quiet = 9
 
--- the number of a frame has 15 bits
-abbrev pub IsNumbered : Made → Type 0
-IsNumbered (Conn i) = Unit {0}
-IsNumbered (Pong i) = Unit {0}
-IsNumbered (Frame i sid number last) = number < 32768
-IsNumbered Quiet = Unit {0}
+-- what an entry has fits its places: twelve hotspots, ids of 16 bits and numbers of 15
+abbrev pub IsSound : Made → Type 0
+IsSound (Conn i) = i < 12
+IsSound (Pong i) = i < 12
+IsSound (Frame i sid number last) = (i < 12) × (sid < 2 ^ 16) × (number < 32768)
+IsSound Quiet = Unit {0}

@@ -19,6 +19,7 @@ pub(crate) struct Draws {
 impl Draws {
     // Draws one of 0 to `below` - 1.
     #[inline]
+    #[tactic(auto, unfolding(crate::specs::Draws::draw))]
     pub(crate) fn draw(&mut self, below: u32) -> u32
         requires { 0 < below }
         ensures drawn { result ≡ draw below self.old.x }
@@ -32,6 +33,7 @@ impl Draws {
 
 // The number that comes after this one.
 #[inline]
+#[tactic(auto, using(crate::proofs::Drawn::number_after))]
 fn after(x: u64) -> u64
     ensures { result ≡ next_number x }
 {

@@ -1,7 +1,10 @@
-ghost use Rattle.std.specs.Prelude.{◌≡◌, ◌≤◌, ℕ, List, ◌++◌, Some, OnOk, OnErr};
+ghost use Rattle.std.specs.Prelude.{◌≡◌, ◌<◌, ◌≤◌, ℕ, List, ◌++◌, Some, OnOk, OnErr};
 ghost use Rattle.m17_io.specs.Faults.{HasCause};
 ghost use Rattle.m17_io.specs.Sink.{AppendsPrefix};
-ghost use Rattle.m17_make.specs.Make.{make_text};
+ghost use Rattle.m17_book.specs.Entries.{entry_bytes};
+ghost use Rattle.m17_make.specs.Moments.{moment_of};
+ghost use Rattle.m17_make.specs.Made.{heard_as};
+ghost use Rattle.m17_make.specs.Make.{made_at, after, make_text};
 
 use crate::Maker;
 use m17_book::write_entry;
@@ -24,12 +27,32 @@ pub fn make<K: Sink>(seed: u64, count: u32, out: &mut K) -> Result<(), Failed>
     ensures err { OnErr result ((before : List ℕ) → K.written out.old ≡ Some before
         → AppendsPrefix before (make_text seed count) (K.written out.new)) }
 {
-    out.write(&TRACE_MAGIC)?;
+    match out.write(&TRACE_MAGIC) {
+        Ok(()) => {}
+        Err(failed) => return Err(failed),
+    }
     let mut maker = Maker::new(seed);
-    for _j in 0..count {
-        if let Some(entry) = write_entry(&maker.next()) {
-            out.write(entry.as_slice())?;
+    for _entry in 0..count {
+        match write_next(&mut maker, out) {
+            Ok(()) => {}
+            Err(failed) => return Err(failed),
         }
     }
     Ok(())
+}
+
+// Writes the next entry.
+fn write_next<K: Sink>(maker: &mut Maker, out: &mut K) -> Result<(), Failed>
+    requires { maker.old.entry < 100000 }
+    ensures after { maker.new ≡ after maker.old }
+    ensures cause { HasCause (K.faults out.old) (K.faults out.new) result }
+    ensures ok { OnOk result ((before : List ℕ) → K.written out.old ≡ Some before
+        → K.written out.new ≡ Some (before
+        ++ entry_bytes (heard_as (moment_of maker.old.entry) (made_at maker.old)))) }
+    ensures err { OnErr result ((before : List ℕ) → K.written out.old ≡ Some before
+        → AppendsPrefix before (entry_bytes (heard_as (moment_of maker.old.entry) (made_at maker.old)))
+        (K.written out.new)) }
+{
+    let heard = maker.next();
+    out.write(write_entry(&heard).unwrap().as_slice())
 }

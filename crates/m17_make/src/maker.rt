@@ -43,7 +43,7 @@ impl Model for Maker {
 }
 
 impl Maker {
-    ghost use Rattle.m17_make.specs.Made.{heard_as, IsNumbered};
+    ghost use Rattle.m17_make.specs.Made.{heard_as, IsSound};
     ghost use Rattle.m17_make.specs.Make.{begun_with, made_at, after};
 
     /// An evening that is drawn from this seed, before its first entry. This profile.
@@ -76,10 +76,11 @@ impl Maker {
     }
 
     // What the next entry is.
+    #[tactic(auto, unfolding(crate::specs::Make::made_at, crate::specs::Make::after))]
     fn make(&mut self) -> Made
         requires { self.old.entry < 100000 }
         ensures made { result ≡ made_at self.old }
-        ensures numbered { IsNumbered result }
+        ensures sound { IsSound result }
         ensures after { self.new ≡ after self.old }
     {
         let j = self.entry;

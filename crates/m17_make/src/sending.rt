@@ -1,7 +1,7 @@
 ghost use Rattle.std.specs.Prelude.{◌≡◌, ◌<◌, ◌≤◌, ◌≢◌, length};
 ghost use Rattle.m17_values.specs.declared.heard.Heard.TheVariants.{Datagram, End};
 ghost use Rattle.m17_make.specs.Hotspots.{peer_of};
-ghost use Rattle.m17_make.specs.Made.{heard_as, frame_bytes, conn_bytes, pong_bytes, IsNumbered};
+ghost use Rattle.m17_make.specs.Made.{heard_as, frame_bytes, conn_bytes, pong_bytes, IsSound};
 
 use crate::hotspot::Hotspot;
 use crate::made::Made;
@@ -15,8 +15,9 @@ use m17_values::{Address, Gram, Heard};
 const VOICE: u16 = 5;
 
 // What is heard at this moment, in milliseconds.
+#[tactic(auto, unfolding(crate::specs::Made::heard_as))]
 pub(crate) fn heard(at: u64, made: &Made) -> Heard
-    requires { IsNumbered made.now }
+    requires { IsSound made.now }
     ensures heard { result ≡ heard_as at made.now }
     ensures not_end { result ≢ End }
 {

@@ -57,6 +57,7 @@ impl Talk {
     }
 
     // The turn of the module with this number, 0 to 2.
+    #[tactic(auto, unfolding(crate::specs::Talk::turn))]
     pub(crate) fn turn(&mut self, of: u8, draws: &mut Draws) -> Made
         requires within { of < 3 }
         requires steady { IsSteady self.old }
@@ -93,6 +94,7 @@ impl Talk {
     }
 
     // The entry by a draw.
+    #[tactic(auto, unfolding(crate::specs::Talk::made_by, crate::specs::Talk::talk_by))]
     fn speak(&mut self, of: u8, d: u32) -> Made
         requires within { of < 3 }
         requires steady { IsSteady self.old }
