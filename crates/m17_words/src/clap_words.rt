@@ -1,6 +1,6 @@
 ghost use Rattle.std.specs.Prelude.{◌≡◌, ℕ, List, true, map, string_bytes, option_map, unwrap_or, IfOk};
-ghost use Rattle.clap.specs.Words.{app_of, found_of, rows_of, is_simple_and_free};
-ghost use Rattle.m17_words.specs.Tables.{Takes, found, text_of, text_or};
+ghost use Rattle.clap.specs.Words.{app_of, found_of, rows_of};
+ghost use Rattle.m17_words.specs.Tables.{IsSimple, Takes, found, text_of, text_or};
 ghost use Rattle.m17_words.specs.Values.{IsFlagged};
 
 use crate::WordsRefusal;
@@ -8,11 +8,12 @@ use clap::error::ErrorKind;
 use clap::{ArgMatches, Command};
 
 // What `clap` finds among the words.
+#[tactic(auto, unfolding(crate::specs::Tables::IsSimple, crate::specs::Tables::Takes, crate::specs::Tables::found))]
 pub(crate) fn find<'a>(
     command: Command<'a>,
     words: &'a [String],
 ) -> Result<ArgMatches<'a>, WordsRefusal>
-    requires { is_simple_and_free (app_of command) ≡ true }
+    requires { IsSimple (app_of command) }
     ensures taken { IfOk result (λ m. Takes (app_of command.entry)
         (map string_bytes words.entry.now)) }
     ensures found { IfOk result (λ m. rows_of (found_of m)

@@ -18,7 +18,10 @@ pub enum Command {
         summary: bool,
     },
     /// `make`: the trace of an evening, drawn from a seed, with 0 to 100,000 entries.
-    Make { seed: u64, count: u32 },
+    Make {
+        seed: u64,
+        count: u32,
+    },
 }
 
 /// Why the words give no command. This profile.

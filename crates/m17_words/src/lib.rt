@@ -7,12 +7,13 @@
 
 mod clap_words;
 mod command;
-mod read_words;
+mod first;
+mod reading;
 mod tables;
 mod values;
 
 pub use command::{Command, WordsRefusal};
-pub use read_words::read_words;
+pub use reading::read_words;
 
 #[cfg(test)]
 mod tests;

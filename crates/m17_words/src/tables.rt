@@ -29,9 +29,7 @@ fn flag<'a>(alloc: Global, name: &'a str) -> Arg<'a>
     ensures rule { rule_of result ≡ flag name.entry.now }
     ensures own { result.global ≡ false }
 {
-    Arg::new(alloc, name)
-        .long(name)
-        .action(ArgAction::SetTrue)
+    Arg::new(alloc, name).long(name).action(ArgAction::SetTrue)
 }
 
 // An argument that has to be there.
@@ -55,6 +53,7 @@ fn with<'a>(command: Command<'a>, arg: Arg<'a>) -> Result<Command<'a>, WordsRefu
 }
 
 // The table of `judge`.
+#[tactic(auto, unfolding(crate::specs::Tables::judge_table))]
 pub(crate) fn judge_table<'a>(alloc: Global) -> Command<'a>
     ensures { app_of result ≡ judge_table }
 {
@@ -62,6 +61,7 @@ pub(crate) fn judge_table<'a>(alloc: Global) -> Command<'a>
 }
 
 // The table of `show`.
+#[tactic(auto, unfolding(crate::specs::Tables::show_table))]
 pub(crate) fn show_table<'a>(alloc: Global) -> Command<'a>
     ensures { app_of result ≡ show_table }
 {
@@ -69,6 +69,7 @@ pub(crate) fn show_table<'a>(alloc: Global) -> Command<'a>
 }
 
 // The table of `replay`.
+#[tactic(auto, unfolding(crate::specs::Tables::replay_table))]
 pub(crate) fn replay_table<'a>(alloc: Global) -> Result<Command<'a>, WordsRefusal>
     ensures table { IfOk result (λ c. app_of c ≡ replay_table) }
     ensures memory { IfErr result (λ e. e ≡ WordsRefusal.NoMemory) }
@@ -81,6 +82,7 @@ pub(crate) fn replay_table<'a>(alloc: Global) -> Result<Command<'a>, WordsRefusa
 }
 
 // The table of `make`.
+#[tactic(auto, unfolding(crate::specs::Tables::make_table))]
 pub(crate) fn make_table<'a>(alloc: Global) -> Result<Command<'a>, WordsRefusal>
     ensures table { IfOk result (λ c. app_of c ≡ make_table) }
     ensures memory { IfErr result (λ e. e ≡ WordsRefusal.NoMemory) }

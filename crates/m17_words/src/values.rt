@@ -12,12 +12,13 @@ pub(crate) fn number(text: &str, least: u64, most: u64) -> Option<u64>
     ensures some { IfSome result (IsNumber least most text.now) }
     ensures none { IfNone result ((n : ℕ) → ¬ IsNumber least most text.now n) }
 {
-    if text.starts_with('+') {
+    if matches!(text.as_bytes(), [b'+', ..]) {
         return None;
     }
     match text.parse::<u64>() {
         Ok(n) if least <= n && n <= most => Some(n),
-        _ => None,
+        Ok(_) => None,
+        Err(_) => None,
     }
 }
 

@@ -2,8 +2,10 @@ ghost use Rattle.std.specs.Prelude.{◌≡◌, ◌∷◌, ℕ, List, codes, map,
 ghost use Rattle.clap.specs.Words.{found_of, rows_of, Row};
 ghost use Rattle.m17_words.specs.declared.command.Command.{Command};
 ghost use Rattle.m17_words.specs.Words.{Names, IsReplayWith, IsMakeWith};
+ghost use Rattle.m17_words.specs.First.{text_of_first};
 
 use crate::clap_words::{find, is_there, text_of, text_or};
+use crate::first::{FirstWord, first_word};
 use crate::tables::{judge_table, make_table, replay_table, show_table};
 use crate::{Command, WordsRefusal, values};
 use clap::ArgMatches;
@@ -26,12 +28,23 @@ pub fn read_words(alloc: Global, words: &[String]) -> Result<Command, WordsRefus
     let [first, rest @ ..] = words else {
         return Err(WordsRefusal::Refused);
     };
-    match first.as_str() {
-        "judge" => read_judge(alloc, rest),
-        "show" => read_show(alloc, rest),
-        "replay" => read_replay(alloc, rest),
-        "make" => read_make(alloc, rest),
-        _ => Err(WordsRefusal::Refused),
+    match first_word(first.as_str()) {
+        Some(word) => read_after(alloc, word, rest),
+        None => Err(WordsRefusal::Refused),
+    }
+}
+
+// The command of a first word, with the words after it.
+fn read_after(alloc: Global, word: FirstWord, words: &[String]) -> Result<Command, WordsRefusal>
+    ensures named { IfOk result (Names (text_of_first word ∷ map string_bytes words.now)) }
+    ensures refused { result ≡ Err WordsRefusal.Refused → (command : Command)
+        → ¬ Names (text_of_first word ∷ map string_bytes words.now) command }
+{
+    match word {
+        FirstWord::Judge => read_judge(alloc, words),
+        FirstWord::Show => read_show(alloc, words),
+        FirstWord::Replay => read_replay(alloc, words),
+        FirstWord::Make => read_make(alloc, words),
     }
 }
 
