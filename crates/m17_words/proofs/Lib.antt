@@ -1,3 +1,3 @@
 pub mod Simple
 pub mod Named
-pub mod Numbers
+pub mod Parrots

@@ -12,43 +12,31 @@ first_letter : (a b : Text) → a ≡ b → slice_index a 0 ≡ slice_index b 0
 first_letter a b e = ap (λ (t : Text). slice_index t 0) e
 
 pub no_judge : (words : List Text) → (Takes judge_table words → ⊥) → (command : Command) → Names (codes "judge" ∷ words) command → ⊥
-no_judge words no Judge named = no named.1
-no_judge words no Show named = omega (arith, first_letter (codes "judge") (codes "show") named.0)
-no_judge words no (Replay call modules parrots places summary) named = omega (arith, first_letter (codes "judge") (codes "replay") named.0)
-no_judge words no (Make seed count) named = omega (arith, first_letter (codes "judge") (codes "make") named.0)
+no_judge words refuses Judge named = refuses named.1
+no_judge words refuses Show named = omega (arith, first_letter (codes "judge") (codes "show") named.0)
+no_judge words refuses (Replay call modules parrots places summary) named = omega (arith, first_letter (codes "judge") (codes "replay") named.0)
+no_judge words refuses (Make seed count) named = omega (arith, first_letter (codes "judge") (codes "make") named.0)
 
 pub no_show : (words : List Text) → (Takes show_table words → ⊥) → (command : Command) → Names (codes "show" ∷ words) command → ⊥
-no_show words no Judge named = omega (arith, first_letter (codes "show") (codes "judge") named.0)
-no_show words no Show named = no named.1
-no_show words no (Replay call modules parrots places summary) named = omega (arith, first_letter (codes "show") (codes "replay") named.0)
-no_show words no (Make seed count) named = omega (arith, first_letter (codes "show") (codes "make") named.0)
+no_show words refuses Judge named = omega (arith, first_letter (codes "show") (codes "judge") named.0)
+no_show words refuses Show named = refuses named.1
+no_show words refuses (Replay call modules parrots places summary) named = omega (arith, first_letter (codes "show") (codes "replay") named.0)
+no_show words refuses (Make seed count) named = omega (arith, first_letter (codes "show") (codes "make") named.0)
 
 -- a replay: `clap` refuses the words, or the values are none of a replay
 pub no_replay : (words : List Text) → (Takes replay_table words → (command : Command) → IsReplayWith (found replay_table words) command → ⊥)
     → (command : Command) → Names (codes "replay" ∷ words) command → ⊥
-no_replay words no Judge named = omega (arith, first_letter (codes "replay") (codes "judge") named.0)
-no_replay words no Show named = omega (arith, first_letter (codes "replay") (codes "show") named.0)
-no_replay words no (Replay call modules parrots places summary) named = no named.1.0 (Replay call modules parrots places summary) named.1.1
-no_replay words no (Make seed count) named = omega (arith, first_letter (codes "replay") (codes "make") named.0)
+no_replay words refuses Judge named = omega (arith, first_letter (codes "replay") (codes "judge") named.0)
+no_replay words refuses Show named = omega (arith, first_letter (codes "replay") (codes "show") named.0)
+no_replay words refuses (Replay call modules parrots places summary) named = refuses named.1.0 (Replay call modules parrots places summary) named.1.1
+no_replay words refuses (Make seed count) named = omega (arith, first_letter (codes "replay") (codes "make") named.0)
 
 pub no_make : (words : List Text) → (Takes make_table words → (command : Command) → IsMakeWith (found make_table words) command → ⊥)
     → (command : Command) → Names (codes "make" ∷ words) command → ⊥
-no_make words no Judge named = omega (arith, first_letter (codes "make") (codes "judge") named.0)
-no_make words no Show named = omega (arith, first_letter (codes "make") (codes "show") named.0)
-no_make words no (Replay call modules parrots places summary) named = omega (arith, first_letter (codes "make") (codes "replay") named.0)
-no_make words no (Make seed count) named = no named.1.0 (Make seed count) named.1.1
-
-pub is_replay : (words : List Text) (command : Command) → Takes replay_table words → IsReplayWith (found replay_table words) command → Names (codes "replay" ∷ words) command
-is_replay words Judge taken values = absurd values
-is_replay words Show taken values = absurd values
-is_replay words (Replay call modules parrots places summary) taken values = (refl, (taken, values))
-is_replay words (Make seed count) taken values = absurd values
-
-pub is_make : (words : List Text) (command : Command) → Takes make_table words → IsMakeWith (found make_table words) command → Names (codes "make" ∷ words) command
-is_make words Judge taken values = absurd values
-is_make words Show taken values = absurd values
-is_make words (Replay call modules parrots places summary) taken values = absurd values
-is_make words (Make seed count) taken values = (refl, (taken, values))
+no_make words refuses Judge named = omega (arith, first_letter (codes "make") (codes "judge") named.0)
+no_make words refuses Show named = omega (arith, first_letter (codes "make") (codes "show") named.0)
+no_make words refuses (Replay call modules parrots places summary) named = omega (arith, first_letter (codes "make") (codes "replay") named.0)
+no_make words refuses (Make seed count) named = refuses named.1.0 (Make seed count) named.1.1
 
 pub no_first : (first : Text) (words : List Text) → (first ≡ codes "judge" → ⊥) → (first ≡ codes "show" → ⊥) → (first ≡ codes "replay" → ⊥) → (first ≡ codes "make" → ⊥)
     → (command : Command) → Names (first ∷ words) command → ⊥

@@ -46,9 +46,9 @@ pub(crate) fn modules(text: &str) -> Option<Modules>
 
 // The parrots that a text names, all of them among the modules.
 pub(crate) fn parrots(text: Option<&str>, modules: &Modules) -> Option<Modules>
-    ensures some { IfSome result (NamesParrots (option_map (λ s. s.now) text) modules.now) }
+    ensures some { IfSome result (NamesParrots (option_map (λ s. s.now) text.entry) modules.now) }
     ensures none { IfNone result ((p : Modules)
-        → ¬ NamesParrots (option_map (λ s. s.now) text) modules.now p) }
+        → ¬ NamesParrots (option_map (λ s. s.now) text.entry) modules.now p) }
 {
     match text {
         None => Some(Modules::none()),
