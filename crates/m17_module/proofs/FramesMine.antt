@@ -3,7 +3,6 @@ use Rattle.std.proofs.Common.{◌≡◌, ℕ, ◌/◌, ◌<◌, ◌&&◌, Bool, 
 use Rattle.std.specs.List.{filter, flat_map, range_with_len}
 use Rattle.std.proofs.lemmas.Bool.{cond-true, cond-false, and_right, and_parts, true≢false, true_from_ne_false}
 use Rattle.std.proofs.lemmas.Option.{cond_some}
-use Rattle.std.proofs.lemmas.List.{append-nil}
 use Rattle.m17_values.specs.declared.member.Member.{Member}
 use Rattle.m17_stream.specs.declared.packet.StreamPacket.{StreamPacket}
 use Rattle.m17_control.specs.declared.event.Body.{Body}
@@ -19,7 +18,8 @@ use Rattle.m17_floor.specs.Laws.{OnlyPacketsHaveVerdicts}
 use Rattle.m17_module.specs.declared.seat.Seat.{Seat}
 use Rattle.m17_module.specs.Events.{kind_of, acts_of}
 use Rattle.m17_module.specs.Seats.{seat_at, seats_at, members_of, seat_in, if_of, seat_of, others_than}
-use Rattle.m17_module.specs.Items.{Setup, ping_every_ms, item_to, to_one, greets, says, setting_at, pings_at, said_by, said_at, items_at, items_given, is_for, items_for, is_frame, frames_for}
+use Rattle.m17_module.specs.Items.{Setup, ping_every_ms, item_to, to_one, greets, says, setting_at, pings_at, echo_items, echoes_at, said_by, said_at, items_at, items_given, is_for, items_for, is_frame, frames_for}
+use Rattle.m17_module.specs.Echoes.{echo_at}
 use Rattle.m17_module.specs.Laws.{hears, frame_of_body, frame_by, frame_sent, FramesAreThoseHeard, EachHeardIsSentOnce}
 use Rattle.m17_module.proofs.Acts.{kind_from, kind_at_is}
 use Rattle.m17_module.proofs.Mine.{ArePlaced, mine_at, mine_none, mine_all}
@@ -97,6 +97,15 @@ unfolding pings_at
 no_pings places events n k =
     pings_cases k (nat_lt (moment_before (acts_of events) n / ping_every_ms) (moment_at (acts_of events) n / ping_every_ms)) (members_of (seats_at places events n))
 
+echo_cases : (k : Member) (n : ℕ) (seats : List (Option Seat)) (b : Bool) (echo : Option (Member × StreamPacket)) → framed (filter (is_for k) (cond b (echo_items n seats echo) [])) ≡ []
+echo_cases k n seats false echo = refl
+echo_cases k n seats true None = refl
+echo_cases k n seats true (Some e) = no_mine (said.Echo n e.1) k (seat_of seats e.0) refl
+
+no_echoes : (setup : Setup) (events : List Event) (n : ℕ) (k : Member) → framed (filter (is_for k) (echoes_at setup events n)) ≡ []
+unfolding echoes_at
+no_echoes setup events n k = echo_cases k n (seats_at setup.places events n) setup.parrot (echo_at setup.places (acts_of events) n)
+
 greets_cases : (k : Member) (b : Bool) (o : Option Seat) (seat : Seat) (after : ℕ) → framed (filter (is_for k) (cond b (to_one (said.Bye Replaced) o ++ item_to (said.Hello after) seat ∷ []) [])) ≡ []
 greets_cases k false o seat after = refl
 greets_cases k true o seat after =
@@ -154,10 +163,13 @@ framed_at setup events k n =
     let pings : List Item = pings_at setup.places events n in
     let told : List Item = said_by setup.places events n (slice_get events n) in
     let rest : Bool → Bool → Bool = λ b c. b && (admits (verdict_at setup.places (acts_of events) n) && not c) in
-    ap (λ xs. framed (filter (is_for k) (xs ++ told))) (append-nil pings)
-    ∙ ap framed (filter-append (is_for k) pings told)
-    ∙ framed_append (filter (is_for k) pings) (filter (is_for k) told)
-    ∙ ap (λ xs. xs ++ framed (filter (is_for k) told)) (no_pings setup.places events n k)
+    let played : List Item = echoes_at setup events n in
+    ap framed (filter-append (is_for k) (pings ++ played) told)
+    ∙ framed_append (filter (is_for k) (pings ++ played)) (filter (is_for k) told)
+    ∙ ap (λ xs. framed xs ++ framed (filter (is_for k) told)) (filter-append (is_for k) pings played)
+    ∙ ap (λ xs. xs ++ framed (filter (is_for k) told)) (framed_append (filter (is_for k) pings) (filter (is_for k) played))
+    ∙ ap (λ xs. (xs ++ framed (filter (is_for k) played)) ++ framed (filter (is_for k) told)) (no_pings setup.places events n k)
+    ∙ ap (λ xs. xs ++ framed (filter (is_for k) told)) (no_echoes setup events n k)
     ∙ said_by_framed setup.places events n k (slice_get events n)
     ∙ ap (λ b. cond (rest b (is_packet_of k (kind_from (slice_get events n)))) (frame_sent setup.places events k n) []) (sym (is_in_exactly setup.places events n k))
     ∙ ap (λ kind. cond (rest (is_some (joined_at setup.places (acts_of events) k n)) (is_packet_of k kind)) (frame_sent setup.places events k n) []) (sym (kind_at_is events n))

@@ -19,7 +19,7 @@ use Rattle.m17_module.proofs.Below.{slice_get_before, length_more}
 use Rattle.m17_module.proofs.Places.{filter-append}
 use Rattle.m17_module.proofs.SeatsMore.{seats_at_before}
 
-pings_before : LaterActsChangeNoMembership → LaterActsChangeNoMoment → (places : ℕ) (events more : List Event) (n : ℕ) → n < length events → pings_at places (events ++ more) n ≡ pings_at places events n
+pub pings_before : LaterActsChangeNoMembership → LaterActsChangeNoMoment → (places : ℕ) (events more : List Event) (n : ℕ) → n < length events → pings_at places (events ++ more) n ≡ pings_at places events n
 unfolding pings_at
 pings_before members moments places events more n h =
     let longer : List Event = events ++ more in
@@ -40,20 +40,14 @@ said_by_same places old new n (Some event) seats verdict =
     ap (λ xs. says (make xs (verdict_at places (acts_of new) n)) event.body) seats
     ∙ ap (λ v. says (make (seats_at places old n) v) event.body) verdict
 
-said_before : LaterActsChangeNoVerdict → LaterActsChangeNoMembership → (places : ℕ) (events more : List Event) (n : ℕ) → n < length events → said_at places (events ++ more) n ≡ said_at places events n
+pub said_before : LaterActsChangeNoVerdict → LaterActsChangeNoMembership → (places : ℕ) (events more : List Event) (n : ℕ) → n < length events → said_at places (events ++ more) n ≡ said_at places events n
 unfolding said_at
 said_before verdicts members places events more n h =
     ap (said_by places (events ++ more) n) (slice_get_before events more n h)
     ∙ said_by_same places events (events ++ more) n (slice_get events n) (sym (seats_at_before members places events more n (omega arith)))
     (ap (λ acts. verdict_at places acts n) (acts_append events more) ∙ verdicts places (acts_of events) (acts_of more) n (omega (arith, length_acts events)))
 
-pub items_before : LaterActsChangeNoVerdict → LaterActsChangeNoMembership → LaterActsChangeNoMoment → LaterEventsChangeNoItems
-unfolding items_at
-items_before verdicts members moments setup events more n h =
-    ap (λ xs. (xs ++ []) ++ said_at setup.places (events ++ more) n) (pings_before members moments setup.places events more n h)
-    ∙ ap (λ xs. (pings_at setup.places events n ++ []) ++ xs) (said_before verdicts members setup.places events more n h)
-
-flat_map_same : {X : Type 0} (f g : ℕ → List X) (from n : ℕ) → ((i : ℕ) → i < from + n → f i ≡ g i) → flat_map f (range_with_len from n) ≡ flat_map g (range_with_len from n)
+pub flat_map_same : {X : Type 0} (f g : ℕ → List X) (from n : ℕ) → ((i : ℕ) → i < from + n → f i ≡ g i) → flat_map f (range_with_len from n) ≡ flat_map g (range_with_len from n)
 flat_map_same f g from zero h = refl
 flat_map_same f g from (suc n) h =
     ap (λ xs. xs ++ flat_map f (range_with_len (from + 1) n)) (h from (omega arith))

@@ -10,3 +10,12 @@ mod FramesMine
 mod LifeParts
 mod Life
 mod Between
+mod Tuned
+mod TunedStep
+mod EchoesBefore
+mod EchoItems
+mod EchoesMore
+mod RecordingStep
+mod ParrotStep
+mod ModuleStep
+mod EchoOnce

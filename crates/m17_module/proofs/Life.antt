@@ -17,7 +17,7 @@ use Rattle.m17_floor.specs.Acts.{last_below, is_join_of, settles, kind_at, momen
 use Rattle.m17_module.specs.declared.seat.Seat.{Seat}
 use Rattle.m17_module.specs.Events.{kind_of, acts_of}
 use Rattle.m17_module.specs.Seats.{seats_at, seat_of}
-use Rattle.m17_module.specs.Items.{Setup, ping_every_ms, to_one, says, setting_at, pings_at, said_by, said_at, items_at, items_given, is_for, items_for}
+use Rattle.m17_module.specs.Items.{Setup, ping_every_ms, to_one, says, setting_at, pings_at, echoes_at, said_by, said_at, items_at, items_given, is_for, items_for}
 use Rattle.m17_module.specs.Laws.{is_hello, is_bye, joins, JoinsOnce, IsLife, ShareIsALife, WhoNeverJoinsGetsNothing}
 use Rattle.m17_module.proofs.Acts.{kind_from, kind_at_is}
 use Rattle.m17_module.proofs.Below.{last_below_suc}
@@ -25,7 +25,7 @@ use Rattle.m17_module.proofs.ItemsMore.{range_more}
 use Rattle.m17_module.proofs.Places.{filter-append}
 use Rattle.m17_module.proofs.FramesMine.{is_in_exactly, cond_same}
 use Rattle.m17_module.proofs.SeatsMore.{same_from_is_same, length_seats}
-use Rattle.m17_module.proofs.LifeParts.{hellos, byes, mine, IsPart, empty_part, pinged_part, mine_pings, said_part, said_nothing, said_hello}
+use Rattle.m17_module.proofs.LifeParts.{hellos, byes, mine, IsPart, empty_part, pinged_part, quiet_before, no_echo_hello, no_echo_bye, no_echo_away, mine_pings, said_part, said_nothing, said_hello}
 
 -- one position more
 joined_cond : (below b : Bool) (f : ℕ → Option ℕ) (n : ℕ) (o : Option ℕ) → cond below (option_and_then f (cond b (Some n) o)) None ≡ cond b (cond below (f n) None) (cond below (option_and_then f o) None)
@@ -66,12 +66,16 @@ unsettled_by places events k n true e other stays =
 abbrev part_at : Setup → List Event → Member → ℕ → List Item
 part_at setup events k n = mine k (items_at setup events n)
 
-part_is : (setup : Setup) (events : List Event) (k : Member) (n : ℕ) → part_at setup events k n ≡ cond (nat_lt (moment_before (acts_of events) n / ping_every_ms) (moment_at (acts_of events) n / ping_every_ms)) (to_one said.Ping (seat_of (seats_at setup.places events n) k)) [] ++ mine k (said_by setup.places events n (slice_get events n))
+part_is : (setup : Setup) (events : List Event) (k : Member) (n : ℕ) → part_at setup events k n ≡ cond (nat_lt (moment_before (acts_of events) n / ping_every_ms) (moment_at (acts_of events) n / ping_every_ms)) (to_one said.Ping (seat_of (seats_at setup.places events n) k)) [] ++ (mine k (echoes_at setup events n) ++ mine k (said_by setup.places events n (slice_get events n)))
 unfolding items_at said_at
 part_is setup events k n =
-    ap (λ xs. mine k (xs ++ said_by setup.places events n (slice_get events n))) (append-nil (pings_at setup.places events n))
-    ∙ filter-append (is_for k) (pings_at setup.places events n) (said_by setup.places events n (slice_get events n))
-    ∙ ap (λ xs. xs ++ mine k (said_by setup.places events n (slice_get events n))) (mine_pings setup.places events n k)
+    let pings : List Item = pings_at setup.places events n in
+    let played : List Item = echoes_at setup events n in
+    let told : List Item = said_by setup.places events n (slice_get events n) in
+    filter-append (is_for k) (pings ++ played) told
+    ∙ ap (λ xs. xs ++ mine k told) (filter-append (is_for k) pings played)
+    ∙ append_assoc (mine k pings) (mine k played) (mine k told)
+    ∙ ap (λ xs. xs ++ (mine k played ++ mine k told)) (mine_pings setup.places events n k)
 
 said_by_part : (places : ℕ) (events : List Event) (n : ℕ) (k : Member) (stays : Bool) (o : Option Event) → is_join_of k (kind_from o) ≡ false → (stays ≡ true → settles k (kind_from o) ≡ false) → IsPart (mine k (said_by places events n o)) stays
 said_by_part places events n k stays None other unsettled = empty_part stays
@@ -95,24 +99,31 @@ no_seat places events n k gone = none_of (seat_of (seats_at places events n) k) 
 no_pings_out : (b : Bool) (o : Option Seat) (rest : List Item) → o ≡ None → cond b (to_one said.Ping o) [] ++ rest ≡ rest
 no_pings_out b o rest e = ap (λ x. cond b (to_one said.Ping x) [] ++ rest) e ∙ ap (λ xs. xs ++ rest) (cond_same b)
 
+-- of a position before which it is not in
+part_away : (setup : Setup) (events : List Event) (k : Member) (n : ℕ) → joined_at setup.places (acts_of events) k n ≡ None → part_at setup events k n ≡ mine k (said_by setup.places events n (slice_get events n))
+part_away setup events k n gone =
+    part_is setup events k n
+    ∙ no_pings_out _ (seat_of (seats_at setup.places events n) k) (mine k (echoes_at setup events n) ++ mine k (said_by setup.places events n (slice_get events n))) (no_seat setup.places events n k gone)
+    ∙ ap (λ xs. xs ++ mine k (said_by setup.places events n (slice_get events n))) (no_echo_away setup events n k (no_seat setup.places events n k gone))
+
 part_nothing : (setup : Setup) (events : List Event) (k : Member) (n : ℕ) → joined_at setup.places (acts_of events) k n ≡ None → joins events k n ≡ false → part_at setup events k n ≡ []
 part_nothing setup events k n gone other =
-    part_is setup events k n
-    ∙ no_pings_out _ (seat_of (seats_at setup.places events n) k) (mine k (said_by setup.places events n (slice_get events n))) (no_seat setup.places events n k gone)
+    part_away setup events k n gone
     ∙ said_by_nothing setup.places events n k (slice_get events n) (no_seat setup.places events n k gone) (ap (is_join_of k) (sym (kind_at_is events n)) ∙ other)
 
 part_hello : (setup : Setup) (events : List Event) (k : Member) (n : ℕ) → joined_at setup.places (acts_of events) k n ≡ None → k.place < setup.places → joins events k n ≡ true → (hello : Item) × (is_hello hello.body ≡ true) × (part_at setup events k n ≡ hello ∷ [])
 part_hello setup events k n gone below is =
     let said = said_by_hello setup.places events n k (slice_get events n) (no_seat setup.places events n k gone) below (ap (is_join_of k) (sym (kind_at_is events n)) ∙ is) in
-    (said.0, said.1, part_is setup events k n ∙ no_pings_out _ (seat_of (seats_at setup.places events n) k) (mine k (said_by setup.places events n (slice_get events n))) (no_seat setup.places events n k gone) ∙ said.2)
+    (said.0, said.1, part_away setup events k n gone ∙ said.2)
 
 part_in : (setup : Setup) (events : List Event) (k : Member) (n : ℕ) → joins events k n ≡ false → IsPart (part_at setup events k n) (is_some (joined_at setup.places (acts_of events) k (suc n)))
 part_in setup events k n other =
     let stays : Bool = is_some (joined_at setup.places (acts_of events) k (suc n)) in
     subst (λ xs. IsPart xs stays) (sym (part_is setup events k n))
-    (pinged_part (seat_of (seats_at setup.places events n) k) _ (mine k (said_by setup.places events n (slice_get events n))) stays
+    (pinged_part (seat_of (seats_at setup.places events n) k) _ (mine k (echoes_at setup events n) ++ mine k (said_by setup.places events n (slice_get events n))) stays
+    (quiet_before (mine k (echoes_at setup events n)) (mine k (said_by setup.places events n (slice_get events n))) stays (no_echo_hello setup events n k) (no_echo_bye setup events n k)
     (said_by_part setup.places events n k stays (slice_get events n) (ap (is_join_of k) (sym (kind_at_is events n)) ∙ other)
-    (λ e. ap (settles k) (sym (kind_at_is events n)) ∙ unsettled_by setup.places events k n (settles k (kind_at (acts_of events) n)) refl other e)))
+    (λ e. ap (settles k) (sym (kind_at_is events n)) ∙ unsettled_by setup.places events k n (settles k (kind_at (acts_of events) n)) refl other e))))
 
 -- what was given to the member before a position
 abbrev share_to : Setup → List Event → Member → ℕ → List Item
@@ -317,8 +328,7 @@ said_by_past places events n k (Some event) past is = said_past places events n 
 part_past : (setup : Setup) (events : List Event) (k : Member) (n : ℕ) (b : Bool) → joins events k n ≡ b → setup.places ≤ k.place → part_at setup events k n ≡ []
 part_past setup events k n false other past = part_nothing setup events k n (out_past setup.places events k n past) other
 part_past setup events k n true is past =
-    part_is setup events k n
-    ∙ no_pings_out _ (seat_of (seats_at setup.places events n) k) (mine k (said_by setup.places events n (slice_get events n))) (no_seat setup.places events n k (out_past setup.places events k n past))
+    part_away setup events k n (out_past setup.places events k n past)
     ∙ said_by_past setup.places events n k (slice_get events n) past (ap (is_join_of k) (sym (kind_at_is events n)) ∙ is)
 
 past_share : (setup : Setup) (events : List Event) (k : Member) (n : ℕ) → setup.places ≤ k.place → share_to setup events k n ≡ []

@@ -18,7 +18,8 @@ use Rattle.m17_floor.specs.Floor.{admits, verdict_at}
 use Rattle.m17_module.specs.declared.seat.Seat.{Seat}
 use Rattle.m17_module.specs.Events.{kind_of, acts_of}
 use Rattle.m17_module.specs.Seats.{seats_at, members_of, seat_in, if_of, seat_of, others_than}
-use Rattle.m17_module.specs.Items.{ping_every_ms, item_to, to_one, greets, says, setting_at, pings_at, is_for}
+use Rattle.m17_module.specs.Echoes.{echo_at}
+use Rattle.m17_module.specs.Items.{Setup, ping_every_ms, item_to, to_one, greets, says, setting_at, pings_at, echo_items, echoes_at, is_for}
 use Rattle.m17_module.specs.Laws.{is_hello, is_bye}
 use Rattle.m17_module.proofs.Mine.{ArePlaced, mine_at, mine_none, mine_all}
 use Rattle.m17_module.proofs.Places.{filter-append}
@@ -90,19 +91,23 @@ bye_part why o stays gone = record {
 pub empty_part : (stays : Bool) → IsPart [] stays
 empty_part stays = record { quiet = []; tail = []; part_is = refl; no_hello = refl; no_bye = refl; no_late_hello = refl; at_most_one = omega arith; stays_quiet = λ _. refl }
 
--- Pings before it
-pub pinged_part : (o : Option Seat) (b : Bool) (rest : List Item) (stays : Bool) → IsPart rest stays → IsPart (cond b (to_one said.Ping o) [] ++ rest) stays
-pinged_part o false rest stays p = p
-pinged_part o true rest stays p = record {
-  quiet = to_one said.Ping o ++ p.quiet;
+-- anything quiet before it
+pub quiet_before : (front rest : List Item) (stays : Bool) → hellos front ≡ [] → byes front ≡ [] → IsPart rest stays → IsPart (front ++ rest) stays
+quiet_before front rest stays h b p = record {
+  quiet = front ++ p.quiet;
   tail = p.tail;
-  part_is = ap (λ xs. to_one said.Ping o ++ xs) p.part_is ∙ sym (append_assoc (to_one said.Ping o) p.quiet p.tail);
-  no_hello = filter-append (λ item. is_hello item.body) (to_one said.Ping o) p.quiet ∙ ap (λ xs. xs ++ hellos p.quiet) (quiet_one said.Ping o refl) ∙ p.no_hello;
-  no_bye = filter-append (λ item. is_bye item.body) (to_one said.Ping o) p.quiet ∙ ap (λ xs. xs ++ byes p.quiet) (no_bye_one said.Ping o refl) ∙ p.no_bye;
+  part_is = ap (λ xs. front ++ xs) p.part_is ∙ sym (append_assoc front p.quiet p.tail);
+  no_hello = filter-append (λ item. is_hello item.body) front p.quiet ∙ ap (λ xs. xs ++ hellos p.quiet) h ∙ p.no_hello;
+  no_bye = filter-append (λ item. is_bye item.body) front p.quiet ∙ ap (λ xs. xs ++ byes p.quiet) b ∙ p.no_bye;
   no_late_hello = p.no_late_hello;
   at_most_one = p.at_most_one;
   stays_quiet = p.stays_quiet;
 }
+
+-- Pings before it
+pub pinged_part : (o : Option Seat) (b : Bool) (rest : List Item) (stays : Bool) → IsPart rest stays → IsPart (cond b (to_one said.Ping o) [] ++ rest) stays
+pinged_part o false rest stays p = p
+pinged_part o true rest stays p = quiet_before (to_one said.Ping o) rest stays (quiet_one said.Ping o refl) (no_bye_one said.Ping o refl) p
 
 -- the pings of a position, for the member
 pub mine_cond : (k : Member) (b : Bool) (xs ys : List Item) → mine k xs ≡ ys → mine k (cond b xs []) ≡ cond b ys []
@@ -233,3 +238,36 @@ said_hello places events n k link (Packet m p) free below is = cc
 said_hello places events n k link (Reply m control) free below is = cc
 said_hello places events n k link Tick free below is = cc
 said_hello places events n k link Stop free below is = cc
+
+-- an echo for the member is neither Hello nor Bye, and it is in
+abbrev echo_of : Member → ℕ → List (Option Seat) → Bool → Option (Member × StreamPacket) → List Item
+echo_of k n seats b echo = mine k (cond b (echo_items n seats echo) [])
+
+echo_hellos : (k : Member) (n : ℕ) (seats : List (Option Seat)) (b : Bool) (echo : Option (Member × StreamPacket)) → hellos (echo_of k n seats b echo) ≡ []
+echo_hellos k n seats false echo = refl
+echo_hellos k n seats true None = refl
+echo_hellos k n seats true (Some e) = ap hellos (mine_one (said.Echo n e.1) k (seat_of seats e.0)) ∙ quiet_one (said.Echo n e.1) (if_of k (seat_of seats e.0)) refl
+
+echo_byes : (k : Member) (n : ℕ) (seats : List (Option Seat)) (b : Bool) (echo : Option (Member × StreamPacket)) → byes (echo_of k n seats b echo) ≡ []
+echo_byes k n seats false echo = refl
+echo_byes k n seats true None = refl
+echo_byes k n seats true (Some e) = ap byes (mine_one (said.Echo n e.1) k (seat_of seats e.0)) ∙ no_bye_one (said.Echo n e.1) (if_of k (seat_of seats e.0)) refl
+
+echo_away : (k : Member) (places : ℕ) (events : List Event) (n : ℕ) (b : Bool) (echo : Option (Member × StreamPacket)) → seat_of (seats_at places events n) k ≡ None → echo_of k n (seats_at places events n) b echo ≡ []
+echo_away k places events n false echo free = refl
+echo_away k places events n true None free = refl
+echo_away k places events n true (Some e) free =
+    mine_one (said.Echo n e.1) k (seat_of (seats_at places events n) e.0)
+    ∙ ap (to_one (said.Echo n e.1)) (if_of_if k e.0 (get_or (seats_at places events n) e.0.place None) (inr (other_seat k (seats_at places events n) e.0.place (get_or (seats_at places events n) e.0.place None) (placed places events n) refl (inr free))))
+
+pub no_echo_hello : (setup : Setup) (events : List Event) (n : ℕ) (k : Member) → hellos (mine k (echoes_at setup events n)) ≡ []
+unfolding echoes_at
+no_echo_hello setup events n k = echo_hellos k n (seats_at setup.places events n) setup.parrot (echo_at setup.places (acts_of events) n)
+
+pub no_echo_bye : (setup : Setup) (events : List Event) (n : ℕ) (k : Member) → byes (mine k (echoes_at setup events n)) ≡ []
+unfolding echoes_at
+no_echo_bye setup events n k = echo_byes k n (seats_at setup.places events n) setup.parrot (echo_at setup.places (acts_of events) n)
+
+pub no_echo_away : (setup : Setup) (events : List Event) (n : ℕ) (k : Member) → seat_of (seats_at setup.places events n) k ≡ None → mine k (echoes_at setup events n) ≡ []
+unfolding echoes_at
+no_echo_away setup events n k free = echo_away k setup.places events n setup.parrot (echo_at setup.places (acts_of events) n) free

@@ -18,7 +18,7 @@ ArePlaced from seats = (i : ℕ) (seat : Seat) → get_or seats i None ≡ Some 
 placed_rest : (from : ℕ) (o : Option Seat) (seats : List (Option Seat)) → ArePlaced from (o ∷ seats) → ArePlaced (from + 1) seats
 placed_rest from o seats placed i seat e = let at : seat.member.place ≡ from + suc i = placed (suc i) seat e in omega arith
 
-other_place : (a b : Member) → a.place ≢ b.place → is_same a b ≡ false
+pub other_place : (a b : Member) → a.place ≢ b.place → is_same a b ≡ false
 other_place a b ne = and_left (eqb a.place b.place) (eqb a.generation b.generation) (ne_eqb a.place b.place ne)
 
 -- nothing is said to who has a place before all of them

@@ -1,6 +1,6 @@
 -- One step of a module: what it gives, and that it goes on standing for the events.
 use Rattle.std.proofs.Common.{◌≡◌, ℕ, suc, ◌+◌, ◌/◌, cond, List, [], ◌∷◌, ◌++◌, length, map, max, nat_lt, Option, None, ap, sym, ◌∙◌, arith}
-use Rattle.std.proofs.lemmas.List.{append-nil, take-append-le}
+use Rattle.std.proofs.lemmas.List.{take-append-le}
 use Rattle.m17_control.specs.declared.event.Event.{Event}
 use Rattle.m17_control.specs.declared.item.Item.{Item}
 use Rattle.m17_control.specs.declared.item.Said.TheVariants as said
@@ -9,11 +9,12 @@ use Rattle.m17_floor.specs.declared.verdict.Verdict.{Verdict}
 use Rattle.m17_floor.specs.Acts.{with_act, is_packet, greatest_moment, moment_before, moment_at}
 use Rattle.m17_floor.specs.Floor.{admits, verdict_at, admitted_count}
 use Rattle.m17_floor.specs.Laws.{MomentOfOneMore, MomentAfterOneMore, LaterActsChangeNoMembership, CountOfOneMore, OtherActsChangeNothing, OnlyPacketsHaveVerdicts}
+use Rattle.m17_parrot.specs.Recording.{Recording}
 use Rattle.m17_module.specs.declared.seat.Seat.{Seat}
 use Rattle.m17_module.specs.Events.{kind_of, act_of, acts_of}
 use Rattle.m17_module.specs.Seats.{seats_at, members_of}
-use Rattle.m17_module.specs.Items.{Setup, Setting, ping_every_ms, item_to, says, pings_at, said_by, said_at, items_at}
-use Rattle.m17_module.specs.StandsFor.{People, PeopleStandFor, StandsFor, IsStep}
+use Rattle.m17_module.specs.Items.{Setup, Setting, ping_every_ms, item_to, says, pings_at, echoes_at, said_by, said_at, items_at}
+use Rattle.m17_module.specs.StandsFor.{People, PeopleStandFor, recorded, StandsFor, IsStep}
 use Rattle.m17_module.proofs.Acts.{acts_more, length_acts}
 use Rattle.m17_module.proofs.Below.{length_more, slice_get_end}
 use Rattle.m17_module.proofs.SeatsMore.{seats_at_before}
@@ -32,7 +33,7 @@ before_end events event =
     ap (λ acts. moment_before acts (length events)) (acts_more events event)
     ∙ ap greatest_moment (take-append-le (length events) (acts_of events) (act_of event ∷ []) (omega (arith, length_acts events)))
 
-at_end : MomentOfOneMore → (events : List Event) (event : Event) → moment_at (acts_of (events ++ event ∷ [])) (length events) ≡ max (moment_before (acts_of events) (length events)) event.at
+pub at_end : MomentOfOneMore → (events : List Event) (event : Event) → moment_at (acts_of (events ++ event ∷ [])) (length events) ≡ max (moment_before (acts_of events) (length events)) event.at
 at_end law events event =
     ap (λ acts. moment_at acts (length events)) (acts_more events event)
     ∙ ap (moment_at (with_act (acts_of events) (act_of event))) (sym (length_acts events))
@@ -71,16 +72,17 @@ said_end later places events event seats position answer seats_are position_is a
     ∙ ap (λ v. says (make seats position v) event.body) (sym answer_is)
 
 -- The whole step.
-pub step_is : MomentOfOneMore → MomentAfterOneMore → LaterActsChangeNoMembership → CountOfOneMore → (setup : Setup) (old new : People) (before moment count count' admitted admitted' : ℕ) (events : List Event) (event : Event) (answer : Option Verdict) (pings given : List Item) →
-    StandsFor (record { setup = setup; moment = before; people = old; count = count; admitted = admitted }) events →
+pub step_is : MomentOfOneMore → MomentAfterOneMore → LaterActsChangeNoMembership → CountOfOneMore → (setup : Setup) (old new : People) (before moment count count' admitted admitted' : ℕ) (recording recording' : Option Recording) (events : List Event) (event : Event) (answer : Option Verdict) (pings played given : List Item) →
+    StandsFor (record { setup = setup; moment = before; people = old; count = count; admitted = admitted; recording = recording }) events →
     moment ≡ max before event.at →
     pings ≡ cond (nat_lt (before / ping_every_ms) (moment / ping_every_ms)) (map (item_to said.Ping) (members_of old.seats)) [] →
-    given ≡ pings ++ says (record { seats = old.seats; position = count; link = event.tag.link; admitted = admits answer }) event.body →
+    given ≡ (pings ++ played) ++ says (record { seats = old.seats; position = count; link = event.tag.link; admitted = admits answer }) event.body →
     PeopleStandFor setup.places new (events ++ event ∷ []) × (answer ≡ verdict_at setup.places (acts_of (events ++ event ∷ [])) (length events)) →
     count' ≡ count + 1 → admitted' ≡ admitted + cond (admits answer) 1 0 →
-    IsStep setup events event answer (record { setup = setup; moment = moment; people = new; count = count'; admitted = admitted' }) given
+    played ≡ echoes_at setup (events ++ event ∷ []) (length events) → recording' ≡ recorded setup (events ++ event ∷ []) →
+    IsStep setup events event answer (record { setup = setup; moment = moment; people = new; count = count'; admitted = admitted'; recording = recording' }) given
 unfolding items_at
-step_is here after later counts setup old new before moment count count' admitted admitted' events event answer pings given stands moment_is pings_are given_are happened count_is admitted_is =
+step_is here after later counts setup old new before moment count count' admitted admitted' recording recording' events event answer pings played given stands moment_is pings_are given_are happened count_is admitted_is played_is recording_is =
     let longer : List Event = events ++ event ∷ [] in
     let n : ℕ = length events in
     let verdict : verdict_at setup.places (with_act (acts_of events) (act_of event)) (length (acts_of events)) ≡ answer =
@@ -95,11 +97,12 @@ step_is here after later counts setup old new before moment count count' admitte
             ∙ ap (λ v. admitted_count setup.places (acts_of events) + cond (admits v) 1 0) (sym verdict)
             ∙ sym (counts setup.places (acts_of events) (act_of event))
             ∙ ap (admitted_count setup.places) (sym (acts_more events event));
+        recording = recording_is;
       };
       items = given_are
-          ∙ ap (λ xs. xs ++ says (record { seats = old.seats; position = count; link = event.tag.link; admitted = admits answer }) event.body)
+          ∙ ap (λ xs. (xs ++ played) ++ says (record { seats = old.seats; position = count; link = event.tag.link; admitted = admits answer }) event.body)
           (pings_are ∙ sym (pings_end here later setup.places events event old.seats before moment stands.people.seats stands.moment moment_is))
-          ∙ ap (λ xs. pings_at setup.places longer n ++ xs) (sym (said_end later setup.places events event old.seats count answer stands.people.seats stands.count happened.1))
-          ∙ ap (λ xs. xs ++ said_at setup.places longer n) (sym (append-nil (pings_at setup.places longer n)));
+          ∙ ap (λ xs. (pings_at setup.places longer n ++ xs) ++ says (record { seats = old.seats; position = count; link = event.tag.link; admitted = admits answer }) event.body) played_is
+          ∙ ap (λ xs. (pings_at setup.places longer n ++ echoes_at setup longer n) ++ xs) (sym (said_end later setup.places events event old.seats count answer stands.people.seats stands.count happened.1));
       verdict = happened.1;
     }

@@ -2,6 +2,7 @@
 use Rattle.std.specs.Prelude.{ℕ, ◌/◌, Bool, false, List, [], ◌∷◌, ◌++◌, length, map, filter, slice_get, nat_lt, Option, None, Some, if◌then◌else◌}
 use Rattle.std.specs.List.{flat_map, range_with_len}
 use Rattle.m17_values.specs.declared.member.Member.{Member}
+use Rattle.m17_stream.specs.declared.packet.StreamPacket.{StreamPacket}
 use Rattle.m17_control.specs.declared.event.Body.{Body}
 use Rattle.m17_control.specs.declared.event.Body.TheVariants.{Join, Leave, Packet, Reply, Tick, Stop}
 use Rattle.m17_control.specs.declared.event.Event.{Event}
@@ -14,6 +15,7 @@ use Rattle.m17_floor.specs.Floor.{admits, verdict_at}
 use Rattle.m17_module.specs.declared.seat.Seat.{Seat}
 use Rattle.m17_module.specs.Events.{acts_of}
 use Rattle.m17_module.specs.Seats.{seats_at, members_of, seat_in, seat_of, others_than}
+use Rattle.m17_module.specs.Echoes.{echo_at}
 
 -- How a module was made: its number of places, and whether it is a parrot. This profile.
 pub record Setup : Type 0 where
@@ -80,9 +82,17 @@ pings_at places events n =
     then map (item_to said.Ping) (members_of (seats_at places events n))
     else []
 
--- The second part: what a parrot module plays back. There are none yet. This profile.
-abbrev pub echoes_at : Setup → List Event → ℕ → List Item
-echoes_at setup events n = []
+-- The second part: in a parrot module, what it plays back at position n, to the member whose recording it is.
+-- This profile.
+abbrev pub echo_items : ℕ → List (Option Seat) → Option (Member × StreamPacket) → List Item
+echo_items n seats None = []
+echo_items n seats (Some echo) = to_one (said.Echo n echo.1) (seat_of seats echo.0)
+
+unfoldable pub echoes_at : Setup → List Event → ℕ → List Item
+echoes_at setup events n =
+    if setup.parrot
+    then echo_items n (seats_at setup.places events n) (echo_at setup.places (acts_of events) n)
+    else []
 
 -- The third part: what the event itself says. This profile.
 abbrev pub said_by : ℕ → List Event → ℕ → Option Event → List Item

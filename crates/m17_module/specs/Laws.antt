@@ -2,6 +2,7 @@
 use Rattle.std.specs.Prelude.{◌≡◌, ◌↔◌, ℕ, ◌<◌, ◌≤◌, ◌⊎◌, ◌&&◌, Bool, true, false, not, List, [], ◌∷◌, ◌++◌, length, filter, slice_get, is_some, Option, None, Some}
 use Rattle.std.specs.List.{flat_map, range_with_len}
 use Rattle.m17_values.specs.declared.member.Member.{Member}
+use Rattle.m17_stream.specs.declared.packet.StreamPacket.{StreamPacket}
 use Rattle.m17_control.specs.declared.event.Event.{Event}
 use Rattle.m17_control.specs.declared.event.Body.{Body}
 use Rattle.m17_control.specs.declared.event.Body.TheVariants.{Packet}
@@ -12,7 +13,8 @@ use Rattle.m17_floor.specs.Acts.{is_join_of, settles, kind_at, joined_at}
 use Rattle.m17_floor.specs.Floor.{is_packet_of, admits, verdict_at}
 use Rattle.m17_module.specs.Events.{acts_of}
 use Rattle.m17_module.specs.Seats.{seats_at, seat_of}
-use Rattle.m17_module.specs.Items.{to_one, frames_for, Setup, items_at, items_given, is_for, items_for}
+use Rattle.m17_module.specs.Echoes.{echo_at}
+use Rattle.m17_module.specs.Items.{to_one, echoes_at, frames_for, Setup, items_at, items_given, is_for, items_for}
 
 -- What comes later changes nothing of what an event gives. This profile.
 abbrev pub LaterEventsChangeNoItems : Type 0
@@ -72,6 +74,13 @@ abbrev pub EachHeardIsSentOnce : Type 0
 EachHeardIsSentOnce =
     (places : ℕ) (events : List Event) (k : Member) (n : ℕ) → hears places events k n ≡ true →
     length (frame_sent places events k n) ≡ 1
+
+-- An echo that a parrot module has at a position is one item: its member is in. This profile.
+abbrev pub EachEchoIsSentOnce : Type 0
+EachEchoIsSentOnce =
+    (setup : Setup) (events : List Event) (n : ℕ) (echo : Member × StreamPacket) →
+    setup.parrot ≡ true → echo_at setup.places (acts_of events) n ≡ Some echo →
+    length (echoes_at setup events n) ≡ 1
 
 -- A Hello, and a Bye. This profile.
 abbrev pub is_hello : Said → Bool

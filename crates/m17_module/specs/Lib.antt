@@ -1,8 +1,11 @@
--- What callers speak of: the events as the floor sees them, who is in, what each event gives, what a module stands for.
+-- What callers speak of: the events as the floor sees them, who is in, what a parrot plays back, what each event
+-- gives, what a module stands for.
 pub mod Events
 pub mod Seats
+pub mod Echoes
 pub mod Items
 pub mod StandsFor
 pub mod Laws
--- For the code alone: the row of held places.
+-- For the code alone: the row of held places, and how a recorder follows the room.
 pub mod Held
+pub mod Following

@@ -1,5 +1,5 @@
 -- What the small state of a module stands for, out of the whole list of its events. This profile.
-use Rattle.std.specs.Prelude.{◌≡◌, ℕ, List, [], ◌∷◌, ◌++◌, length, slice_get, Option, Some}
+use Rattle.std.specs.Prelude.{◌≡◌, ℕ, List, [], ◌∷◌, ◌++◌, length, slice_get, Option, None, Some, if◌then◌else◌}
 use Rattle.m17_control.specs.declared.event.Event.{Event}
 use Rattle.m17_control.specs.declared.item.Item.{Item}
 use Rattle.m17_floor.specs.declared.verdict.Verdict.{Verdict}
@@ -7,9 +7,11 @@ use Rattle.m17_floor.specs.Acts.{moment_before}
 use Rattle.m17_floor.specs.Floor.{verdict_at, admitted_count}
 use Rattle.m17_floor.specs.Rule.{Frame}
 use Rattle.m17_floor.specs.StandsFor.{FloorStandsFor, OwnStandsFor}
+use Rattle.m17_parrot.specs.Recording.{Recording}
 use Rattle.m17_module.specs.declared.seat.Seat.{Seat}
 use Rattle.m17_module.specs.Events.{acts_of}
 use Rattle.m17_module.specs.Seats.{seats_at}
+use Rattle.m17_module.specs.Echoes.{recording_at}
 use Rattle.m17_module.specs.Items.{Setup, items_at}
 
 -- Who is in, place by place, the last admitted frame of each, and the floor's. This profile.
@@ -29,14 +31,20 @@ pub record PeopleStandFor (places : ℕ) (people : People) (events : List Event)
   -- the floor's frame is the last admitted one, unless its sender has left
   pub floor : FloorStandsFor places (acts_of events) people.floor
 
--- What a module keeps: how it was made, its moment, its people, and how many events it has had and packets
--- it has admitted. This profile.
+-- What a module keeps: how it was made, its moment, its people, how many events it has had and packets it has
+-- admitted, and, as a parrot, what it has recorded. This profile.
 pub record Kept : Type 0 where
   pub setup : Setup
   pub moment : ℕ
   pub people : People
   pub count : ℕ
   pub admitted : ℕ
+  pub recording : Option Recording
+
+-- What a module has recorded of its events: nothing, unless it is a parrot. This profile.
+abbrev pub recorded : Setup → List Event → Option Recording
+recorded setup events =
+    if setup.parrot then recording_at setup.places (acts_of events) (length events) else None
 
 -- The module may have come from these events. This profile.
 pub record StandsFor (kept : Kept) (events : List Event) : Type 0 where
@@ -44,6 +52,8 @@ pub record StandsFor (kept : Kept) (events : List Event) : Type 0 where
   pub people : PeopleStandFor kept.setup.places kept.people events
   pub count : kept.count ≡ length events
   pub admitted : kept.admitted ≡ admitted_count kept.setup.places (acts_of events)
+  -- a parrot's recording is of what was opened last: its held frames, its close, and how many were given
+  pub recording : kept.recording ≡ recorded kept.setup events
 
 -- The step by an event after these: the module then stands for the list with the event, what it gave is what the
 -- event at this position gives, and its answer is the verdict there, which only a packet has. This profile.

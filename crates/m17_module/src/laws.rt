@@ -29,6 +29,11 @@ pub fn frames_are_the_others()
     floor_laws::only_speakers_are_heard();
 }
 
+/// The echo that a parrot module has at a position is one item, to the member whose recording it is.
+pub fn echoes_are_sent_once()
+    ensures { law.EachEchoIsSentOnce }
+{}
+
 /// The share of a member that joins once, at one of the module's places, begins with its only Hello, and nothing follows
 /// its Bye; one that never joins there gets nothing. Its frames are those that it hears, in rising order, each position
 /// once; and it is in, and so hears, exactly at the positions behind its Join up to the event that ends its membership.

@@ -1,7 +1,9 @@
+use crate::plain_echo::Looked;
 use crate::tests::{event, join, leave, member, packet, tick};
 use crate::{Basket, Module};
 use m17_control::{Body, Control, Event, Item, Said, Why};
 use m17_floor::{Act, ActKind, Verdict, plain};
+use m17_stream::StreamPacket;
 use m17_values::Member;
 use std::alloc::{AllocError, Global};
 use std::process::Abort;
@@ -63,6 +65,7 @@ fn expect_items(
     places: u32,
     events: &[Event],
     admitted: bool,
+    echo: &Option<(Member, StreamPacket)>,
     basket: &mut Basket,
 ) {
     let Some((now, before)) = events.split_last() else {
@@ -74,6 +77,13 @@ fn expect_items(
                 expect(rt, basket, &join, &Said::Ping);
             }
         }
+    }
+    if let Some((k, packet)) = echo
+        && let Some(join) = seat(places, before, k.place)
+    {
+        let position = before.len() as u64;
+        let packet = *packet;
+        expect(rt, basket, &join, &Said::Echo { position, packet });
     }
     expect_said(rt, places, before, now, admitted, basket);
     assert!(rt; basket.is_empty());
@@ -172,8 +182,8 @@ fn act(event: &Event) -> Act {
     Act { at: event.at, kind }
 }
 
-// Steps through a list of events that comes of a number, beside the definition.
-fn run_list(rt: &impl Abort, alloc: Global, seed: u64) -> Result<(), AllocError> {
+// Steps through a list of events that comes of a number, beside the definition, and answers how many echoes there were.
+fn run_list(rt: &impl Abort, alloc: Global, seed: u64, parrot: bool) -> Result<u32, AllocError> {
     let mut n = seed;
     let mut events = [tick(0); 48];
     let mut acts = [act(&tick(0)); 48];
@@ -186,22 +196,36 @@ fn run_list(rt: &impl Abort, alloc: Global, seed: u64) -> Result<(), AllocError>
         acts[i] = act(&event);
     }
     let verdicts = plain::verdicts(alloc, 3, &acts)?;
-    let mut module = Module::make(alloc, 3, false).ok().ok_or(AllocError)?;
+    let mut echoed = [false; 48];
+    let mut echoes = 0u32;
+    let mut module = Module::make(alloc, 3, parrot).ok().ok_or(AllocError)?;
     let mut basket = Basket::make(alloc).ok().ok_or(AllocError)?;
     for i in 0..48 {
         assert!(rt; basket.is_empty());
         let answer = module.step(&events[i], &mut basket);
         assert_eq!(rt; verdicts.get(i).copied(), Some(answer));
         let admitted = matches!(answer, Some(Verdict::Opened | Verdict::Continued));
-        expect_items(rt, 3, &events[..i + 1], admitted, &mut basket);
+        let looked = Looked {
+            places: 3,
+            events: &events,
+            verdicts: verdicts.as_slice(),
+            echoed: &echoed,
+        };
+        let echo = if parrot { looked.echo(i) } else { None };
+        echoed[i] = echo.is_some();
+        echoes = echoes.saturating_add(u32::from(echo.is_some()));
+        expect_items(rt, 3, &events[..i + 1], admitted, &echo, &mut basket);
     }
-    Ok(())
+    Ok(echoes)
 }
 
 #[test]
 fn every_step_gives_what_the_definition_says(rt: HostRuntime) -> Result<(), Fail> {
+    let mut echoes = 0u32;
     for seed in 0..60 {
-        run_list(&rt, rt.alloc(), seed * 7_919)?;
+        assert_eq!(rt; run_list(&rt, rt.alloc(), seed * 7_919, false)?, 0);
+        echoes = echoes.saturating_add(run_list(&rt, rt.alloc(), seed * 7_919, true)?);
     }
+    assert!(rt; echoes > 20, "{echoes} echoes");
     Ok(())
 }

@@ -9,7 +9,9 @@ ghost use Rattle.m17_module.specs.Seats.{seat_from, members_of, seat_in, seat_of
 ghost use Rattle.m17_module.specs.Items.{item_to, to_one, greets, says};
 ghost use Rattle.m17_module.specs.Held.{held_from, to_other, with_place, without_place};
 ghost use Rattle.arrayvec.specs.ArrayVec.{array_vec_len};
+ghost use Rattle.m17_floor.specs.StandsFor.{without};
 ghost use Rattle.m17_module.specs.StandsFor.{PeopleStandFor};
+ghost use Rattle.m17_module.specs.Following.{seat_member, leaver, without_any, FloorHears, FloorFollows};
 
 use crate::Seat;
 use crate::basket::Tray;
@@ -138,6 +140,7 @@ impl Room {
         requires { places ≤ 256 }
         ensures places { IfOk result (λ room. length room.seats ≡ places) }
         ensures stands { IfOk result (λ room. PeopleStandFor places room []) }
+        ensures free { IfOk result (λ room. room.floor ≡ None) }
     {
         let (Ok(mut seats), Ok(mut lasts)) = (
             Vec::with_capacity(alloc, places as usize),
@@ -207,6 +210,7 @@ impl Room {
         requires place { seat.now.member.place < length self.old.seats }
         requires free { seat_in self.old.seats seat.now.member.place ≡ None }
         ensures length { length self.new.seats ≡ length self.old.seats }
+        ensures floor { self.new.floor ≡ self.old.floor }
         ensures stands { (places : ℕ) (events : List Event) (event : Event) →
             seat_from (Some event) ≡ Some seat.now → PeopleStandFor places self.old events →
             PeopleStandFor places self.new (events ++ event ∷ []) }
@@ -224,6 +228,7 @@ impl Room {
         requires place { seat.now.member.place < length self.old.seats }
         requires held { seat_in self.old.seats seat.now.member.place ≡ Some old.now }
         ensures length { length self.new.seats ≡ length self.old.seats }
+        ensures floor { self.new.floor ≡ without old.now.member self.old.floor }
         ensures stands { (places : ℕ) (events : List Event) (event : Event) →
             seat_from (Some event) ≡ Some seat.now → PeopleStandFor places self.old events →
             PeopleStandFor places self.new (events ++ event ∷ []) }
@@ -240,6 +245,7 @@ impl Room {
     fn give_up(&mut self, seat: &Seat)
         requires { seat_in self.old.seats seat.now.member.place ≡ Some seat.now }
         ensures length { length self.new.seats ≡ length self.old.seats }
+        ensures floor { self.new.floor ≡ without seat.now.member self.old.floor }
         ensures stands { (places : ℕ) (events : List Event) (event : Event) →
             kind_of event.body ≡ act.Leave seat.now.member → PeopleStandFor places self.old events →
             PeopleStandFor places self.new (events ++ event ∷ []) }
@@ -257,6 +263,7 @@ impl Room {
         requires is_in { seat_in self.old.seats seat.now.member.place ≡ Some seat.now }
         requires speaks { seat.now.listens ≡ false }
         ensures seats { self.new.seats ≡ self.old.seats }
+        ensures floor { FloorHears at seat.now.member p.now result self.old.floor self.new.floor }
         ensures stands { (places : ℕ) (events : List Event) (event : Event) →
             kind_of event.body ≡ act.Packet seat.now.member p.now →
             at ≡ max (moment_before (acts_of events) (length events)) event.at →
@@ -271,6 +278,7 @@ impl Room {
     // A packet of a member, or of one that is none.
     fn packet(&mut self, k: Member, at: u64, p: &StreamPacket) -> Verdict
         ensures seats { self.new.seats ≡ self.old.seats }
+        ensures floor { FloorHears at k p.now result self.old.floor self.new.floor }
         ensures stands { (places : ℕ) (events : List Event) (event : Event) →
             kind_of event.body ≡ act.Packet k p.now →
             at ≡ max (moment_before (acts_of events) (length events)) event.at →
@@ -295,6 +303,7 @@ impl Room {
         requires { seat.now.member.place < length self.old.seats }
         ensures was { result ≡ seat_in self.old.seats seat.now.member.place }
         ensures length { length self.new.seats ≡ length self.old.seats }
+        ensures floor { self.new.floor ≡ without_any (seat_member result) self.old.floor }
         ensures stands { (places : ℕ) (events : List Event) (event : Event) →
             seat_from (Some event) ≡ Some seat.now → PeopleStandFor places self.old events →
             PeopleStandFor places self.new (events ++ event ∷ []) }
@@ -311,6 +320,7 @@ impl Room {
     fn leave(&mut self, k: Member) -> Option<Seat>
         ensures was { result ≡ seat_of self.old.seats k }
         ensures length { length self.new.seats ≡ length self.old.seats }
+        ensures floor { self.new.floor ≡ without_any (seat_member result) self.old.floor }
         ensures stands { (places : ℕ) (events : List Event) (event : Event) →
             kind_of event.body ≡ act.Leave k → PeopleStandFor places self.old events →
             PeopleStandFor places self.new (events ++ event ∷ []) }
@@ -325,9 +335,11 @@ impl Room {
 
     // A Join: who was in at the place is told, and then who comes in.
     fn come(&mut self, seat: &Seat, after: u64, out: &mut Tray)
-        requires { length out.old ≤ 256 }
+        requires { length out.old ≤ 257 }
         ensures told { out.new ≡ out.old ++ greets self.old.seats seat.now after }
         ensures length { length self.new.seats ≡ length self.old.seats }
+        ensures floor { self.new.floor ≡ without_any
+            (seat_member (seat_in self.old.seats seat.now.member.place)) self.old.floor }
         ensures stands { (places : ℕ) (events : List Event) (event : Event) →
             seat_from (Some event) ≡ Some seat.now → PeopleStandFor places self.old events →
             PeopleStandFor places self.new (events ++ event ∷ []) }
@@ -343,9 +355,11 @@ impl Room {
 
     // A Leave: who leaves is told.
     fn go(&mut self, k: Member, why: Why, out: &mut Tray)
-        requires { length out.old ≤ 256 }
+        requires { length out.old ≤ 257 }
         ensures told { out.new ≡ out.old ++ to_one (said.Bye why) (seat_of self.old.seats k) }
         ensures length { length self.new.seats ≡ length self.old.seats }
+        ensures floor { self.new.floor
+            ≡ without_any (seat_member (seat_of self.old.seats k)) self.old.floor }
         ensures stands { (places : ℕ) (events : List Event) (event : Event) →
             kind_of event.body ≡ act.Leave k → PeopleStandFor places self.old events →
             PeopleStandFor places self.new (events ++ event ∷ []) }
@@ -363,10 +377,11 @@ impl Room {
         p: &StreamPacket,
         out: &mut Tray,
     ) -> Verdict
-        requires { length out.old ≤ 256 }
+        requires { length out.old ≤ 257 }
         ensures told { out.new ≡ out.old ++ (if admits (Some result)
             then map (item_to (said.Frame position p.now)) (others_than k self.old.seats) else []) }
         ensures seats { self.new.seats ≡ self.old.seats }
+        ensures floor { FloorHears at k p.now result self.old.floor self.new.floor }
         ensures stands { (places : ℕ) (events : List Event) (event : Event) →
             kind_of event.body ≡ act.Packet k p.now →
             at ≡ max (moment_before (acts_of events) (length events)) event.at →
@@ -388,12 +403,37 @@ impl Room {
 
     // A reply: who is answered is told.
     fn reply(&self, k: Member, control: &Control, out: &mut Tray)
-        requires { length out.old ≤ 256 }
+        requires { length out.old ≤ 257 }
         ensures told { out.new ≡ out.old
             ++ to_one (said.Reply control.now) (seat_of self.now.seats k) }
     {
         let was = self.seat_of(k);
         tell(&was, &Said::Reply { control: *control }, out);
+    }
+
+    // Who leaves by this event: who is in at the place of a Join, or the member of a Leave.
+    pub(crate) fn leaver(&self, event: &Event) -> Option<Member>
+        ensures { result ≡ leaver self.now.seats event.now.body }
+    {
+        let seat = match &event.body {
+            Body::Join { member, .. } => self.seat_in(member.place),
+            Body::Leave { member, .. } => self.seat_of(*member),
+            _ => None,
+        };
+        seat.map(|seat| seat.member)
+    }
+
+    // Plays a frame back to a member that is in.
+    pub(crate) fn play(&self, k: Member, position: u64, p: &StreamPacket, out: &mut Tray)
+        requires { length out.old ≤ 256 }
+        ensures { out.new ≡ out.old
+            ++ to_one (said.Echo position p.now) (seat_of self.now.seats k) }
+    {
+        let echo = Said::Echo {
+            position,
+            packet: *p,
+        };
+        tell(&self.seat_of(k), &echo, out);
     }
 
     /// What an event does by what it is, and what it says: `at` is the module's moment, `position` that of the event.
@@ -404,7 +444,7 @@ impl Room {
         position: u64,
         out: &mut Tray,
     ) -> Option<Verdict>
-        requires { length out.old ≤ 256 }
+        requires { length out.old ≤ 257 }
         ensures told { out.new ≡ out.old ++ says (record {
           seats = self.old.seats;
           position = position;
@@ -412,6 +452,8 @@ impl Room {
           admitted = admits result;
         }) event.now.body }
         ensures length { length self.new.seats ≡ length self.old.seats }
+        ensures floor { FloorFollows self.old.seats at event.now.body result self.old.floor
+            self.new.floor }
         ensures answer { is_some result ≡ is_packet (kind_of event.now.body) }
         ensures stands { (places : ℕ) (events : List Event) →
             at ≡ max (moment_before (acts_of events) (length events)) event.now.at →

@@ -1,4 +1,4 @@
-ghost use Rattle.std.specs.Prelude.{◌≡◌, ◌↔◌, ◌-◌, ◌+◌, ◌/◌, ◌^◌, ◌<◌, ◌≤◌, min, List, [], ◌∷◌, ◌++◌, false, length, map, nat_lt, is_some, IfOk, if◌then◌else◌};
+ghost use Rattle.std.specs.Prelude.{◌≡◌, ◌↔◌, ◌-◌, ◌+◌, ◌/◌, ◌^◌, ◌<◌, ◌≤◌, min, List, [], ◌∷◌, ◌++◌, false, length, map, nat_lt, is_some, option_and_then, None, IfOk, if◌then◌else◌};
 ghost use Rattle.m17_control.specs.declared.event.Event.{Event};
 ghost use Rattle.m17_control.specs.declared.item.Said.TheVariants as said;
 ghost use Rattle.m17_floor.specs.Acts.{is_packet};
@@ -10,6 +10,7 @@ ghost use Rattle.m17_module.specs.StandsFor.{StandsFor, IsStep};
 
 use crate::Basket;
 use crate::basket::Tray;
+use crate::recorder::{Recorder, happen};
 use crate::room::Room;
 use m17_control::Event;
 use m17_floor::{Verdict, laws as floor_laws};
@@ -29,24 +30,30 @@ pub struct Module {
     moment: u64,
     count: u64,
     admitted: u64,
-    parrot: bool,
+    recorder: Option<Recorder>,
 }
 
 impl Model for Module {
-    ghost use Rattle.std.specs.Prelude.{◌≤◌, length};
+    ghost use Rattle.std.specs.Prelude.{◌≤◌, length, is_some, option_and_then};
     ghost use Rattle.m17_module.specs.StandsFor.{Kept};
 
     ghost Value = { Kept };
 
     ghost view = { λ m. record {
-      setup = record { places = length m.room.seats; parrot = m.parrot };
+      setup = record { places = length m.room.seats; parrot = is_some m.recorder };
       moment = m.moment;
       people = m.room;
       count = m.count;
       admitted = m.admitted;
+      recording = option_and_then (λ r. r.parrot) m.recorder;
     } };
 
-    ghost invariant = { λ m. m.admitted ≤ m.count };
+    ghost use Rattle.std.specs.Option.{ForSome};
+    ghost use Rattle.std.specs.Prelude.{◌≡◌};
+    ghost use Rattle.m17_module.specs.Following.{recorded_by, held_by};
+
+    ghost invariant = { λ m. (m.admitted ≤ m.count) × ForSome m.recorder
+        (λ r. recorded_by r.heard r.parrot ≡ held_by m.moment m.room.floor) };
 }
 
 // Asks each member whether it is there, where the moment passes a multiple of 3,000 ms. One question is enough, however
@@ -75,15 +82,28 @@ fn count_admitted(admitted: u64, answer: &Option<Verdict>) -> u64
     }
 }
 
+// What a parrot module has beside its room; another has nothing.
+fn recorder_if(alloc: Global, parrot: bool) -> Result<Option<Recorder>, NoMemory>
+    ensures { IfOk result (λ recorder. (is_some recorder ≡ parrot)
+        × (option_and_then (λ r. r.parrot) recorder ≡ None)) }
+{
+    if !parrot {
+        return Ok(None);
+    }
+    match Recorder::make(alloc) {
+        Ok(recorder) => Ok(Some(recorder)),
+        Err(no_memory) => Err(no_memory),
+    }
+}
+
 impl Module {
     ghost use Rattle.m17_module.specs.Items.{Setup};
 
-    /// An empty module of so many places, 1 to 256; `parrot` is false until there are parrot modules. It fails only where
-    /// there is no memory. This profile.
+    /// An empty module of so many places, 1 to 256; a `parrot` plays back what it hears. It fails only where there is no
+    /// memory. This profile.
     pub fn make(alloc: Global, places: u32, parrot: bool) -> Result<Module, NoMemory>
         requires some { 0 < places }
         requires at_most { places ≤ 256 }
-        requires no_parrot { parrot ≡ false }
         ensures setup { IfOk result (λ m. m.setup ≡ record { places = places; parrot = parrot }) }
         ensures stands { IfOk result (λ m. StandsFor m []) }
     {
@@ -92,12 +112,16 @@ impl Module {
             Ok(room) => room,
             Err(no_memory) => return Err(no_memory),
         };
+        let recorder = match recorder_if(alloc, parrot) {
+            Ok(recorder) => recorder,
+            Err(no_memory) => return Err(no_memory),
+        };
         Ok(Module {
             room,
             moment: 0,
             count: 0,
             admitted: 0,
-            parrot,
+            recorder,
         })
     }
 
@@ -140,12 +164,21 @@ impl Module {
         ensures admitted { self.old.admitted ≤ self.new.admitted }
     {
         floor_laws::the_greatest_moment_counts();
+        floor_laws::later_acts_change_no_verdict();
         floor_laws::later_acts_change_nothing_before();
+        floor_laws::only_speakers_are_heard();
         floor_laws::admitted_positions_are_counted();
         let before = self.moment;
         let moment = before.max(event.at);
         ask(&self.room, before, moment, out);
-        let answer = self.room.happen(event, moment, self.count, out);
+        let answer = happen(
+            &mut self.recorder,
+            &mut self.room,
+            event,
+            moment,
+            self.count,
+            out,
+        );
         self.moment = moment;
         self.count = self.count.saturating_add(1);
         self.admitted = count_admitted(self.admitted, &answer);

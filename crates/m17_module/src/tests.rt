@@ -82,7 +82,7 @@ pub(crate) fn tick(at: u64) -> Event {
     event(member(0, 0), at, Body::Tick)
 }
 
-fn item(k: Member, body: Said) -> Item {
+pub(crate) fn item(k: Member, body: Said) -> Item {
     Item {
         member: k,
         link: link_of(k),
@@ -91,26 +91,30 @@ fn item(k: Member, body: Said) -> Item {
     }
 }
 
-fn hello(k: Member) -> Item {
+pub(crate) fn hello(k: Member) -> Item {
     let after = k.generation & 0xff;
     item(k, Said::Hello { after })
 }
 
-fn bye(k: Member, why: Why) -> Item {
+pub(crate) fn bye(k: Member, why: Why) -> Item {
     item(k, Said::Bye { why })
 }
 
 fn frame(k: Member, position: u64, sid: u16, number: u16) -> Item {
-    let packet = packet(sid, number, false);
+    frame_of(k, position, sid, number, false)
+}
+
+pub(crate) fn frame_of(k: Member, position: u64, sid: u16, number: u16, last: bool) -> Item {
+    let packet = packet(sid, number, last);
     item(k, Said::Frame { position, packet })
 }
 
-fn ping(k: Member) -> Item {
+pub(crate) fn ping(k: Member) -> Item {
     item(k, Said::Ping)
 }
 
 // Steps, and compares the answer and what was given.
-fn gives(
+pub(crate) fn gives(
     rt: &impl Abort,
     module: &mut Module,
     basket: &mut Basket,

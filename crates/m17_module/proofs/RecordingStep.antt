@@ -1,0 +1,127 @@
+-- What the code records is what is recorded one event further on.
+use Rattle.std.proofs.Common.{◌≡◌, ℕ, ◌+◌, ◌-◌, ◌≤◌, ◌||◌, Bool, true, false, cond, List, [], ◌∷◌, ◌++◌, length, take, nat_lt, nat_le, is_some, is_none, option_map, Option, None, Some, refl, ap, sym, ◌∙◌, arith, inl, inr}
+use Rattle.std.specs.Option.{option_or}
+use Rattle.std.proofs.lemmas.Bool.{cond-true, cond-false, cases_lt, lt-ltb}
+use Rattle.std.proofs.lemmas.Bool.Decides.{nat_tests}
+use Rattle.std.proofs.lemmas.List.{append-nil, take_all, take-append-le}
+use Rattle.m17_values.specs.declared.member.Member.{Member}
+use Rattle.m17_stream.specs.declared.packet.StreamPacket.{StreamPacket}
+use Rattle.m17_floor.specs.Rule.{Frame, floor_timeout_ms, only_if, has_floor}
+use Rattle.m17_parrot.specs.Recording.{Recording, most_frames, begun, closed, due_of, with_given}
+use Rattle.m17_module.specs.Echoes.{closed_if}
+use Rattle.m17_module.specs.Following.{held_by, recorded_by, turned, ended, extended}
+use Rattle.m17_module.proofs.Below.{length_more}
+use Rattle.m17_module.proofs.EchoesMore.{moved}
+
+-- a close that is there stays
+closed_stays : (at c : ℕ) (r : Recording) → r.close ≡ Some c → closed at r ≡ r
+closed_stays at c r e =
+    let put : Option ℕ → Recording = λ close. record { member = r.member; frames = r.frames; close = close; given = r.given } in
+    ap (λ close. put (option_or close (Some at))) e ∙ ap put (sym e)
+
+stays_closed : (at c : ℕ) (b s : Bool) (r : Recording) → r.close ≡ Some c → cond b (Some (closed at r)) (Some r) ≡ Some (cond s (closed at r) r)
+stays_closed at c true true r e = refl
+stays_closed at c true false r e = ap Some (closed_stays at c r e)
+stays_closed at c false true r e = ap Some (sym (closed_stays at c r e))
+stays_closed at c false false r e = refl
+
+abbrev whose : Frame → Member × ℕ
+whose frame = (frame.member, frame.at)
+
+closed_by : (at heard : ℕ) (r : Recording) (o : Option ℕ) → r.close ≡ o → recorded_by heard (Some (closed at r)) ≡ None
+closed_by at heard r None e = ap (λ close. cond (is_none (option_or close (Some at))) (Some (r.member, heard)) None) e
+closed_by at heard r (Some c) e = ap (λ close. cond (is_none (option_or close (Some at))) (Some (r.member, heard)) None) e
+
+open_by : (heard : ℕ) (r : Recording) → r.close ≡ None → recorded_by heard (Some r) ≡ Some (r.member, heard)
+open_by heard r e = ap (λ close. cond (is_none close) (Some (r.member, heard)) None) e
+
+silent_is : (at heard : ℕ) (b : Bool) (r : Recording) (o : Option Frame) → r.close ≡ None → recorded_by heard (cond b (Some (closed at r)) (Some r)) ≡ option_map whose o → cond b (Some (closed at r)) (Some r) ≡ Some (cond (is_none o) (closed at r) r)
+silent_is at heard true r None e t = refl
+silent_is at heard false r (Some f) e t = refl
+silent_is at heard true r (Some f) e t = let never : ◌≡◌ {A = Option (Member × ℕ)} None (Some (whose f)) = sym (closed_by at heard r None e) ∙ t in cc
+silent_is at heard false r None e t = let never : ◌≡◌ {A = Option (Member × ℕ)} (Some (r.member, heard)) None = sym (open_by heard r e) ∙ t in cc
+
+-- a recording is closed in time exactly where nobody has the floor
+turned_cases : (at heard : ℕ) (b : Bool) (r : Recording) (close : Option ℕ) (o : Option Frame) → r.close ≡ close → recorded_by heard (cond b (Some (closed at r)) (Some r)) ≡ option_map whose o → cond b (Some (closed at r)) (Some r) ≡ Some (cond (is_none o) (closed at r) r)
+turned_cases at heard b r None o e t = silent_is at heard b r o e t
+turned_cases at heard b r (Some c) o e t = stays_closed at c b (is_none o) r e
+
+cond_none : (b : Bool) → ◌≡◌ {A = Option Recording} (cond b None None) None
+cond_none true = refl
+cond_none false = refl
+
+pub turned_is : (at heard : ℕ) (floor : Option Frame) (recording : Option Recording) → recorded_by heard (turned heard at recording) ≡ held_by at floor → turned heard at recording ≡ option_map (closed_if (is_none (only_if (has_floor at) floor)) at) recording
+turned_is at heard floor None t = cond_none (nat_le floor_timeout_ms (at - heard))
+turned_is at heard floor (Some r) t = turned_cases at heard (nat_le floor_timeout_ms (at - heard)) r r.close (only_if (has_floor at) floor) refl t
+
+-- what is moved on, field by field
+abbrev made : Member → List StreamPacket → Option ℕ → ℕ → Recording
+made k frames close given = record { member = k; frames = frames; close = close; given = given }
+
+kept_all : (frames : List StreamPacket) → length frames ≤ most_frames → take most_frames (frames ++ []) ≡ frames
+kept_all frames few = ap (take most_frames) (append-nil frames) ∙ take_all most_frames frames few
+
+-- closed or not
+unclosed : (o : Option ℕ) → o ≡ option_or o None
+unclosed None = refl
+unclosed (Some c) = refl
+
+or_false : (b : Bool) → (b || false) ≡ b
+or_false true = refl
+or_false false = refl
+
+close_if : (at : ℕ) (s : Bool) (r : Recording) → closed_if s at r ≡ made r.member r.frames (option_or r.close (cond s (Some at) None)) r.given
+close_if at true r = refl
+close_if at false r = ap (λ close. made r.member r.frames close r.given) (unclosed r.close)
+
+given_if : (b : Bool) (r : Recording) → cond b (record r { given = r.given + 1 }) r ≡ made r.member r.frames r.close (r.given + cond b 1 0)
+given_if true r = refl
+given_if false r = let e : r.given ≡ r.given + 0 = omega arith in ap (made r.member r.frames r.close) e
+
+-- the recording when a frame was given, if one was due
+given_is : (at : ℕ) (s : Bool) (r : Recording) → with_given at (closed_if s at r) ≡ made r.member r.frames (option_or r.close (cond s (Some at) None)) (r.given + cond (is_some (due_of at (closed_if s at r))) 1 0)
+given_is at s r =
+    let c : Recording = closed_if s at r in
+    let e : c ≡ made r.member r.frames (option_or r.close (cond s (Some at) None)) r.given = close_if at s r in
+    given_if (is_some (due_of at c)) c
+    ∙ ap (λ (x : Recording). made x.member x.frames x.close (x.given + cond (is_some (due_of at c)) 1 0)) e
+
+-- A position without an admitted packet.
+pub moved_silent : (at : ℕ) (s : Bool) (r : Recording) → length r.frames ≤ most_frames → moved at s [] (is_some (due_of at (closed_if s at r))) r ≡ with_given at (closed_if s at r)
+moved_silent at s r few =
+    ap (λ frames. made r.member frames (option_or r.close (cond s (Some at) None)) (r.given + cond (is_some (due_of at (closed_if s at r))) 1 0)) (kept_all r.frames few)
+    ∙ sym (given_is at s r)
+
+-- One frame more, if there is room.
+room_for : (frames : List StreamPacket) (p : StreamPacket) → length frames ≤ most_frames → take most_frames (frames ++ p ∷ []) ≡ cond (nat_lt (length frames) most_frames) (frames ++ p ∷ []) frames
+room_for frames p few = elim (cases_lt (length frames) most_frames) [
+  | inl below ↦ take_all most_frames (frames ++ p ∷ []) (omega (arith, length_more frames p)) ∙ sym (cond-true (nat_lt (length frames) most_frames) (frames ++ p ∷ []) frames (lt-ltb (length frames) most_frames below))
+  | inr above ↦ take-append-le most_frames frames (p ∷ []) above ∙ take_all most_frames frames few ∙ sym (cond-false (nat_lt (length frames) most_frames) (frames ++ p ∷ []) frames (grind (arith, nat_tests)))
+]
+
+with_cases : (b : Bool) (frames : List StreamPacket) (r : Recording) → cond b (record r { frames = frames }) r ≡ made r.member (cond b frames r.frames) r.close r.given
+with_cases true frames r = refl
+with_cases false frames r = refl
+
+ended_is : (at : ℕ) (last : Bool) (r : Recording) → cond last (closed at r) r ≡ made r.member r.frames (option_or r.close (cond last (Some at) None)) r.given
+ended_is at last r = close_if at last r
+
+-- A position that goes on with the stream: somebody has the floor.
+pub moved_on : (at : ℕ) (p : StreamPacket) (r : Recording) → length r.frames ≤ most_frames → moved at (p.last || false) (p ∷ []) (is_some (due_of at (closed_if false at r))) r ≡ extended at p (with_given at (closed_if false at r))
+moved_on at p r few =
+    let b : Bool = is_some (due_of at r) in
+    let g : Recording = made r.member r.frames r.close (r.given + cond b 1 0) in
+    let given : with_given at r ≡ g = given_if b r in
+    ap (λ last. made r.member (take most_frames (r.frames ++ p ∷ [])) (option_or r.close (cond last (Some at) None)) (r.given + cond b 1 0)) (or_false p.last)
+    ∙ ap (λ frames. made r.member frames (option_or r.close (cond p.last (Some at) None)) (r.given + cond b 1 0)) (room_for r.frames p few)
+    ∙ sym (ended_is at p.last (made r.member (cond (nat_lt (length r.frames) most_frames) (r.frames ++ p ∷ []) r.frames) r.close (r.given + cond b 1 0)))
+    ∙ ap (ended at p) (sym (with_cases (nat_lt (length r.frames) most_frames) (r.frames ++ p ∷ []) g))
+    ∙ ap (extended at p) (sym given)
+
+-- A position that opens the floor.
+begun_cases : (at : ℕ) (k : Member) (frames : List StreamPacket) (last : Bool) → made k frames (cond last (Some at) None) 0 ≡ cond last (closed at (made k frames None 0)) (made k frames None 0)
+begun_cases at k frames true = refl
+begun_cases at k frames false = refl
+
+pub opened_is : (at : ℕ) (k : Member) (p : StreamPacket) → made k (p ∷ []) (cond p.last (Some at) None) 0 ≡ extended at p (begun k)
+opened_is at k p = begun_cases at k (p ∷ []) p.last

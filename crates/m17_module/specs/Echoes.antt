@@ -1,0 +1,118 @@
+-- What a parrot module plays back, looked up in the whole list of what happened. Positions count from 0. This profile.
+use Rattle.std.specs.Prelude.{◌&&◌, ◌||◌, ℕ, zero, suc, ◌-◌, Bool, true, false, List, [], ◌∷◌, ◌++◌, take, drop, nat_lt, count_by, find, Option, None, Some, is_some, is_none, option_and_then, option_map, if◌then◌else◌}
+use Rattle.std.specs.Option.{option_map_or}
+use Rattle.std.specs.List.{flat_map, range_with_len}
+use Rattle.m17_values.specs.declared.member.Member.{Member}
+use Rattle.m17_stream.specs.declared.packet.StreamPacket.{StreamPacket}
+use Rattle.m17_floor.specs.declared.act.Act.{Act}
+use Rattle.m17_floor.specs.declared.act.ActKind.{ActKind}
+use Rattle.m17_floor.specs.declared.act.ActKind.TheVariants.{Packet}
+use Rattle.m17_floor.specs.declared.verdict.Verdict.{Verdict}
+use Rattle.m17_floor.specs.declared.verdict.Verdict.TheVariants.{Opened}
+use Rattle.m17_floor.specs.Acts.{last_below, kind_at, moment_at, joined_at}
+use Rattle.m17_floor.specs.Rule.{Frame, only_if, has_floor}
+use Rattle.m17_floor.specs.Floor.{floor_frame, admits, past_at, verdict_at}
+use Rattle.m17_parrot.specs.Recording.{Recording, most_frames, closed, due_of}
+
+-- The packet at position n is admitted; it opens the floor. This profile.
+abbrev pub is_admitted_at : ℕ → List Act → ℕ → Bool
+is_admitted_at places acts n = admits (verdict_at places acts n)
+
+abbrev pub opens : Option Verdict → Bool
+opens (Some Opened) = true
+opens _ = false
+
+abbrev pub is_opened_at : ℕ → List Act → ℕ → Bool
+is_opened_at places acts n = opens (verdict_at places acts n)
+
+-- The frame that has the floor at position n, if one has it. This profile.
+unfoldable pub holder_at : ℕ → List Act → ℕ → Option Frame
+holder_at places acts n =
+    only_if (has_floor (moment_at acts n)) (floor_frame (past_at places acts n))
+
+-- The positions from o on, below n. This profile.
+abbrev pub positions_from : ℕ → ℕ → List ℕ
+positions_from o n = range_with_len o (n - o)
+
+-- The packet at position m, if it is admitted. This profile.
+abbrev pub packet_in : ActKind → List StreamPacket
+packet_in (Packet k p) = p ∷ []
+packet_in _ = []
+
+unfoldable pub admitted_packet : ℕ → List Act → ℕ → List StreamPacket
+admitted_packet places acts m =
+    if is_admitted_at places acts m then packet_in (kind_at acts m) else []
+
+-- The frames held of what was opened at o: the first 750 that are admitted from there on, below n. This profile.
+abbrev pub held_before : ℕ → List Act → ℕ → ℕ → List StreamPacket
+held_before places acts o n =
+    take most_frames (flat_map (admitted_packet places acts) (positions_from o n))
+
+-- The packet has the end bit. This profile.
+abbrev pub has_end_bit : ActKind → Bool
+has_end_bit (Packet k p) = p.last
+has_end_bit _ = false
+
+-- Position c closes what was opened at o: an admitted packet there has the end bit, or, above o, nobody has the
+-- floor there. This profile.
+unfoldable pub closes : ℕ → List Act → ℕ → ℕ → Bool
+closes places acts o c =
+    (is_admitted_at places acts c && has_end_bit (kind_at acts c))
+    || (nat_lt o c && is_none (holder_at places acts c))
+
+-- The first position that closes it, from o on, below n. This profile.
+abbrev pub close_before : ℕ → List Act → ℕ → ℕ → Option ℕ
+close_before places acts o n = find (closes places acts o) (positions_from o n)
+
+-- The member is in before position n, by a Join below o. This profile.
+abbrev pub is_in_since : ℕ → List Act → Member → ℕ → ℕ → Bool
+is_in_since places acts k o n = option_map_or (λ j. nat_lt j o) (joined_at places acts k n) false
+
+-- What is recorded before position n of what was opened at o, if its member has been in since before that.
+-- `echoed` says of each position below n whether it has an echo. This profile.
+abbrev pub recording_of : ℕ → List Act → ℕ → List Bool → ℕ → ActKind → Option Recording
+recording_of places acts n echoed o (Packet k p) =
+    if is_in_since places acts k o n then Some (record {
+      member = k;
+      frames = held_before places acts o n;
+      close = option_map (moment_at acts) (close_before places acts o n);
+      given = count_by (λ has_echo. has_echo) (drop (suc o) echoed);
+    }) else None
+recording_of places acts n echoed o _ = None
+
+-- The last opened position below n. This profile.
+abbrev pub last_opened : ℕ → List Act → ℕ → Option ℕ
+last_opened places acts n = last_below (is_opened_at places acts) n
+
+-- What is recorded before position n: of what was opened last. This profile.
+unfoldable pub recording_with : ℕ → List Act → ℕ → List Bool → Option Recording
+recording_with places acts n echoed =
+    option_and_then (λ o. recording_of places acts n echoed o (kind_at acts o))
+    (last_opened places acts n)
+
+-- A recording that goes on is closed at this moment, if nobody has the floor. This profile.
+abbrev pub closed_if : Bool → ℕ → Recording → Recording
+closed_if silent at r = if silent then closed at r else r
+
+-- The echo at position n: the frame of the recording that is due, once nobody has the floor or the end bit has
+-- come. This profile.
+abbrev pub echo_with : ℕ → List Act → ℕ → List Bool → Option (Member × StreamPacket)
+echo_with places acts n echoed =
+    option_and_then (due_of (moment_at acts n))
+    (option_map (closed_if (is_none (holder_at places acts n)) (moment_at acts n))
+    (recording_with places acts n echoed))
+
+-- Of each position below n, whether it has an echo. This profile.
+unfoldable pub echoed_before : ℕ → List Act → ℕ → List Bool
+echoed_before places acts zero = []
+echoed_before places acts (suc n) =
+    let before = echoed_before places acts n in
+    before ++ is_some (echo_with places acts n before) ∷ []
+
+-- What a parrot module plays back at position n, and to whom; none where no frame is due. This profile.
+unfoldable pub echo_at : ℕ → List Act → ℕ → Option (Member × StreamPacket)
+echo_at places acts n = echo_with places acts n (echoed_before places acts n)
+
+-- What is recorded before position n. This profile.
+unfoldable pub recording_at : ℕ → List Act → ℕ → Option Recording
+recording_at places acts n = recording_with places acts n (echoed_before places acts n)
