@@ -34,3 +34,5 @@ pub use trace::read_trace;
 
 #[cfg(test)]
 mod tests;
+#[cfg(test)]
+mod whole_tests;
