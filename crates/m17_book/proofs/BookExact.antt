@@ -8,7 +8,7 @@ use Rattle.m17_fields.specs.Fields.{IsBytes}
 use Rattle.m17_fields.specs.Reading.{HasOneReading}
 use Rattle.m17_book.specs.Book.{TellsFlaw, MagicFlaw, LetterFlaw, BookHeaderFlaw, book_magic, book_header, HasBookForm, LacksBookForm, IsBook, RefusesBook}
 use Rattle.m17_book.specs.Flaws.{RecordFlaw}
-use Rattle.m17_book.specs.Laws.{Kept, BooksAreExact, BookFormsAreExact}
+use Rattle.m17_book.specs.Laws.{IsClear, Kept, BooksAreExact, BookFormsAreExact}
 use Rattle.m17_book.specs.Limits.{most_bytes, SpellsEach}
 use Rattle.m17_book.specs.Parsed.{BeginsWith}
 use Rattle.m17_book.specs.Records.{SpellsRecord}
@@ -19,15 +19,15 @@ use Rattle.m17_book.specs.declared.refusal.FormRefusal.{FormRefusal}
 use Rattle.m17_book.specs.declared.refusal.FormRefusal.TheVariants.{Large}
 use Rattle.m17_book.proofs.Pieces.{parts}
 use Rattle.m17_book.proofs.Readable.{Stop, at_end, too_many, wrong, reads_all}
-use Rattle.m17_book.proofs.Readings.{IsClear, one_list, whole_or_flawed, one_stop, few_values}
+use Rattle.m17_book.proofs.Readings.{one_list, whole_or_flawed, one_stop, few_values}
 use Rattle.m17_book.proofs.Told.{say, flaw_of, tells, one_told, magic_no_flaw, one_magic_flaw, reads_magic}
 
 -- two headers of the same bytes
-record SameHeader (l k : ℕ) (x y : List ℕ) : Type 0 where
-  letter : l ≡ k
-  rest : x ≡ y
+pub record SameHeader (l k : ℕ) (x y : List ℕ) : Type 0 where
+  pub letter : l ≡ k
+  pub rest : x ≡ y
 
-same_header : (bytes : List ℕ) (l k : ℕ) (x y : List ℕ) → bytes ≡ book_header l ++ x → bytes ≡ book_header k ++ y → SameHeader l k x y
+pub same_header : (bytes : List ℕ) (l k : ℕ) (x y : List ℕ) → bytes ≡ book_header l ++ x → bytes ≡ book_header k ++ y → SameHeader l k x y
 same_header bytes l k x y e f =
     let two = parts (book_header l) (book_header k) x y refl (sym e ∙ f) in
     record { letter = ap (λ xs. get_or xs 8 0) two.0; rest = two.1 }
@@ -62,18 +62,18 @@ good_header : (letter : ℕ) (x : List ℕ) (f : Flaw) → IsModule letter → B
 good_header letter x f good (inl h) = magic_no_flaw book_magic (letter ∷ x) f refl h
 good_header letter x f good (inr h) = good_letter letter x f good h.2
 
-header_not_refused : (bytes : List ℕ) (letter : ℕ) (x : List ℕ) (refusal : FormRefusal) → IsModule letter → bytes ≡ book_header letter ++ x
+pub header_not_refused : (bytes : List ℕ) (letter : ℕ) (x : List ℕ) (refusal : FormRefusal) → IsModule letter → bytes ≡ book_header letter ++ x
     → TellsFlaw BookHeaderFlaw bytes 0 refusal → ⊥
 header_not_refused bytes letter x refusal good e h =
     let f = flaw_of BookHeaderFlaw bytes 0 refusal h in
     good_header letter x f.0 good (subst (λ (xs : List ℕ). BookHeaderFlaw xs f.0) e f.1)
 
 -- a reading that stops: its records, and what is to come behind them
-record Stopped (bytes : List ℕ) (letter : ℕ) (records : List Record) (body rest : List ℕ) : Type 0 where
-  spelled : SpellsEach SpellsRecord records body
-  whole : bytes ≡ book_header letter ++ (body ++ rest)
+pub record Stopped (bytes : List ℕ) (letter : ℕ) (records : List Record) (body rest : List ℕ) : Type 0 where
+  pub spelled : SpellsEach SpellsRecord records body
+  pub whole : bytes ≡ book_header letter ++ (body ++ rest)
 
-stopped : (bytes : List ℕ) (letter : ℕ) (records : List Record) (front rest : List ℕ) → bytes ≡ front ++ rest → (form : HasBookForm front letter records)
+pub stopped : (bytes : List ℕ) (letter : ℕ) (records : List Record) (front rest : List ℕ) → bytes ≡ front ++ rest → (form : HasBookForm front letter records)
     → Stopped bytes letter records form.1 rest
 stopped bytes letter records front rest e form =
     record { spelled = form.2; whole = e ∙ ap (λ xs. xs ++ rest) form.3 ∙ append_assoc (book_header letter) form.1 rest }

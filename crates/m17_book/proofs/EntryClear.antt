@@ -11,7 +11,7 @@ use Rattle.m17_book.specs.Flaws.{kind_of, EntryFlaw, EntryField, Family, Length_
 use Rattle.m17_book.specs.declared.refusal.Flaw.{Flaw}
 use Rattle.m17_book.specs.declared.refusal.Flaw.TheVariants as flaws
 use Rattle.m17_book.proofs.Pieces.{parts, cons_parts, behind}
-use Rattle.m17_book.proofs.Readings.{IsClear}
+use Rattle.m17_book.specs.Laws.{IsClear}
 
 -- the bytes of a datagram, and whatever comes after them
 nested : (from : Peer) (at : ℕ) (bytes x : List ℕ) → entry_bytes (Datagram from at bytes) ++ x

@@ -26,3 +26,4 @@ pub mod RecordClear
 pub mod BookExact
 pub mod VerdictReads
 pub mod RecordReads
+pub mod NextRight

@@ -1,16 +1,9 @@
 -- Values spelled one after another: where none of their spellings begins another, bytes have one reading.
 use Rattle.std.proofs.Common.{◌≡◌, ◌⊎◌, ℕ, ◌<◌, ◌≤◌, List, [], ◌∷◌, ◌++◌, length, inl, inr, refl, sym, ap, subst, ◌∙◌, arith, append_assoc, length-append}
-use Rattle.std.proofs.lemmas.List.{append-nil, append_cancel_left}
+use Rattle.std.proofs.lemmas.List.{append-nil, append_cancel_left, nil_from_length}
+use Rattle.m17_book.specs.Laws.{IsClear}
 use Rattle.m17_book.specs.Limits.{SpellsEach}
 use Rattle.m17_book.specs.declared.refusal.Flaw.{Flaw}
-
--- what makes that so: one value and one spelling at the front of bytes, never both a value and a flaw, and one flaw
-pub record IsClear {Value : Type 0} (Spells : Value → List ℕ → Type 0) (Flawed : List ℕ → Flaw → Type 0) : Type 0 where
-  pub one : (v w : Value) (a b x y : List ℕ) → Spells v a → Spells w b → a ++ x ≡ b ++ y → (v ≡ w) × (a ≡ b)
-  pub some : (v : Value) (a : List ℕ) → Spells v a → 0 < length a
-  pub not_both : (v : Value) (a x : List ℕ) (flaw : Flaw) → Spells v a → Flawed (a ++ x) flaw → ⊥
-  pub one_flaw : (b : List ℕ) (f g : Flaw) → Flawed b f → Flawed b g → f ≡ g
-  pub no_flaw : (f : Flaw) → Flawed [] f → ⊥
 
 -- of two readings one goes on where the other ends
 pub record GoesOn {Value : Type 0} (Spells : Value → List ℕ → Type 0) (vs ws : List Value) (f₁ f₂ r₁ r₂ : List ℕ) : Type 0 where
@@ -154,4 +147,15 @@ module _ {Value : Type 0} (Spells : Value → List ℕ → Type 0) (Flawed : Lis
       elim (compare vs ws f₁ f₂ r₁ r₂ h k e) [
         | inl g ↦ omega (arith, ap length g.values, length-append vs g.more, fewer)
         | inr g ↦ omega (arith, ap length (same_stop ws vs f₂ f₁ r₂ r₁ flaw g bad).2, fewer)
+      ]
+
+  -- and the same values
+  pub same_values : (vs ws : List Value) (f₁ f₂ r₁ r₂ : List ℕ) → SpellsEach Spells vs f₁ → SpellsEach Spells ws f₂ → f₁ ++ r₁ ≡ f₂ ++ r₂
+      → length vs ≡ length ws → vs ≡ ws
+  same_values vs ws f₁ f₂ r₁ r₂ h k e same =
+      elim (compare vs ws f₁ f₂ r₁ r₂ h k e) [
+        | inl g ↦ let count : length g.more ≡ 0 = omega (arith, ap length g.values, length-append vs g.more) in
+            sym (g.values ∙ ap (λ us. vs ++ us) (nil_from_length g.more count) ∙ append-nil vs)
+        | inr g ↦ let count : length g.more ≡ 0 = omega (arith, ap length g.values, length-append ws g.more) in
+            g.values ∙ ap (λ us. ws ++ us) (nil_from_length g.more count) ∙ append-nil ws
       ]

@@ -24,7 +24,7 @@ use Rattle.m17_book.specs.declared.record.Record.TheVariants as records
 use Rattle.m17_book.specs.declared.refusal.Flaw.{Flaw}
 use Rattle.m17_book.specs.declared.refusal.Flaw.TheVariants as flaws
 use Rattle.m17_book.proofs.Pieces.{parts, cons_parts}
-use Rattle.m17_book.proofs.Readings.{IsClear}
+use Rattle.m17_book.specs.Laws.{IsClear}
 
 -- the laws of the fields, and of stream packets
 pub record FieldLaws : Type 0 where

@@ -10,7 +10,7 @@ use Rattle.m17_values.specs.declared.heard.Heard.TheVariants.{End}
 use Rattle.m17_book.specs.Book.{MagicFlaw, trace_magic, IsTrace, HasTraceForm, HasTooMany, LacksTraceForm, RefusesTrace}
 use Rattle.m17_book.specs.Entries.{SpellsEntry}
 use Rattle.m17_book.specs.Flaws.{EntryFlaw}
-use Rattle.m17_book.specs.Laws.{TracesAreExact}
+use Rattle.m17_book.specs.Laws.{IsClear, TracesAreExact}
 use Rattle.m17_book.specs.Limits.{most_bytes, most_entries, SpellsEach}
 use Rattle.m17_book.specs.declared.refusal.Flaw.{Flaw}
 use Rattle.m17_book.specs.declared.refusal.FormRefusal.{FormRefusal}
@@ -19,7 +19,7 @@ use Rattle.m17_book.proofs.EntryClear.{clear}
 use Rattle.m17_book.proofs.EntryReads.{reads_entry}
 use Rattle.m17_book.proofs.OneFlaw.{one_entry_flaw}
 use Rattle.m17_book.proofs.Readable.{Stop, at_end, too_many, wrong, reads_all}
-use Rattle.m17_book.proofs.Readings.{IsClear, one_list, whole_or_flawed, one_stop, whole_or_many, same_many, many_or_flawed}
+use Rattle.m17_book.proofs.Readings.{one_list, whole_or_flawed, one_stop, whole_or_many, same_many, many_or_flawed}
 use Rattle.m17_book.proofs.Told.{say, flaw_of, tells, one_told, magic_not_refused, one_magic_flaw, reads_magic}
 
 -- the bytes behind the magic

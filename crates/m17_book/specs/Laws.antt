@@ -1,9 +1,10 @@
 -- Traces and books have one reading each, and each byte list has one. This profile.
-use Rattle.std.specs.Prelude.{◌≡◌, ℕ, List}
+use Rattle.std.specs.Prelude.{◌≡◌, ℕ, ◌<◌, List, [], ◌++◌, length}
 use Rattle.m17_fields.specs.Fields.{IsBytes}
 use Rattle.m17_fields.specs.Reading.{HasOneReading}
 use Rattle.m17_book.specs.Book.{IsTrace, RefusesTrace, IsBook, RefusesBook, HasBookForm, LacksBookForm}
 use Rattle.m17_book.specs.declared.record.Record.{Record}
+use Rattle.m17_book.specs.declared.refusal.Flaw.{Flaw}
 use Rattle.m17_book.specs.declared.refusal.FormRefusal.{FormRefusal}
 
 -- Bytes stand for one value at most, or are refused for one reason at most, and not both; and each list of bytes is
@@ -16,6 +17,18 @@ pub record IsExactForm {Value : Type 0} (Has : List ℕ → Value → Type 0)
       → Has bytes value → Refuses bytes refusal → ⊥
   pub one_reading : (bytes : List ℕ) → IsBytes bytes
       → HasOneReading (λ value b. Has b value) Refuses bytes
+
+-- Why forms of values one after another are exact: bytes begin with one value and one spelling of it at most, never
+-- with both a value and a flaw, and they have one flaw at most. No public clause of a function cites this.
+pub record IsClear {Value : Type 0} (Spells : Value → List ℕ → Type 0)
+    (Flawed : List ℕ → Flaw → Type 0) : Type 0 where
+  pub one : (v w : Value) (a b x y : List ℕ) → Spells v a → Spells w b
+      → a ++ x ≡ b ++ y → (v ≡ w) × (a ≡ b)
+  pub some : (v : Value) (a : List ℕ) → Spells v a → 0 < length a
+  pub not_both : (v : Value) (a x : List ℕ) (flaw : Flaw) → Spells v a
+      → Flawed (a ++ x) flaw → ⊥
+  pub one_flaw : (b : List ℕ) (f g : Flaw) → Flawed b f → Flawed b g → f ≡ g
+  pub no_flaw : (f : Flaw) → Flawed [] f → ⊥
 
 -- what a book stands for: the letter of its module, and its records
 pub record Kept : Type 0 where

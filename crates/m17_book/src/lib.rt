@@ -35,3 +35,5 @@ pub use trace::{read_trace, read_trace_for};
 
 #[cfg(test)]
 mod tests;
+#[cfg(test)]
+mod whole_tests;

@@ -1,10 +1,11 @@
-ghost use Rattle.std.specs.Prelude.{◌≡◌, ◌⊎◌, ℕ, List, [], None, Some, Err, true, IfOk, IfErr};
+ghost use Rattle.std.specs.Prelude.{◌≡◌, ◌⊎◌, ℕ, List, [], None, Some, Err, true, IfOk, IfErr, MatchResult};
 ghost use Rattle.m17_book.specs.declared.record.Record.{Record};
 ghost use Rattle.m17_book.specs.declared.refusal.FormRefusal.{FormRefusal};
 ghost use Rattle.m17_book.specs.declared.refusal.FormRefusal.TheVariants.{ReadFault};
-ghost use Rattle.m17_book.specs.Book.{LacksBookForm};
+ghost use Rattle.m17_book.specs.Book.{StopsBook, HasBookForm};
 
 use crate::cursor::Cursor;
+use crate::laws::records_are_clear;
 use crate::silent::Silent;
 use crate::steps::{next_record, pass_header};
 use crate::{FormRefusal, Record};
@@ -28,7 +29,7 @@ impl Model for Reader {
 }
 
 impl Reader {
-    ghost use Rattle.m17_book.specs.Reading.{HasRead, AnswersNext, HasReadCause};
+    ghost use Rattle.m17_book.specs.Reading.{HasRead, AnswersNext, HasNext, HasReadCause};
 
     /// A reader that has read nothing.
     pub fn new() -> Reader
@@ -49,6 +50,14 @@ impl Reader {
         ensures answers { self.old.refusal ≡ None → (bytes : List ℕ) → (records : List Record)
             → HasRead self.old (S.left source.old) bytes records
             → AnswersNext result self.new (S.left source.new) bytes records }
+        ensures each_record { self.old.refusal ≡ None → (bytes : List ℕ)
+            → (records : List Record) → (next : Record)
+            → HasRead self.old (S.left source.old) bytes records → HasNext bytes records next
+            → MatchResult result (λ found. found ≡ Some next) (λ refusal. refusal ≡ ReadFault) }
+        ensures each_end { self.old.refusal ≡ None → (bytes : List ℕ) → (letter : ℕ)
+            → (records : List Record) → HasRead self.old (S.left source.old) bytes records
+            → HasBookForm bytes letter records
+            → MatchResult result (λ found. found ≡ None) (λ refusal. refusal ≡ ReadFault) }
         ensures refused { IfErr result (λ refusal. self.new.refusal ≡ Some refusal) }
         ensures again { (refusal : FormRefusal) → self.old.refusal ≡ Some refusal
             → (result ≡ Err refusal) × (source.new ≡ source.old) }
@@ -69,12 +78,21 @@ impl Reader {
         ensures answers { self.old.refusal ≡ None → (bytes : List ℕ) → (records : List Record)
             → HasRead self.old (S.left source.old) bytes records
             → AnswersNext result self.new (S.left source.new) bytes records }
+        ensures each_record { self.old.refusal ≡ None → (bytes : List ℕ)
+            → (records : List Record) → (next : Record)
+            → HasRead self.old (S.left source.old) bytes records → HasNext bytes records next
+            → MatchResult result (λ found. found ≡ Some next) (λ refusal. refusal ≡ ReadFault) }
+        ensures each_end { self.old.refusal ≡ None → (bytes : List ℕ) → (letter : ℕ)
+            → (records : List Record) → HasRead self.old (S.left source.old) bytes records
+            → HasBookForm bytes letter records
+            → MatchResult result (λ found. found ≡ None) (λ refusal. refusal ≡ ReadFault) }
         ensures refused { IfErr result (λ refusal. self.new.refusal ≡ Some refusal) }
         ensures again { (refusal : FormRefusal) → self.old.refusal ≡ Some refusal
             → (result ≡ Err refusal) × (source.new ≡ source.old) }
         ensures cause { self.old.refusal ≡ None
             → HasReadCause (S.faults source.old) (S.faults source.new) result }
     {
+        records_are_clear();
         if let Some(refusal) = self.refusal {
             return Err(refusal);
         }
@@ -114,7 +132,7 @@ impl Reader {
             → HasRead self.new (S.left source.new) bytes records) }
         ensures refused { IfErr result (λ refusal. (bytes : List ℕ) → (records : List Record)
             → HasRead self.old (S.left source.old) bytes records
-            → (refusal ≡ ReadFault) ⊎ LacksBookForm bytes refusal) }
+            → (refusal ≡ ReadFault) ⊎ StopsBook bytes records refusal) }
         ensures cause { HasReadCause (S.faults source.old) (S.faults source.new) result }
     {
         if self.begun {

@@ -17,4 +17,4 @@ returns-in-Err-clause-refused g c = λ bytes records before.
     let r = c.self.inside in
     let seen = subst (λ (p : Progress). HasRead p (g.S.Input.left c.args.source.now) bytes records) (sym c.self.view_is) before in
     let fresh = is_fresh (progress r.cursor r.begun r.refusal) _ bytes records c.if-self.false seen in
-    bad_header c.in-Err.refusal bytes r.cursor.place (c.in-Err.ensures.header bytes fresh.0) fresh.1
+    bad_header c.in-Err.refusal bytes r.cursor.place (c.in-Err.ensures.header bytes fresh.0) fresh.1 records fresh.2
