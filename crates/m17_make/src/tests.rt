@@ -1,4 +1,4 @@
-use crate::{Maker, make};
+use crate::{ENTRIES_MAX, Maker, make};
 use m17_memory::BytesSink;
 use m17_stream::{StreamPacket, read};
 use m17_values::{Failed, Heard};
@@ -37,19 +37,28 @@ const QUIET: [(u32, u64); 5] = [
     (114, 1400),
 ];
 
-// Entry `index` of seed 17, of fewer than 200.
-fn entry(index: u32) -> Heard {
-    let mut maker = Maker::new(17);
-    for _before in 0..index.min(200) {
-        let _passed = maker.next();
+// The next entry, as long as there may be one.
+fn next(maker: &mut Maker) -> Option<Heard> {
+    if maker.entry() < ENTRIES_MAX {
+        Some(maker.next())
+    } else {
+        None
     }
-    maker.next()
+}
+
+// Entry `index` of seed 17.
+fn entry(index: u32) -> Option<Heard> {
+    let mut maker = Maker::new(17);
+    for _before in 0..index {
+        let _passed = next(&mut maker);
+    }
+    next(&mut maker)
 }
 
 // The hotspot that a datagram came from, its moment, and the packet in it.
-fn sent(heard: Heard) -> Result<(u8, u64, StreamPacket), &'static str> {
+fn sent(heard: Option<Heard>) -> Result<(u8, u64, StreamPacket), &'static str> {
     match heard {
-        Heard::Datagram { from, at, bytes } => match read(bytes.bytes()) {
+        Some(Heard::Datagram { from, at, bytes }) => match read(bytes.bytes()) {
             Ok(packet) => Ok((from.ip[3].wrapping_sub(1), at, packet)),
             Err(_) => Err("no packet"),
         },
@@ -85,7 +94,7 @@ fn modules_talk_by_turns(rt: HostRuntime) -> Result<(), Fail> {
         assert_eq!(rt; packet.payload, [(number % 256) as u8; 16]);
     }
     for (index, at) in QUIET {
-        assert_eq!(rt; entry(index), Heard::Quiet { at });
+        assert_eq!(rt; entry(index), Some(Heard::Quiet { at }));
     }
     Ok(())
 }
