@@ -5,3 +5,6 @@ pub mod Outcome
 pub mod Routed
 pub mod StandsFor
 pub mod Laws
+-- For proofs alone.
+pub mod Steps
+pub mod Sound

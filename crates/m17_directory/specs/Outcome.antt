@@ -141,7 +141,7 @@ settled here others x request (Some claim) =
     record {
       verdict = Routed request.letter act.Join;
       posts = map (leave here Replaced) replaced
-      ++ to_module here request.letter
-      (body.Join claim.member x request.callsign request.listen claim.after) ∷ [];
+          ++ to_module here request.letter
+          (body.Join claim.member x request.callsign request.listen claim.after) ∷ [];
       left = replaced;
     }

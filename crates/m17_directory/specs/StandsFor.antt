@@ -1,6 +1,6 @@
 -- What the table of a directory stands for, out of all that its link heard. This profile.
-use Rattle.std.specs.Prelude.{◌≡◌, ◌==◌, ◌&&◌, ◌||◌, ℕ, zero, suc, ◌+◌, Bool, true, false, not, List, [], ◌∷◌, ◌++◌, length, map, filter, Option, None, Some, IsSome, if◌then◌else◌}
-use Rattle.std.specs.List.{list_any}
+use Rattle.std.specs.Prelude.{◌≡◌, ◌==◌, ◌&&◌, ◌||◌, ℕ, zero, suc, ◌+◌, ◌<◌, ◌≤◌, nat_eq, Bool, true, false, not, List, [], ◌∷◌, ◌++◌, length, map, filter, Option, None, Some, IsSome, if◌then◌else◌}
+use Rattle.std.specs.List.{list_any, AllByRecursion, IsDistinct}
 use Rattle.std.specs.Option.{option_map_or}
 use Rattle.m17_values.specs.declared.member.Member.{Member}
 use Rattle.m17_values.specs.declared.peer.Peer.{Peer}
@@ -51,6 +51,18 @@ pub record StandsFor (kept : Kept) (entries : List Entry) : Type 0 where
   pub asked : (asked : Asked) → kept.asked ≡ Some asked → IsAsked kept.setup entries asked
   pub faults : kept.faults ≡ faults_before entries (length entries)
 
+-- how many members may be known and departing together
+abbrev pub most_members : ℕ
+most_members = 512
+
+-- What is true of every directory: it knows at most as many peers as there are places, 512 members are known and
+-- departing at most, and the places of those that are known are places, each another. This profile.
+pub record IsBounded (kept : Kept) : Type 0 where
+  pub known : length kept.known ≤ kept.setup.places
+  pub members : length kept.known + length kept.departing ≤ most_members
+  pub below : AllByRecursion (λ k. k.member.place < kept.setup.places) kept.known
+  pub apart : IsDistinct nat_eq (map (λ k. k.member.place) kept.known)
+
 -- an entry that has no claim, and one that has it
 abbrev pub unclaimed : Notice → Entry
 unclaimed notice = record { notice = notice; claim = None }
@@ -65,6 +77,10 @@ departed_of k = record { member = k.member; peer = k.peer }
 -- the departing with these that have left
 abbrev pub with_left : List Departed → List Known → List Departed
 with_left departing left = departing ++ map departed_of left
+
+-- more may have left, behind those that had
+abbrev pub HasGrown : List Departed → List Departed → Type 0
+HasGrown old new = (more : List Departed) × (new ≡ old ++ more)
 
 -- What a call answered, and what it posted.
 pub record Answer : Type 0 where
@@ -94,10 +110,6 @@ pub record IsSettled (old new : Kept) (entries : List Entry) (entry : Entry) (an
   pub stands : StandsFor new (entries ++ entry ∷ [])
   pub outcome : HasOutcome old new answer
       (settled_at (past_at old.setup (entries ++ entry ∷ []) (length entries)) entry.claim)
-
--- how many members may be known and departing together
-abbrev pub most_members : ℕ
-most_members = 512
 
 -- some member of this peer is departing
 abbrev pub has_departing : Peer → List Departed → Bool

@@ -1,0 +1,14 @@
+pub mod Bounds
+pub mod Faults
+pub mod Filters
+pub mod Heard
+pub mod Kept
+pub mod Later
+pub mod Named
+pub mod Peers
+pub mod Rows
+pub mod Same
+pub mod Settled
+pub mod Tables
+pub mod Taken
+pub mod Told

@@ -1,0 +1,22 @@
+use Rattle.std.proofs.Common.{◌≡◌, ◌≤◌, ◌+◌, length, not, ap, sym, subst, arith}
+use Rattle.m17_directory.specs.StandsFor.{IsBounded, is_member}
+use Rattle.m17_directory.specs.Sound.{kept_of}
+use Rattle.m17_directory.specs.Steps.{Lists}
+use Rattle.m17_directory.proofs.Filters.{filter_le}
+use Rattle.m17_directory.proofs.directory.Directory.noted.Goals as goal
+
+bounded : (c : goal.After-noted) → IsBounded (kept_of (record c.self.inside { people = c.noted.new.self }))
+bounded c =
+    subst (λ (p : Lists). IsBounded (kept_of (record c.self.inside { people = p }))) (sym c.noted.ensures)
+    (record {
+      known = c.self.invariant.bounded.known;
+      members = omega (arith, c.self.invariant.bounded.members, filter_le (λ d. not (is_member c.args.m d)) c.self.inside.people.departing);
+      below = c.self.invariant.bounded.below;
+      apart = c.self.invariant.bounded.apart;
+    })
+
+pub invariant_of-self : goal.invariant_of-self
+invariant_of-self c = record { bounded = bounded c; places = c.self.invariant.places; faults = c.self.invariant.faults }
+
+pub returns-clause-bounds : goal.returns-clause-bounds
+returns-clause-bounds c = bounded c
