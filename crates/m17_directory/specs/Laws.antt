@@ -1,13 +1,26 @@
 -- What follows from the definitions for all that a link may hear. This profile.
-use Rattle.std.specs.Prelude.{◌≡◌, ℕ, suc, ◌<◌, Bool, true, false, List, [], ◌∷◌, ◌++◌, length, Option, None, Some}
-use Rattle.std.specs.List.{filter_map, AllByRecursion}
+use Rattle.std.specs.Prelude.{◌≡◌, ◌==◌, ◌&&◌, not, ℕ, suc, ◌+◌, ◌<◌, Bool, true, false, List, [], ◌∷◌, ◌++◌, length, map, filter, count_by, take, is_some, Option, None, Some, if◌then◌else◌}
+use Rattle.std.specs.List.{filter_map, flat_map, range_with_len, AllByRecursion}
+use Rattle.m17_values.specs.declared.heard.Heard.{Heard}
+use Rattle.m17_values.specs.declared.heard.Heard.TheVariants as heard
+use Rattle.m17_values.specs.declared.member.Member.{Member}
 use Rattle.m17_values.specs.declared.peer.Peer.{Peer}
+use Rattle.m17_fields.specs.Fields.{IsBytes}
 use Rattle.m17_control.specs.declared.event.Body.{Body}
-use Rattle.m17_control.specs.declared.event.Body.TheVariants.{Stop}
+use Rattle.m17_control.specs.declared.event.Body.TheVariants.{Join, Leave, Packet, Stop}
 use Rattle.m17_control.specs.declared.event.Event.{Event}
 use Rattle.m17_control.specs.Modules.{serves}
-use Rattle.m17_directory.specs.Entries.{Entry, Setup, ends_at}
-use Rattle.m17_directory.specs.Routed.{past_at, outcome_at, posts_at, posted, event_for, reply_for, routed, direct_replies}
+use Rattle.m17_directory.specs.declared.dispatch.Dispatch.{Dispatch}
+use Rattle.m17_directory.specs.declared.dispatch.Dispatch.TheVariants.{ToModule, ToDoor}
+use Rattle.m17_directory.specs.declared.known.Known.{Known}
+use Rattle.m17_directory.specs.declared.known.Request.{Request}
+use Rattle.m17_directory.specs.declared.verdict.Act.TheVariants as act
+use Rattle.m17_directory.specs.declared.verdict.LinkVerdict.{LinkVerdict}
+use Rattle.m17_directory.specs.declared.verdict.LinkVerdict.TheVariants.{Routed, Full, Ended}
+use Rattle.m17_directory.specs.Entries.{Notice, Says, Claim, Entry, Setup, notice_at, claim_at, ends_at}
+use Rattle.m17_directory.specs.Known.{Past, request_in, known_at}
+use Rattle.m17_directory.specs.Outcome.{Here}
+use Rattle.m17_directory.specs.Routed.{here_of, heard_at, others_at, settled_at, asks_at, past_at, outcome_at, link_verdict, posts_at, posted, event_for, reply_for, routed, direct_replies}
 
 -- What comes later changes nothing of what an entry comes to. This profile.
 abbrev pub LaterEntriesChangeNothing : Type 0
@@ -27,6 +40,72 @@ pub record OneEntryMore : Type 0 where
   pub answers : (setup : Setup) (entries : List Entry) (entry : Entry) (x : Peer) →
       direct_replies setup (entries ++ entry ∷ []) x ≡ direct_replies setup entries x
       ++ filter_map (reply_for x) (posts_at setup (entries ++ entry ∷ []) (length entries))
+
+-- What an entry comes to before its claim, and who the others are there, follows from the entries before it and from
+-- what it says itself, whatever its claim. This profile.
+pub record EntriesBeforeDecide : Type 0 where
+  pub heard : (setup : Setup) (a b : List Entry) (n : ℕ) → take n a ≡ take n b →
+      notice_at a n ≡ notice_at b n →
+      heard_at (past_at setup a n) ≡ heard_at (past_at setup b n)
+  pub others : (setup : Setup) (a b : List Entry) (n : ℕ) → take n a ≡ take n b →
+      notice_at a n ≡ notice_at b n →
+      others_at (past_at setup a n) ≡ others_at (past_at setup b n)
+
+-- What is posted to a module at a position carries the position. This profile.
+abbrev pub EventsCarryTheirIndex : Type 0
+EventsCarryTheirIndex =
+    (setup : Setup) (entries : List Entry) (n letter : ℕ) →
+    AllByRecursion (λ event. event.tag.index ≡ n)
+    (filter_map (event_for letter) (posts_at setup entries n))
+
+-- The body is a packet; and the module's letter, if this is a packet for a module. This profile.
+abbrev pub is_packet : Body → Bool
+is_packet (Packet k p) = true
+is_packet _ = false
+
+abbrev pub packet_letter : Dispatch → Option ℕ
+packet_letter (ToModule letter event) = if is_packet event.body then Some letter else None
+packet_letter (ToDoor direct) = None
+
+-- the same of a verdict
+abbrev pub packet_routed : LinkVerdict → List ℕ
+packet_routed (Routed letter act.Packet) = letter ∷ []
+packet_routed _ = []
+
+-- An entry posts one packet, to the module that its verdict names, or none. This profile.
+abbrev pub PacketsAreRouted : Type 0
+PacketsAreRouted =
+    (setup : Setup) (entries : List Entry) (n : ℕ) →
+    filter_map packet_letter (posts_at setup entries n)
+    ≡ packet_routed (link_verdict setup entries n)
+
+-- The member, if this is its Leave. This profile.
+abbrev pub leaver_of : Body → Option Member
+leaver_of (Leave k why) = Some k
+leaver_of _ = None
+
+abbrev pub left_member : Dispatch → Option Member
+left_member (ToModule letter event) = leaver_of event.body
+left_member (ToDoor direct) = None
+
+-- Those whose Leaves are posted are those that leave, in order. This profile.
+pub record EachWhoLeavesIsPosted : Type 0 where
+  pub heard : (past : Past) →
+      filter_map left_member (heard_at past).posts
+      ≡ map (λ (k : Known). k.member) (heard_at past).left
+  pub settled : (past : Past) (claim : Option Claim) →
+      filter_map left_member (settled_at past claim).posts
+      ≡ map (λ (k : Known). k.member) (settled_at past claim).left
+
+-- The verdict of an entry is Ended exactly where the link ends. This profile.
+abbrev pub is_ended : LinkVerdict → Bool
+is_ended Ended = true
+is_ended _ = false
+
+abbrev pub EndedWhereItEnds : Type 0
+EndedWhereItEnds =
+    (setup : Setup) (entries : List Entry) (n : ℕ) →
+    is_ended (heard_at (past_at setup entries n)).verdict ≡ ends_at entries n
 
 -- The link has ended, at its last entry, and at no entry before. This profile.
 pub record EndsOnce (entries : List Entry) : Type 0 where
@@ -58,3 +137,118 @@ abbrev pub OnlyServedAreRouted : Type 0
 OnlyServedAreRouted =
     (setup : Setup) (entries : List Entry) (letter : ℕ) → serves setup.modules letter ≡ false →
     routed setup entries letter ≡ []
+
+-- What a link hears, if it is a datagram, is bytes; and then it says exactly one thing. This profile.
+abbrev pub HasBytes : Heard → Type 0
+HasBytes (heard.Datagram from at bytes) = IsBytes bytes
+HasBytes _ = Unit {0}
+
+abbrev pub EachEntrySaysOneThing : Type 0
+EachEntrySaysOneThing =
+    (h : Heard) → HasBytes h →
+    (notice : Notice) × Says h notice × ((other : Notice) → Says h other → other ≡ notice)
+
+-- The index of the entry, if the event is a packet; and the verdict is a packet for this module. This profile.
+abbrev pub packet_index : Event → Option ℕ
+packet_index event = if is_packet event.body then Some event.tag.index else None
+
+abbrev pub is_packet_for : ℕ → LinkVerdict → Bool
+is_packet_for letter (Routed to act.Packet) = to == letter
+is_packet_for letter _ = false
+
+-- The packets for a module are those of the entries whose verdicts say so, in order, each entry once. This profile.
+abbrev pub PacketsAreOfEntries : Type 0
+PacketsAreOfEntries =
+    (setup : Setup) (entries : List Entry) (letter : ℕ) →
+    filter_map packet_index (routed setup entries letter)
+    ≡ filter (λ n. is_packet_for letter (link_verdict setup entries n))
+    (range_with_len 0 (length entries))
+
+-- The Join of an entry that asked for this module and has a claim: with its link, index and moment. This profile.
+abbrev pub join_event : Here → Peer → Request → Claim → Event
+join_event here x request claim = record {
+  tag = record { link = here.setup.link; index = here.index };
+  at = here.moment;
+  body = Join claim.member x request.callsign request.listen claim.after;
+}
+
+abbrev pub joins_by : Here → ℕ → Notice → Option Request → Option Claim → List Event
+joins_by here letter (Notice.Sent from at p) (Some request) (Some claim) =
+    if request.letter == letter then join_event here from request claim ∷ [] else []
+joins_by here letter _ _ _ = []
+
+unfoldable pub joins_at : Setup → List Entry → ℕ → ℕ → List Event
+joins_at setup entries letter n =
+    if asks_at (past_at setup entries n)
+    then joins_by (here_of (past_at setup entries n)) letter (notice_at entries n)
+    (request_in (notice_at entries n)) (claim_at entries n) else []
+
+-- An entry is Full exactly where it asks for a place and has no claim, and a Join exactly where it asks and has one.
+-- This profile.
+abbrev pub is_full : LinkVerdict → Bool
+is_full Full = true
+is_full _ = false
+
+abbrev pub is_joining : LinkVerdict → Bool
+is_joining (Routed letter act.Join) = true
+is_joining _ = false
+
+pub record AskersJoinOrAreFull : Type 0 where
+  pub full : (setup : Setup) (entries : List Entry) (n : ℕ) →
+      is_full (link_verdict setup entries n)
+      ≡ (asks_at (past_at setup entries n) && not (is_some (claim_at entries n)))
+  pub joins : (setup : Setup) (entries : List Entry) (n : ℕ) →
+      is_joining (link_verdict setup entries n)
+      ≡ (asks_at (past_at setup entries n) && is_some (claim_at entries n))
+
+-- the event is a Join
+abbrev pub is_join : Body → Bool
+is_join (Join k x callsign listen after) = true
+is_join _ = false
+
+-- The Joins for a module are those of the entries that asked for it and have a claim, in order, each entry once. This
+-- profile.
+abbrev pub JoinsAreTheClaims : Type 0
+JoinsAreTheClaims =
+    (setup : Setup) (entries : List Entry) (letter : ℕ) →
+    filter (λ event. is_join event.body) (routed setup entries letter)
+    ≡ flat_map (joins_at setup entries letter) (range_with_len 0 (length entries))
+
+-- Where a link has ended nobody is known. This profile.
+abbrev pub NobodyIsKnownBehindTheEnd : Type 0
+NobodyIsKnownBehindTheEnd =
+    (setup : Setup) (entries : List Entry) → EndsOnce entries →
+    known_at (past_at setup entries (length entries)) ≡ []
+
+-- No entry has a claim but one that asks for a place. This profile.
+abbrev pub ClaimsAreAsked : Setup → List Entry → Type 0
+ClaimsAreAsked setup entries =
+    (n : ℕ) → n < length entries → asks_at (past_at setup entries n) ≡ false →
+    claim_at entries n ≡ None
+
+-- the member, if this is its Join
+abbrev pub joiner_of : Body → Option Member
+joiner_of (Join k x callsign listen after) = Some k
+joiner_of _ = None
+
+-- how many of the Joins, and of the Leaves, that a module is routed are of such a member
+abbrev pub joined_count : Setup → List Entry → ℕ → (Member → Bool) → ℕ
+joined_count setup entries letter test =
+    count_by test (filter_map (λ event. joiner_of event.body) (routed setup entries letter))
+
+abbrev pub left_count : Setup → List Entry → ℕ → (Member → Bool) → ℕ
+left_count setup entries letter test =
+    count_by test (filter_map (λ event. leaver_of event.body) (routed setup entries letter))
+
+-- Who has joined a module, as often, has left it or is known in it; so with the end of a link each has left. This
+-- profile.
+pub record WhoJoinsLeaves : Type 0 where
+  pub so_far : (setup : Setup) (entries : List Entry) (letter : ℕ) (test : Member → Bool) →
+      ClaimsAreAsked setup entries →
+      joined_count setup entries letter test
+      ≡ left_count setup entries letter test
+      + count_by (λ (k : Known). k.letter == letter && test k.member)
+      (known_at (past_at setup entries (length entries)))
+  pub at_the_end : (setup : Setup) (entries : List Entry) (letter : ℕ) (test : Member → Bool) →
+      ClaimsAreAsked setup entries → EndsOnce entries →
+      joined_count setup entries letter test ≡ left_count setup entries letter test

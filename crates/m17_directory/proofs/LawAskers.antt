@@ -1,0 +1,115 @@
+-- Who asks for a place joins or is turned away, by its claim alone.
+use Rattle.std.proofs.Common.{◌≡◌, ℕ, Bool, true, false, cond, not, ◌&&◌, List, is_some, Option, None, Some, refl, ap, sym, ◌∙◌, subst}
+use Rattle.m17_values.specs.declared.peer.Peer.{Peer}
+use Rattle.m17_control.specs.declared.event.Body.TheVariants as body
+use Rattle.m17_control.specs.declared.event.Why.TheVariants as why
+use Rattle.m17_control.specs.declared.packet.Control.TheVariants as control
+use Rattle.m17_control.specs.declared.packet.Packet.{Packet}
+use Rattle.m17_control.specs.declared.packet.Packet.TheVariants as packets
+use Rattle.m17_control.specs.Modules.{serves}
+use Rattle.m17_directory.specs.declared.known.Known.{Known}
+use Rattle.m17_directory.specs.declared.known.Request.{Request}
+use Rattle.m17_directory.specs.declared.verdict.Act.TheVariants as act
+use Rattle.m17_directory.specs.declared.verdict.LinkVerdict.TheVariants as verdict
+use Rattle.m17_directory.specs.Entries.{Notice, Claim, Entry, Setup, notice_at, claim_at, ends_at}
+use Rattle.m17_directory.specs.Known.{Past, now, request_in, known_at}
+use Rattle.m17_directory.specs.Outcome.{Here, Outcome, only, to_module, to_door, posting, leaving, is_what, known_asks, other_asks, of_packet, of_end}
+use Rattle.m17_directory.specs.Routed.{here_of, row_for, heard_at, settled_by, settled_at, asks_at, both, past_at, link_verdict}
+use Rattle.m17_directory.specs.Laws.{is_full, is_joining, AskersJoinOrAreFull}
+use Rattle.m17_directory.specs.Steps.{still_by, said_by}
+use Rattle.m17_directory.proofs.Same.{length_asked, heard_is}
+use Rattle.m17_directory.proofs.LawSent.{either}
+use Rattle.m17_directory.proofs.LawWho.{AsksFor, asks_one}
+
+-- before its claim an entry is neither
+abbrev Neither : Outcome → Type 0
+Neither o = (is_full o.verdict ≡ false) × (is_joining o.verdict ≡ false)
+
+known_neither : (here : Here) (k : Known) (request : Request) → Neither (known_asks here k request)
+known_neither at k request =
+    let door : Outcome = posting (verdict.NotServed request.letter) (to_door at k.peer control.Nack) in
+    let again : Outcome = posting (verdict.Routed k.letter act.Again) (to_module at k.letter (body.Reply k.member control.Ackn)) in
+    let moved : Outcome = leaving at verdict.Asks why.Moved k in
+    let a : Neither door = (refl, refl) in
+    let b : Neither again = (refl, refl) in
+    let c : Neither moved = (refl, refl) in
+    either Neither (not (serves at.setup.modules request.letter)) door (cond (is_what request k) again moved) a (either Neither (is_what request k) again moved b c)
+
+other_neither : (here : Here) (x : Peer) (request : Request) → Neither (other_asks here x request)
+other_neither at x request =
+    let door : Outcome = posting (verdict.NotServed request.letter) (to_door at x control.Nack) in
+    let a : Neither door = (refl, refl) in
+    let b : Neither (only verdict.Asks) = (refl, refl) in
+    either Neither (not (serves at.setup.modules request.letter)) door (only verdict.Asks) a b
+
+packet_neither : (here : Here) (x : Peer) (o : Option Known) (p : Packet) → Neither (of_packet here x o p)
+packet_neither at x (Some k) (packets.Control (control.Conn from letter)) = known_neither at k (record { letter = letter; callsign = from; listen = false })
+packet_neither at x (Some k) (packets.Control (control.Lstn from letter)) = known_neither at k (record { letter = letter; callsign = from; listen = true })
+packet_neither at x (Some k) (packets.Stream p) = (refl, refl)
+packet_neither at x (Some k) (packets.Control (control.Ping from)) = (refl, refl)
+packet_neither at x (Some k) (packets.Control (control.Pong from)) = (refl, refl)
+packet_neither at x (Some k) (packets.Control (control.Disc from)) = (refl, refl)
+packet_neither at x (Some k) (packets.Control control.Ackn) = (refl, refl)
+packet_neither at x (Some k) (packets.Control control.Nack) = (refl, refl)
+packet_neither at x None (packets.Control (control.Conn from letter)) = other_neither at x (record { letter = letter; callsign = from; listen = false })
+packet_neither at x None (packets.Control (control.Lstn from letter)) = other_neither at x (record { letter = letter; callsign = from; listen = true })
+packet_neither at x None (packets.Stream p) = (refl, refl)
+packet_neither at x None (packets.Control (control.Ping from)) = (refl, refl)
+packet_neither at x None (packets.Control (control.Pong from)) = (refl, refl)
+packet_neither at x None (packets.Control (control.Disc None)) = (refl, refl)
+packet_neither at x None (packets.Control (control.Disc (Some from))) = (refl, refl)
+packet_neither at x None (packets.Control control.Ackn) = (refl, refl)
+packet_neither at x None (packets.Control control.Nack) = (refl, refl)
+
+said_neither : (here : Here) (ends : Bool) (rows still : List Known) (notice : Notice) → Neither (said_by here ends rows still notice)
+said_neither at ends rows still (Notice.Sent from m p) = packet_neither at from (row_for from still) p
+said_neither at ends rows still (Notice.Garbled from m refusal) = (refl, refl)
+said_neither at ends rows still (Notice.Quiet m) = (refl, refl)
+said_neither at true rows still Notice.Fault = (refl, refl)
+said_neither at false rows still Notice.Fault = (refl, refl)
+said_neither at ends rows still Notice.End = (refl, refl)
+
+heard_neither : (past : Past) → Neither (heard_at past)
+heard_neither past =
+    let at : Here = here_of past in
+    let rows : List Known = known_at past in
+    let notice : Notice = notice_at past.entries (now past) in
+    let said : Neither (said_by at (ends_at past.entries (now past)) rows (still_by at rows notice) notice) = said_neither at (ends_at past.entries (now past)) rows (still_by at rows notice) notice in
+    subst Neither (sym (heard_is past)) said
+
+-- and with it, by the claim alone
+settled_is : (past : Past) (claim : Option Claim) (one : AsksFor (notice_at past.entries (now past))) → settled_at past claim ≡ settled_by past claim (Notice.Sent one.from one.at one.packet) (Some one.request)
+unfolding settled_at
+settled_is past claim one =
+    ap (λ y. settled_by past claim y (request_in y)) one.says
+    ∙ ap (settled_by past claim (Notice.Sent one.from one.at one.packet)) one.wants
+
+abbrev comes : Past → Bool → Option Claim → Outcome
+comes past b claim = cond b (both (heard_at past) (settled_at past claim)) (heard_at past)
+
+full_by : (past : Past) (b : Bool) (claim : Option Claim) → asks_at past ≡ b → is_full (comes past b claim).verdict ≡ (b && not (is_some claim))
+full_by past true None e = ap (λ (o : Outcome). is_full o.verdict) (settled_is past None (asks_one past e))
+full_by past true (Some claim) e = ap (λ (o : Outcome). is_full o.verdict) (settled_is past (Some claim) (asks_one past e))
+full_by past false claim e = (heard_neither past).0
+
+joins_by : (past : Past) (b : Bool) (claim : Option Claim) → asks_at past ≡ b → is_joining (comes past b claim).verdict ≡ (b && is_some claim)
+joins_by past true None e = ap (λ (o : Outcome). is_joining o.verdict) (settled_is past None (asks_one past e))
+joins_by past true (Some claim) e = ap (λ (o : Outcome). is_joining o.verdict) (settled_is past (Some claim) (asks_one past e))
+joins_by past false claim e = (heard_neither past).1
+
+full_where : (setup : Setup) (entries : List Entry) (n : ℕ) → is_full (link_verdict setup entries n) ≡ (asks_at (past_at setup entries n) && not (is_some (claim_at entries n)))
+unfolding link_verdict
+full_where setup entries n =
+    let past : Past = past_at setup entries n in
+    full_by past (asks_at past) (claim_at entries (now past)) refl
+    ∙ ap (λ m. asks_at past && not (is_some (claim_at entries m))) (length_asked setup entries n)
+
+joins_where : (setup : Setup) (entries : List Entry) (n : ℕ) → is_joining (link_verdict setup entries n) ≡ (asks_at (past_at setup entries n) && is_some (claim_at entries n))
+unfolding link_verdict
+joins_where setup entries n =
+    let past : Past = past_at setup entries n in
+    joins_by past (asks_at past) (claim_at entries (now past)) refl
+    ∙ ap (λ m. asks_at past && is_some (claim_at entries m)) (length_asked setup entries n)
+
+pub askers : AskersJoinOrAreFull
+askers = record { full = full_where; joins = joins_where }

@@ -1,0 +1,89 @@
+//! What the definitions promise of all that a link may hear. Each function does nothing: its clause is the law. This
+//! profile.
+ghost use Rattle.m17_directory.specs.Laws as law;
+
+/// What comes later changes nothing of what an entry comes to.
+pub fn later_entries_change_nothing()
+    ensures { law.LaterEntriesChangeNothing }
+{}
+
+/// What one entry more posts stands behind all that was posted before, and so does what of it is routed to each module
+/// and answered to each peer.
+pub fn one_entry_more()
+    ensures { law.OneEntryMore }
+{}
+
+/// What an entry comes to before its claim, and who the others are there, follows from the entries before it and from
+/// what it says itself.
+pub fn entries_before_decide()
+    ensures { law.EntriesBeforeDecide }
+{}
+
+/// What is posted to a module carries the index of its entry.
+pub fn events_carry_their_index()
+    ensures { law.EventsCarryTheirIndex }
+{}
+
+/// All that a link routes carries the number of the link.
+pub fn route_carries_link()
+    ensures { law.RouteCarriesLink }
+{}
+
+/// Nothing is routed to a module that is not served.
+pub fn only_served_are_routed()
+    ensures { law.OnlyServedAreRouted }
+{}
+
+/// An entry posts one packet, to the module that its verdict names as having been sent it, or none.
+pub fn packets_are_routed()
+    ensures { law.PacketsAreRouted }
+{}
+
+/// Those whose Leaves are posted are those that leave, in order.
+pub fn each_who_leaves_is_posted()
+    ensures { law.EachWhoLeavesIsPosted }
+{}
+
+/// The verdict of an entry is `Ended` exactly where the link ends.
+pub fn ended_where_it_ends()
+    ensures { law.EndedWhereItEnds }
+{}
+
+/// What a link that ends once routes to a served module is events without a Stop, and then one Stop.
+pub fn route_ends_in_one_stop()
+    ensures { law.RouteEndsInOneStop }
+{}
+
+/// What a link hears says exactly one thing: a datagram of bytes is one packet or is refused for one reason.
+pub fn each_entry_says_one_thing()
+    ensures { law.EachEntrySaysOneThing }
+{
+    m17_control::laws::decoding_is_exact();
+}
+
+/// The packets for a module are those of the entries whose verdicts say so, in order, each entry once; so no two packets
+/// of one link have one index.
+pub fn packets_are_of_entries()
+    ensures { law.PacketsAreOfEntries }
+{}
+
+/// An entry's verdict is `Full` exactly where it asks for a place and has no claim, and `Routed` as a Join exactly where
+/// it asks and has one.
+pub fn askers_join_or_are_full()
+    ensures { law.AskersJoinOrAreFull }
+{}
+
+/// The Joins for a module are those of the entries that asked for it and have a claim, in order, each entry once.
+pub fn joins_are_the_claims()
+    ensures { law.JoinsAreTheClaims }
+{}
+
+/// Where a link has ended nobody is known.
+pub fn nobody_is_known_behind_the_end()
+    ensures { law.NobodyIsKnownBehindTheEnd }
+{}
+
+/// Who has joined a module has left it, as often, or is known in it; so each has left where the link has ended.
+pub fn who_joins_leaves()
+    ensures { law.WhoJoinsLeaves }
+{}
