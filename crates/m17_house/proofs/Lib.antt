@@ -1,0 +1,16 @@
+pub mod Lists
+pub mod Peers
+pub mod Magics
+pub mod Tallies
+pub mod Cells
+pub mod Carries
+pub mod Notes
+pub mod CarriesAll
+pub mod Places
+pub mod Posts
+pub mod Found
+pub mod Among
+pub mod Chosen
+pub mod HeardMore
+pub mod OneMore
+pub mod Played

@@ -1,0 +1,147 @@
+-- What a run stands for in the midst of a replay. This profile.
+use Rattle.std.specs.Prelude.{◌≡◌, ◌≢◌, ℕ, ◌+◌, ◌*◌, ◌-◌, ◌^◌, ◌<◌, ◌≤◌, Bool, true, false, List, [], ◌∷◌, ◌++◌, length, slice_index, slice_set, nat_lt, Option, None, Some, option_map, MatchBool}
+use Rattle.std.specs.List.{AllByRecursion, list_any}
+use Rattle.std.specs.Option.{option_or}
+use Rattle.m17_values.specs.declared.heard.Heard.{Heard}
+use Rattle.m17_values.specs.declared.member.Member.{Member}
+use Rattle.m17_floor.specs.declared.verdict.Verdict.{Verdict}
+use Rattle.m17_module.specs.StandsFor as modules
+use Rattle.m17_directory.specs.declared.dispatch.Dispatch.{Dispatch}
+use Rattle.m17_directory.specs.declared.known.Departed.{Departed}
+use Rattle.m17_directory.specs.declared.known.Known.{Known}
+use Rattle.m17_directory.specs.declared.verdict.LinkVerdict.{LinkVerdict}
+use Rattle.m17_directory.specs.declared.verdict.LinkVerdict.TheVariants.{Asks}
+use Rattle.m17_directory.specs.Entries.{Notice, Claim, Entry, Says, ends_at}
+use Rattle.m17_directory.specs.Known.{Past}
+use Rattle.m17_directory.specs.Routed.{past_at, heard_at, others_at, settled_at, link_verdict, posted}
+use Rattle.m17_directory.specs.StandsFor.{Kept, StandsFor, unclaimed, claimed, without_member}
+use Rattle.m17_port_memory.specs.Kept.{TalliesKept}
+use Rattle.m17_house.specs.declared.plan.Plan.{Plan}
+use Rattle.m17_house.specs.declared.run.Run.{Run}
+use Rattle.m17_house.specs.Replay.{IsPlan, IsLeastFree, IsChosenAt, setup_of, given_before, packet_verdict}
+use Rattle.m17_house.specs.Carried.{HasCarried, IsServed, answer_to}
+
+-- the departing when the leaving of these was noted, one after another, and the directory then
+abbrev pub without_members : List Member → List Departed → List Departed
+without_members [] departing = departing
+without_members (m ∷ members) departing = without_members members (without_member m departing)
+
+abbrev pub noting : List Member → Kept → Kept
+noting members kept = record {
+  setup = kept.setup;
+  moment = kept.moment;
+  known = kept.known;
+  asked = kept.asked;
+  departing = without_members members kept.departing;
+  faults = kept.faults;
+  ended = kept.ended;
+}
+
+-- the verdict on the last packet among these dispatches, carried out after others; else the one that was found before
+abbrev pub found_from : Plan → List Dispatch → Option Verdict → List Dispatch → Option Verdict
+found_from plan before found [] = found
+found_from plan before found (d ∷ more) =
+    found_from plan (before ++ d ∷ []) (option_or (answer_to plan before d) found) more
+
+-- The dispatches were carried out after others, with this verdict on the last packet among them. This profile.
+pub record IsCarriedOut (plan : Plan) (before posts : List Dispatch)
+    (rooms : List (Option modules.Kept)) (mouth : TalliesKept) (answer : Option Verdict) : Type 0 where
+  pub carried : HasCarried plan (before ++ posts) rooms mouth
+  pub found : answer ≡ found_from plan before None posts
+
+-- The choice of a member for a peer that asks, beside those that are known: of the least place that nobody has, counted
+-- at that place; none where as many are known as there are places. This profile.
+pub record IsFreeMember (known : List Known) (places : ℕ) (old : List ℕ) (result : Option Member)
+    (new : List ℕ) : Type 0 where
+  pub it : Member
+  pub is_it : result ≡ Some it
+  pub below : it.place < places
+  pub place : IsLeastFree known it.place
+  pub generation : it.generation ≡ slice_index old it.place
+  pub counted : new ≡ slice_set old it.place (it.generation + 1)
+
+abbrev pub IsChoice : List Known → ℕ → List ℕ → Option Member → List ℕ → Type 0
+IsChoice known places old result new = MatchBool (nat_lt (length known) places)
+    (IsFreeMember known places old result new) ((result ≡ None) × (new ≡ old))
+
+-- what was looked back on at an entry that says this, behind these
+abbrev pub past_with : Plan → List Entry → Entry → Past
+past_with plan entries entry =
+    past_at (setup_of plan) (entries ++ entry ∷ []) (length entries)
+
+-- how often each place was given
+pub record AreCounts (given : List ℕ) (entries : List Entry) : Type 0 where
+  pub cells : length given ≡ 256
+  pub each : (place : ℕ) → place < 256 →
+      slice_index given place ≡ given_before entries place (length entries)
+
+abbrev pub AreChosen : Plan → List Entry → Type 0
+AreChosen plan entries =
+    (n : ℕ) → n < length entries → IsChosenAt (setup_of plan) entries n
+
+-- The run is one of this plan, and nobody's leaving is to be noted. This profile.
+pub record IsIdle (plan : Plan) (run : Run) : Type 0 where
+  pub is_plan : IsPlan plan
+  pub name : run.stage.name ≡ plan.name
+  pub setup : run.directory.setup ≡ setup_of plan
+  pub departing : run.directory.departing ≡ []
+  pub known : length run.directory.known ≤ plan.places
+
+-- The run has come through these entries. This profile.
+pub record IsSoFar (plan : Plan) (entries : List Entry) (run : Run) (mouth : TalliesKept) : Type 0 where
+  pub idle : IsIdle plan run
+  pub asked : run.directory.asked ≡ None
+  pub stands : StandsFor run.directory entries
+  pub carried : HasCarried plan (posted (setup_of plan) entries) run.stage.rooms mouth
+  pub few : length (posted (setup_of plan) entries) + length run.directory.known ≤ 54 * length entries
+  pub given : AreCounts run.given entries
+  pub chosen : AreChosen plan entries
+
+-- The run has come through these entries, and has heard one more that says this, but for its claim. This profile.
+pub record IsTakenIn (plan : Plan) (entries : List Entry) (notice : Notice) (run : Run) (mouth : TalliesKept)
+    (verdict : LinkVerdict) (answer : Option Verdict) : Type 0 where
+  pub idle : IsIdle plan run
+  pub stands : StandsFor run.directory (entries ++ unclaimed notice ∷ [])
+  pub carried : IsCarriedOut plan (posted (setup_of plan) entries)
+      (heard_at (past_with plan entries (unclaimed notice))).posts run.stage.rooms mouth answer
+  pub is_verdict : verdict ≡ (heard_at (past_with plan entries (unclaimed notice))).verdict
+  pub others : verdict ≡ Asks →
+      run.directory.known ≡ others_at (past_with plan entries (unclaimed notice))
+  pub ends : run.directory.ended ≡ ends_at (entries ++ unclaimed notice ∷ []) (length entries)
+  pub few : length (posted (setup_of plan) entries)
+      + length (heard_at (past_with plan entries (unclaimed notice))).posts + length run.directory.known
+      ≤ 54 * length entries + 52
+  pub given : AreCounts run.given entries
+  pub chosen : AreChosen plan entries
+
+-- the claim by this member, to be greeted at once
+abbrev pub claim_of : Option Member → Option Claim
+claim_of given = option_map (λ m. record { member = m; after = 0 }) given
+
+-- The same with its claim, where it asked. This profile.
+pub record IsGiven (plan : Plan) (entries : List Entry) (notice : Notice) (old run : Run)
+    (mouth : TalliesKept) (verdict : LinkVerdict) : Type 0 where
+  pub member : Option Member
+  pub idle : IsIdle plan run
+  pub asked : run.directory.asked ≡ None
+  pub stands : StandsFor run.directory (entries ++ claimed notice (claim_of member) ∷ [])
+  pub carried : HasCarried plan (posted (setup_of plan) entries
+      ++ (heard_at (past_with plan entries (unclaimed notice))).posts
+      ++ (settled_at (past_with plan entries (claimed notice (claim_of member))) (claim_of member)).posts) run.stage.rooms mouth
+  pub is_verdict : verdict ≡ (settled_at (past_with plan entries (claimed notice (claim_of member))) (claim_of member)).verdict
+  pub ends : run.directory.ended ≡ ends_at (entries ++ unclaimed notice ∷ []) (length entries)
+  pub few : length (posted (setup_of plan) entries)
+      + length (heard_at (past_with plan entries (unclaimed notice))).posts
+      + length (settled_at (past_with plan entries (claimed notice (claim_of member))) (claim_of member)).posts
+      + length run.directory.known ≤ 54 * length entries + 54
+  pub choice : IsChoice old.directory.known plan.places old.given member run.given
+
+-- One entry more was heard, and what became of it is in all that the run stands for. This profile.
+pub record IsOneMore (plan : Plan) (entries : List Entry) (h : Heard) (run : Run) (mouth : TalliesKept)
+    (verdict : LinkVerdict) (packet : Option Verdict) : Type 0 where
+  pub entry : Entry
+  pub says : Says h entry.notice
+  pub so_far : IsSoFar plan (entries ++ entry ∷ []) run mouth
+  pub is_verdict : verdict ≡ link_verdict (setup_of plan) (entries ++ entry ∷ []) (length entries)
+  pub is_packet : packet ≡ packet_verdict plan (entries ++ entry ∷ []) (length entries)
+  pub ends : run.directory.ended ≡ ends_at (entries ++ entry ∷ []) (length entries)

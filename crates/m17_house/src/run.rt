@@ -1,0 +1,232 @@
+ghost use Rattle.std.specs.Prelude.{◌≡◌, ◌↔◌, ◌-◌, ◌+◌, ◌^◌, ◌<◌, ◌≤◌, ℕ, List, [], ◌∷◌, ◌++◌, Option, None, Some, true, false, length, slice_index, IfOk, IsSome, MatchOption};
+ghost use Rattle.std.specs.List.{filter_map, list_any, AllByRecursion};
+ghost use Rattle.std.specs.Option.{option_to_list};
+ghost use Rattle.m17_directory.specs.declared.dispatch.Dispatch.{Dispatch};
+ghost use Rattle.m17_directory.specs.declared.verdict.LinkVerdict.{LinkVerdict};
+ghost use Rattle.m17_directory.specs.declared.verdict.LinkVerdict.TheVariants as link;
+ghost use Rattle.m17_directory.specs.Entries.{Entry, Notice, Says};
+ghost use Rattle.m17_directory.specs.Outcome as outcome;
+ghost use Rattle.m17_directory.specs.Wanted as laws;
+ghost use Rattle.m17_control.specs.Forms.{Refuses, Spells};
+ghost use Rattle.m17_fields.specs.Reading.{HasOneReading};
+ghost use Rattle.m17_floor.specs.declared.verdict.Verdict.{Verdict};
+ghost use Rattle.m17_port_memory.specs.Kept.{TalliesKept};
+ghost use Rattle.m17_house.specs.declared.plan.Plan.{Plan};
+ghost use Rattle.m17_house.specs.Replay.{IsPlan, IsLeastFree};
+ghost use Rattle.m17_house.specs.Tallied.{AreTalliesOf, IsSameMouth};
+ghost use Rattle.m17_house.specs.Carried.{HasCarried, IsServed};
+ghost use Rattle.m17_house.specs.SoFar.{IsCarriedOut, IsChoice, IsGiven, IsIdle, IsOneMore, IsSoFar, IsTakenIn, noting};
+
+use crate::Plan;
+use crate::choice::choose;
+use crate::stage::Stage;
+use m17_control::{Body, laws as control_laws};
+use m17_directory::{Directory, Dispatch, LinkVerdict, Post, laws as directory_laws};
+use m17_floor::{Verdict, laws as floor_laws};
+use m17_port_memory::TallyMouth;
+use m17_values::{Heard, Member, NoMemory};
+use std::alloc::Global;
+
+/// How many places there are at most.
+pub(crate) const MOST_PLACES: usize = 256;
+
+// One link's directory, what it posted last, the modules, and how often each place was given.
+#[derive(Debug, Drop)]
+pub(crate) struct Run {
+    pub(crate) directory: Directory,
+    pub(crate) post: Post,
+    pub(crate) stage: Stage,
+    pub(crate) given: [u64; MOST_PLACES],
+}
+
+// The member that a dispatch tells to have left, if it does.
+fn left_member(dispatch: &Dispatch) -> Option<Member>
+    ensures { result ≡ laws.left_member dispatch.now }
+{
+    match dispatch {
+        Dispatch::ToModule { event, .. } => match &event.body {
+            Body::Leave { member, .. } => Some(*member),
+            _ => None,
+        },
+        Dispatch::ToDoor(_) => None,
+    }
+}
+
+// The directory is told of the member that a dispatch tells to have left.
+fn note(directory: &mut Directory, dispatch: &Dispatch)
+    ensures { directory.new
+        ≡ noting (option_to_list (laws.left_member dispatch.now)) directory.old }
+{
+    if let Some(member) = left_member(dispatch) {
+        directory.noted(member);
+    }
+}
+
+// Bytes are a packet, or no packet.
+fn reads(bytes: &[u8])
+    ensures { HasOneReading Spells Refuses bytes.now }
+{
+    control_laws::decoding_is_exact();
+    let _bytes = bytes;
+}
+
+// What was heard says something.
+fn says_something(h: &Heard)
+    ensures { (notice : Notice) × Says h.now notice }
+{
+    match h {
+        Heard::Datagram { bytes, .. } => reads(bytes.bytes()),
+        Heard::Quiet { .. } => {}
+        Heard::Fault => {}
+        Heard::End => {}
+    }
+}
+
+// No place was given yet.
+fn no_counts() -> [u64; MOST_PLACES]
+    ensures cells { length result ≡ 256 }
+    ensures none { (place : ℕ) → place < 256 → slice_index result place ≡ 0 }
+{
+    [0; MOST_PLACES]
+}
+
+impl Run {
+    pub(crate) fn make(alloc: Global, plan: &Plan) -> Result<Run, NoMemory>
+        requires { IsPlan plan.now }
+        ensures post { IfOk result (λ run. run.post ≡ []) }
+        ensures out { IfOk result (λ run. run.stage.out ≡ []) }
+        ensures open { IfOk result (λ run. run.directory.ended ≡ false) }
+        ensures so_far { IfOk result (λ run. (mouth : TalliesKept) → AreTalliesOf (λ _. []) mouth
+            → IsSoFar plan.now [] run mouth) }
+    {
+        let directory = Directory::make(alloc, 0, plan.name, plan.places, plan.modules)?;
+        let post = Post::make(alloc)?;
+        let stage = Stage::make(alloc, plan)?;
+        Ok(Run {
+            directory,
+            post,
+            stage,
+            given: no_counts(),
+        })
+    }
+
+    /// Whether the link has ended.
+    pub(crate) fn has_ended(&self) -> bool
+        ensures { result ≡ self.now.directory.ended }
+    {
+        self.directory.has_ended()
+    }
+
+    // Carries out all that was posted; who leaves by it is noted. Answers the verdict on the packet among it.
+    fn carry_out(&mut self, mouth: &mut TallyMouth) -> Option<Verdict>
+        requires { self.old.stage.out ≡ [] }
+        ensures post { self.new.post ≡ [] }
+        ensures out { self.new.stage.out ≡ [] }
+        ensures name { self.new.stage.name ≡ self.old.stage.name }
+        ensures given { self.new.given ≡ self.old.given }
+        ensures noted { self.new.directory
+            ≡ noting (filter_map laws.left_member self.old.post) self.old.directory }
+        ensures mouth { IsSameMouth mouth.old mouth.new }
+        ensures carried { (plan : Plan) (before : List Dispatch) →
+            self.old.stage.name ≡ plan.name → AllByRecursion (IsServed plan) self.old.post →
+            length before + length self.old.post < 2 ^ 64 - 1 →
+            HasCarried plan before self.old.stage.rooms mouth.old →
+            IsCarriedOut plan before self.old.post self.new.stage.rooms mouth.new result }
+    {
+        let mut verdict = None;
+        while let Some(dispatch) = self.post.take() {
+            verdict = self.stage.carry(&dispatch, mouth).or(verdict);
+            note(&mut self.directory, &dispatch);
+        }
+        verdict
+    }
+
+    // What the entry with this index becomes, but for its claim.
+    fn take_in(
+        &mut self,
+        index: u64,
+        h: &Heard,
+        mouth: &mut TallyMouth,
+    ) -> (LinkVerdict, Option<Verdict>)
+        requires post { self.old.post ≡ [] }
+        requires out { self.old.stage.out ≡ [] }
+        requires asked { self.old.directory.asked ≡ None }
+        requires open { self.old.directory.ended ≡ false }
+        ensures post { self.new.post ≡ [] }
+        ensures out { self.new.stage.out ≡ [] }
+        ensures asked { (result.0 ≡ link.Asks) ↔ IsSome self.new.directory.asked }
+        ensures mouth { IsSameMouth mouth.old mouth.new }
+        ensures taken { (plan : Plan) (entries : List Entry) (notice : Notice) →
+            Says h.now notice → index ≡ length entries → length entries < 2 ^ 58 →
+            IsSoFar plan entries self.old mouth.old →
+            IsTakenIn plan entries notice self.new mouth.new result.0 result.1 }
+    {
+        directory_laws::each_who_leaves_is_posted();
+        directory_laws::ended_where_it_ends();
+        directory_laws::one_entry_more();
+        directory_laws::only_served_are_routed();
+        let verdict = self.directory.hear(index, h, &mut self.post);
+        let answer = self.carry_out(mouth);
+        (verdict, answer)
+    }
+
+    // What becomes of the request that is asked.
+    fn give(&mut self, plan: &Plan, mouth: &mut TallyMouth) -> LinkVerdict
+        requires post { self.old.post ≡ [] }
+        requires out { self.old.stage.out ≡ [] }
+        requires asked { IsSome self.old.directory.asked }
+        requires idle { IsIdle plan.now self.old }
+        requires room { (place : ℕ) → slice_index self.old.given place < 2 ^ 64 - 1 }
+        ensures post { self.new.post ≡ [] }
+        ensures out { self.new.stage.out ≡ [] }
+        ensures mouth { IsSameMouth mouth.old mouth.new }
+        ensures given { (entries : List Entry) (notice : Notice) (answer : Option Verdict) →
+            length entries < 2 ^ 58 →
+            IsTakenIn plan.now entries notice self.old mouth.old link.Asks answer →
+            IsGiven plan.now entries notice self.old self.new mouth.new result }
+    {
+        directory_laws::each_who_leaves_is_posted();
+        directory_laws::entries_before_decide();
+        directory_laws::one_entry_more();
+        directory_laws::only_served_are_routed();
+        let member = choose(&self.directory, plan.places, &mut self.given);
+        let verdict = self.directory.settle(member, 0, &mut self.post);
+        let _none = self.carry_out(mouth);
+        verdict
+    }
+
+    /// What becomes of the entry with this index.
+    pub(crate) fn hear(
+        &mut self,
+        plan: &Plan,
+        index: u64,
+        h: &Heard,
+        mouth: &mut TallyMouth,
+    ) -> (LinkVerdict, Option<Verdict>)
+        requires post { self.old.post ≡ [] }
+        requires out { self.old.stage.out ≡ [] }
+        requires open { self.old.directory.ended ≡ false }
+        requires so_far { (entries : List Entry) × (index ≡ length entries)
+            × (length entries < 2 ^ 58) × IsSoFar plan.now entries self.old mouth.old }
+        ensures post { self.new.post ≡ [] }
+        ensures out { self.new.stage.out ≡ [] }
+        ensures mouth { IsSameMouth mouth.old mouth.new }
+        ensures heard { (entries : List Entry) → index ≡ length entries → length entries < 2 ^ 58 →
+            IsSoFar plan.now entries self.old mouth.old →
+            IsOneMore plan.now entries h.now self.new mouth.new result.0 result.1 }
+    {
+        directory_laws::entries_before_decide();
+        directory_laws::ended_where_it_ends();
+        directory_laws::one_entry_more();
+        directory_laws::packets_are_routed();
+        directory_laws::events_carry_their_index();
+        floor_laws::later_acts_change_no_verdict();
+        floor_laws::only_speakers_are_heard();
+        says_something(h);
+        let (verdict, answer) = self.take_in(index, h, mouth);
+        match verdict {
+            LinkVerdict::Asks => (self.give(plan, mouth), None),
+            _ => (verdict, answer),
+        }
+    }
+}

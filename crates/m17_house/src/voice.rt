@@ -1,0 +1,43 @@
+//! What is said on a mouth, in the name of the reflector.
+
+ghost use Rattle.std.specs.Prelude.{◌≡◌, [], map};
+ghost use Rattle.std.specs.List.{filter_map};
+ghost use Rattle.std.specs.Option.{option_to_list};
+ghost use Rattle.m17_control.specs.declared.packet.Packet.TheVariants as packets;
+ghost use Rattle.m17_directory.specs.Routed.{reply_for};
+ghost use Rattle.m17_directory.specs.declared.dispatch.Dispatch.TheVariants.{ToDoor};
+ghost use Rattle.m17_house.specs.Replay.{packet_to};
+ghost use Rattle.m17_house.specs.Tallied.{HasSaidMore};
+
+use m17_callsign::CallAddress;
+use m17_control::{Direct, Item, spell, write};
+use m17_module::Basket;
+use m17_port_memory::TallyMouth;
+use m17_ports::Mouth;
+
+// Says an item, unless it spells nothing.
+fn say_item(item: &Item, name: CallAddress, mouth: &mut TallyMouth)
+    ensures { HasSaidMore (λ x. option_to_list (packet_to x name item.now)) mouth.old mouth.new }
+{
+    if let Some(datagram) = spell(item, name) {
+        let _ = mouth.say(&item.peer, datagram.as_slice());
+    }
+}
+
+/// Says all that a module gave, in order, and leaves the basket empty.
+pub(crate) fn say_all(out: &mut Basket, name: CallAddress, mouth: &mut TallyMouth)
+    ensures taken { out.new ≡ [] }
+    ensures said { HasSaidMore (λ x. filter_map (packet_to x name) out.old) mouth.old mouth.new }
+{
+    while let Some(item) = out.take() {
+        say_item(&item, name, mouth);
+    }
+}
+
+/// Says a reply that goes past all modules.
+pub(crate) fn answer(direct: &Direct, mouth: &mut TallyMouth)
+    ensures { HasSaidMore (λ x. map packets.Control (option_to_list (reply_for x (ToDoor direct.now))))
+        mouth.old mouth.new }
+{
+    let _ = mouth.say(&direct.peer, write(&direct.control).as_slice());
+}
