@@ -4,7 +4,10 @@ pub mod Filters
 pub mod Heard
 pub mod Kept
 pub mod Later
+pub mod Links
 pub mod Named
+pub mod OneThing
+pub mod Outcomes
 pub mod Peers
 pub mod Rows
 pub mod Same

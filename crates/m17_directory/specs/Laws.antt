@@ -1,13 +1,27 @@
 -- What follows from the definitions for all that a link may hear. This profile.
 use Rattle.std.specs.Prelude.{◌≡◌, ℕ, suc, ◌<◌, Bool, true, false, List, [], ◌∷◌, ◌++◌, length, Option, None, Some}
 use Rattle.std.specs.List.{filter_map, AllByRecursion}
+use Rattle.m17_fields.specs.Fields.{IsBytes}
+use Rattle.m17_values.specs.declared.heard.Heard.{Heard}
+use Rattle.m17_values.specs.declared.heard.Heard.TheVariants as heard
 use Rattle.m17_values.specs.declared.peer.Peer.{Peer}
 use Rattle.m17_control.specs.declared.event.Body.{Body}
 use Rattle.m17_control.specs.declared.event.Body.TheVariants.{Stop}
 use Rattle.m17_control.specs.declared.event.Event.{Event}
 use Rattle.m17_control.specs.Modules.{serves}
-use Rattle.m17_directory.specs.Entries.{Entry, Setup, ends_at}
+use Rattle.m17_directory.specs.Entries.{Notice, Entry, Setup, Says, ends_at}
 use Rattle.m17_directory.specs.Routed.{past_at, outcome_at, posts_at, posted, event_for, reply_for, routed, direct_replies}
+
+-- the bytes of a datagram are bytes
+abbrev pub HasBytes : Heard → Type 0
+HasBytes (heard.Datagram from at bytes) = IsBytes bytes
+HasBytes _ = Unit {0}
+
+-- What was heard says one thing, and no other. This profile.
+abbrev pub AnEntrySaysOneThing : Type 0
+AnEntrySaysOneThing =
+    (h : Heard) → HasBytes h →
+    (notice : Notice) × Says h notice × ((other : Notice) → Says h other → other ≡ notice)
 
 -- What comes later changes nothing of what an entry comes to. This profile.
 abbrev pub LaterEntriesChangeNothing : Type 0

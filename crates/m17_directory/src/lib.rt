@@ -11,6 +11,7 @@ mod departing;
 mod directory;
 mod dispatch;
 mod known;
+pub mod laws;
 mod people;
 mod post;
 mod stamp;
