@@ -254,11 +254,13 @@ module _ (here : Here) (before : ℕ) (ends : Bool) (old new : Lists) (notice : 
   asked_if false e some = absurd (not_some new.asked (taken.asked ∙ ap (asks_by here notice) (sym e) ∙ none_asked here notice) some)
 
   pub asked_iff : (verdict ≡ link.Asks) ↔ IsSome new.asked
-  asked_iff =
-      (λ v.
-      let does : asks ≡ true = ap is_asks (sym taken.verdict ∙ v) in
-      let some = some_asked here ends old.known (still_by here old.known notice) notice does in
-      is_some_from new.asked some.0 (taken.asked ∙ ap (asks_by here notice) does ∙ some.1), asked_if asks refl)
+  asked_iff = (
+    λ v.
+        let does : asks ≡ true = ap is_asks (sym taken.verdict ∙ v) in
+        let some = some_asked here ends old.known (still_by here old.known notice) notice does in
+        is_some_from new.asked some.0 (taken.asked ∙ ap (asks_by here notice) does ∙ some.1),
+    asked_if asks refl,
+  )
 
   pub asked_index : IfSome new.asked (λ a. a.index ≡ here.index)
   asked_index = subst (λ (o : Option Asked). IfSome o (λ a. a.index ≡ here.index)) (sym taken.asked) (index_of here notice asks)

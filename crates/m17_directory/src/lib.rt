@@ -25,3 +25,6 @@ pub use dispatch::Dispatch;
 pub use known::{Departed, Known, Request};
 pub use post::Post;
 pub use verdict::{Act, LinkVerdict};
+
+#[cfg(test)]
+mod tests;

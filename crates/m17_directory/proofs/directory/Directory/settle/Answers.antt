@@ -26,7 +26,7 @@ here_of c = record { setup = (kept_of c.self.inside).setup; index = c.unwrap-ask
 given : (c : goal.After-settle) → IsGiven (here_of c) c.unwrap-asked.result (claim_of c.args.after c.args.claimed) c.self.inside.people c.settle.new.self c.settle.new.post c.settle.result
 given c =
     let stamp : c.stamp-stamp.result ≡ here_of c =
-        c.stamp-stamp.ensures ∙ ap (λ (k : Kept). record { setup = k.setup; index = c.unwrap-asked.result.index; moment = c.self.inside.moment }) (sym c.self.view_is) in
+    c.stamp-stamp.ensures ∙ ap (λ (k : Kept). record { setup = k.setup; index = c.unwrap-asked.result.index; moment = c.self.inside.moment }) (sym c.self.view_is) in
     subst (λ (h : Here). IsGiven h c.unwrap-asked.result (claim_of c.args.after c.args.claimed) c.self.inside.people c.settle.new.self c.settle.new.post c.settle.result) stamp c.settle.ensures.given
 
 bounded : (c : goal.After-settle) → IsBounded (new_of c)
