@@ -83,6 +83,11 @@ pub fn joins_are_the_claims()
     ensures { law.JoinsAreTheClaims }
 {}
 
+/// The Joins for all served modules together are those of the entries that ask for a place and have a claim, each once.
+pub fn joins_of_all_modules()
+    ensures { law.JoinsOfAllModules }
+{}
+
 /// Where a link has ended nobody is known.
 pub fn nobody_is_known_behind_the_end()
     ensures { law.NobodyIsKnownBehindTheEnd }
