@@ -13,12 +13,12 @@ use Rattle.m17_directory.specs.declared.verdict.Act.TheVariants as act
 use Rattle.m17_directory.specs.declared.verdict.LinkVerdict.TheVariants as verdict
 use Rattle.m17_directory.specs.Entries.{Notice, Claim, Entry, Setup, notice_at, claim_at, ends_at}
 use Rattle.m17_directory.specs.Known.{Past, now, request_in, known_at}
-use Rattle.m17_directory.specs.Outcome.{Here, Outcome, only, to_module, to_door, posting, leaving, is_what, known_asks, other_asks, of_packet, of_end}
+use Rattle.m17_directory.specs.Outcome.{Here, Outcome, only, to_module, to_door, posting, leaving, is_what, known_asks, other_asks, of_packet}
 use Rattle.m17_directory.specs.Routed.{here_of, row_for, heard_at, settled_by, settled_at, asks_at, both, past_at, link_verdict}
-use Rattle.m17_directory.specs.Laws.{is_full, is_joining, AskersJoinOrAreFull}
+use Rattle.m17_directory.specs.Laws.{is_full, is_joining, AskersJoinOrAreFull, AskersAskForServedModules}
 use Rattle.m17_directory.specs.Steps.{still_by, said_by}
 use Rattle.m17_directory.proofs.Same.{length_asked, heard_is}
-use Rattle.m17_directory.proofs.LawSent.{either}
+use Rattle.m17_directory.proofs.LawSent.{either, asks_served}
 use Rattle.m17_directory.proofs.LawWho.{AsksFor, asks_one}
 
 -- before its claim an entry is neither
@@ -113,3 +113,14 @@ joins_where setup entries n =
 
 pub askers : AskersJoinOrAreFull
 askers = record { full = full_where; joins = joins_where }
+
+asks_for_served : (setup : Setup) (entries : List Entry) (n m : ℕ) → m ≡ n → (one : AsksFor (notice_at entries m)) → ((r : Request) → request_in (notice_at entries m) ≡ Some r → serves setup.modules r.letter ≡ true)
+    → (request : Request) × (request_in (notice_at entries n) ≡ Some request) × (serves setup.modules request.letter ≡ true)
+asks_for_served setup entries n m e one h =
+    let wants : request_in (notice_at entries m) ≡ Some one.request = ap request_in one.says ∙ one.wants in
+    (one.request, ap (λ i. request_in (notice_at entries i)) (sym e) ∙ wants, h one.request wants)
+
+pub askers_served : AskersAskForServedModules
+askers_served setup entries n asks =
+    let past : Past = past_at setup entries n in
+    asks_for_served setup entries n (now past) (length_asked setup entries n) (asks_one past asks) (λ r w. asks_served past r asks w)

@@ -1,8 +1,8 @@
 -- How many rows of a kind are known after an entry, and how many leave by it.
-use Rattle.std.proofs.Common.{◌≡◌, ◌⊎◌, ℕ, zero, suc, ◌+◌, ◌<◌, ◌≤◌, Bool, true, false, cond, not, ◌&&◌, eqb, List, [], ◌∷◌, ◌++◌, length, map, filter, find, count_by, Option, None, Some, Ordering, Less, Equal, Greater, inl, inr, refl, ap, sym, ◌∙◌, subst, arith}
-use Rattle.std.specs.List.{AllByRecursion, sum_by}
+use Rattle.std.proofs.Common.{◌≡◌, ◌⊎◌, ℕ, ◌+◌, Bool, true, false, cond, not, ◌&&◌, eqb, List, [], ◌∷◌, ◌++◌, map, filter, count_by, Option, None, Some, Ordering, Less, Equal, Greater, inl, inr, refl, ap, sym, ◌∙◌, arith}
+use Rattle.std.specs.List.{AllByRecursion}
 use Rattle.std.specs.Ordering.{match_ordering}
-use Rattle.std.proofs.lemmas.Bool.{false≢true, true≢false}
+use Rattle.std.proofs.lemmas.Bool.{false≢true}
 use Rattle.std.proofs.lemmas.Option.{same_Some, none-some}
 use Rattle.std.proofs.lemmas.List.Sums.{sum_by-append}
 use Rattle.m17_values.specs.declared.member.Member.{Member}
@@ -20,7 +20,7 @@ use Rattle.m17_directory.specs.declared.verdict.Act.TheVariants as act
 use Rattle.m17_directory.specs.Entries.{Notice, peer_cmp, is_peer}
 use Rattle.m17_directory.specs.Outcome.{Here, Outcome, only, to_module, to_door, posting, leaving, is_what, known_asks, other_asks, of_known, of_other, of_packet, of_end}
 use Rattle.m17_directory.specs.Routed.{is_silent, row_for}
-use Rattle.m17_directory.specs.Steps.{IsAllAfter, IsInOrder, heard_now, is_other, with_row, rows_by, silent_by, still_by, said_by, known_by}
+use Rattle.m17_directory.specs.Steps.{IsInOrder, heard_now, is_other, with_row, rows_by, silent_by, still_by, said_by, known_by}
 use Rattle.m17_directory.proofs.Peers.{peer_same, is_peer_same, is_peer_from}
 use Rattle.m17_directory.proofs.Rows.{after_none, after_same, order_filter}
 use Rattle.m17_directory.proofs.Taken.{no_row_other}
@@ -52,7 +52,7 @@ count_map p q f (x ∷ xs) h = ap (λ b. cond b 1 0 + count p (map f xs)) (h x) 
 abbrev pub is_such : ℕ → (Member → Bool) → Known → Bool
 is_such letter test k = eqb k.letter letter && test k.member
 
-such_heard : (letter : ℕ) (test : Member → Bool) (x : Peer) (m : ℕ) (k : Known) → is_such letter test (heard_now x m k) ≡ is_such letter test k
+pub such_heard : (letter : ℕ) (test : Member → Bool) (x : Peer) (m : ℕ) (k : Known) → is_such letter test (heard_now x m k) ≡ is_such letter test k
 such_heard letter test x m k = elim (is_peer x k.peer) as (λ b. is_such letter test (cond b (record k { heard_at = m }) k) ≡ is_such letter test k) [ true ↦ refl | false ↦ refl ]
 
 other_step : (p : Known → Bool) (x : Peer) (r k : Known) (rows : List Known) (b : Bool) → cond b (Some r) (row_for x rows) ≡ Some k → (b ≡ true → filter (is_other x) rows ≡ rows)
@@ -123,17 +123,14 @@ zeros r = omega arith
 zeros_right : (r : ℕ) → r + (0 + 0) ≡ r
 zeros_right r = omega arith
 
-module _ (letter : ℕ) (test : Member → Bool) where
-  abbrev such : Known → Bool
-  such = is_such letter test
-
+module _ (such : Known → Bool) (keeps : (x : Peer) (m : ℕ) (k : Known) → such (heard_now x m k) ≡ such k) where
   -- what is known and what has left, together
   abbrev both_count : Here → Peer → List Known → List Known → ℕ
   both_count here x still left = count such (rows_by here x left still) + count such left
 
   nobody_left : (here : Here) (x : Peer) (still left : List Known) → left ≡ [] → both_count here x still left ≡ count such still
   nobody_left at x still left e =
-      let same : count such (map (heard_now x at.moment) still) ≡ count such still = count_map such such (heard_now x at.moment) still (such_heard letter test x at.moment) in
+      let same : count such (map (heard_now x at.moment) still) ≡ count such still = count_map such such (heard_now x at.moment) still (keeps x at.moment) in
       ap (both_count at x still) e ∙ omega (arith, same)
 
   one_left : (here : Here) (x : Peer) (k : Known) (still left : List Known) → IsInOrder still → row_for x still ≡ Some k → left ≡ k ∷ [] → both_count here x still left ≡ count such still
@@ -153,7 +150,7 @@ module _ (letter : ℕ) (test : Member → Bool) where
       let still : List Known = filter (λ k. not (is_silent at.moment k)) rows in
       let parts : count such (filter (is_silent at.moment) rows) + count such still ≡ count such rows = count_parts such (is_silent at.moment) rows in
       let packet : both_count at from still (of_packet at from (row_for from still) p).left ≡ count such still =
-          packet_count at from still p (row_for from still) (order_filter (λ k. not (is_silent at.moment k)) rows h) refl in
+      packet_count at from still p (row_for from still) (order_filter (λ k. not (is_silent at.moment k)) rows h) refl in
       sums (count such (rows_by at from (of_packet at from (row_for from still) p).left still)) (count such (filter (is_silent at.moment) rows)) (count such (of_packet at from (row_for from still) p).left) (count such still) (count such rows) parts packet
   known_count at ends rows (Notice.Garbled from m refusal) h = swaps _ _ _ (count_parts such (is_silent at.moment) rows)
   known_count at ends rows (Notice.Quiet m) h = swaps _ _ _ (count_parts such (is_silent at.moment) rows)

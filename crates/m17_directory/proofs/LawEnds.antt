@@ -1,15 +1,14 @@
 -- Where a link has ended nobody is known.
-use Rattle.std.proofs.Common.{◌≡◌, ℕ, suc, ◌<◌, Bool, true, false, cond, ◌&&◌, ◌||◌, List, [], ◌∷◌, ◌++◌, length, slice_get, unwrap_or, filter_map, Option, None, Some, refl, ap, sym, ◌∙◌, subst, arith}
+use Rattle.std.proofs.Common.{◌≡◌, ℕ, suc, Bool, true, false, ◌&&◌, ◌||◌, List, [], ◌∷◌, ◌++◌, length, unwrap_or, filter_map, Option, None, refl, ap, sym, ◌∙◌}
 use Rattle.std.specs.List.{cons_option}
 use Rattle.std.proofs.lemmas.Bool.{false≢true}
 use Rattle.m17_values.specs.declared.peer.Peer.{Peer}
-use Rattle.m17_directory.specs.declared.known.Known.{Known}
 use Rattle.m17_directory.specs.declared.verdict.LinkVerdict.{LinkVerdict}
 use Rattle.m17_directory.specs.declared.verdict.LinkVerdict.TheVariants as verdict
-use Rattle.m17_directory.specs.Entries.{Entry, Setup, notice_at, is_from, says_disc, is_silent_at, ends_at, peers_named}
-use Rattle.m17_directory.specs.Known.{Past, now, asks_for, turns, row_at, known_at}
+use Rattle.m17_directory.specs.Entries.{Entry, Setup, notice_at, is_from, ends_at}
+use Rattle.m17_directory.specs.Known.{row_at, known_at}
 use Rattle.m17_directory.specs.Routed.{heard_at, is_asks, asks_at, asked_before, past_at}
-use Rattle.m17_directory.specs.Laws.{EndsOnce, is_ended, NobodyIsKnownBehindTheEnd}
+use Rattle.m17_directory.specs.Laws.{is_ended, NobodyIsKnownBehindTheEnd}
 use Rattle.m17_directory.proofs.Same.{past_of, length_asked}
 use Rattle.m17_directory.proofs.Later.{goes}
 use Rattle.m17_directory.proofs.LawSent.{get_last}

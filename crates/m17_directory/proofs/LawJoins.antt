@@ -1,6 +1,6 @@
 -- Which packets and Joins a module is routed, entry by entry.
-use Rattle.std.proofs.Common.{◌≡◌, ℕ, zero, suc, ◌+◌, ◌<◌, Bool, true, false, cond, not, ◌&&◌, ◌||◌, eqb, List, [], ◌∷◌, ◌++◌, length, map, filter, filter_map, Option, None, Some, refl, ap, sym, ◌∙◌, subst, arith}
-use Rattle.std.specs.List.{AllByRecursion, cons_option, flat_map, range_with_len}
+use Rattle.std.proofs.Common.{◌≡◌, ℕ, zero, suc, ◌+◌, Bool, true, false, cond, not, eqb, List, [], ◌∷◌, ◌++◌, length, map, filter, filter_map, Option, None, Some, refl, ap, sym, ◌∙◌, subst}
+use Rattle.std.specs.List.{cons_option, flat_map, range_with_len}
 use Rattle.std.proofs.lemmas.List.Elements.{filter_map-append}
 use Rattle.m17_values.specs.declared.peer.Peer.{Peer}
 use Rattle.m17_control.specs.declared.event.Body.TheVariants as body
@@ -19,12 +19,12 @@ use Rattle.m17_directory.specs.declared.verdict.LinkVerdict.TheVariants as verdi
 use Rattle.m17_directory.specs.declared.verdict.Act.TheVariants as act
 use Rattle.m17_directory.specs.Entries.{Notice, Claim, Entry, Setup, notice_at, claim_at, moment_before, ends_at}
 use Rattle.m17_directory.specs.Known.{Past, now, request_in, known_at}
-use Rattle.m17_directory.specs.Outcome.{Here, Outcome, only, to_module, to_each_module, to_door, leave, posting, leaving, is_what, has_place, known_asks, other_asks, of_packet, of_end, settled}
-use Rattle.m17_directory.specs.Routed.{here_of, row_for, heard_at, others_at, settled_by, settled_at, asks_at, both, comes_to, past_at, link_verdict, posts_at, posted, event_for, routed}
+use Rattle.m17_directory.specs.Outcome.{Here, Outcome, only, to_module, to_each_module, to_door, leave, posting, leaving, is_what, has_place, known_asks, other_asks, of_packet, of_end}
+use Rattle.m17_directory.specs.Routed.{here_of, row_for, heard_at, others_at, settled_by, settled_at, asks_at, both, past_at, link_verdict, posts_at, posted, event_for, routed}
 use Rattle.m17_directory.specs.Laws.{is_packet, packet_letter, packet_routed, packet_index, is_packet_for, PacketsAreOfEntries, is_join, join_event, joins_by, joins_at, JoinsAreTheClaims}
 use Rattle.m17_directory.specs.Steps.{silent_by, still_by, said_by}
 use Rattle.m17_directory.proofs.Same.{length_asked, heard_is}
-use Rattle.m17_directory.proofs.LawSent.{either, IsSent, AllSent}
+use Rattle.m17_directory.proofs.LawSent.{either, AllSent}
 use Rattle.m17_directory.proofs.LawRouted.{posts_sent}
 use Rattle.m17_directory.proofs.LawPosts.{packets_routed, none_of, no_leaves, read_heard}
 

@@ -1,20 +1,18 @@
 -- Who has joined a module has left it or is known in it: the sums over all entries.
-use Rattle.std.proofs.Common.{◌≡◌, ℕ, zero, suc, ◌+◌, ◌<◌, ◌≤◌, Bool, true, false, cond, ◌&&◌, eqb, List, [], ◌∷◌, ◌++◌, length, map, filter, filter_map, option_map, count_by, Option, None, Some, refl, ap, sym, ◌∙◌, subst, arith}
+use Rattle.std.proofs.Common.{◌≡◌, ℕ, zero, suc, ◌+◌, ◌<◌, ◌≤◌, Bool, true, false, cond, ◌&&◌, eqb, List, [], ◌∷◌, ◌++◌, length, map, filter, filter_map, option_map, count_by, Option, None, Some, refl, ap, sym, ◌∙◌, arith}
 use Rattle.std.specs.List.{cons_option, flat_map, range_with_len}
 use Rattle.std.proofs.lemmas.List.{map-append}
 use Rattle.std.proofs.lemmas.List.Elements.{filter_map-append}
 use Rattle.m17_values.specs.declared.member.Member.{Member}
-use Rattle.m17_values.specs.declared.peer.Peer.{Peer}
 use Rattle.m17_control.specs.declared.event.Body.{Body}
 use Rattle.m17_control.specs.declared.event.Body.TheVariants.{Join, Leave, Packet, Reply, Tick, Stop}
 use Rattle.m17_control.specs.declared.event.Event.{Event}
-use Rattle.m17_control.specs.declared.packet.Packet as packet
 use Rattle.m17_directory.specs.declared.dispatch.Dispatch.{Dispatch}
 use Rattle.m17_directory.specs.declared.dispatch.Dispatch.TheVariants.{ToModule, ToDoor}
 use Rattle.m17_directory.specs.declared.known.Known.{Known}
 use Rattle.m17_directory.specs.declared.known.Request.{Request}
 use Rattle.m17_directory.specs.Entries.{Notice, Claim, Entry, Setup, notice_at, claim_at, peers_named}
-use Rattle.m17_directory.specs.Known.{Past, now, request_of, request_in, known_at}
+use Rattle.m17_directory.specs.Known.{Past, now, request_in, known_at}
 use Rattle.m17_directory.specs.Outcome.{Here, Outcome, has_place}
 use Rattle.m17_directory.specs.Routed.{here_of, heard_at, others_at, settled_by, settled_at, asks_at, both, comes_to, asked_before, past_at, posts_at, posted, event_for, routed}
 use Rattle.m17_directory.specs.Laws.{EndsOnce, leaver_of, is_join, join_event, joins_by, joins_at, ClaimsAreAsked, joiner_of, joined_count, left_count, WhoJoinsLeaves}
@@ -23,7 +21,7 @@ use Rattle.m17_directory.proofs.LawMore.{posted_upto}
 use Rattle.m17_directory.proofs.LawPosts.{seat_of, left_seat, Leaves, leaves_heard, leaves_settled}
 use Rattle.m17_directory.proofs.LawJoins.{joins_of_events, joins_posted}
 use Rattle.m17_directory.proofs.LawEnds.{nobody_known}
-use Rattle.m17_directory.proofs.LawCounts.{count, count_is, count_append, count_map, is_such}
+use Rattle.m17_directory.proofs.LawCounts.{count, count_is, count_append, count_map, is_such, such_heard}
 use Rattle.m17_directory.proofs.LawWho.{AsksFor, asks_one, heard_count, known_next, claim_count}
 
 abbrev pub joiner : Event → Option Member
@@ -37,22 +35,22 @@ pulled : (read : Event → Option Member) (b : Bool) (event : Event) (xs : List 
 pulled read true event xs = refl
 pulled read false event xs = refl
 
-plus_zero : (n : ℕ) → n + 0 ≡ n
+pub plus_zero : (n : ℕ) → n + 0 ≡ n
 plus_zero n = omega arith
 
-zero_sum : (n : ℕ) → n ≡ 0 → 0 ≡ 0 + n
+pub zero_sum : (n : ℕ) → n ≡ 0 → 0 ≡ 0 + n
 zero_sum n e = omega arith
 
-no_more : (m n : ℕ) → m ≡ n → m ≡ n + 0
+pub no_more : (m n : ℕ) → m ≡ n → m ≡ n + 0
 no_more m n e = omega arith
 
-step_sum : (after before heard replaced left joined row : ℕ) → left ≡ heard + replaced → joined ≡ row → after + (heard + replaced) ≡ before + row → after + left ≡ before + joined
+pub step_sum : (after before heard replaced left joined row : ℕ) → left ≡ heard + replaced → joined ≡ row → after + (heard + replaced) ≡ before + row → after + left ≡ before + joined
 step_sum after before heard replaced left joined row l j e = omega arith
 
-none_sum : (after before heard left joined : ℕ) → left ≡ heard + 0 → joined ≡ 0 → after + heard ≡ before → after + left ≡ before + joined
+pub none_sum : (after before heard left joined : ℕ) → left ≡ heard + 0 → joined ≡ 0 → after + heard ≡ before → after + left ≡ before + joined
 none_sum after before heard left joined l j e = omega arith
 
-all_sum : (joins joins_before joined leaves leaves_before left after before : ℕ) → joins ≡ joins_before + joined → leaves ≡ leaves_before + left → joins_before ≡ leaves_before + before → after + left ≡ before + joined → joins ≡ leaves + after
+pub all_sum : (joins joins_before joined leaves leaves_before left after before : ℕ) → joins ≡ joins_before + joined → leaves ≡ leaves_before + left → joins_before ≡ leaves_before + before → after + left ≡ before + joined → joins ≡ leaves + after
 all_sum joins joins_before joined leaves leaves_before left after before j l b s = omega arith
 
 zero_more : (n : ℕ) → n ≡ 0 + n
@@ -66,7 +64,7 @@ leaves_step o u true h k =
     ∙ sym (map-append seat_of o.left u.left)
 leaves_step o u false h k = h
 
-settled_none : (past : Past) (notice : Notice) (request : Option Request) → (settled_by past None notice request).left ≡ []
+pub settled_none : (past : Past) (notice : Notice) (request : Option Request) → (settled_by past None notice request).left ≡ []
 settled_none past (Notice.Sent from at p) (Some request) = refl
 settled_none past (Notice.Sent from at p) None = refl
 settled_none past (Notice.Garbled from at refusal) request = refl
@@ -74,11 +72,11 @@ settled_none past (Notice.Quiet at) request = refl
 settled_none past Notice.Fault request = refl
 settled_none past Notice.End request = refl
 
-none_settled : (past : Past) → (settled_at past None).left ≡ []
+pub none_settled : (past : Past) → (settled_at past None).left ≡ []
 unfolding settled_at
 none_settled past = settled_none past (notice_at past.entries (now past)) (request_in (notice_at past.entries (now past)))
 
-settled_some : (past : Past) (claim : Claim) (one : AsksFor (notice_at past.entries (now past))) → (settled_at past (Some claim)).left ≡ filter (has_place claim.member.place) (others_at past)
+pub settled_some : (past : Past) (claim : Claim) (one : AsksFor (notice_at past.entries (now past))) → (settled_at past (Some claim)).left ≡ filter (has_place claim.member.place) (others_at past)
 unfolding settled_at
 settled_some past claim one =
     ap (λ y. (settled_by past (Some claim) y (request_in y)).left) one.says
@@ -174,7 +172,7 @@ module _ (letter : ℕ) (test : Member → Bool) where
 
     none_next : (n : ℕ) → claim_at entries n ≡ None → known_count (suc n) + count such (heard_at (past_at setup entries n)).left ≡ known_count n
     none_next n none =
-        ap (λ ks. count such ks + count such (heard_at (past_at setup entries n)).left) (known_next setup entries n none) ∙ heard_count (past_at setup entries n) letter test
+        ap (λ ks. count such ks + count such (heard_at (past_at setup entries n)).left) (known_next setup entries n none) ∙ heard_count (past_at setup entries n) such (such_heard letter test)
 
     step_claim : (n : ℕ) → n < length entries → (asks : asks_at (past_at setup entries n) ≡ true) (claim : Claim) → claim_at entries n ≡ Some claim → Step n true (Some claim)
     step_claim n l asks claim given =
@@ -183,23 +181,23 @@ module _ (letter : ℕ) (test : Member → Bool) where
         let len : length (asked_before setup entries n) ≡ n = length_asked setup entries n in
         let replaced : List Known = filter (has_place claim.member.place) (others_at past) in
         let left : count such ((heard_at past).left ++ (settled_at past (Some claim)).left) ≡ count such (heard_at past).left + count such replaced =
-            count_append such (heard_at past).left (settled_at past (Some claim)).left
-            ∙ ap (λ ks. count such (heard_at past).left + count such ks) (settled_some past claim one) in
+        count_append such (heard_at past).left (settled_at past (Some claim)).left
+        ∙ ap (λ ks. count such (heard_at past).left + count such ks) (settled_some past claim one) in
         let joins : joins_by (here_of past) letter (notice_at entries n) (request_in (notice_at entries n)) (Some claim) ≡ cond (eqb one.request.letter letter) (join_event (here_of past) one.from one.request claim ∷ []) [] =
-            ap (λ m. joins_by (here_of past) letter (notice_at entries m) (request_in (notice_at entries m)) (Some claim)) (sym len)
-            ∙ ap (λ y. joins_by (here_of past) letter y (request_in y) (Some claim)) one.says
-            ∙ ap (λ o. joins_by (here_of past) letter (Notice.Sent one.from one.at one.packet) o (Some claim)) one.wants in
+        ap (λ m. joins_by (here_of past) letter (notice_at entries m) (request_in (notice_at entries m)) (Some claim)) (sym len)
+        ∙ ap (λ y. joins_by (here_of past) letter y (request_in y) (Some claim)) one.says
+        ∙ ap (λ o. joins_by (here_of past) letter (Notice.Sent one.from one.at one.packet) o (Some claim)) one.wants in
         let joined : count test (filter_map joiner (joins_by (here_of past) letter (notice_at entries n) (request_in (notice_at entries n)) (Some claim))) ≡ cond (eqb one.request.letter letter && test claim.member) 1 0 =
-            ap (λ xs. count test (filter_map joiner xs)) joins ∙ one_joins (eqb one.request.letter letter) (join_event (here_of past) one.from one.request claim) claim.member refl in
-        step_sum (known_count (suc n)) (known_count n) (count such (heard_at past).left) (count such replaced) _ _ _ left joined (claim_count setup entries n l asks claim given letter test)
+        ap (λ xs. count test (filter_map joiner xs)) joins ∙ one_joins (eqb one.request.letter letter) (join_event (here_of past) one.from one.request claim) claim.member refl in
+        step_sum (known_count (suc n)) (known_count n) (count such (heard_at past).left) (count such replaced) _ _ _ left joined (claim_count setup entries n l asks claim given such (such_heard letter test))
 
     step_none : (n : ℕ) → claim_at entries n ≡ None → Step n true None
     step_none n none =
         let past : Past = past_at setup entries n in
         let left : count such ((heard_at past).left ++ (settled_at past None).left) ≡ count such (heard_at past).left + 0 =
-            count_append such (heard_at past).left (settled_at past None).left ∙ ap (λ ks. count such (heard_at past).left + count such ks) (none_settled past) in
+        count_append such (heard_at past).left (settled_at past None).left ∙ ap (λ ks. count such (heard_at past).left + count such ks) (none_settled past) in
         let joined : count test (filter_map joiner (joins_by (here_of past) letter (notice_at entries n) (request_in (notice_at entries n)) None)) ≡ 0 =
-            ap (λ xs. count test (filter_map joiner xs)) (joins_none (here_of past) letter (notice_at entries n) (request_in (notice_at entries n))) in
+        ap (λ xs. count test (filter_map joiner xs)) (joins_none (here_of past) letter (notice_at entries n) (request_in (notice_at entries n))) in
         none_sum (known_count (suc n)) (known_count n) (count such (heard_at past).left) _ _ left joined (none_next n none)
 
     step_by : (n : ℕ) (b : Bool) (o : Option Claim) → n < length entries → asks_at (past_at setup entries n) ≡ b → claim_at entries n ≡ o → (b ≡ false → claim_at entries n ≡ None) → Step n b o

@@ -94,7 +94,7 @@ flat_map_same f g from (suc n) h =
     ap (λ xs. xs ++ flat_map f (range_with_len (from + 1) n)) (h from (omega arith))
     ∙ ap (λ xs. g from ++ xs) (flat_map_same f g (from + 1) n (λ i l. h i (omega arith)))
 
-range_more : (from n : ℕ) → range_with_len from (suc n) ≡ range_with_len from n ++ (from + n) ∷ []
+pub range_more : (from n : ℕ) → range_with_len from (suc n) ≡ range_with_len from n ++ (from + n) ∷ []
 range_more from zero = let e : from ≡ from + 0 = omega arith in ap (λ m. m ∷ []) e
 range_more from (suc n) =
     let e : from + 1 + n ≡ from + suc n = omega arith in

@@ -1,6 +1,6 @@
 -- Which packets and Leaves an entry posts: the packet that its verdict names, and the Leaves of those that leave.
-use Rattle.std.proofs.Common.{◌≡◌, ℕ, suc, ◌/◌, nat_lt, Bool, true, false, cond, not, ◌||◌, leb, List, [], ◌∷◌, ◌++◌, length, map, filter, filter_map, Option, None, Some, option_map, refl, ap, sym, ◌∙◌, subst, arith}
-use Rattle.std.specs.List.{cons_option, range_with_len}
+use Rattle.std.proofs.Common.{◌≡◌, ℕ, suc, ◌/◌, nat_lt, Bool, true, false, cond, not, ◌||◌, leb, List, [], ◌∷◌, ◌++◌, map, filter, filter_map, Option, None, Some, option_map, refl, ap, sym, ◌∙◌, subst}
+use Rattle.std.specs.List.{cons_option}
 use Rattle.std.proofs.lemmas.List.{append-nil, map-append}
 use Rattle.std.proofs.lemmas.List.Elements.{filter_map-append}
 use Rattle.std.proofs.lemmas.Bool.{false≢true}
@@ -21,10 +21,10 @@ use Rattle.m17_directory.specs.declared.known.Request.{Request}
 use Rattle.m17_directory.specs.declared.verdict.LinkVerdict.{LinkVerdict}
 use Rattle.m17_directory.specs.declared.verdict.LinkVerdict.TheVariants as verdict
 use Rattle.m17_directory.specs.declared.verdict.Act.TheVariants as act
-use Rattle.m17_directory.specs.Entries.{Notice, Claim, Entry, Setup, notice_at, claim_at, is_fault, is_end, moment_before, ends_at}
+use Rattle.m17_directory.specs.Entries.{Notice, Claim, Entry, notice_at, claim_at, is_fault, is_end, moment_before, ends_at}
 use Rattle.m17_directory.specs.Known.{Past, now, request_in, known_at}
-use Rattle.m17_directory.specs.Outcome.{Here, Outcome, only, to_module, to_each_module, to_door, leave, posting, leaving, is_what, has_place, known_asks, other_asks, of_packet, of_end, settled}
-use Rattle.m17_directory.specs.Routed.{tick_ms, here_of, row_for, heard_at, others_at, settled_by, settled_at, is_asks, asks_at, both, comes_to, past_at, link_verdict, posts_at}
+use Rattle.m17_directory.specs.Outcome.{Here, Outcome, only, to_module, to_each_module, to_door, leave, posting, leaving, is_what, has_place, known_asks, other_asks, of_packet, of_end}
+use Rattle.m17_directory.specs.Routed.{tick_ms, here_of, row_for, heard_at, others_at, settled_by, settled_at, is_asks, asks_at, both, past_at, link_verdict, posts_at}
 use Rattle.m17_directory.specs.Laws.{packet_letter, packet_routed, PacketsAreRouted, leaver_of, left_member, EachWhoLeavesIsPosted, is_ended, EndedWhereItEnds}
 use Rattle.m17_directory.specs.StandsFor.{faults_before}
 use Rattle.m17_directory.specs.Steps.{silent_by, still_by, ticks_by, said_by, heard_by}

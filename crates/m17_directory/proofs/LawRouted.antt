@@ -1,5 +1,5 @@
 -- What a link routes carries its tag, goes to served modules alone, and ends in one Stop.
-use Rattle.std.proofs.Common.{◌≡◌, ℕ, zero, suc, ◌+◌, ◌<◌, Bool, true, false, cond, ◌||◌, leb, eqb, List, [], ◌∷◌, ◌++◌, length, filter_map, Option, None, Some, refl, ap, sym, ◌∙◌, subst, arith}
+use Rattle.std.proofs.Common.{◌≡◌, ℕ, zero, suc, ◌+◌, ◌<◌, Bool, true, false, cond, ◌||◌, leb, eqb, List, [], ◌∷◌, length, filter_map, Option, None, Some, refl, ap, sym, ◌∙◌, subst, arith}
 use Rattle.std.specs.List.{AllByRecursion, cons_option, flat_map, range_with_len}
 use Rattle.std.proofs.lemmas.Bool.{eqb-true, false≢true}
 use Rattle.m17_control.specs.declared.event.Event.{Event}
@@ -12,9 +12,8 @@ use Rattle.m17_directory.specs.Entries.{Notice, Claim, Entry, Setup, notice_at, 
 use Rattle.m17_directory.specs.Known.{Past, now, request_in, known_at}
 use Rattle.m17_directory.specs.Outcome.{Here, Outcome}
 use Rattle.m17_directory.specs.Routed.{here_of, heard_at, others_than, others_at, settled_by, settled_at, asks_at, both, comes_to, past_at, posts_at, posted, event_for, routed}
-use Rattle.m17_directory.specs.Laws.{is_stop, EventsCarryTheirIndex, RouteCarriesLink, OnlyServedAreRouted}
+use Rattle.m17_directory.specs.Laws.{EventsCarryTheirIndex, RouteCarriesLink, OnlyServedAreRouted}
 use Rattle.m17_directory.specs.StandsFor.{faults_before}
-use Rattle.m17_directory.specs.Steps.{still_by}
 use Rattle.m17_directory.proofs.Faults.{ends_is}
 use Rattle.m17_directory.proofs.Same.{length_asked, heard_is}
 use Rattle.m17_directory.proofs.LawMore.{others_is}

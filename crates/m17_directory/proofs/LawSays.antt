@@ -1,11 +1,9 @@
 -- An entry of bytes says exactly one thing, since its bytes spell one packet or are refused for one reason.
-use Rattle.std.proofs.Common.{◌≡◌, ◌⊎◌, ℕ, List, inl, inr, refl, ap, ◌∙◌}
+use Rattle.std.proofs.Common.{◌≡◌, ℕ, List, inl, inr, refl, ap, ◌∙◌}
 use Rattle.m17_fields.specs.Reading.{HasOneReading}
 use Rattle.m17_values.specs.declared.heard.Heard.{Heard}
 use Rattle.m17_values.specs.declared.heard.Heard.TheVariants as heard
 use Rattle.m17_values.specs.declared.peer.Peer.{Peer}
-use Rattle.m17_control.specs.declared.packet.Packet.{Packet}
-use Rattle.m17_control.specs.declared.packet.Refusal.{Refusal}
 use Rattle.m17_control.specs.Forms.{Spells, Refuses}
 use Rattle.m17_control.specs.Laws.{DecodingIsExact}
 use Rattle.m17_directory.specs.Entries.{Notice, Says}

@@ -1,14 +1,13 @@
 -- What is posted of an entry goes to served modules and carries its tag, and no Stop is among it unless the link ends.
-use Rattle.std.proofs.Common.{◌≡◌, ℕ, zero, suc, ◌<◌, ◌/◌, nat_lt, Bool, true, false, cond, not, ◌&&◌, eqb, List, [], ◌∷◌, ◌++◌, length, map, filter, filter_map, slice_get, unwrap_or, Option, None, Some, inl, inr, refl, ap, sym, ◌∙◌, arith}
+use Rattle.std.proofs.Common.{◌≡◌, ℕ, zero, suc, ◌<◌, ◌/◌, nat_lt, Bool, true, false, cond, not, List, [], ◌∷◌, ◌++◌, length, map, filter, filter_map, slice_get, unwrap_or, Option, None, Some, inl, inr, refl, ap, sym, ◌∙◌, arith}
 use Rattle.std.specs.List.{AllByRecursion, cons_option, range_with_len}
 use Rattle.std.proofs.lemmas.Bool.{and_parts, cases_eq, false≢true}
 use Rattle.std.proofs.lemmas.Option.{same_Some, none-some}
 use Rattle.m17_values.specs.declared.peer.Peer.{Peer}
 use Rattle.m17_control.specs.declared.event.Body.{Body}
 use Rattle.m17_control.specs.declared.event.Body.TheVariants as body
-use Rattle.m17_control.specs.declared.event.Event.{Event}
 use Rattle.m17_control.specs.declared.event.Why.{Why}
-use Rattle.m17_control.specs.declared.event.Why.TheVariants.{Asked, Moved, Silent, Stopped, Replaced}
+use Rattle.m17_control.specs.declared.event.Why.TheVariants.{Moved, Silent, Stopped, Replaced}
 use Rattle.m17_control.specs.declared.packet.Control.TheVariants as control
 use Rattle.m17_control.specs.declared.packet.Packet.{Packet}
 use Rattle.m17_control.specs.declared.packet.Packet.TheVariants as packets
@@ -19,15 +18,15 @@ use Rattle.m17_directory.specs.declared.known.Known.{Known}
 use Rattle.m17_directory.specs.declared.known.Request.{Request}
 use Rattle.m17_directory.specs.declared.verdict.LinkVerdict.TheVariants.{Routed, Asks, NotServed, Faulted}
 use Rattle.m17_directory.specs.declared.verdict.Act.TheVariants as act
-use Rattle.m17_directory.specs.Entries.{Notice, Claim, Entry, Setup, notice_at, claim_at, passes_time, is_peer, is_from, is_end, moment_before, ends_at}
+use Rattle.m17_directory.specs.Entries.{Notice, Claim, Entry, Setup, notice_at, passes_time, is_peer, is_from, is_end, ends_at}
 use Rattle.m17_directory.specs.Known.{Past, now, request_of, request_in, row_at, known_at}
-use Rattle.m17_directory.specs.Outcome.{Here, Outcome, only, to_module, to_each_module, to_door, leave, posting, leaving, is_what, has_place, known_asks, other_asks, of_known, of_other, of_packet, of_end, settled}
-use Rattle.m17_directory.specs.Routed.{tick_ms, here_of, is_silent, row_for, heard_at, others_than, others_at, settled_by, settled_at, is_asks, asks_at, both, comes_to, asked_before, past_at}
+use Rattle.m17_directory.specs.Outcome.{Here, Outcome, only, to_module, to_each_module, to_door, leave, posting, leaving, is_what, has_place, known_asks, other_asks, of_packet, of_end, settled}
+use Rattle.m17_directory.specs.Routed.{tick_ms, here_of, is_silent, row_for, is_asks, asks_at, asked_before, past_at}
 use Rattle.m17_directory.specs.Laws.{is_stop}
 use Rattle.m17_directory.specs.Steps.{silent_by, still_by, ticks_by, said_by, heard_by}
 use Rattle.m17_directory.proofs.Same.{length_asked, heard_is}
 use Rattle.m17_directory.proofs.Later.{has_row}
-use Rattle.m17_directory.proofs.LawMore.{get_first, others_is}
+use Rattle.m17_directory.proofs.LawMore.{get_first}
 
 pub all_append : {A : Type 0} (P : A → Type 0) (xs ys : List A) → AllByRecursion P xs → AllByRecursion P ys → AllByRecursion P (xs ++ ys)
 all_append P [] ys h k = k

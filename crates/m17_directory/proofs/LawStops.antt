@@ -1,5 +1,5 @@
 -- What a link that ends once routes to a served module ends in its one Stop.
-use Rattle.std.proofs.Common.{◌≡◌, ℕ, zero, suc, ◌+◌, ◌<◌, ◌≤◌, Bool, true, false, cond, ◌&&◌, ◌||◌, leb, eqb, List, [], ◌∷◌, ◌++◌, length, map, filter, filter_map, Option, None, Some, inl, inr, refl, ap, sym, ◌∙◌, subst, arith}
+use Rattle.std.proofs.Common.{◌≡◌, ℕ, zero, suc, ◌+◌, ◌<◌, ◌≤◌, Bool, true, false, cond, ◌&&◌, leb, eqb, List, [], ◌∷◌, ◌++◌, length, map, filter, filter_map, None, Some, inl, inr, refl, ap, sym, ◌∙◌, arith}
 use Rattle.std.specs.List.{AllByRecursion, cons_option, flat_map, range_with_len}
 use Rattle.std.proofs.lemmas.Bool.{and_parts, cases_eq, cond-true, cond-false, eq-eqb, ne_eqb, leb-true, false≢true}
 use Rattle.std.proofs.lemmas.List.{append_assoc}
@@ -8,18 +8,18 @@ use Rattle.m17_control.specs.declared.event.Body.TheVariants as body
 use Rattle.m17_control.specs.declared.event.Event.{Event}
 use Rattle.m17_control.specs.declared.event.Why.TheVariants as why
 use Rattle.m17_control.specs.declared.modules.Modules.{Modules}
-use Rattle.m17_control.specs.Modules.{serves, letters_of}
+use Rattle.m17_control.specs.Modules.{serves}
 use Rattle.m17_directory.specs.declared.dispatch.Dispatch.{Dispatch}
 use Rattle.m17_directory.specs.declared.dispatch.Dispatch.TheVariants.{ToModule, ToDoor}
 use Rattle.m17_directory.specs.declared.known.Known.{Known}
 use Rattle.m17_directory.specs.declared.verdict.LinkVerdict.TheVariants as verdict
 use Rattle.m17_directory.specs.Entries.{Notice, Entry, Setup, notice_at, claim_at, moment_before, ends_at}
 use Rattle.m17_directory.specs.Known.{Past, now, known_at}
-use Rattle.m17_directory.specs.Outcome.{Here, Outcome, only, to_module, to_each_module, leave, of_end}
+use Rattle.m17_directory.specs.Outcome.{Here, Outcome, only, to_each_module, leave, of_end}
 use Rattle.m17_directory.specs.Routed.{here_of, heard_at, settled_at, is_asks, asks_at, both, comes_to, past_at, posts_at, posted, event_for, routed}
-use Rattle.m17_directory.specs.Laws.{EndsOnce, is_stop, RouteEndsInOneStop}
+use Rattle.m17_directory.specs.Laws.{is_stop, RouteEndsInOneStop}
 use Rattle.m17_directory.specs.StandsFor.{faults_before}
-use Rattle.m17_directory.specs.Steps.{silent_by, still_by, ticks_by, said_by, heard_by}
+use Rattle.m17_directory.specs.Steps.{silent_by, still_by, ticks_by, said_by}
 use Rattle.m17_directory.proofs.Same.{length_asked, heard_is}
 use Rattle.m17_directory.proofs.LawMore.{posted_upto}
 use Rattle.m17_directory.proofs.LawSent.{all_append, Served, IsSent, AllSent, sent_leaves, sent_ticks, served_silent, known_served}
@@ -55,7 +55,7 @@ module _ (letter : ℕ) (p : ℕ → Bool) (event : Event) where
         | inr other ↦ skipped_if (p from) from rest (event ∷ []) (ne_eqb from letter other) (only_one (from + 1) n passes (omega arith) (omega arith))
       ]
 
-served_letter : (m : Modules) (letter : ℕ) → serves m letter ≡ true → (65 ≤ letter) × (letter ≤ 90)
+pub served_letter : (m : Modules) (letter : ℕ) → serves m letter ≡ true → (65 ≤ letter) × (letter ≤ 90)
 unfolding serves
 served_letter m letter e =
     let first = and_parts (leb 65 letter && leb letter 90) _ e in
@@ -177,11 +177,10 @@ pub ends_in_stop : RouteEndsInOneStop
 ends_in_stop setup entries letter once s =
     let last = last_posts setup entries letter once.last once.ends s in
     let stop : Event = stop_at (here_of (past_at setup entries once.last)) in
-    let earlier : List Event = filter_map (event_for letter) (flat_map (posts_at setup entries) (range_with_len 0 once.last)) in
-    (
+    let earlier : List Event = filter_map (event_for letter) (flat_map (posts_at setup entries) (range_with_len 0 once.last)) in (
       earlier ++ last.0,
       stop,
       routed_ended setup entries letter once.last last.0 stop once.is_last last.1,
       refl,
-      all_append IsNoStop earlier last.0 (earlier_no_stop setup entries letter once.last once.not_before) last.2
+      all_append IsNoStop earlier last.0 (earlier_no_stop setup entries letter once.last once.not_before) last.2,
     )

@@ -1,39 +1,25 @@
 -- Who has joined a module has left it or is known in it.
-use Rattle.std.proofs.Common.{◌≡◌, ◌⊎◌, ℕ, zero, suc, ◌+◌, ◌<◌, ◌≤◌, Bool, true, false, cond, not, ◌&&◌, eqb, List, [], ◌∷◌, ◌++◌, length, take, map, filter, filter_map, slice_get, option_and_then, option_map, count_by, Option, None, Some, inl, inr, refl, ap, sym, ◌∙◌, subst, arith}
-use Rattle.std.specs.List.{AllByRecursion, cons_option, flat_map, range_with_len}
-use Rattle.std.proofs.lemmas.Bool.{cases_eq, false≢true}
-use Rattle.std.proofs.lemmas.Option.{none-some}
-use Rattle.std.proofs.lemmas.List.Elements.{filter_map-append}
-use Rattle.m17_values.specs.declared.member.Member.{Member}
+use Rattle.std.proofs.Common.{◌≡◌, ℕ, zero, suc, ◌+◌, ◌<◌, ◌≤◌, Bool, true, false, cond, not, List, [], ◌∷◌, ◌++◌, length, take, filter, slice_get, option_and_then, Option, None, Some, refl, ap, sym, ◌∙◌, subst, arith}
+use Rattle.std.proofs.lemmas.Bool.{false≢true}
 use Rattle.m17_values.specs.declared.peer.Peer.{Peer}
-use Rattle.m17_control.specs.declared.event.Body.{Body}
-use Rattle.m17_control.specs.declared.event.Body.TheVariants.{Join, Leave, Packet, Reply, Tick, Stop}
-use Rattle.m17_control.specs.declared.event.Event.{Event}
 use Rattle.m17_control.specs.declared.packet.Control.TheVariants as control
 use Rattle.m17_control.specs.declared.packet.Packet as packet
 use Rattle.m17_control.specs.declared.packet.Packet.TheVariants as packets
-use Rattle.m17_directory.specs.declared.dispatch.Dispatch.{Dispatch}
-use Rattle.m17_directory.specs.declared.dispatch.Dispatch.TheVariants.{ToModule, ToDoor}
 use Rattle.m17_directory.specs.declared.known.Known.{Known}
 use Rattle.m17_directory.specs.declared.known.Request.{Request}
-use Rattle.m17_directory.specs.Entries.{Notice, Claim, Entry, Setup, notice_of, notice_at, claim_at, moment_at, ends_at, is_peer, peers_named}
-use Rattle.m17_directory.specs.Known.{Past, now, request_of, request_in, known_at}
+use Rattle.m17_directory.specs.Entries.{Notice, Claim, Entry, Setup, notice_of, notice_at, claim_at, moment_at, ends_at}
+use Rattle.m17_directory.specs.Known.{Past, now, request_of, known_at}
 use Rattle.m17_directory.specs.Outcome.{Here, Outcome, has_place, of_packet}
-use Rattle.m17_directory.specs.Routed.{here_of, row_for, heard_at, others_than, others_at, settled_by, settled_at, is_asks, asks_at, both, comes_to, asked_before, past_at, posts_at, posted, event_for, routed}
+use Rattle.m17_directory.specs.Routed.{here_of, row_for, heard_at, others_than, others_at, is_asks, asks_at, asked_before, past_at}
 use Rattle.m17_directory.specs.StandsFor.{unclaimed}
-use Rattle.m17_directory.specs.Laws.{EndsOnce, leaver_of, is_join, join_event, joins_by, joins_at, ClaimsAreAsked, joiner_of, joined_count, left_count, WhoJoinsLeaves}
-use Rattle.m17_directory.specs.Steps.{is_other, with_row, silent_by, still_by, said_by, known_by}
+use Rattle.m17_directory.specs.Steps.{heard_now, is_other, with_row, silent_by, still_by, said_by, known_by}
 use Rattle.m17_directory.proofs.Same.{Says, Claims, past_of, says_less, claims_less, length_asked, asked_same, heard_is, heard_at_same}
-use Rattle.m17_directory.proofs.Later.{after}
 use Rattle.m17_directory.proofs.Named.{known_order}
 use Rattle.m17_directory.proofs.Heard.{known_last, others_by}
 use Rattle.m17_directory.proofs.Settled.{known_claimed}
-use Rattle.m17_directory.proofs.LawMore.{posted_upto, get_first, get_taken, says_alike, others_is, others_at_same}
+use Rattle.m17_directory.proofs.LawMore.{get_first, get_taken, says_alike, others_is, others_at_same}
 use Rattle.m17_directory.proofs.LawSent.{all_filter, all_passed, get_last}
-use Rattle.m17_directory.proofs.LawPosts.{seat_of, left_seat, leaves_heard, leaves_settled}
-use Rattle.m17_directory.proofs.LawJoins.{joins_of_events, join_for, joins_posted}
-use Rattle.m17_directory.proofs.LawEnds.{nobody_known}
-use Rattle.m17_directory.proofs.LawCounts.{count, count_is, count_append, count_parts, count_map, is_such, known_count, NoneOf, put_count}
+use Rattle.m17_directory.proofs.LawCounts.{count, count_append, count_parts, known_count, NoneOf, put_count}
 
 -- an entry that asks is a packet that requests something
 pub record AsksFor (notice : Notice) : Type 0 where
@@ -94,15 +80,14 @@ module _ (past : Past) where
   pub asks_one : asks_at past ≡ true → AsksFor notice
   asks_one e = asks_for_one here ends rows still notice (asks_said e)
 
-  pub heard_count : (letter : ℕ) (test : Member → Bool) → count (is_such letter test) (known_by here ends rows still notice) + count (is_such letter test) (heard_at past).left ≡ count (is_such letter test) rows
-  heard_count letter test =
-      let such : Known → Bool = is_such letter test in
+  pub heard_count : (such : Known → Bool) → ((x : Peer) (m : ℕ) (k : Known) → such (heard_now x m k) ≡ such k) → count such (known_by here ends rows still notice) + count such (heard_at past).left ≡ count such rows
+  heard_count such keeps =
       let left : List Known = (said_by here ends rows still notice).left in
       ap (λ (o : Outcome). count such (known_by here ends rows still notice) + count such o.left) (heard_is past)
       ∙ ap (λ n. count such (known_by here ends rows still notice) + n) (count_append such (silent_by here rows notice) left)
-      ∙ known_count letter test here ends rows notice (known_order past)
+      ∙ known_count such keeps here ends rows notice (known_order past)
 
-  others_are : asks_at past ≡ true → known_by here ends rows still notice ≡ others_at past
+  pub others_are : asks_at past ≡ true → known_by here ends rows still notice ≡ others_at past
   others_are e = others_by here ends rows still notice (asks_said e) ∙ sym (others_is past)
 
 -- who is known behind an entry without a claim
@@ -118,7 +103,7 @@ take_full xs zero h = refl
 take_full [] (suc n) h = absurd (omega arith)
 take_full (x ∷ xs) (suc n) h = ap suc (take_full xs n (omega arith))
 
-others_none : (x : Peer) (rows : List Known) → NoneOf x (filter (is_other x) rows)
+pub others_none : (x : Peer) (rows : List Known) → NoneOf x (filter (is_other x) rows)
 others_none x rows = all_passed (is_other x) rows
 
 -- an entry of the list, and the list up to it in which it has no claim
@@ -196,11 +181,10 @@ module _ (setup : Setup) (entries : List Entry) (n : ℕ) (within : n < length e
         all_filter (λ (k : Known). is_other one.from k ≡ true) (λ k. not (has_place claim.member.place k)) (others_at past)
         (subst (NoneOf one.from) (sym others) (others_none one.from (still past)))
 
-    pub claim_count : (letter : ℕ) (test : Member → Bool) → count (is_such letter test) (known_at (past_at setup entries (suc n))) + (count (is_such letter test) (heard_at past).left + count (is_such letter test) (filter (has_place claim.member.place) (others_at past)))
-        ≡ count (is_such letter test) (known_at past) + cond (is_such letter test row) 1 0
-    claim_count letter test =
-        let such : Known → Bool = is_such letter test in
+    pub claim_count : (such : Known → Bool) → ((x : Peer) (m : ℕ) (k : Known) → such (heard_now x m k) ≡ such k) → count such (known_at (past_at setup entries (suc n))) + (count such (heard_at past).left + count such (filter (has_place claim.member.place) (others_at past)))
+        ≡ count such (known_at past) + cond (such row) 1 0
+    claim_count such keeps =
         let put : count such (known_at (past_at setup entries (suc n))) ≡ cond (such row) 1 0 + count such staying = ap (count such) known_claim ∙ put_count such row staying staying_none in
         let parts : count such (filter (has_place claim.member.place) (others_at past)) + count such staying ≡ count such (others_at past) = count_parts such (has_place claim.member.place) (others_at past) in
-        let heard : count such (others_at past) + count such (heard_at past).left ≡ count such (known_at past) = ap (λ ks. count such ks + count such (heard_at past).left) (sym (others_are past asks)) ∙ heard_count past letter test in
+        let heard : count such (others_at past) + count such (heard_at past).left ≡ count such (known_at past) = ap (λ ks. count such ks + count such (heard_at past).left) (sym (others_are past asks)) ∙ heard_count past such keeps in
         omega (arith, put, parts, heard)

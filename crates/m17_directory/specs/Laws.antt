@@ -1,5 +1,5 @@
 -- What follows from the definitions for all that a link may hear. This profile.
-use Rattle.std.specs.Prelude.{◌≡◌, ◌==◌, ◌&&◌, not, ℕ, suc, ◌+◌, ◌<◌, Bool, true, false, List, [], ◌∷◌, ◌++◌, length, map, filter, count_by, take, is_some, Option, None, Some, if◌then◌else◌}
+use Rattle.std.specs.Prelude.{◌≡◌, ◌==◌, ◌&&◌, not, ℕ, suc, ◌+◌, ◌<◌, Bool, true, false, List, [], ◌∷◌, ◌++◌, ◌≤◌, length, map, filter, count_by, sum_by, take, is_some, Option, None, Some, if◌then◌else◌}
 use Rattle.std.specs.List.{filter_map, flat_map, range_with_len, AllByRecursion}
 use Rattle.m17_values.specs.declared.heard.Heard.{Heard}
 use Rattle.m17_values.specs.declared.heard.Heard.TheVariants as heard
@@ -9,18 +9,20 @@ use Rattle.m17_fields.specs.Fields.{IsBytes}
 use Rattle.m17_control.specs.declared.event.Body.{Body}
 use Rattle.m17_control.specs.declared.event.Body.TheVariants.{Join, Leave, Packet, Stop}
 use Rattle.m17_control.specs.declared.event.Event.{Event}
-use Rattle.m17_control.specs.Modules.{serves}
+use Rattle.m17_control.specs.Modules.{serves, letters_of}
 use Rattle.m17_directory.specs.declared.dispatch.Dispatch.{Dispatch}
 use Rattle.m17_directory.specs.declared.dispatch.Dispatch.TheVariants.{ToModule, ToDoor}
+use Rattle.m17_directory.specs.declared.known.Departed.{Departed}
 use Rattle.m17_directory.specs.declared.known.Known.{Known}
 use Rattle.m17_directory.specs.declared.known.Request.{Request}
 use Rattle.m17_directory.specs.declared.verdict.Act.TheVariants as act
 use Rattle.m17_directory.specs.declared.verdict.LinkVerdict.{LinkVerdict}
 use Rattle.m17_directory.specs.declared.verdict.LinkVerdict.TheVariants.{Routed, Full, Ended}
-use Rattle.m17_directory.specs.Entries.{Notice, Says, Claim, Entry, Setup, notice_at, claim_at, ends_at}
+use Rattle.m17_directory.specs.Entries.{Notice, Says, Claim, Entry, Setup, notice_at, claim_at, is_peer, is_from, ends_at}
 use Rattle.m17_directory.specs.Known.{Past, request_in, known_at}
 use Rattle.m17_directory.specs.Outcome.{Here}
 use Rattle.m17_directory.specs.Routed.{here_of, heard_at, others_at, settled_at, asks_at, past_at, outcome_at, link_verdict, posts_at, posted, event_for, reply_for, routed, direct_replies}
+use Rattle.m17_directory.specs.StandsFor.{departed_of}
 
 -- What comes later changes nothing of what an entry comes to. This profile.
 abbrev pub LaterEntriesChangeNothing : Type 0
@@ -201,6 +203,13 @@ pub record AskersJoinOrAreFull : Type 0 where
       is_joining (link_verdict setup entries n)
       ≡ (asks_at (past_at setup entries n) && is_some (claim_at entries n))
 
+-- Who asks for a place asks for it in a served module. This profile.
+abbrev pub AskersAskForServedModules : Type 0
+AskersAskForServedModules =
+    (setup : Setup) (entries : List Entry) (n : ℕ) → asks_at (past_at setup entries n) ≡ true →
+    (request : Request) × (request_in (notice_at entries n) ≡ Some request)
+    × (serves setup.modules request.letter ≡ true)
+
 -- the event is a Join
 abbrev pub is_join : Body → Bool
 is_join (Join k x callsign listen after) = true
@@ -213,6 +222,28 @@ JoinsAreTheClaims =
     (setup : Setup) (entries : List Entry) (letter : ℕ) →
     filter (λ event. is_join event.body) (routed setup entries letter)
     ≡ flat_map (joins_at setup entries letter) (range_with_len 0 (length entries))
+
+-- The Joins of all entries that ask for a place and have a claim, in order. This profile.
+abbrev pub join_by : Here → Notice → Option Request → Option Claim → List Event
+join_by here (Notice.Sent from at p) (Some request) (Some claim) =
+    join_event here from request claim ∷ []
+join_by here _ _ _ = []
+
+unfoldable pub all_joins : Setup → List Entry → List Event
+all_joins setup entries = flat_map
+    (λ n. if asks_at (past_at setup entries n)
+    then join_by (here_of (past_at setup entries n)) (notice_at entries n)
+    (request_in (notice_at entries n)) (claim_at entries n) else [])
+    (range_with_len 0 (length entries))
+
+-- The Joins for all served modules together are these, each as often. This profile.
+abbrev pub JoinsOfAllModules : Type 0
+JoinsOfAllModules =
+    (setup : Setup) (entries : List Entry) (test : Event → Bool) →
+    sum_by (λ letter. count_by test
+    (filter (λ event. is_join event.body) (routed setup entries letter)))
+    (letters_of setup.modules)
+    ≡ count_by test (all_joins setup entries)
 
 -- Where a link has ended nobody is known. This profile.
 abbrev pub NobodyIsKnownBehindTheEnd : Type 0
@@ -252,3 +283,38 @@ pub record WhoJoinsLeaves : Type 0 where
   pub at_the_end : (setup : Setup) (entries : List Entry) (letter : ℕ) (test : Member → Bool) →
       ClaimsAreAsked setup entries → EndsOnce entries →
       joined_count setup entries letter test ≡ left_count setup entries letter test
+
+-- The members that joined by the entries before a position, and those that left by them, each with its peer. This
+-- profile.
+abbrev pub joined_by : Notice → Option Claim → List Departed
+joined_by (Notice.Sent from at p) (Some claim) =
+    record { member = claim.member; peer = from } ∷ []
+joined_by _ _ = []
+
+unfoldable pub joined_before : Setup → List Entry → ℕ → List Departed
+joined_before setup entries n = flat_map
+    (λ i. if asks_at (past_at setup entries i)
+    then joined_by (notice_at entries i) (claim_at entries i) else []) (range_with_len 0 n)
+
+unfoldable pub left_before : Setup → List Entry → ℕ → List Departed
+left_before setup entries n =
+    flat_map (λ i. map departed_of (outcome_at setup entries i).left) (range_with_len 0 n)
+
+-- a member of this peer, and such a one
+abbrev pub is_of_peer : Peer → (Member → Bool) → Departed → Bool
+is_of_peer x test d = is_peer x d.peer && test d.member
+
+-- Who has joined has left, as often, or is known; and where a peer asks for a place, each member that it was has left,
+-- the last of them by this entry at the latest. This profile.
+pub record PeersComeAndGo : Type 0 where
+  pub so_far : (setup : Setup) (entries : List Entry) (n : ℕ) (test : Departed → Bool) →
+      ClaimsAreAsked setup entries → n ≤ length entries →
+      count_by test (joined_before setup entries n)
+      ≡ count_by test (left_before setup entries n)
+      + count_by (λ (k : Known). test (departed_of k)) (known_at (past_at setup entries n))
+  pub asking : (setup : Setup) (entries : List Entry) (n : ℕ) (x : Peer) (test : Member → Bool) →
+      ClaimsAreAsked setup entries → n < length entries →
+      asks_at (past_at setup entries n) ≡ true → is_from x (notice_at entries n) ≡ true →
+      count_by (is_of_peer x test) (joined_before setup entries n)
+      ≡ count_by (is_of_peer x test)
+      (left_before setup entries n ++ map departed_of (heard_at (past_at setup entries n)).left)

@@ -34,7 +34,7 @@ pub fn only_served_are_routed()
     ensures { law.OnlyServedAreRouted }
 {}
 
-/// An entry posts one packet, to the module that its verdict names as having been sent it, or none.
+/// An entry posts one packet, to the module to which its verdict says that a packet was routed, or none.
 pub fn packets_are_routed()
     ensures { law.PacketsAreRouted }
 {}
@@ -61,21 +61,31 @@ pub fn each_entry_says_one_thing()
     m17_control::laws::decoding_is_exact();
 }
 
-/// The packets for a module are those of the entries whose verdicts say so, in order, each entry once; so no two packets
-/// of one link have one index.
+/// The packets for a module are those of the entries whose verdicts say so, in order, each entry once; so no two
+/// packets of one link have one index.
 pub fn packets_are_of_entries()
     ensures { law.PacketsAreOfEntries }
 {}
 
-/// An entry's verdict is `Full` exactly where it asks for a place and has no claim, and `Routed` as a Join exactly where
-/// it asks and has one.
+/// An entry's verdict is `Full` exactly where it asks for a place and has no claim, and `Routed` as a Join exactly
+/// where it asks and has one.
 pub fn askers_join_or_are_full()
     ensures { law.AskersJoinOrAreFull }
+{}
+
+/// Who asks for a place asks for it in a served module.
+pub fn askers_ask_for_served_modules()
+    ensures { law.AskersAskForServedModules }
 {}
 
 /// The Joins for a module are those of the entries that asked for it and have a claim, in order, each entry once.
 pub fn joins_are_the_claims()
     ensures { law.JoinsAreTheClaims }
+{}
+
+/// The Joins for all served modules together are those of the entries that ask for a place and have a claim, each once.
+pub fn joins_of_all_modules()
+    ensures { law.JoinsOfAllModules }
 {}
 
 /// Where a link has ended nobody is known.
@@ -86,4 +96,9 @@ pub fn nobody_is_known_behind_the_end()
 /// Who has joined a module has left it, as often, or is known in it; so each has left where the link has ended.
 pub fn who_joins_leaves()
     ensures { law.WhoJoinsLeaves }
+{}
+
+/// Who has joined has left, as often, or is known; and where a peer asks for a place, each member that it was has left.
+pub fn peers_come_and_go()
+    ensures { law.PeersComeAndGo }
 {}
