@@ -10,6 +10,7 @@ use Rattle.m17_ports.specs.declared.tally.Tally.{Tally}
 use Rattle.m17_ports.specs.Mouth.{Datagram}
 use Rattle.m17_ports.specs.Tallies.{IsTallied}
 use Rattle.m17_ports.specs.Told.{told_then}
+use Rattle.m17_client.specs.declared.deeds.Keeping.{Keeping}
 use Rattle.m17_client.specs.declared.state.Action.{Action}
 use Rattle.m17_client.specs.declared.state.Action.TheVariants.{Say, Keep}
 use Rattle.m17_client.specs.declared.state.Input.{Input}
@@ -46,20 +47,23 @@ IsSaid to bytes before after =
 abbrev pub one_kept : Outside → Outside
 one_kept before = record before { kept = min (before.kept + 1) (2 ^ 64 - 1) }
 
--- A packet is kept at this moment: its record is written; or the book fails, and a prefix of it is; or the book had
--- failed, and nothing is written. This profile.
-abbrev pub IsKept : ℕ → StreamPacket → Outside → Outside → Type 0
-IsKept moment packet before after = (bytes : List ℕ) × IsKeptRecord moment packet bytes
-    × (((before.book_failed ≡ false) × (after ≡ record (one_kept before) {
-      written = told_then before.written bytes;
-    }))
-    ⊎ (((before.book_failed ≡ false) × HasRisen before.book_faults after.book_faults
-    × ((n : ℕ) × (after ≡ record (one_kept before) {
+-- The record is written in the book; or the book fails, and a prefix of it is. This profile.
+abbrev pub IsWritten : List ℕ → Outside → Outside → Type 0
+IsWritten bytes before after =
+    (after ≡ record before { written = told_then before.written bytes })
+    ⊎ (HasRisen before.book_faults after.book_faults × (n : ℕ) × (after ≡ record before {
       written = told_then before.written (take n bytes);
       book_faults = after.book_faults;
       book_failed = true;
-    })))
-    ⊎ ((before.book_failed ≡ true) × (after ≡ one_kept before))))
+    }))
+
+-- A packet is kept at this moment, and counted: its record is written, but in a book that had failed nothing is. This
+-- profile.
+abbrev pub IsKept : ℕ → StreamPacket → Outside → Outside → Type 0
+IsKept moment packet before after =
+    ((before.book_failed ≡ true) × (after ≡ one_kept before))
+    ⊎ ((before.book_failed ≡ false) × (bytes : List ℕ) × IsKeptRecord moment packet bytes
+    × IsWritten bytes (one_kept before) after)
 
 -- One action is done at this moment. This profile.
 abbrev pub IsDone : Peer → ℕ → Action → Outside → Outside → Type 0
@@ -86,3 +90,16 @@ IsClientRun to c before (s ∷ steps) new after = (mid : Outside)
     × IsClientStep c s.input s.actions s.after
     × AreDone to s.after.moment s.actions before mid
     × IsClientRun to s.after mid steps new after
+
+-- what a run has done to the outside, by what its devices tell and what it kept
+abbrev pub outside : Option (List Datagram) → (Peer → Option Tally) → ℕ → Option (List ℕ) → ℕ
+    → Keeping → Outside
+outside said tallies mouth_faults written book_faults k = record {
+  said = said;
+  tallies = tallies;
+  mouth_faults = mouth_faults;
+  written = written;
+  book_faults = book_faults;
+  kept = k.kept;
+  book_failed = k.book_failed;
+}

@@ -2,3 +2,4 @@ pub mod Standing
 pub mod Client
 pub mod Deeds
 pub mod Talk
+pub mod Course

@@ -19,21 +19,30 @@ pub record Plan : Type 0 where
   pub script : List (ℕ × StreamPacket)
   pub stay : ℕ
 
--- How far a talk has come: its client, how many records it has sent, when the client became connected, and since when
--- it stays. This profile.
+-- How far a talk has come: its client, how many records it has sent, when the client became connected, since when it
+-- stays, and how many of the last things heard were faults. This profile.
 pub record Course : Type 0 where
   pub client : Standing
   pub sent : ℕ
   pub connected_at : ℕ
   pub since : ℕ
+  pub faults : ℕ
 
 -- the client is connected
+abbrev pub IsConnectedState : State → Type 0
+IsConnectedState (Connected heard_at) = Unit {0}
+IsConnectedState state = ⊥
+
 abbrev pub IsConnected : Standing → Type 0
-IsConnected c = (heard_at : ℕ) × (c.state ≡ Connected heard_at)
+IsConnected c = IsConnectedState c.state
 
 -- the client is closed
+abbrev pub IsClosedState : State → Type 0
+IsClosedState (Closed why) = Unit {0}
+IsClosedState state = ⊥
+
 abbrev pub IsClosed : Standing → Type 0
-IsClosed c = (why : Ending) × (c.state ≡ Closed why)
+IsClosed c = IsClosedState c.state
 
 -- What an entry is stepped as: a datagram from the peer as it is, another and none as a Quiet, and a Fault or an End
 -- not at all. This profile.
@@ -50,15 +59,15 @@ inputs_of steps = map (λ s. s.input) steps
 
 -- Where the course stands after an entry was stepped: a client that became connected counts from its moment on. This
 -- profile.
-abbrev pub IsOpened : Course → Standing → Course → Type 0
-IsOpened before client after =
-    (IsConnected client × (IsConnected before.client → ⊥) × (after ≡ record before {
-      client = client;
-      connected_at = client.moment;
-      since = client.moment;
-    }))
-    ⊎ (((IsConnected client → ⊥) ⊎ IsConnected before.client)
-    × (after ≡ record before { client = client }))
+pub record IsOpened (before : Course) (client : Standing) (after : Course) : Type 0 where
+  pub joins : (IsConnected before.client → ⊥) → IsConnected client
+      → after ≡ record before {
+        client = client;
+        connected_at = client.moment;
+        since = client.moment;
+      }
+  pub stays_in : IsConnected before.client → after ≡ record before { client = client }
+  pub stays_out : (IsConnected client → ⊥) → after ≡ record before { client = client }
 
 -- A record is due: its moment is at most the time since the client became connected. This profile.
 abbrev pub IsDue : Course → ℕ × StreamPacket → Type 0
@@ -66,12 +75,12 @@ IsDue k entry = entry.0 ≤ k.client.moment - k.connected_at
 
 -- The records from the first that was not sent up to the first that is not due are sent, in order, and it stays from
 -- the last of them on. This profile.
-pub record SendsDue (plan : Plan) (before : Course) (steps : List Stepped) (after : Course) : Type 0 where
+pub record SendsDue (script : List (ℕ × StreamPacket)) (before : Course) (steps : List Stepped) (after : Course) : Type 0 where
   pub count : ℕ
-  pub within : before.sent + count ≤ length plan.script
-  pub sent : inputs_of steps ≡ map (λ entry. Send entry.1) (take count (drop before.sent plan.script))
-  pub due : All (IsDue before) (take count (drop before.sent plan.script))
-  pub next : (entry : ℕ × StreamPacket) → slice_get plan.script (before.sent + count) ≡ Some entry
+  pub within : before.sent + count ≤ length script
+  pub sent : inputs_of steps ≡ map (λ entry. Send entry.1) (take count (drop before.sent script))
+  pub due : All (IsDue before) (take count (drop before.sent script))
+  pub next : (entry : ℕ × StreamPacket) → slice_get script (before.sent + count) ≡ Some entry
       → IsDue before entry → ⊥
   pub after_is : after ≡ record before {
     client = after.client;
@@ -91,8 +100,18 @@ LeavesInTime plan before steps after =
     × (after ≡ record before { client = after.client }))
     ⊎ ((IsTimeToLeave plan before → ⊥) × (steps ≡ []) × (after ≡ before))
 
--- What a talk does for an entry of its ear: the entry's own step, then what is due to be sent, where it is connected,
--- and then it leaves, where it is time to. This profile.
+-- How many of the last things heard are faults, with one more thing heard. This profile.
+abbrev pub faults_with : Heard → ℕ → ℕ
+faults_with heard.Fault n = n + 1
+faults_with heard.End n = n
+faults_with entry n = 0
+
+-- the course with one more thing heard
+abbrev pub hears_one : Course → Heard → Course
+hears_one k entry = record k { faults = faults_with entry k.faults }
+
+-- What a talk does for an entry of its ear, but for End: the entry's own step, then what is due to be sent, where it is
+-- connected, and then it leaves, where it is time to. This profile.
 pub record Follows (plan : Plan) (before : Course) (entry : Heard) (steps : List Stepped)
     (after : Course) : Type 0 where
   pub opening : List Stepped
@@ -100,11 +119,11 @@ pub record Follows (plan : Plan) (before : Course) (entry : Heard) (steps : List
   pub leaving : List Stepped
   pub opened : Course
   pub all_sent : Course
-  pub parts : steps ≡ opening ++ sending ++ leaving
+  pub parts : steps ≡ opening ++ (sending ++ leaving)
   pub opens : Opens plan.to entry (inputs_of opening)
-  pub opened_is : IsOpened before opened.client opened
-  pub sends : (IsConnected opened.client × SendsDue plan opened sending all_sent)
-      ⊎ ((IsConnected opened.client → ⊥) × (sending ≡ []) × (all_sent ≡ opened))
+  pub opened_is : IsOpened (hears_one before entry) opened.client opened
+  pub sends : IsConnected opened.client → SendsDue plan.script opened sending all_sent
+  pub sends_not : (IsConnected opened.client → ⊥) → (sending ≡ []) × (all_sent ≡ opened)
   pub leaves : LeavesInTime plan all_sent leaving after
 
 -- The same of each entry: at End nothing is done. This profile.
@@ -112,9 +131,29 @@ abbrev pub IsTalkEntry : Plan → Course → Heard → List Stepped → Course �
 IsTalkEntry plan before heard.End steps after = (steps ≡ []) × (after ≡ before)
 IsTalkEntry plan before entry steps after = Follows plan before entry steps after
 
--- A whole talk, entry by entry. This profile.
-abbrev pub IsTalk : Plan → Course → List Heard → List Stepped → Course → Type 0
-IsTalk plan before [] steps after = (steps ≡ []) × (after ≡ before)
-IsTalk plan before (entry ∷ rest) steps after = (first more : List Stepped) × (mid : Course)
+-- The talk ends with this entry, and the course behind it: at End, at the 16th fault in a row, and where the client is
+-- closed. This profile.
+abbrev pub IsOver : Heard → Course → Type 0
+IsOver heard.End k = Unit {0}
+IsOver entry k = (16 ≤ k.faults) ⊎ IsClosed k.client
+
+-- A talk that goes on, entry by entry. This profile.
+abbrev pub GoesOn : Plan → Course → List Heard → List Stepped → Course → Type 0
+GoesOn plan before [] steps after = (steps ≡ []) × (after ≡ before)
+GoesOn plan before (entry ∷ rest) steps after = (first more : List Stepped) × (mid : Course)
     × (steps ≡ first ++ more) × IsTalkEntry plan before entry first mid
-    × IsTalk plan mid rest more after
+    × (IsOver entry mid → ⊥) × GoesOn plan mid rest more after
+
+-- A whole talk: it goes on up to the last entry heard, and is over with that one. This profile.
+pub record IsTalk (plan : Plan) (before : Course) (entries : List Heard) (steps : List Stepped)
+    (after : Course) : Type 0 where
+  pub front : List Heard
+  pub last : Heard
+  pub heard_is : entries ≡ front ++ last ∷ []
+  pub front_steps : List Stepped
+  pub last_steps : List Stepped
+  pub steps_are : steps ≡ front_steps ++ last_steps
+  pub mid : Course
+  pub goes_on : GoesOn plan before front front_steps mid
+  pub last_entry : IsTalkEntry plan mid last last_steps after
+  pub is_over : IsOver last after

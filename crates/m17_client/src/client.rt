@@ -3,6 +3,7 @@ ghost use Rattle.std.specs.Option.{option_to_list};
 ghost use Rattle.m17_client.specs.Client.{ByBytes, join_packet, ByDatagram, ByLeave, ByPacket, BySend, ByTime, IsClientStep, Joins, Keeps, MayKeep, Says, SaysFrame};
 ghost use Rattle.m17_control.specs.declared.packet.Control.{Control};
 ghost use Rattle.m17_client.specs.declared.state.State.{State};
+ghost use Rattle.m17_client.specs.declared.state.Input.{Input};
 
 use crate::state::SAID_BYTES;
 use crate::{Action, Ending, Input, LastKept, State};
@@ -10,6 +11,7 @@ use arrayvec::ArrayVec;
 use m17_callsign::CallAddress;
 use m17_control::{Control, ModuleLetter, Packet};
 use m17_stream::StreamPacket;
+use m17_values::Gram;
 use std::marker::Model;
 
 /// The most actions of one step for which there is room.
@@ -97,17 +99,66 @@ impl Client {
         ensures short { length out.new.items ≤ 2 }
     {
         match input {
-            Input::Datagram { at, bytes } => {
-                let came = self.state;
-                let tick = self.tick(*at);
-                let answer = self.answer(came, bytes.bytes());
-                put(out, tick);
-                put(out, answer);
-            }
-            Input::Quiet { at } => put(out, self.tick(*at)),
-            Input::Send { packet } => put(out, self.send(packet)),
-            Input::Leave => put(out, self.leave()),
+            Input::Datagram { at, bytes } => self.on_datagram(*at, bytes, out),
+            Input::Quiet { at } => self.on_quiet(*at, out),
+            Input::Send { packet } => self.on_send(packet, out),
+            Input::Leave => self.on_leave(out),
         }
+    }
+
+    // The step of a datagram.
+    fn on_datagram(
+        &mut self,
+        at: u64,
+        bytes: &Gram,
+        out: &mut ArrayVec<Action, MOST_ACTIONS>,
+    ) -> State
+        requires { out.old.items ≡ [] }
+        ensures step { IsClientStep self.old (Input.Datagram at bytes.now) out.new.items self.new }
+        ensures state { result ≡ self.new.state }
+        ensures short { length out.new.items ≤ 2 }
+    {
+        let came = self.state;
+        let tick = self.tick(at);
+        let answer = self.answer(came, bytes.bytes());
+        put(out, tick);
+        put(out, answer);
+        self.state
+    }
+
+    // The step of a moment at which nothing came.
+    fn on_quiet(&mut self, at: u64, out: &mut ArrayVec<Action, MOST_ACTIONS>) -> State
+        requires { out.old.items ≡ [] }
+        ensures step { IsClientStep self.old (Input.Quiet at) out.new.items self.new }
+        ensures state { result ≡ self.new.state }
+        ensures short { length out.new.items ≤ 2 }
+    {
+        let tick = self.tick(at);
+        put(out, tick);
+        self.state
+    }
+
+    // The step of a packet of the user.
+    fn on_send(&mut self, packet: &StreamPacket, out: &mut ArrayVec<Action, MOST_ACTIONS>) -> State
+        requires { out.old.items ≡ [] }
+        ensures step { IsClientStep self.old (Input.Send packet.now) out.new.items self.new }
+        ensures state { result ≡ self.new.state }
+        ensures short { length out.new.items ≤ 2 }
+    {
+        let answer = self.send(packet);
+        put(out, answer);
+        self.state
+    }
+
+    // The step of the user's leaving.
+    fn on_leave(&mut self, out: &mut ArrayVec<Action, MOST_ACTIONS>) -> State
+        requires { out.old.items ≡ [] }
+        ensures step { IsClientStep self.old Input.Leave out.new.items self.new }
+        ensures state { result ≡ self.new.state }
+        ensures short { length out.new.items ≤ 2 }
+    {
+        let answer = self.leave();
+        put(out, answer);
         self.state
     }
 

@@ -1,5 +1,7 @@
 //! What becomes of a client's actions: datagrams go to the mouth, kept packets to the book.
-ghost use Rattle.std.specs.Prelude.{◌≡◌, ℕ, ◌+◌, ◌-◌, ◌^◌, ◌≤◌, List, ◌++◌};
+ghost use Rattle.std.specs.Prelude.{◌≡◌, ℕ, ◌+◌, ◌-◌, ◌^◌, ◌≤◌, List, ◌++◌, take, MatchResult};
+ghost use Rattle.m17_io.specs.Faults.{HasCause};
+ghost use Rattle.m17_ports.specs.Told.{told_then};
 ghost use Rattle.m17_client.specs.Deeds.{AreDone, IsDone, IsKept, IsKeptRecord, Outside};
 ghost use Rattle.m17_client.specs.Client.{IsClientStep};
 
@@ -8,7 +10,7 @@ use crate::{Action, Client, Input, State};
 use arrayvec::ArrayVec;
 use m17_ports::{Book, Mouth};
 use m17_stream::StreamPacket;
-use m17_values::Peer;
+use m17_values::{Failed, Peer};
 
 /// How many bytes the record of a kept packet has: moment 8, talker 2, packet 54.
 const RECORD_BYTES: usize = 64;
@@ -98,14 +100,38 @@ fn act<M: Mouth, B: Book>(
 }
 
 // Keeps a packet at this moment.
-fn keep<B: Book>(packet: &StreamPacket, moment: u64, book: &mut B, keeping: &mut Keeping) {
+fn keep<B: Book>(packet: &StreamPacket, moment: u64, book: &mut B, keeping: &mut Keeping)
+    ensures { (o : Outside) → IsKept moment packet.now
+        (record o {
+          written = B.written book.old;
+          book_faults = B.faults book.old;
+          kept = keeping.old.kept;
+          book_failed = keeping.old.book_failed;
+        })
+        (record o {
+          written = B.written book.new;
+          book_faults = B.faults book.new;
+          kept = keeping.new.kept;
+          book_failed = keeping.new.book_failed;
+        }) }
+{
     keeping.kept = keeping.kept.saturating_add(1);
     if keeping.book_failed {
         return;
     }
-    if book.write(record_of(packet, moment).as_slice()).is_err() {
+    if write_record(packet, moment, book).is_err() {
         keeping.book_failed = true;
     }
+}
+
+// Writes the record of a packet that is kept at this moment.
+fn write_record<B: Book>(packet: &StreamPacket, moment: u64, book: &mut B) -> Result<(), Failed>
+    ensures { (bytes : List ℕ) × IsKeptRecord moment packet.now bytes
+        × HasCause (B.faults book.old) (B.faults book.new) result
+        × MatchResult result (λ _. B.written book.new ≡ told_then (B.written book.old) bytes)
+        (λ _. (n : ℕ) × (B.written book.new ≡ told_then (B.written book.old) (take n bytes))) }
+{
+    book.write(record_of(packet, moment).as_slice())
 }
 
 // The record of a packet that is kept at this moment.

@@ -8,11 +8,11 @@
 mod client;
 mod deeds;
 mod state;
-mod talk;
+mod talking;
 
 pub use client::Client;
 pub use state::{Action, Ending, Input, LastKept, State};
-pub use talk::{TalkEnd, talk};
+pub use talking::{TalkEnd, talk};
 
 #[cfg(test)]
 mod tests;

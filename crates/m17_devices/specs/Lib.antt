@@ -4,3 +4,13 @@ pub use Rattle.m17_io.specs.Sink
 pub use Rattle.m17_io.specs.Tied
 pub use Rattle.m17_memory.specs.Memory
 pub use Rattle.m17_io.specs.Outlet
+pub use Rattle.m17_ports.specs.Told
+pub use Rattle.m17_ports.specs.Marks
+pub use Rattle.m17_ports.specs.Ear
+pub use Rattle.m17_ports.specs.Mouth
+pub use Rattle.m17_ports.specs.Tallies
+pub use Rattle.m17_ports.specs.Ports
+pub use Rattle.m17_ports.specs.Shelf
+pub use Rattle.m17_port_memory.specs.Kept
+pub use Rattle.m17_port_memory.specs.Script
+pub use Rattle.m17_port_memory.specs.Peers

@@ -1,15 +1,14 @@
 -- What one dispatch more makes of modules and tallies.
-use Rattle.std.proofs.Common.{◌≡◌, ◌≢◌, ℕ, zero, suc, ◌+◌, ◌-◌, ◌^◌, ◌<◌, ◌≤◌, Bool, true, false, cond, eqb, List, [], ◌∷◌, ◌++◌, length, map, filter, Option, None, Some, inl, inr, refl, ap, sym, subst, ◌∙◌, arith, count_by}
+use Rattle.std.proofs.Common.{◌≡◌, ◌≢◌, ℕ, zero, suc, ◌+◌, ◌<◌, ◌≤◌, Bool, true, false, cond, List, [], ◌∷◌, ◌++◌, length, map, filter, Option, None, Some, inl, inr, refl, ap, sym, subst, ◌∙◌, arith, count_by}
 use Rattle.std.specs.List.{filter_map, flat_map, range_with_len, cons_option}
 use Rattle.std.specs.Option.{option_to_list}
-use Rattle.std.proofs.lemmas.List.{append-nil, map-append}
+use Rattle.std.proofs.lemmas.List.{map-append}
 use Rattle.std.proofs.lemmas.List.Elements.{filter_map-append}
 use Rattle.std.proofs.lemmas.Bool.{cases_eq, false≢true, eq-eqb, ne_eqb}
 use Rattle.m17_values.specs.declared.peer.Peer.{Peer}
 use Rattle.m17_control.specs.declared.event.Event.{Event}
 use Rattle.m17_control.specs.declared.item.Item.{Item}
 use Rattle.m17_control.specs.declared.item.Direct.{Direct}
-use Rattle.m17_control.specs.declared.packet.Control.{Control}
 use Rattle.m17_control.specs.declared.packet.Packet.{Packet}
 use Rattle.m17_control.specs.declared.packet.Packet.TheVariants as packets
 use Rattle.m17_control.specs.Modules.{serves, letters_of}
@@ -24,7 +23,7 @@ use Rattle.m17_port_memory.specs.Kept.{TalliesKept}
 use Rattle.m17_house.specs.declared.plan.Plan.{Plan}
 use Rattle.m17_house.specs.Replay.{module_setup, packet_to}
 use Rattle.m17_house.specs.Tallied.{AreTalliesOf, HasSaidMore}
-use Rattle.m17_house.specs.Carried.{events_of, said_by_events, said_past_modules, said_after, RoomStands, IsRoomStep, HasCarried, answer_to, IsServed}
+use Rattle.m17_house.specs.Carried.{events_of, said_by_events, said_past_modules, said_after, RoomStands, IsRoomStep, HasCarried, answer_to}
 use Rattle.m17_house.proofs.Lists.{count_append, filter_map_nothing, filter_map_one}
 use Rattle.m17_house.proofs.Tallies.{same_count_tallies}
 use Rattle.m17_house.proofs.Cells.{served_letter}

@@ -1,5 +1,5 @@
 -- All that was posted is carried out, one dispatch after another.
-use Rattle.std.proofs.Common.{◌≡◌, ℕ, ◌+◌, ◌-◌, ◌^◌, ◌<◌, List, [], ◌∷◌, ◌++◌, length, Option, None, Some, refl, ap, sym, subst, ◌∙◌, arith, append_assoc}
+use Rattle.std.proofs.Common.{◌≡◌, ℕ, ◌+◌, ◌-◌, ◌^◌, ◌<◌, List, [], ◌∷◌, ◌++◌, length, Option, None, refl, ap, sym, subst, ◌∙◌, arith, append_assoc}
 use Rattle.std.specs.List.{filter_map, AllByRecursion}
 use Rattle.std.specs.Option.{option_or, option_to_list}
 use Rattle.std.proofs.lemmas.List.{append-nil, length-append}
@@ -8,7 +8,7 @@ use Rattle.m17_floor.specs.declared.verdict.Verdict.{Verdict}
 use Rattle.m17_module.specs.StandsFor as modules
 use Rattle.m17_directory.specs.declared.dispatch.Dispatch.{Dispatch}
 use Rattle.m17_directory.specs.StandsFor.{Kept}
-use Rattle.m17_directory.specs.Wanted.{left_member}
+use Rattle.m17_directory.specs.Laws.{left_member}
 use Rattle.m17_port_memory.specs.Kept.{TalliesKept}
 use Rattle.m17_house.specs.declared.plan.Plan.{Plan}
 use Rattle.m17_house.specs.Tallied.{IsSameMouth}
@@ -65,8 +65,7 @@ partway_more posted name old rooms mouth d rest post mid new rooms1 rooms2 mouth
           let sofar = part.carried plan before named served few carried in
           let its : IsServed plan d = served_there plan done d rest (subst (λ (xs : List Dispatch). AllByRecursion (IsServed plan) xs) posts served) in
           let fits : length (before ++ done) < 18446744073709551615 = omega (arith, length-append before done, ap length posts, length-append done (d ∷ rest)) in
-          let now = step plan (before ++ done) named its fits sofar.0 in
-          (
+          let now = step plan (before ++ done) named its fits sofar.0 in (
             subst (λ (b : List Dispatch). HasCarried plan b rooms2 mouth2) (append_assoc before done (d ∷ [])) now.0,
             sofar.1 ∙ ap (found_from plan (before ++ done) found) is
                 ∙ ap (λ b. found_from plan b (option_or (answer_to plan (before ++ done) d) found) rest) (append_assoc before done (d ∷ []))
@@ -80,8 +79,7 @@ pub partway_all : (posted : List Dispatch) (name : ℕ) (old : Kept) (rooms : Li
     (new ≡ noting (filter_map left_member posted) old) × IsSameMouth mouth mouth2
     × ((plan : Plan) (before : List Dispatch) → name ≡ plan.name → AllByRecursion (IsServed plan) posted → length before + length posted < 2 ^ 64 - 1 → HasCarried plan before rooms mouth → IsCarriedOut plan before posted rooms2 mouth2 answer)
 partway_all posted name old rooms mouth post new rooms2 mouth2 answer part none =
-    let all : posted ≡ part.done = part.posts ∙ ap (λ xs. part.done ++ xs) none ∙ append-nil part.done in
-    (
+    let all : posted ≡ part.done = part.posts ∙ ap (λ xs. part.done ++ xs) none ∙ append-nil part.done in (
       part.noted ∙ ap (λ xs. noting (filter_map left_member xs) old) (sym all),
       part.same,
       λ plan before named served few carried.

@@ -1,20 +1,19 @@
 -- Claims and their counts, when one entry more was heard.
-use Rattle.std.proofs.Common.{◌≡◌, ◌&&◌, ◌==◌, ℕ, zero, suc, ◌+◌, ◌<◌, ◌≤◌, Bool, true, false, cond, List, [], ◌∷◌, ◌++◌, length, take, slice_get, get_or, set, nat_lt, Option, None, Some, MatchBool, inl, inr, refl, ap, sym, subst, ◌∙◌, arith, count_by, get_or-set_same, get_or-set_other, length-set}
+use Rattle.std.proofs.Common.{◌≡◌, ◌&&◌, ◌==◌, ℕ, zero, suc, ◌+◌, ◌<◌, ◌≤◌, Bool, true, false, cond, List, [], ◌∷◌, ◌++◌, length, take, get_or, set, nat_lt, Option, None, MatchBool, inl, inr, refl, ap, sym, subst, ◌∙◌, arith, count_by, get_or-set_same, get_or-set_other, length-set}
 use Rattle.std.specs.List.{range_with_len}
-use Rattle.std.specs.Option.{option_and_then, option_map}
+use Rattle.std.specs.Option.{option_and_then}
 use Rattle.std.proofs.lemmas.List.{take-append-le}
-use Rattle.std.proofs.lemmas.Bool.{cases_lt, cases_eq, and_left, eq-eqb, ne_eqb, false≢true}
+use Rattle.std.proofs.lemmas.Bool.{cases_lt, cases_eq, and_left, eq-eqb, ne_eqb}
 use Rattle.m17_values.specs.declared.member.Member.{Member}
 use Rattle.m17_directory.specs.declared.known.Known.{Known}
-use Rattle.m17_directory.specs.Entries.{Claim, Entry, Notice, Setup, notice_of, notice_at, claim_at}
+use Rattle.m17_directory.specs.Entries.{Claim, Entry, Setup, notice_of, notice_at, claim_at}
 use Rattle.m17_directory.specs.Known.{Past, is_of_place}
-use Rattle.m17_directory.specs.StandsFor.{unclaimed, claimed}
 use Rattle.m17_directory.specs.Routed.{past_at, heard_at, others_at, asks_at, is_asks}
-use Rattle.m17_directory.specs.Wanted.{EntriesBeforeDecide}
+use Rattle.m17_directory.specs.Laws.{EntriesBeforeDecide}
 use Rattle.m17_house.specs.declared.plan.Plan.{Plan}
 use Rattle.m17_house.specs.Replay.{setup_of, given_before, IsFreeClaim, IsLeastFree, IsChosenAt}
 use Rattle.m17_house.specs.SoFar.{IsFreeMember, IsChoice, AreCounts, AreChosen, claim_of}
-use Rattle.m17_house.proofs.Lists.{slice_get_before, slice_get_end, length_more, count_append, count_one}
+use Rattle.m17_house.proofs.Lists.{slice_get_before, length_more, count_append, count_one}
 use Rattle.m17_house.proofs.Posts.{claim_end}
 
 -- one for a test that passes
@@ -25,7 +24,7 @@ pub range_more : (a n : ℕ) → range_with_len a (suc n) ≡ range_with_len a n
 range_more a zero = ap (λ m. m ∷ []) (let e : a ≡ a + 0 = omega arith in e)
 range_more a (suc n) = ap (λ xs. a ∷ xs) (range_more (a + 1) n ∙ ap (λ m. range_with_len (a + 1) n ++ m ∷ []) (let e : (a + 1) + n ≡ a + suc n = omega arith in e))
 
-count_range : (p q : ℕ → Bool) (a n : ℕ) → ((j : ℕ) → j < a + n → p j ≡ q j) → count_by p (range_with_len a n) ≡ count_by q (range_with_len a n)
+pub count_range : (p q : ℕ → Bool) (a n : ℕ) → ((j : ℕ) → j < a + n → p j ≡ q j) → count_by p (range_with_len a n) ≡ count_by q (range_with_len a n)
 count_range p q a zero same = refl
 count_range p q a (suc n) same =
     count_append p (a ∷ []) (range_with_len (a + 1) n)

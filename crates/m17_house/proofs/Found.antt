@@ -1,15 +1,13 @@
 -- The verdict on the packet among what an entry posts.
-use Rattle.std.proofs.Common.{◌≡◌, ℕ, zero, suc, ◌+◌, ◌<◌, ◌≤◌, Bool, true, false, cond, List, [], ◌∷◌, ◌++◌, length, slice_get, Option, None, Some, refl, ap, sym, subst, ◌∙◌, arith, append_assoc}
-use Rattle.std.specs.List.{filter_map, cons_option, AllByRecursion}
+use Rattle.std.proofs.Common.{◌≡◌, ℕ, Bool, true, false, cond, List, [], ◌∷◌, ◌++◌, length, slice_get, Option, None, Some, refl, ap, sym, subst, ◌∙◌, append_assoc}
+use Rattle.std.specs.List.{filter_map, cons_option}
 use Rattle.std.specs.Option.{option_or, option_map}
-use Rattle.std.proofs.lemmas.List.{append-nil, map-append, length-map}
+use Rattle.std.proofs.lemmas.List.{append-nil}
 use Rattle.std.proofs.lemmas.Option.{slice_get-map}
 use Rattle.std.proofs.lemmas.Bool.{true≢false}
 use Rattle.m17_control.specs.declared.event.Body.{Body}
 use Rattle.m17_control.specs.declared.event.Body.TheVariants as body
 use Rattle.m17_control.specs.declared.event.Event.{Event}
-use Rattle.m17_floor.specs.declared.act.ActKind.{ActKind}
-use Rattle.m17_floor.specs.declared.act.ActKind.TheVariants.{Other}
 use Rattle.m17_floor.specs.declared.verdict.Verdict.{Verdict}
 use Rattle.m17_floor.specs.Acts.{kind_at, kind_or_other}
 use Rattle.m17_floor.specs.Acts as acts
@@ -18,7 +16,7 @@ use Rattle.m17_floor.specs.Laws.{OnlyPacketsHaveVerdicts}
 use Rattle.m17_module.specs.Events.{act_of, acts_of, kind_of}
 use Rattle.m17_directory.specs.declared.dispatch.Dispatch.{Dispatch}
 use Rattle.m17_directory.specs.declared.dispatch.Dispatch.TheVariants.{ToModule, ToDoor}
-use Rattle.m17_directory.specs.Wanted.{is_packet, packet_letter}
+use Rattle.m17_directory.specs.Laws.{is_packet, packet_letter}
 use Rattle.m17_house.specs.declared.plan.Plan.{Plan}
 use Rattle.m17_house.specs.Carried.{events_of, answer_to}
 use Rattle.m17_house.specs.SoFar.{found_from}

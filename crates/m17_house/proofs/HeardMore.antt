@@ -1,37 +1,29 @@
 -- An entry was heard, and its request settled: what the run then stands for.
-use Rattle.std.proofs.Common.{◌≡◌, ◌↔◌, ℕ, suc, ◌+◌, ◌*◌, ◌-◌, ◌^◌, ◌<◌, ◌≤◌, Bool, true, false, cond, List, [], ◌∷◌, ◌++◌, length, map, Option, None, Some, IsSome, inl, inr, refl, ap, sym, subst, ◌∙◌, arith, append_assoc}
+use Rattle.std.proofs.Common.{◌≡◌, ◌↔◌, ℕ, ◌+◌, ◌-◌, ◌^◌, ◌<◌, ◌≤◌, Bool, true, false, List, [], ◌∷◌, ◌++◌, length, map, Option, None, Some, IsSome, refl, ap, sym, subst, ◌∙◌, arith, append_assoc}
 use Rattle.std.specs.List.{filter_map, AllByRecursion}
 use Rattle.std.proofs.lemmas.List.{append-nil, length-append}
-use Rattle.std.proofs.lemmas.Bool.{false≢true, true≢false}
-use Rattle.m17_values.specs.declared.heard.Heard.{Heard}
+use Rattle.std.proofs.lemmas.Bool.{false≢true}
 use Rattle.m17_values.specs.declared.member.Member.{Member}
 use Rattle.m17_floor.specs.declared.verdict.Verdict.{Verdict}
-use Rattle.m17_floor.specs.Laws.{LaterActsChangeNoVerdict, OnlyPacketsHaveVerdicts}
 use Rattle.m17_directory.specs.declared.asked.Asked.{Asked}
 use Rattle.m17_directory.specs.declared.dispatch.Dispatch.{Dispatch}
 use Rattle.m17_directory.specs.declared.known.Departed.{Departed}
 use Rattle.m17_directory.specs.declared.known.Known.{Known}
-use Rattle.m17_directory.specs.declared.known.Request.{Request}
 use Rattle.m17_directory.specs.declared.verdict.LinkVerdict.{LinkVerdict}
 use Rattle.m17_directory.specs.declared.verdict.LinkVerdict.TheVariants as link
-use Rattle.m17_directory.specs.Entries.{Claim, Entry, Notice, Says, Setup, notice_at, claim_at, ends_at}
-use Rattle.m17_directory.specs.Known.{Past, request_in}
-use Rattle.m17_directory.specs.Routed.{past_at, heard_at, others_at, settled_at, settled_by, request_at, asks_at, is_asks, link_verdict, posts_at, posted}
+use Rattle.m17_directory.specs.Entries.{Claim, Entry, Notice, Setup, claim_at}
+use Rattle.m17_directory.specs.Known.{Past}
+use Rattle.m17_directory.specs.Routed.{past_at, heard_at, others_at, settled_at, asks_at, is_asks, posts_at, posted}
 use Rattle.m17_directory.specs.StandsFor.{Kept, StandsFor, IsHeard, IsSettled, unclaimed, claimed, departed_of}
-use Rattle.m17_directory.specs.Laws.{OneEntryMore, OnlyServedAreRouted}
-use Rattle.m17_directory.specs.Wanted.{EntriesBeforeDecide, EachWhoLeavesIsPosted, EndedWhereItEnds, EventsCarryTheirIndex, PacketsAreRouted, is_ended, left_member, packet_letter, packet_routed}
+use Rattle.m17_directory.specs.Laws.{OneEntryMore, OnlyServedAreRouted, EntriesBeforeDecide, EachWhoLeavesIsPosted, EndedWhereItEnds, is_ended, left_member}
 use Rattle.m17_port_memory.specs.Kept.{TalliesKept}
 use Rattle.m17_house.specs.declared.plan.Plan.{Plan}
 use Rattle.m17_house.specs.declared.run.Run.{Run}
-use Rattle.m17_house.specs.Replay.{IsPlan, setup_of, packet_verdict}
+use Rattle.m17_house.specs.Replay.{setup_of}
 use Rattle.m17_house.specs.Carried.{HasCarried, IsServed}
-use Rattle.m17_house.specs.SoFar.{IsCarriedOut, IsChoice, IsGiven, IsIdle, IsOneMore, IsSoFar, IsTakenIn, AreCounts, AreChosen, claim_of, found_from, noting, past_with, without_members}
-use Rattle.m17_house.proofs.Lists.{length_more}
+use Rattle.m17_house.specs.SoFar.{IsCarriedOut, IsChoice, IsGiven, IsSoFar, IsTakenIn, AreCounts, claim_of, noting, past_with, without_members}
 use Rattle.m17_house.proofs.Notes.{all_noted, noting_stands}
-use Rattle.m17_house.proofs.Posts.{heard_same, others_same, claim_end, unasked_posts, unasked_verdict, asked_posts, asked_verdict, posts_begin, served_part}
-use Rattle.m17_house.proofs.Found.{found_none}
-use Rattle.m17_house.proofs.Among.{found_is}
-use Rattle.m17_house.proofs.Chosen.{counts_unclaimed, counts_claimed, chosen_more, chosen_unasked, chosen_asked}
+use Rattle.m17_house.proofs.Posts.{heard_same, claim_end, asked_posts, posts_begin, served_part}
 
 -- the verdict Ended, and what a directory keeps of it
 ended_of : (v : LinkVerdict) → is_ended v ≡ true → v ≡ link.Ended

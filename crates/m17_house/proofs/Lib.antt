@@ -14,3 +14,5 @@ pub mod Chosen
 pub mod HeardMore
 pub mod OneMore
 pub mod Played
+pub mod EndEnds
+pub mod OneReplay

@@ -1,5 +1,5 @@
 -- The bytes of a packet begin with the magic of its kind.
-use Rattle.std.proofs.Common.{◌≡◌, ℕ, Bool, List, ◌++◌, [], ◌∷◌, codes, nat_eq, None, Some, refl, ap, sym, ◌∙◌, append_assoc}
+use Rattle.std.proofs.Common.{◌≡◌, ℕ, Bool, List, ◌++◌, [], ◌∷◌, codes, nat_eq, None, Some, refl, ap, ◌∙◌}
 use Rattle.std.specs.List.{starts_with}
 use Rattle.m17_fields.specs.Fields.{be_16}
 use Rattle.m17_lsd.specs.Lsd.{lsd_bytes}

@@ -1,27 +1,25 @@
 -- What became of an entry is in all that the run stands for.
-use Rattle.std.proofs.Common.{◌≡◌, ℕ, suc, ◌+◌, ◌*◌, ◌-◌, ◌^◌, ◌<◌, ◌≤◌, Bool, true, false, List, [], ◌∷◌, ◌++◌, length, slice_index, Option, None, Some, refl, ap, sym, subst, ◌∙◌, arith, append_assoc}
+use Rattle.std.proofs.Common.{◌≡◌, ℕ, ◌<◌, true, false, List, [], ◌∷◌, ◌++◌, length, slice_index, Option, None, Some, refl, ap, sym, subst, ◌∙◌, arith, append_assoc}
 use Rattle.std.specs.List.{filter_map}
 use Rattle.std.proofs.lemmas.List.{length-append}
 use Rattle.m17_values.specs.declared.heard.Heard.{Heard}
 use Rattle.m17_floor.specs.declared.verdict.Verdict.{Verdict}
 use Rattle.m17_floor.specs.Laws.{LaterActsChangeNoVerdict, OnlyPacketsHaveVerdicts}
 use Rattle.m17_directory.specs.declared.dispatch.Dispatch.{Dispatch}
-use Rattle.m17_directory.specs.declared.known.Known.{Known}
 use Rattle.m17_directory.specs.declared.known.Request.{Request}
 use Rattle.m17_directory.specs.declared.verdict.LinkVerdict.{LinkVerdict}
 use Rattle.m17_directory.specs.declared.verdict.LinkVerdict.TheVariants as link
-use Rattle.m17_directory.specs.Entries.{Claim, Entry, Notice, Says, Setup, claim_at, notice_at, ends_at}
-use Rattle.m17_directory.specs.Known.{Past, now, request_in}
-use Rattle.m17_directory.specs.Routed.{past_at, heard_at, others_at, settled_at, settled_by, request_at, asks_at, is_asks, link_verdict, posts_at, posted}
+use Rattle.m17_directory.specs.Entries.{Claim, Entry, Notice, Says, Setup, notice_at}
+use Rattle.m17_directory.specs.Known.{Past, now}
+use Rattle.m17_directory.specs.Routed.{heard_at, others_at, settled_at, settled_by, request_at, asks_at, is_asks, link_verdict, posts_at, posted}
 use Rattle.m17_directory.specs.StandsFor.{StandsFor, unclaimed, claimed}
-use Rattle.m17_directory.specs.Laws.{OneEntryMore}
-use Rattle.m17_directory.specs.Wanted.{EntriesBeforeDecide, EndedWhereItEnds, EventsCarryTheirIndex, PacketsAreRouted, is_ended, packet_letter, packet_routed}
+use Rattle.m17_directory.specs.Laws.{OneEntryMore, EntriesBeforeDecide, EndedWhereItEnds, EventsCarryTheirIndex, PacketsAreRouted, is_ended, packet_letter, packet_routed}
 use Rattle.m17_port_memory.specs.Kept.{TalliesKept}
 use Rattle.m17_house.specs.declared.plan.Plan.{Plan}
 use Rattle.m17_house.specs.declared.run.Run.{Run}
-use Rattle.m17_house.specs.Replay.{IsPlan, setup_of, packet_verdict}
+use Rattle.m17_house.specs.Replay.{IsPlan, setup_of}
 use Rattle.m17_house.specs.Carried.{HasCarried}
-use Rattle.m17_house.specs.SoFar.{IsChoice, IsGiven, IsOneMore, IsSoFar, IsTakenIn, claim_of, found_from, past_with}
+use Rattle.m17_house.specs.SoFar.{IsGiven, IsOneMore, IsSoFar, IsTakenIn, claim_of, past_with}
 use Rattle.m17_house.proofs.Lists.{length_more}
 use Rattle.m17_house.proofs.Posts.{heard_same, others_same, claim_end, unasked_posts, unasked_verdict, asked_verdict}
 use Rattle.m17_house.proofs.Found.{found_none}

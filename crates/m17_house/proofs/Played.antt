@@ -1,23 +1,22 @@
 -- A replay, entry by entry: what was heard so far, its verdicts and its tallies.
-use Rattle.std.proofs.Common.{◌≡◌, ℕ, zero, suc, ◌+◌, ◌-◌, ◌^◌, ◌<◌, ◌≤◌, Bool, true, false, List, [], ◌∷◌, ◌++◌, length, map, take, drop, get_or, slice_index, Option, None, Some, inl, inr, refl, ap, sym, subst, ◌∙◌, arith, count_by}
+use Rattle.std.proofs.Common.{◌≡◌, ℕ, zero, suc, ◌+◌, ◌-◌, ◌^◌, ◌<◌, ◌≤◌, true, false, List, [], ◌∷◌, ◌++◌, length, map, take, drop, get_or, slice_index, Option, inl, inr, refl, ap, sym, subst, ◌∙◌, arith}
 use Rattle.std.specs.List.{range_with_len}
 use Rattle.std.proofs.lemmas.List.{map-append, take_more, take_all, take-append-le, take-append-drop, get_or_past}
 use Rattle.std.proofs.lemmas.List.Sums.{count_by-le-length}
 use Rattle.std.proofs.lemmas.List.FromFn.{length-range_with_len}
-use Rattle.std.proofs.lemmas.Bool.{cases_lt, false≢true, true≢false}
+use Rattle.std.proofs.lemmas.Bool.{cases_lt, false≢true}
 use Rattle.m17_values.specs.declared.heard.Heard.{Heard}
 use Rattle.m17_floor.specs.declared.verdict.Verdict.{Verdict}
 use Rattle.m17_floor.specs.Laws.{LaterActsChangeNoVerdict}
 use Rattle.m17_directory.specs.declared.verdict.LinkVerdict.{LinkVerdict}
-use Rattle.m17_directory.specs.Entries.{Entry, Says, notice_at, claim_at, ends_at}
+use Rattle.m17_directory.specs.Entries.{Entry, Says, claim_at, ends_at}
 use Rattle.m17_directory.specs.Known.{is_of_place}
-use Rattle.m17_directory.specs.Routed.{past_at, heard_at, link_verdict, posted, routed, direct_replies}
-use Rattle.m17_directory.specs.Laws.{LaterEntriesChangeNothing, OneEntryMore, EndsOnce}
-use Rattle.m17_directory.specs.Wanted.{EntriesBeforeDecide, EndedWhereItEnds, EventsCarryTheirIndex, is_ended}
+use Rattle.m17_directory.specs.Routed.{link_verdict, posted, routed, direct_replies}
+use Rattle.m17_directory.specs.Laws.{LaterEntriesChangeNothing, OneEntryMore, EntriesBeforeDecide, EndedWhereItEnds, EventsCarryTheirIndex, is_ended}
 use Rattle.m17_port_memory.specs.Kept.{TalliesKept}
 use Rattle.m17_house.specs.declared.plan.Plan.{Plan}
 use Rattle.m17_house.specs.declared.run.Run.{Run}
-use Rattle.m17_house.specs.Replay.{SaysEach, EndsSomewhere, setup_of, given_before, verdicts_of, packet_verdict, packet_verdicts_of, said_to, IsReplayed}
+use Rattle.m17_house.specs.Replay.{SaysEach, EndsSomewhere, setup_of, verdicts_of, packet_verdict, packet_verdicts_of, said_to, IsReplayed}
 use Rattle.m17_house.specs.Tallied.{AreTalliesOf}
 use Rattle.m17_house.specs.Carried.{said_after}
 use Rattle.m17_house.specs.SoFar.{AreCounts, IsOneMore, IsSoFar}

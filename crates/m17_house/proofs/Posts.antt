@@ -1,5 +1,5 @@
 -- What the last entry of a list posts, by what it says and by its claim.
-use Rattle.std.proofs.Common.{◌≡◌, ℕ, suc, ◌+◌, ◌<◌, ◌≤◌, zero, Bool, true, false, cond, List, [], ◌∷◌, ◌++◌, length, take, slice_get, Option, None, Some, inl, inr, refl, ap, sym, subst, ◌∙◌, arith, append_assoc}
+use Rattle.std.proofs.Common.{◌≡◌, ℕ, suc, zero, Bool, true, false, cond, List, [], ◌∷◌, ◌++◌, length, take, Option, None, Some, refl, ap, sym, ◌∙◌, arith}
 use Rattle.std.specs.List.{filter_map, cons_option, AllByRecursion}
 use Rattle.std.specs.Option.{option_and_then}
 use Rattle.std.proofs.lemmas.List.{append-nil, take-append-le}
@@ -9,14 +9,11 @@ use Rattle.m17_control.specs.declared.event.Event.{Event}
 use Rattle.m17_control.specs.Modules.{serves}
 use Rattle.m17_directory.specs.declared.dispatch.Dispatch.{Dispatch}
 use Rattle.m17_directory.specs.declared.dispatch.Dispatch.TheVariants.{ToModule, ToDoor}
-use Rattle.m17_directory.specs.declared.known.Known.{Known}
-use Rattle.m17_directory.specs.declared.verdict.LinkVerdict.{LinkVerdict}
-use Rattle.m17_directory.specs.Entries.{Notice, Claim, Entry, Setup, notice_of, notice_at, claim_at}
+use Rattle.m17_directory.specs.Entries.{Entry, Setup, notice_of, notice_at, claim_at}
 use Rattle.m17_directory.specs.Known.{Past}
 use Rattle.m17_directory.specs.Outcome.{Outcome}
 use Rattle.m17_directory.specs.Routed.{past_at, asks_at, heard_at, others_at, settled_at, asked_before, both, comes_to, link_verdict, posts_at, posted, event_for, routed}
-use Rattle.m17_directory.specs.Laws.{OneEntryMore, OnlyServedAreRouted}
-use Rattle.m17_directory.specs.Wanted.{EntriesBeforeDecide}
+use Rattle.m17_directory.specs.Laws.{OnlyServedAreRouted, EntriesBeforeDecide}
 use Rattle.m17_house.specs.declared.plan.Plan.{Plan}
 use Rattle.m17_house.specs.Replay.{setup_of}
 use Rattle.m17_house.specs.Carried.{IsServed}

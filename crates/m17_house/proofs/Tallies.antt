@@ -1,5 +1,5 @@
 -- Tallies after one packet more, and of packets in another order.
-use Rattle.std.proofs.Common.{◌≡◌, ℕ, ◌+◌, ◌-◌, ◌^◌, Bool, true, false, cond, List, [], ◌∷◌, ◌++◌, codes, map, min, nat_eq, is_some, IfSome, Option, None, Some, refl, ap, sym, subst, ◌∙◌, arith, count_by, append_assoc}
+use Rattle.std.proofs.Common.{◌≡◌, ℕ, ◌+◌, ◌-◌, ◌^◌, Bool, true, false, cond, List, [], ◌∷◌, ◌++◌, codes, map, min, nat_eq, is_some, IfSome, Option, None, Some, refl, ap, sym, ◌∙◌, arith, count_by, append_assoc}
 use Rattle.std.specs.Option.{option_map, option_to_list}
 use Rattle.std.specs.List.{starts_with}
 use Rattle.std.proofs.lemmas.List.{append-nil}
@@ -18,7 +18,7 @@ use Rattle.m17_directory.specs.Routed.{reply_for}
 use Rattle.m17_ports.specs.declared.tally.Tally.{Tally}
 use Rattle.m17_ports.specs.Tallies.{counted, tally_then, no_tally, IsTallied}
 use Rattle.m17_port_memory.specs.Kept.{TalliesKept}
-use Rattle.m17_port_memory.specs.Peers.{tally_at, named_in}
+use Rattle.m17_port_memory.specs.Peers.{tally_at}
 use Rattle.m17_directory.specs.Entries.{is_peer}
 use Rattle.m17_house.specs.Replay.{is_ackn, is_nack, is_ping, is_pong, is_disc, is_stream, count_of, tally_of, packet_to}
 use Rattle.m17_house.specs.Tallied.{AreTalliesOf, IsSameMouth, HasSaidMore}

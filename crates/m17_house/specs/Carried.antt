@@ -1,5 +1,5 @@
 -- What modules and mouth stand for when some dispatches of a link were carried out. This profile.
-use Rattle.std.specs.Prelude.{◌≡◌, ℕ, ◌-◌, ◌<◌, Bool, true, false, List, [], ◌∷◌, ◌++◌, length, map, slice_get, Option, None, Some, MatchOption}
+use Rattle.std.specs.Prelude.{◌≡◌, ℕ, ◌-◌, true, false, List, [], ◌∷◌, ◌++◌, length, map, slice_get, Option, None, Some}
 use Rattle.std.specs.List.{filter_map, flat_map}
 use Rattle.m17_values.specs.declared.peer.Peer.{Peer}
 use Rattle.m17_control.specs.declared.event.Event.{Event}
@@ -9,7 +9,7 @@ use Rattle.m17_control.specs.Modules.{serves, letters_of}
 use Rattle.m17_floor.specs.declared.verdict.Verdict.{Verdict}
 use Rattle.m17_floor.specs.Floor.{verdict_at}
 use Rattle.m17_module.specs.Events.{acts_of}
-use Rattle.m17_module.specs.Items.{items_given, items_at}
+use Rattle.m17_module.specs.Items.{items_given}
 use Rattle.m17_module.specs.StandsFor.{Kept, StandsFor}
 use Rattle.m17_directory.specs.declared.dispatch.Dispatch.{Dispatch}
 use Rattle.m17_directory.specs.declared.dispatch.Dispatch.TheVariants.{ToModule, ToDoor}

@@ -1,6 +1,6 @@
 -- A replay: what one link heard, judged in one thread, with places given as a patient reflector gives them. This
 -- profile.
-use Rattle.std.specs.Prelude.{◌≡◌, ◌==◌, ◌&&◌, ◌⊎◌, ℕ, ◌+◌, ◌-◌, ◌^◌, ◌<◌, Bool, true, false, List, [], ◌∷◌, ◌++◌, length, map, min, count_by, nat_lt, slice_get, Option, None, Some, option_and_then, MatchBool, if◌then◌else◌}
+use Rattle.std.specs.Prelude.{◌≡◌, ◌==◌, ◌&&◌, ℕ, ◌-◌, ◌^◌, ◌<◌, Bool, true, false, List, [], ◌∷◌, ◌++◌, length, map, min, count_by, nat_lt, slice_get, Option, None, Some, option_and_then, MatchBool, if◌then◌else◌}
 use Rattle.std.specs.List.{filter_map, flat_map, list_any, range_with_len}
 use Rattle.m17_values.specs.declared.heard.Heard.{Heard}
 use Rattle.m17_values.specs.declared.peer.Peer.{Peer}
@@ -25,7 +25,6 @@ use Rattle.m17_port_memory.specs.Peers.{tally_at}
 use Rattle.m17_directory.specs.declared.known.Known.{Known}
 use Rattle.m17_directory.specs.declared.verdict.LinkVerdict.{LinkVerdict}
 use Rattle.m17_directory.specs.declared.verdict.LinkVerdict.TheVariants.{Routed}
-use Rattle.m17_directory.specs.declared.verdict.Act.{Act}
 use Rattle.m17_directory.specs.declared.verdict.Act.TheVariants as act
 use Rattle.m17_directory.specs.Entries.{Claim, Entry, Setup, Says, claim_at, ends_at, is_peer}
 use Rattle.m17_directory.specs.Known.{is_of_place}

@@ -1,6 +1,5 @@
 -- What a run stands for in the midst of a replay. This profile.
-use Rattle.std.specs.Prelude.{◌≡◌, ◌≢◌, ℕ, ◌+◌, ◌*◌, ◌-◌, ◌^◌, ◌<◌, ◌≤◌, Bool, true, false, List, [], ◌∷◌, ◌++◌, length, slice_index, slice_set, nat_lt, Option, None, Some, option_map, MatchBool}
-use Rattle.std.specs.List.{AllByRecursion, list_any}
+use Rattle.std.specs.Prelude.{◌≡◌, ℕ, ◌+◌, ◌*◌, ◌<◌, ◌≤◌, List, [], ◌∷◌, ◌++◌, length, slice_index, slice_set, nat_lt, Option, None, Some, option_map, MatchBool}
 use Rattle.std.specs.Option.{option_or}
 use Rattle.m17_values.specs.declared.heard.Heard.{Heard}
 use Rattle.m17_values.specs.declared.member.Member.{Member}
@@ -13,13 +12,14 @@ use Rattle.m17_directory.specs.declared.verdict.LinkVerdict.{LinkVerdict}
 use Rattle.m17_directory.specs.declared.verdict.LinkVerdict.TheVariants.{Asks}
 use Rattle.m17_directory.specs.Entries.{Notice, Claim, Entry, Says, ends_at}
 use Rattle.m17_directory.specs.Known.{Past}
+use Rattle.m17_directory.specs.Outcome.{Outcome}
 use Rattle.m17_directory.specs.Routed.{past_at, heard_at, others_at, settled_at, link_verdict, posted}
 use Rattle.m17_directory.specs.StandsFor.{Kept, StandsFor, unclaimed, claimed, without_member}
 use Rattle.m17_port_memory.specs.Kept.{TalliesKept}
 use Rattle.m17_house.specs.declared.plan.Plan.{Plan}
 use Rattle.m17_house.specs.declared.run.Run.{Run}
 use Rattle.m17_house.specs.Replay.{IsPlan, IsLeastFree, IsChosenAt, setup_of, given_before, packet_verdict}
-use Rattle.m17_house.specs.Carried.{HasCarried, IsServed, answer_to}
+use Rattle.m17_house.specs.Carried.{HasCarried, answer_to}
 
 -- the departing when the leaving of these was noted, one after another, and the directory then
 abbrev pub without_members : List Member → List Departed → List Departed
@@ -98,8 +98,8 @@ pub record IsSoFar (plan : Plan) (entries : List Entry) (run : Run) (mouth : Tal
   pub chosen : AreChosen plan entries
 
 -- The run has come through these entries, and has heard one more that says this, but for its claim. This profile.
-pub record IsTakenIn (plan : Plan) (entries : List Entry) (notice : Notice) (run : Run) (mouth : TalliesKept)
-    (verdict : LinkVerdict) (answer : Option Verdict) : Type 0 where
+pub record IsTakenIn (plan : Plan) (entries : List Entry) (notice : Notice) (run : Run)
+    (mouth : TalliesKept) (verdict : LinkVerdict) (answer : Option Verdict) : Type 0 where
   pub idle : IsIdle plan run
   pub stands : StandsFor run.directory (entries ++ unclaimed notice ∷ [])
   pub carried : IsCarriedOut plan (posted (setup_of plan) entries)
@@ -109,14 +109,23 @@ pub record IsTakenIn (plan : Plan) (entries : List Entry) (notice : Notice) (run
       run.directory.known ≡ others_at (past_with plan entries (unclaimed notice))
   pub ends : run.directory.ended ≡ ends_at (entries ++ unclaimed notice ∷ []) (length entries)
   pub few : length (posted (setup_of plan) entries)
-      + length (heard_at (past_with plan entries (unclaimed notice))).posts + length run.directory.known
-      ≤ 54 * length entries + 52
+      + length (heard_at (past_with plan entries (unclaimed notice))).posts
+      + length run.directory.known ≤ 54 * length entries + 52
   pub given : AreCounts run.given entries
   pub chosen : AreChosen plan entries
+
+-- what such an entry posts before its claim
+abbrev pub first_posts : Plan → List Entry → Notice → List Dispatch
+first_posts plan entries notice = (heard_at (past_with plan entries (unclaimed notice))).posts
 
 -- the claim by this member, to be greeted at once
 abbrev pub claim_of : Option Member → Option Claim
 claim_of given = option_map (λ m. record { member = m; after = 0 }) given
+
+-- what an entry comes to by the claim of this member
+abbrev pub given_to : Plan → List Entry → Notice → Option Member → Outcome
+given_to plan entries notice given =
+    settled_at (past_with plan entries (claimed notice (claim_of given))) (claim_of given)
 
 -- The same with its claim, where it asked. This profile.
 pub record IsGiven (plan : Plan) (entries : List Entry) (notice : Notice) (old run : Run)
@@ -125,14 +134,13 @@ pub record IsGiven (plan : Plan) (entries : List Entry) (notice : Notice) (old r
   pub idle : IsIdle plan run
   pub asked : run.directory.asked ≡ None
   pub stands : StandsFor run.directory (entries ++ claimed notice (claim_of member) ∷ [])
-  pub carried : HasCarried plan (posted (setup_of plan) entries
-      ++ (heard_at (past_with plan entries (unclaimed notice))).posts
-      ++ (settled_at (past_with plan entries (claimed notice (claim_of member))) (claim_of member)).posts) run.stage.rooms mouth
-  pub is_verdict : verdict ≡ (settled_at (past_with plan entries (claimed notice (claim_of member))) (claim_of member)).verdict
+  pub carried : HasCarried plan (posted (setup_of plan) entries ++ first_posts plan entries notice
+      ++ (given_to plan entries notice member).posts) run.stage.rooms mouth
+  pub is_verdict : verdict ≡ (given_to plan entries notice member).verdict
   pub ends : run.directory.ended ≡ ends_at (entries ++ unclaimed notice ∷ []) (length entries)
   pub few : length (posted (setup_of plan) entries)
-      + length (heard_at (past_with plan entries (unclaimed notice))).posts
-      + length (settled_at (past_with plan entries (claimed notice (claim_of member))) (claim_of member)).posts
+      + length (first_posts plan entries notice)
+      + length (given_to plan entries notice member).posts
       + length run.directory.known ≤ 54 * length entries + 54
   pub choice : IsChoice old.directory.known plan.places old.given member run.given
 

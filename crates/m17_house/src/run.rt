@@ -6,7 +6,7 @@ ghost use Rattle.m17_directory.specs.declared.verdict.LinkVerdict.{LinkVerdict};
 ghost use Rattle.m17_directory.specs.declared.verdict.LinkVerdict.TheVariants as link;
 ghost use Rattle.m17_directory.specs.Entries.{Entry, Notice, Says};
 ghost use Rattle.m17_directory.specs.Outcome as outcome;
-ghost use Rattle.m17_directory.specs.Wanted as laws;
+ghost use Rattle.m17_directory.specs.Laws as laws;
 ghost use Rattle.m17_control.specs.Forms.{Refuses, Spells};
 ghost use Rattle.m17_fields.specs.Reading.{HasOneReading};
 ghost use Rattle.m17_floor.specs.declared.verdict.Verdict.{Verdict};

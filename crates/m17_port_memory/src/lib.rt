@@ -15,3 +15,6 @@ pub use list_mouth::ListMouth;
 pub use script_ear::ScriptEar;
 pub use script_ports::ScriptPorts;
 pub use tally_mouth::TallyMouth;
+
+#[cfg(test)]
+mod tests;

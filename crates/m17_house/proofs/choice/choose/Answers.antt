@@ -1,6 +1,4 @@
-use Rattle.std.proofs.Common.{◌≡◌, ◌<◌, ◌≤◌, ℕ, true, length, arith}
-use Rattle.std.specs.List.{list_any}
-use Rattle.m17_directory.specs.Outcome.{has_place}
+use Rattle.std.proofs.Common.{◌≤◌, length, arith}
 use Rattle.m17_house.proofs.Places.{places_had}
 use Rattle.m17_house.proofs.choice.choose.Goals as goal
 

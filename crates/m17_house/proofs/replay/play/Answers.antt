@@ -1,4 +1,4 @@
-use Rattle.std.proofs.Common.{◌≡◌, ◌+◌, ◌^◌, ◌<◌, ◌≤◌, ℕ, true, false, length, sym, ◌∙◌, arith}
+use Rattle.std.proofs.Common.{◌≡◌, ◌<◌, true, false, length, sym, ◌∙◌, arith}
 use Rattle.m17_house.specs.SoFar.{IsOneMore}
 use Rattle.m17_house.proofs.Played.{IsPlayed, played_more, played_all}
 use Rattle.m17_house.proofs.replay.play.Goals as goal
@@ -14,15 +14,14 @@ heard_one c =
 pub loop-index-preserved : goal.loop-index-preserved
 loop-index-preserved c =
     let inv = c.loop-index.invariant in
-    let going : c.hear-verdict.new.self.directory.ended ≡ false = sym c.has_ended.ensures ∙ c.if-has_ended.false in
-    (
+    let going : c.hear-verdict.new.self.directory.ended ≡ false = sym c.has_ended.ensures ∙ c.if-has_ended.false in (
       c.hear-verdict.ensures.post,
       c.hear-verdict.ensures.out,
       going,
       played_more c.entries_before_decide.ensures c.ended_where_it_ends.ensures c.later_entries_change_nothing.ensures c.one_entry_more.ensures c.events_carry_their_index.ensures c.later_acts_change_no_verdict.ensures
-      c.args.plan.now c.args.heard.now c.loop-index.index c.index-heard-index.result c.loop-index.run c.hear-verdict.new.self c.loop-index.mouth c.hear-verdict.new.mouth
-      c.loop-index.verdicts.items c.push_reserved.new.self.items c.loop-index.packets.items c.push_reserved-in-loop-index.new.self.items c.hear-verdict.result.0 c.hear-verdict.result.1
-      (omega (arith, c.loop-index-test.true)) c.index-heard-index.is inv.3 (heard_one (goal.at.loop-index-preserved c).After-has_ended) c.push_reserved.ensures.items c.push_reserved-in-loop-index.ensures.items going,
+          c.args.plan.now c.args.heard.now c.loop-index.index c.index-heard-index.result c.loop-index.run c.hear-verdict.new.self c.loop-index.mouth c.hear-verdict.new.mouth
+          c.loop-index.verdicts.items c.push_reserved.new.self.items c.loop-index.packets.items c.push_reserved-in-loop-index.new.self.items c.hear-verdict.result.0 c.hear-verdict.result.1
+          (omega (arith, c.loop-index-test.true)) c.index-heard-index.is inv.3 (heard_one (goal.at.loop-index-preserved c).After-has_ended) c.push_reserved.ensures.items c.push_reserved-in-loop-index.ensures.items going,
       omega (arith, inv.4, c.push_reserved.ensures.capacity),
       omega (arith, inv.5, c.push_reserved-in-loop-index.ensures.capacity),
       omega (arith, inv.6, c.push_reserved.ensures.len),

@@ -1,4 +1,4 @@
-use Rattle.std.proofs.Common.{◌≡◌, subst, List, ℕ}
+use Rattle.std.proofs.Common.{subst, List, ℕ}
 use Rattle.m17_ports.specs.Tallies.{IsTallied}
 use Rattle.m17_port_memory.specs.Peers.{tally_at}
 use Rattle.m17_house.proofs.Tallies.{say_reply}

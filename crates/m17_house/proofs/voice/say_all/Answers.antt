@@ -1,4 +1,4 @@
-use Rattle.std.proofs.Common.{◌≡◌, List, [], ◌∷◌, ◌++◌, length, sym, refl, ap, subst, ◌∙◌, arith, append_assoc}
+use Rattle.std.proofs.Common.{◌≡◌, List, [], ◌∷◌, ◌++◌, sym, refl, ap, subst, ◌∙◌, append_assoc}
 use Rattle.std.specs.Option.{option_to_list}
 use Rattle.std.specs.List.{filter_map}
 use Rattle.std.proofs.lemmas.List.{append-nil}
@@ -16,14 +16,13 @@ loop-item-init c = ([], refl, say_none (λ x. []) c.args.mouth.now (λ x. refl))
 pub loop-item-preserved : goal.loop-item-preserved
 loop-item-preserved c =
     let done : List Item = c.loop-item.invariant.0 in
-    let item : Item = c.in-Some.item in
-    (
+    let item : Item = c.in-Some.item in (
       done ++ item ∷ [],
       c.loop-item.invariant.1 ∙ ap (λ xs. done ++ xs) c.in-Some.ensures.first ∙ sym (append_assoc done (item ∷ []) c.take.new.self),
       say_then (λ x. filter_map (packet_to x c.args.name) done) (λ x. option_to_list (packet_to x c.args.name item)) (λ x. filter_map (packet_to x c.args.name) (done ++ item ∷ []))
-      c.args.mouth.now c.loop-item.mouth c.say_item.new.mouth
-      (λ x. ap (λ xs. filter_map (packet_to x c.args.name) done ++ xs) (sym (single (packet_to x c.args.name) (packet_to x c.args.name item))) ∙ sym (filter_map-append (packet_to x c.args.name) done (item ∷ [])))
-      c.loop-item.invariant.2 c.say_item.ensures,
+          c.args.mouth.now c.loop-item.mouth c.say_item.new.mouth
+          (λ x. ap (λ xs. filter_map (packet_to x c.args.name) done ++ xs) (sym (single (packet_to x c.args.name) (packet_to x c.args.name item))) ∙ sym (filter_map-append (packet_to x c.args.name) done (item ∷ [])))
+          c.loop-item.invariant.2 c.say_item.ensures,
     )
 
 pub returns : goal.returns

@@ -1,4 +1,4 @@
-use Rattle.std.proofs.Common.{◌≡◌, ◌+◌, ◌<◌, ◌≤◌, ℕ, length, slice_get, Option, Some, vec_len, vec_capacity}
+use Rattle.std.proofs.Common.{◌≡◌, ◌+◌, ◌≤◌, ℕ, slice_get, Option, Some, vec_len, vec_capacity}
 use Rattle.m17_module.specs.StandsFor.{Kept}
 use Rattle.m17_house.specs.Carried.{IsNewRoom}
 use Rattle.m17_house.proofs.rooms.Rooms.make.Given as goal

@@ -1,4 +1,4 @@
-use Rattle.std.proofs.Common.{◌≡◌, List, ℕ, sym, subst}
+use Rattle.std.proofs.Common.{List, ℕ, sym, subst}
 use Rattle.m17_house.specs.SoFar.{IsChoice}
 use Rattle.m17_house.proofs.HeardMore.{given_place}
 use Rattle.m17_house.proofs.run.Run.give.Goals as goal

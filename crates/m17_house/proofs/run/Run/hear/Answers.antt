@@ -1,4 +1,4 @@
-use Rattle.std.proofs.Common.{◌≡◌, ◌-◌, ◌^◌, ◌<◌, ℕ, Option, None, IsSome, sym, subst}
+use Rattle.std.proofs.Common.{subst}
 use Rattle.m17_directory.specs.declared.verdict.LinkVerdict.{LinkVerdict}
 use Rattle.m17_directory.specs.declared.verdict.LinkVerdict.TheVariants as link
 use Rattle.m17_house.specs.SoFar.{IsTakenIn}

@@ -1,5 +1,3 @@
-use Rattle.std.proofs.Common.{◌≡◌, ◌<◌, ◌≤◌, ◌*◌, ◌+◌, ℕ, [], length, refl, ap, ◌∙◌, arith}
-use Rattle.m17_house.specs.SoFar.{IsSoFar}
 use Rattle.m17_house.proofs.OneMore.{made_run}
 use Rattle.m17_house.proofs.run.Run.make.Goals as goal
 

@@ -1,4 +1,3 @@
-use Rattle.std.proofs.Common.{◌≡◌, arith}
 use Rattle.m17_house.proofs.HeardMore.{taken_in}
 use Rattle.m17_house.proofs.run.Run.take_in.Goals as goal
 

@@ -1,15 +1,13 @@
-use Rattle.std.proofs.Common.{◌≡◌, ◌-◌, ◌^◌, ◌<◌, ℕ, List, [], ◌∷◌, ◌++◌, length, None, true, refl, sym, subst, arith}
+use Rattle.std.proofs.Common.{◌≡◌, ◌<◌, ℕ, List, [], ◌∷◌, ◌++◌, length, None, true, refl, sym, subst, arith}
 use Rattle.std.specs.List.{filter_map}
 use Rattle.m17_control.specs.declared.event.Event.{Event}
 use Rattle.m17_control.specs.declared.item.Item.{Item}
 use Rattle.m17_control.specs.Modules.{serves}
 use Rattle.m17_directory.specs.declared.dispatch.Dispatch.{Dispatch}
-use Rattle.m17_directory.specs.declared.dispatch.Dispatch.TheVariants.{ToModule, ToDoor}
 use Rattle.m17_directory.specs.Routed.{event_for}
-use Rattle.m17_module.specs.Items.{items_at}
-use Rattle.m17_house.specs.Replay.{module_setup, packet_to}
+use Rattle.m17_house.specs.Replay.{packet_to}
 use Rattle.m17_house.specs.Tallied.{HasSaidMore}
-use Rattle.m17_house.specs.Carried.{HasCarried, IsServed, IsRoomStep, events_of, answer_to}
+use Rattle.m17_house.specs.Carried.{HasCarried, IsServed, events_of, answer_to}
 use Rattle.m17_house.proofs.Lists.{length_filter_map}
 use Rattle.m17_house.proofs.Carries.{carried_event, carried_reply}
 use Rattle.m17_house.proofs.stage.Stage.carry.Goals as goal

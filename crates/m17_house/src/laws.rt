@@ -1,0 +1,19 @@
+//! What the definitions promise of all that may be heard. Each function does nothing: its clause is the law. This
+//! profile.
+ghost use Rattle.m17_house.specs.Laws as law;
+
+use m17_directory::laws as directory_laws;
+
+/// What was heard ends the link where nothing more comes.
+pub fn an_end_ends_it()
+    ensures { law.EndEndsIt }
+{}
+
+/// A plan and what was heard, in bytes, have at most one replay.
+pub fn one_replay()
+    ensures { law.OneReplay }
+{
+    directory_laws::each_entry_says_one_thing();
+    directory_laws::entries_before_decide();
+    directory_laws::ended_where_it_ends();
+}
