@@ -15,7 +15,7 @@ use Rattle.m17_book.specs.declared.record.Record.TheVariants.{Join, Packet}
 use Rattle.m17_book.proofs.Entry.{take_one}
 
 -- the head and one byte more
-head_and_byte : (b : List ℕ) (head : Head) (kind : ℕ) → HasHead b head → kind_of b ≡ kind → 31 ≤ length b
+pub head_and_byte : (b : List ℕ) (head : Head) (kind : ℕ) → HasHead b head → kind_of b ≡ kind → 31 ≤ length b
     → take 31 b ≡ head_bytes kind head.tag head.moment head.member ++ (get_or b 30 0 ∷ [])
 head_and_byte b head kind h is long =
     take_one b 30 (omega arith) ∙ ap (λ xs. xs ++ get_or b 30 0 ∷ [])

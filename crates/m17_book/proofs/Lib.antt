@@ -1,4 +1,5 @@
 pub mod Held
+pub mod Far
 pub mod Sound
 pub mod Values
 pub mod Entry
@@ -8,3 +9,21 @@ pub mod Magics
 pub mod Window
 pub mod NextStep
 pub mod Within
+pub mod EntryWindow
+pub mod Passing
+pub mod Readings
+pub mod WholeTrace
+pub mod Exact
+pub mod Pieces
+pub mod EntryClear
+pub mod OneFlaw
+pub mod Told
+pub mod Readable
+pub mod EntryReads
+pub mod TraceExact
+pub mod WholeBook
+pub mod RecordClear
+pub mod BookExact
+pub mod VerdictReads
+pub mod RecordReads
+pub mod NextRight

@@ -5,7 +5,7 @@ use Rattle.std.specs.Bool.{MatchBool}
 use Rattle.m17_control.specs.Forms.{IsModule}
 use Rattle.m17_book.specs.Limits.{told, SpellsEach}
 use Rattle.m17_book.specs.Ahead.{IsAhead}
-use Rattle.m17_book.specs.Book.{HasBookForm, LacksBookForm, TellsFlaw, BookHeaderFlaw, book_header}
+use Rattle.m17_book.specs.Book.{HasBookForm, StopsBook, TellsFlaw, BookHeaderFlaw, book_header}
 use Rattle.m17_book.specs.Flaws.{RecordFlaw}
 use Rattle.m17_book.specs.Progress.{Progress}
 use Rattle.m17_book.specs.Reading.{HasRead, AnswersNext}
@@ -97,10 +97,10 @@ past_header value bytes held place after left records h start none =
 
 -- what is wrong with the header of a fresh reader
 pub bad_header : (refusal : FormRefusal) (bytes : List ℕ) (place : ℕ) → (refusal ≡ ReadFault) ⊎ TellsFlaw BookHeaderFlaw bytes place refusal
-    → place ≡ 0 → (refusal ≡ ReadFault) ⊎ LacksBookForm bytes refusal
-bad_header refusal bytes place (inl h) start = inl h
-bad_header refusal bytes place (inr h) start =
-    inr (inl (subst (λ (n : ℕ). TellsFlaw BookHeaderFlaw bytes n refusal) start h))
+    → place ≡ 0 → (records : List Record) → records ≡ [] → (refusal ≡ ReadFault) ⊎ StopsBook bytes records refusal
+bad_header refusal bytes place (inl h) start records none = inl h
+bad_header refusal bytes place (inr h) start records none =
+    inr (inl (none, subst (λ (n : ℕ). TellsFlaw BookHeaderFlaw bytes n refusal) start h))
 
 -- what is next after the records that were read
 pub answers : (result : Result (Option Record) FormRefusal) (reader : Progress) (old : List ℕ) (left left' : Option (List ℕ)) (place : ℕ)
@@ -140,4 +140,4 @@ answers (Err refusal) reader old left left' place bytes records begun w (inl h) 
 answers (Err refusal) reader old left left' place bytes records begun w (inr h) =
     let tells = retold RecordFlaw w.rest (length w.front) refusal
     (subst (λ (n : ℕ). TellsFlaw RecordFlaw w.rest n refusal) w.place_is h) in
-    inr (inr (w.letter, records, w.front, w.rest, w.split, w.form, tells))
+    inr (inr (w.letter, w.front, w.rest, w.split, w.form, tells))

@@ -83,6 +83,13 @@ LacksBookForm bytes refusal = TellsFlaw BookHeaderFlaw bytes 0 refusal
     × (bytes ≡ front ++ rest) × HasBookForm front letter records
     × TellsFlaw RecordFlaw rest (length front) refusal)
 
+-- After these records the bytes are refused: in the header, where none was read, or behind the last of them. So a
+-- reader that gives one record after another has given all that stand before what is wrong. This profile.
+abbrev pub StopsBook : List ℕ → List Record → FormRefusal → Type 0
+StopsBook bytes records refusal = ((records ≡ []) × TellsFlaw BookHeaderFlaw bytes 0 refusal)
+    ⊎ ((letter : ℕ) × (front : List ℕ) × (rest : List ℕ) × (bytes ≡ front ++ rest)
+    × HasBookForm front letter records × TellsFlaw RecordFlaw rest (length front) refusal)
+
 -- The bytes are refused as a book: too many bytes come before all other reasons. This profile.
 abbrev pub RefusesBook : List ℕ → FormRefusal → Type 0
 RefusesBook bytes refusal = ((most_bytes < length bytes) × (refusal ≡ Large most_bytes))

@@ -4,7 +4,10 @@ pub mod Records
 pub mod Entries
 pub mod Flaws
 pub mod Book
+pub mod Answers
+pub mod Laws
 pub mod Parsed
 pub mod Steps
+pub mod Walk
 pub mod Progress
 pub mod Reading

@@ -4,7 +4,7 @@ use Rattle.std.specs.Bool.{MatchBool}
 use Rattle.m17_io.specs.Faults.{HasRisen}
 use Rattle.m17_book.specs.Limits.{told}
 use Rattle.m17_book.specs.Ahead.{IsAhead}
-use Rattle.m17_book.specs.Book.{HasBookForm, LacksBookForm}
+use Rattle.m17_book.specs.Book.{HasBookForm, StopsBook}
 use Rattle.m17_book.specs.Progress.{Progress}
 use Rattle.m17_book.specs.declared.record.Record.{Record}
 use Rattle.m17_book.specs.declared.refusal.FormRefusal.{FormRefusal}
@@ -28,7 +28,12 @@ AnswersNext (Ok (Some record_)) reader left bytes records =
 AnswersNext (Ok None) reader left bytes records = HasRead reader left bytes records
     × ((letter : ℕ) × HasBookForm bytes letter records)
 AnswersNext (Err refusal) reader left bytes records =
-    (refusal ≡ ReadFault) ⊎ LacksBookForm bytes refusal
+    (refusal ≡ ReadFault) ⊎ StopsBook bytes records refusal
+
+-- One record more stands behind these. This profile.
+abbrev pub HasNext : List ℕ → List Record → Record → Type 0
+HasNext bytes records next = (letter : ℕ) × (front : List ℕ) × (rest : List ℕ)
+    × (bytes ≡ front ++ rest) × HasBookForm front letter (records ++ next ∷ [])
 
 -- How a call that reads ended, by the count of the source's faults before and after: it rose where the answer is
 -- that the source failed, and else it stands. This profile.

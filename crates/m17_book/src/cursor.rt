@@ -1,7 +1,8 @@
-ghost use Rattle.std.specs.Prelude.{◌≡◌, ◌⊎◌, ℕ, ◌+◌, ◌-◌, ◌^◌, ◌<◌, ◌≤◌, min, List, [], length, take, drop, Option, Some, IfOk, OnOk, OnErr};
+ghost use Rattle.std.specs.Prelude.{◌≡◌, ◌⊎◌, ◌↔◌, IsTrue, ℕ, ◌+◌, ◌-◌, ◌^◌, ◌<◌, ◌≤◌, min, List, [], length, take, drop, Option, Some, IfOk, OnOk, OnErr};
 ghost use Rattle.m17_io.specs.Faults.{HasCause};
 
-use m17_io::Source;
+use crate::form::MOST_BYTES;
+use m17_io::{Input, Sink};
 use m17_values::Failed;
 
 /// How many bytes of the input are held at a time.
@@ -78,8 +79,9 @@ impl Cursor {
     }
 
     // Reads once more from the source, and answers how many bytes came: none only at the end of the input.
-    fn read_more<S: Source>(&mut self, source: &mut S) -> Result<usize, Failed>
-        requires { length (held self.old) < 8192 }
+    fn read_more<S: Input<K>, K: Sink>(&mut self, source: &mut S, out: &K) -> Result<usize, Failed>
+        requires quiet { K.held_back out.now ≡ 0 }
+        requires fits { length (held self.old) < 8192 }
         ensures longer { IfOk result (λ n. length (held self.new) ≡ length (held self.old) + n) }
         ensures more { IfOk result (λ n. (rest : List ℕ) → S.left source.old ≡ Some rest
             → IsMoreOf rest n (held self.old) (held self.new) (S.left source.new)) }
@@ -90,14 +92,19 @@ impl Cursor {
     {
         self.move_to_front();
         let end = self.end;
-        let count = source.read(&mut self.bytes[end..])?;
+        let count = source.read_for(out, &mut self.bytes[end..])?;
         self.end = end + count;
         Ok(count)
     }
 
     /// Reads until as many bytes are held as say what stands first, or all that are left. What is to come of the input
     /// stays the same.
-    pub(crate) fn fill<S: Source>(&mut self, source: &mut S) -> Result<(), Failed>
+    pub(crate) fn fill<S: Input<K>, K: Sink>(
+        &mut self,
+        source: &mut S,
+        out: &K,
+    ) -> Result<(), Failed>
+        requires quiet { K.held_back out.now ≡ 0 }
         ensures kept { (ahead : List ℕ) → IsAhead (held self.old) (S.left source.old) ahead
             → IsAhead (held self.new) (S.left source.new) ahead }
         ensures enough { OnOk result ((97 ≤ length (held self.new))
@@ -110,8 +117,33 @@ impl Cursor {
             if self.held().len() >= WINDOW {
                 return Ok(());
             }
-            if self.read_more(source)? == 0 {
+            if self.read_more(source, out)? == 0 {
                 return Ok(());
+            }
+        }
+    }
+
+    /// Whether the input has more bytes than a trace or a book may have. It goes on to the end of the input, or past that
+    /// many bytes, and holds none of them.
+    pub(crate) fn goes_too_far<S: Input<K>, K: Sink>(
+        &mut self,
+        source: &mut S,
+        out: &K,
+    ) -> Result<bool, Failed>
+        requires quiet { K.held_back out.now ≡ 0 }
+        ensures far { IfOk result (λ far. (ahead : List ℕ)
+            → IsAhead (held self.old) (S.left source.old) ahead
+            → IsTrue far ↔ (67108864 < self.old.place + length ahead)) }
+        ensures cause { HasCause (S.faults source.old) (S.faults source.new) result }
+    {
+        'reads: loop {
+            let count = self.held().len();
+            self.pass(count);
+            if self.place > MOST_BYTES {
+                return Ok(true);
+            }
+            if self.read_more(source, out)? == 0 {
+                return Ok(false);
             }
         }
     }

@@ -6,8 +6,10 @@
 //! What is heard or decided, and whether a book is legal, is left to the crates above.
 #![tactic(auto)]
 
+mod book;
 mod cursor;
 mod form;
+pub mod laws;
 mod parse_entry;
 mod parse_header;
 mod parse_record;
@@ -15,16 +17,23 @@ mod parse_verdict;
 mod reader;
 mod record;
 mod refusal;
+mod settle;
+mod silent;
 mod spell_entry;
 mod spell_record;
 mod steps;
+mod trace;
 
+pub use book::{read_book, read_book_for};
 pub use reader::Reader;
 pub use record::Record;
 pub(crate) use refusal::Flaw;
 pub use refusal::FormRefusal;
 pub use spell_entry::write_entry;
 pub use spell_record::{write_header, write_record};
+pub use trace::{read_trace, read_trace_for};
 
 #[cfg(test)]
 mod tests;
+#[cfg(test)]
+mod whole_tests;

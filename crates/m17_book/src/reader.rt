@@ -1,13 +1,15 @@
-ghost use Rattle.std.specs.Prelude.{◌≡◌, ◌⊎◌, ℕ, List, [], None, Some, Err, true, IfOk, IfErr};
+ghost use Rattle.std.specs.Prelude.{◌≡◌, ◌⊎◌, ℕ, List, [], None, Some, Err, true, IfOk, IfErr, MatchResult};
 ghost use Rattle.m17_book.specs.declared.record.Record.{Record};
 ghost use Rattle.m17_book.specs.declared.refusal.FormRefusal.{FormRefusal};
 ghost use Rattle.m17_book.specs.declared.refusal.FormRefusal.TheVariants.{ReadFault};
-ghost use Rattle.m17_book.specs.Book.{LacksBookForm};
+ghost use Rattle.m17_book.specs.Book.{StopsBook, HasBookForm};
 
 use crate::cursor::Cursor;
+use crate::laws::records_are_clear;
+use crate::silent::Silent;
 use crate::steps::{next_record, pass_header};
 use crate::{FormRefusal, Record};
-use m17_io::Source;
+use m17_io::{Input, Sink, Source};
 use std::marker::Model;
 
 /// Gives the records of a book one by one. It knows no limit on the book's size. This profile.
@@ -27,7 +29,7 @@ impl Model for Reader {
 }
 
 impl Reader {
-    ghost use Rattle.m17_book.specs.Reading.{HasRead, AnswersNext, HasReadCause};
+    ghost use Rattle.m17_book.specs.Reading.{HasRead, AnswersNext, HasNext, HasReadCause};
 
     /// A reader that has read nothing.
     pub fn new() -> Reader
@@ -48,16 +50,53 @@ impl Reader {
         ensures answers { self.old.refusal ≡ None → (bytes : List ℕ) → (records : List Record)
             → HasRead self.old (S.left source.old) bytes records
             → AnswersNext result self.new (S.left source.new) bytes records }
+        ensures each_record { self.old.refusal ≡ None → (bytes : List ℕ)
+            → (records : List Record) → (next : Record)
+            → HasRead self.old (S.left source.old) bytes records → HasNext bytes records next
+            → MatchResult result (λ found. found ≡ Some next) (λ refusal. refusal ≡ ReadFault) }
+        ensures each_end { self.old.refusal ≡ None → (bytes : List ℕ) → (letter : ℕ)
+            → (records : List Record) → HasRead self.old (S.left source.old) bytes records
+            → HasBookForm bytes letter records
+            → MatchResult result (λ found. found ≡ None) (λ refusal. refusal ≡ ReadFault) }
         ensures refused { IfErr result (λ refusal. self.new.refusal ≡ Some refusal) }
         ensures again { (refusal : FormRefusal) → self.old.refusal ≡ Some refusal
             → (result ≡ Err refusal) × (source.new ≡ source.old) }
         ensures cause { self.old.refusal ≡ None
             → HasReadCause (S.faults source.old) (S.faults source.new) result }
     {
+        self.next_for(source, &Silent)
+    }
+
+    /// The same for a command that prints into this sink: its source is read while the sink holds nothing back. This
+    /// profile.
+    pub fn next_for<S: Input<K>, K: Sink>(
+        &mut self,
+        source: &mut S,
+        out: &K,
+    ) -> Result<Option<Record>, FormRefusal>
+        requires quiet { K.held_back out.now ≡ 0 }
+        ensures answers { self.old.refusal ≡ None → (bytes : List ℕ) → (records : List Record)
+            → HasRead self.old (S.left source.old) bytes records
+            → AnswersNext result self.new (S.left source.new) bytes records }
+        ensures each_record { self.old.refusal ≡ None → (bytes : List ℕ)
+            → (records : List Record) → (next : Record)
+            → HasRead self.old (S.left source.old) bytes records → HasNext bytes records next
+            → MatchResult result (λ found. found ≡ Some next) (λ refusal. refusal ≡ ReadFault) }
+        ensures each_end { self.old.refusal ≡ None → (bytes : List ℕ) → (letter : ℕ)
+            → (records : List Record) → HasRead self.old (S.left source.old) bytes records
+            → HasBookForm bytes letter records
+            → MatchResult result (λ found. found ≡ None) (λ refusal. refusal ≡ ReadFault) }
+        ensures refused { IfErr result (λ refusal. self.new.refusal ≡ Some refusal) }
+        ensures again { (refusal : FormRefusal) → self.old.refusal ≡ Some refusal
+            → (result ≡ Err refusal) × (source.new ≡ source.old) }
+        ensures cause { self.old.refusal ≡ None
+            → HasReadCause (S.faults source.old) (S.faults source.new) result }
+    {
+        records_are_clear();
         if let Some(refusal) = self.refusal {
             return Err(refusal);
         }
-        match self.advance(source) {
+        match self.advance(source, out) {
             Ok(next) => Ok(next),
             Err(refusal) => {
                 self.refusal = Some(refusal);
@@ -67,33 +106,39 @@ impl Reader {
     }
 
     // The next record, past the header where it comes first.
-    fn advance<S: Source>(&mut self, source: &mut S) -> Result<Option<Record>, FormRefusal>
+    fn advance<S: Input<K>, K: Sink>(
+        &mut self,
+        source: &mut S,
+        out: &K,
+    ) -> Result<Option<Record>, FormRefusal>
+        requires quiet { K.held_back out.now ≡ 0 }
         ensures answers { (bytes : List ℕ) → (records : List Record)
             → HasRead self.old (S.left source.old) bytes records
             → AnswersNext result self.new (S.left source.new) bytes records }
         ensures cause { HasReadCause (S.faults source.old) (S.faults source.new) result }
     {
-        match self.begin(source) {
-            Ok(()) => next_record(&mut self.cursor, source),
+        match self.begin(source, out) {
+            Ok(()) => next_record(&mut self.cursor, source, out),
             Err(refusal) => Err(refusal),
         }
     }
 
     // Passes the header where that was not done yet.
-    fn begin<S: Source>(&mut self, source: &mut S) -> Result<(), FormRefusal>
+    fn begin<S: Input<K>, K: Sink>(&mut self, source: &mut S, out: &K) -> Result<(), FormRefusal>
+        requires quiet { K.held_back out.now ≡ 0 }
         ensures begun { IfOk result (λ _. self.new.begun ≡ true) }
         ensures passed { IfOk result (λ _. (bytes : List ℕ) → (records : List Record)
             → HasRead self.old (S.left source.old) bytes records
             → HasRead self.new (S.left source.new) bytes records) }
         ensures refused { IfErr result (λ refusal. (bytes : List ℕ) → (records : List Record)
             → HasRead self.old (S.left source.old) bytes records
-            → (refusal ≡ ReadFault) ⊎ LacksBookForm bytes refusal) }
+            → (refusal ≡ ReadFault) ⊎ StopsBook bytes records refusal) }
         ensures cause { HasReadCause (S.faults source.old) (S.faults source.new) result }
     {
         if self.begun {
             return Ok(());
         }
-        match pass_header(&mut self.cursor, source) {
+        match pass_header(&mut self.cursor, source, out) {
             Ok(()) => {
                 self.begun = true;
                 Ok(())

@@ -1,21 +1,26 @@
-ghost use Rattle.std.specs.Prelude.{◌≡◌, ℕ, ◌≤◌, ◌+◌, ◌<◌, List, Ok, IfOk};
+ghost use Rattle.std.specs.Prelude.{◌≡◌, ◌⊎◌, ℕ, ◌≤◌, ◌+◌, ◌<◌, List, length, Option, IsSome, Ok, IfOk, IfErr, OnErr};
 ghost use Rattle.m17_book.specs.Ahead.{held, IsAhead};
+ghost use Rattle.m17_book.specs.Answers.{IsOutside};
 ghost use Rattle.m17_book.specs.Flaws.{RecordFlaw};
 ghost use Rattle.m17_book.specs.Limits.{told};
 ghost use Rattle.m17_book.specs.Reading.{HasReadCause};
 ghost use Rattle.m17_book.specs.Records.{SpellsRecord};
 ghost use Rattle.m17_book.specs.Steps.{tell, IsNext, PassesHeader};
+ghost use Rattle.m17_book.specs.Walk.{spot, IsAt, PassesMagic, TakesEntry};
 
 use crate::cursor::Cursor;
-use crate::form::HEADER_BYTES;
-use crate::parse_header::parse_book_header;
+use crate::form::{HEADER_BYTES, MAGIC_BYTES, TRACE_MAGIC};
+use crate::parse_entry::parse_entry;
+use crate::parse_header::{parse_book_header, parse_magic};
 use crate::parse_record::parse_record;
 use crate::{Flaw, FormRefusal, Record};
-use m17_io::Source;
+use m17_io::{Input, Sink};
+use m17_values::Heard;
 
 /// What is said of a flaw of the bytes at a place, of which so many are there.
 fn refusal_of(flaw: Flaw, place: u64, len: usize) -> FormRefusal
-    ensures { result ≡ tell flaw place len }
+    ensures told { result ≡ tell flaw place len }
+    ensures inside { IsOutside result → ⊥ }
 {
     match flaw {
         Flaw::Cut => FormRefusal::Cut {
@@ -29,13 +34,22 @@ fn refusal_of(flaw: Flaw, place: u64, len: usize) -> FormRefusal
 }
 
 /// Passes the header of a book.
-pub(crate) fn pass_header<S: Source>(cursor: &mut Cursor, source: &mut S) -> Result<(), FormRefusal>
+pub(crate) fn pass_header<S: Input<K>, K: Sink>(
+    cursor: &mut Cursor,
+    source: &mut S,
+    out: &K,
+) -> Result<(), FormRefusal>
+    requires quiet { K.held_back out.now ≡ 0 }
     ensures header { (ahead : List ℕ) → IsAhead (held cursor.old) (S.left source.old) ahead
         → PassesHeader result ahead cursor.old.place
         (held cursor.new) (S.left source.new) cursor.new.place }
+    ensures kept { OnErr result ((ahead : List ℕ)
+        → IsAhead (held cursor.old) (S.left source.old) ahead
+        → IsAhead (held cursor.new) (S.left source.new) ahead) }
+    ensures place { OnErr result (cursor.new.place ≡ cursor.old.place) }
     ensures cause { HasReadCause (S.faults source.old) (S.faults source.new) result }
 {
-    let Ok(()) = cursor.fill(source) else {
+    let Ok(()) = cursor.fill(source, out) else {
         return Err(FormRefusal::ReadFault);
     };
     let held = cursor.held();
@@ -49,16 +63,24 @@ pub(crate) fn pass_header<S: Source>(cursor: &mut Cursor, source: &mut S) -> Res
 }
 
 /// The next record; none at the end of the input.
-pub(crate) fn next_record<S: Source>(
+pub(crate) fn next_record<S: Input<K>, K: Sink>(
     cursor: &mut Cursor,
     source: &mut S,
+    out: &K,
 ) -> Result<Option<Record>, FormRefusal>
+    requires quiet { K.held_back out.now ≡ 0 }
     ensures next { (ahead : List ℕ) → IsAhead (held cursor.old) (S.left source.old) ahead
         → IsNext SpellsRecord RecordFlaw result ahead cursor.old.place
         (held cursor.new) (S.left source.new) cursor.new.place }
+    ensures kept { OnErr result ((ahead : List ℕ)
+        → IsAhead (held cursor.old) (S.left source.old) ahead
+        → IsAhead (held cursor.new) (S.left source.new) ahead) }
+    ensures place { OnErr result (cursor.new.place ≡ cursor.old.place) }
+    ensures goes_on { IfOk result (λ next. IsSome next
+        → told (cursor.old.place + 1) ≤ cursor.new.place) }
     ensures cause { HasReadCause (S.faults source.old) (S.faults source.new) result }
 {
-    let Ok(()) = cursor.fill(source) else {
+    let Ok(()) = cursor.fill(source, out) else {
         return Err(FormRefusal::ReadFault);
     };
     let held = cursor.held();
@@ -69,6 +91,49 @@ pub(crate) fn next_record<S: Source>(
         Ok((record, size)) => {
             cursor.pass(size);
             Ok(Some(record))
+        }
+        Err(flaw) => Err(refusal_of(flaw, cursor.place(), held.len())),
+    }
+}
+
+/// Passes the magic of a trace.
+pub(crate) fn pass_magic<S: Input<K>, K: Sink>(
+    cursor: &mut Cursor,
+    source: &mut S,
+    out: &K,
+) -> Result<(), FormRefusal>
+    requires quiet { K.held_back out.now ≡ 0 }
+    ensures magic { (ahead : List ℕ) → IsAt (spot cursor.old (S.left source.old)) ahead
+        → PassesMagic result cursor.old.place ahead (spot cursor.new (S.left source.new)) }
+    ensures cause { HasReadCause (S.faults source.old) (S.faults source.new) result }
+{
+    let Ok(()) = cursor.fill(source, out) else {
+        return Err(FormRefusal::ReadFault);
+    };
+    let held = cursor.held();
+    match parse_magic(&TRACE_MAGIC, held) {
+        Ok(()) => {
+            cursor.pass(MAGIC_BYTES);
+            Ok(())
+        }
+        Err(flaw) => Err(refusal_of(flaw, cursor.place(), held.len())),
+    }
+}
+
+/// The entry that the held bytes begin with, where these are 97 at least or all that are to come.
+pub(crate) fn take_entry(cursor: &mut Cursor) -> Result<Heard, FormRefusal>
+    requires { 0 < length (held cursor.old) }
+    ensures entry { (ahead : List ℕ) → (left : Option (List ℕ)) → IsAt (spot cursor.old left) ahead
+        → (97 ≤ length (held cursor.old)) ⊎ (ahead ≡ held cursor.old)
+        → TakesEntry result cursor.old.place ahead (spot cursor.new left) }
+    ensures kept { OnErr result (cursor.new ≡ cursor.old) }
+    ensures inside { IfErr result (λ refusal. IsOutside refusal → ⊥) }
+{
+    let held = cursor.held();
+    match parse_entry(held) {
+        Ok((entry, size)) => {
+            cursor.pass(size);
+            Ok(entry)
         }
         Err(flaw) => Err(refusal_of(flaw, cursor.place(), held.len())),
     }

@@ -32,7 +32,7 @@ joined_none (Notice.Quiet at) = refl
 joined_none Notice.Fault = refl
 joined_none Notice.End = refl
 
-flat_more : {X : Type 0} (f : ℕ → List X) (n : ℕ) → flat_map f (range_with_len 0 (suc n)) ≡ flat_map f (range_with_len 0 n) ++ f n
+pub flat_more : {X : Type 0} (f : ℕ → List X) (n : ℕ) → flat_map f (range_with_len 0 (suc n)) ≡ flat_map f (range_with_len 0 n) ++ f n
 flat_more f n =
     let at : 0 + n ≡ n = omega arith in
     ap (flat_map f) (range_more 0 n)

@@ -55,7 +55,7 @@ module _ (letter : ℕ) (p : ℕ → Bool) (event : Event) where
         | inr other ↦ skipped_if (p from) from rest (event ∷ []) (ne_eqb from letter other) (only_one (from + 1) n passes (omega arith) (omega arith))
       ]
 
-served_letter : (m : Modules) (letter : ℕ) → serves m letter ≡ true → (65 ≤ letter) × (letter ≤ 90)
+pub served_letter : (m : Modules) (letter : ℕ) → serves m letter ≡ true → (65 ≤ letter) × (letter ≤ 90)
 unfolding serves
 served_letter m letter e =
     let first = and_parts (leb 65 letter && leb letter 90) _ e in

@@ -4,10 +4,10 @@ pub mod Filters
 pub mod Heard
 pub mod Kept
 pub mod Later
+pub mod LawAll
 pub mod LawAskers
 pub mod LawCounts
 pub mod LawEnds
-pub mod LawWho
 pub mod LawJoins
 pub mod LawLeaves
 pub mod LawMore
@@ -17,6 +17,7 @@ pub mod LawRouted
 pub mod LawSays
 pub mod LawSent
 pub mod LawStops
+pub mod LawWho
 pub mod Named
 pub mod Peers
 pub mod Rows

@@ -1,5 +1,5 @@
 -- What follows from the definitions for all that a link may hear. This profile.
-use Rattle.std.specs.Prelude.{◌≡◌, ◌==◌, ◌&&◌, not, ℕ, suc, ◌+◌, ◌<◌, Bool, true, false, List, [], ◌∷◌, ◌++◌, ◌≤◌, length, map, filter, count_by, take, is_some, Option, None, Some, if◌then◌else◌}
+use Rattle.std.specs.Prelude.{◌≡◌, ◌==◌, ◌&&◌, not, ℕ, suc, ◌+◌, ◌<◌, Bool, true, false, List, [], ◌∷◌, ◌++◌, ◌≤◌, length, map, filter, count_by, sum_by, take, is_some, Option, None, Some, if◌then◌else◌}
 use Rattle.std.specs.List.{filter_map, flat_map, range_with_len, AllByRecursion}
 use Rattle.m17_values.specs.declared.heard.Heard.{Heard}
 use Rattle.m17_values.specs.declared.heard.Heard.TheVariants as heard
@@ -9,7 +9,7 @@ use Rattle.m17_fields.specs.Fields.{IsBytes}
 use Rattle.m17_control.specs.declared.event.Body.{Body}
 use Rattle.m17_control.specs.declared.event.Body.TheVariants.{Join, Leave, Packet, Stop}
 use Rattle.m17_control.specs.declared.event.Event.{Event}
-use Rattle.m17_control.specs.Modules.{serves}
+use Rattle.m17_control.specs.Modules.{serves, letters_of}
 use Rattle.m17_directory.specs.declared.dispatch.Dispatch.{Dispatch}
 use Rattle.m17_directory.specs.declared.dispatch.Dispatch.TheVariants.{ToModule, ToDoor}
 use Rattle.m17_directory.specs.declared.known.Departed.{Departed}
@@ -222,6 +222,28 @@ JoinsAreTheClaims =
     (setup : Setup) (entries : List Entry) (letter : ℕ) →
     filter (λ event. is_join event.body) (routed setup entries letter)
     ≡ flat_map (joins_at setup entries letter) (range_with_len 0 (length entries))
+
+-- The Joins of all entries that ask for a place and have a claim, in order. This profile.
+abbrev pub join_by : Here → Notice → Option Request → Option Claim → List Event
+join_by here (Notice.Sent from at p) (Some request) (Some claim) =
+    join_event here from request claim ∷ []
+join_by here _ _ _ = []
+
+unfoldable pub all_joins : Setup → List Entry → List Event
+all_joins setup entries = flat_map
+    (λ n. if asks_at (past_at setup entries n)
+    then join_by (here_of (past_at setup entries n)) (notice_at entries n)
+    (request_in (notice_at entries n)) (claim_at entries n) else [])
+    (range_with_len 0 (length entries))
+
+-- The Joins for all served modules together are these, each as often. This profile.
+abbrev pub JoinsOfAllModules : Type 0
+JoinsOfAllModules =
+    (setup : Setup) (entries : List Entry) (test : Event → Bool) →
+    sum_by (λ letter. count_by test
+    (filter (λ event. is_join event.body) (routed setup entries letter)))
+    (letters_of setup.modules)
+    ≡ count_by test (all_joins setup entries)
 
 -- Where a link has ended nobody is known. This profile.
 abbrev pub NobodyIsKnownBehindTheEnd : Type 0

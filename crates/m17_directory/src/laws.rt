@@ -61,14 +61,14 @@ pub fn each_entry_says_one_thing()
     m17_control::laws::decoding_is_exact();
 }
 
-/// The packets for a module are those of the entries whose verdicts say so, in order, each entry once; so no two packets
-/// of one link have one index.
+/// The packets for a module are those of the entries whose verdicts say so, in order, each entry once; so no two
+/// packets of one link have one index.
 pub fn packets_are_of_entries()
     ensures { law.PacketsAreOfEntries }
 {}
 
-/// An entry's verdict is `Full` exactly where it asks for a place and has no claim, and `Routed` as a Join exactly where
-/// it asks and has one.
+/// An entry's verdict is `Full` exactly where it asks for a place and has no claim, and `Routed` as a Join exactly
+/// where it asks and has one.
 pub fn askers_join_or_are_full()
     ensures { law.AskersJoinOrAreFull }
 {}
@@ -81,6 +81,11 @@ pub fn askers_ask_for_served_modules()
 /// The Joins for a module are those of the entries that asked for it and have a claim, in order, each entry once.
 pub fn joins_are_the_claims()
     ensures { law.JoinsAreTheClaims }
+{}
+
+/// The Joins for all served modules together are those of the entries that ask for a place and have a claim, each once.
+pub fn joins_of_all_modules()
+    ensures { law.JoinsOfAllModules }
 {}
 
 /// Where a link has ended nobody is known.

@@ -206,11 +206,11 @@ struct Line {
     seen: Seen,
 }
 
-fn becomes(heard: Heard, claimed: Option<Member>, verdict: LinkVerdict, seen: Seen) -> Line {
+fn becomes(heard: Heard, claimed: Option<Member>, verdict: &LinkVerdict, seen: Seen) -> Line {
     Line {
         heard,
         claimed,
-        verdict,
+        verdict: *verdict,
         seen,
     }
 }
@@ -264,13 +264,13 @@ fn joins(rt: &impl Abort, host: u8, place: u32) -> Line {
     becomes(
         heard,
         Some(member(place, 0)),
-        routed(rt, b'A', Act::Join),
+        &routed(rt, b'A', Act::Join),
         JOIN,
     )
 }
 
 fn quiet(at: u64, seen: Seen) -> Line {
-    becomes(Heard::Quiet { at }, None, LinkVerdict::Timed, seen)
+    becomes(Heard::Quiet { at }, None, &LinkVerdict::Timed, seen)
 }
 
 #[test]
@@ -288,26 +288,26 @@ fn an_evening_of_two_peers(rt: HostRuntime) -> Result<(), Fail> {
     let two = Some(member(1, 0));
     let lines = [
         joins(&rt, 1, 0),
-        becomes(voice(&p1, 40, 0x1234, 0), None, frame, framed),
+        becomes(voice(&p1, 40, 0x1234, 0), None, &frame, framed),
         becomes(
             lstn(&rt, &p2, 50, b'A'),
             two,
-            routed(&rt, b'A', Act::Join),
+            &routed(&rt, b'A', Act::Join),
             JOIN,
         ),
-        becomes(voice(&p1, 80, 0x1234, 1), None, frame, framed),
-        becomes(voice(&p1, 120, 0x1234, 2), None, frame, framed),
+        becomes(voice(&p1, 80, 0x1234, 1), None, &frame, framed),
+        becomes(voice(&p1, 120, 0x1234, 2), None, &frame, framed),
         becomes(
             said(&p2, 130, &disc),
             None,
-            routed(&rt, b'A', Act::Leave),
+            &routed(&rt, b'A', Act::Leave),
             LEAVE,
         ),
-        becomes(voice(&p1, 160, 0x1234, 3), None, frame, framed),
+        becomes(voice(&p1, 160, 0x1234, 3), None, &frame, framed),
         becomes(
             Heard::End,
             None,
-            LinkVerdict::Ended,
+            &LinkVerdict::Ended,
             Seen { stops: 3, ..LEAVE },
         ),
     ];
@@ -331,28 +331,33 @@ fn strangers_and_unserved_modules(rt: HostRuntime) -> Result<(), Fail> {
     let join = routed(&rt, b'A', Act::Join);
     let frame = routed(&rt, b'A', Act::Packet);
     let lines = [
-        becomes(lstn(&rt, &p2, 0, b'A'), Some(member(0, 0)), join, JOIN),
-        becomes(voice(&p2, 0, 1, 0), None, frame, FRAME),
-        becomes(voice(&p3, 0, 2, 0), None, LinkVerdict::NotConnected, QUIET),
-        becomes(conn(&rt, &p3, 0, b'D'), None, unserved, NACK),
-        becomes(conn(&rt, &p2, 0, b'D'), None, unserved, NACK),
-        becomes(said(&p3, 0, &short), None, LinkVerdict::NotConnected, QUIET),
+        becomes(lstn(&rt, &p2, 0, b'A'), Some(member(0, 0)), &join, JOIN),
+        becomes(voice(&p2, 0, 1, 0), None, &frame, FRAME),
+        becomes(voice(&p3, 0, 2, 0), None, &LinkVerdict::NotConnected, QUIET),
+        becomes(conn(&rt, &p3, 0, b'D'), None, &unserved, NACK),
+        becomes(conn(&rt, &p2, 0, b'D'), None, &unserved, NACK),
+        becomes(
+            said(&p3, 0, &short),
+            None,
+            &LinkVerdict::NotConnected,
+            QUIET,
+        ),
         becomes(
             said(&p3, 0, &long),
             None,
-            LinkVerdict::NotConnected,
+            &LinkVerdict::NotConnected,
             Seen { discs: 1, ..QUIET },
         ),
         becomes(
             said(&p3, 0, &Control::Nack),
             None,
-            LinkVerdict::Stray,
+            &LinkVerdict::Stray,
             QUIET,
         ),
         becomes(
             said(&p2, 0, &short),
             None,
-            routed(&rt, b'A', Act::Leave),
+            &routed(&rt, b'A', Act::Leave),
             LEAVE,
         ),
     ];
@@ -372,19 +377,19 @@ fn a_place_is_given_again(rt: HostRuntime) -> Result<(), Fail> {
     let lines = [
         joins(&rt, 1, 0),
         joins(&rt, 2, 1),
-        becomes(conn(&rt, &p3, 0, b'A'), None, LinkVerdict::Full, NACK),
+        becomes(conn(&rt, &p3, 0, b'A'), None, &LinkVerdict::Full, NACK),
         becomes(
             said(&peer(1), 0, &disc),
             None,
-            routed(&rt, b'A', Act::Leave),
+            &routed(&rt, b'A', Act::Leave),
             LEAVE,
         ),
-        becomes(conn(&rt, &p3, 0, b'A'), again, join, JOIN),
-        becomes(conn(&rt, &p3, 10, b'B'), Some(member(0, 2)), join_b, moved),
+        becomes(conn(&rt, &p3, 0, b'A'), again, &join, JOIN),
+        becomes(conn(&rt, &p3, 10, b'B'), Some(member(0, 2)), &join_b, moved),
         becomes(
             conn(&rt, &p3, 15, b'B'),
             None,
-            routed(&rt, b'B', Act::Again),
+            &routed(&rt, b'B', Act::Again),
             Seen {
                 replies: 1,
                 ..QUIET
@@ -393,7 +398,7 @@ fn a_place_is_given_again(rt: HostRuntime) -> Result<(), Fail> {
         becomes(
             conn(&rt, &peer(1), 15, b'A'),
             Some(member(1, 1)),
-            join,
+            &join,
             moved,
         ),
     ];
@@ -418,7 +423,7 @@ fn three_silent_peers_leave_at_once(rt: HostRuntime) -> Result<(), Fail> {
         joins(&rt, 1, 0),
         joins(&rt, 2, 1),
         joins(&rt, 3, 2),
-        becomes(garbled, None, refused, TICKS),
+        becomes(garbled, None, &refused, TICKS),
         quiet(19, QUIET),
         quiet(29_999, TICKS),
         quiet(100, QUIET),
@@ -466,7 +471,7 @@ fn peers_leave_in_order_of_families(rt: HostRuntime) -> Result<(), Fail> {
     far.six = true;
     let join = routed(&rt, b'A', Act::Join);
     let lines = [
-        becomes(conn(&rt, &far, 0, b'A'), Some(member(0, 0)), join, JOIN),
+        becomes(conn(&rt, &far, 0, b'A'), Some(member(0, 0)), &join, JOIN),
         joins(&rt, 9, 1),
         joins(&rt, 4, 2),
     ];

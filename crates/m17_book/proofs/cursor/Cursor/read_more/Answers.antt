@@ -8,5 +8,5 @@ returns-clause-more g c = λ rest told.
     let reader = c.move_to_front.new.self in
     let within : reader.end ≤ length reader.bytes = omega arith in
     let room : 0 < length (take (8192 - reader.end) (drop reader.end reader.bytes)) = omega (arith, length-take {A = ℕ}, length-drop {A = ℕ}) in
-    let fits : c.in_ok-count.count ≤ length c.read.new.into = search rules in
-    more_held reader.bytes c.read.new.into rest _ _ reader.start reader.end _ c.in_ok-count.count _ reader.ordered within fits c.move_to_front.ensures.held room (c.in_ok-count.ensures.taken rest told)
+    let fits : c.in_ok-count.count ≤ length c.read_for.new.into = search rules in
+    more_held reader.bytes c.read_for.new.into rest _ _ reader.start reader.end _ c.in_ok-count.count _ reader.ordered within fits c.move_to_front.ensures.held room (c.in_ok-count.ensures.taken rest told)

@@ -1,0 +1,101 @@
+#!/usr/bin/env python3
+"""Tests of the reference on drawn cases: the rules looked up in whole lists say the same.
+
+    python3 conformance/test_definitions.py
+"""
+
+import collections
+import unittest
+
+import definitions
+import generate
+import reference
+from files import InputRefused, read_book, read_trace
+from packets import decode, number
+
+
+def output(words, data):
+    """The lines of the reference."""
+    return reference.run(words, lambda: data)[1].decode().split("\n")[:-1]
+
+
+class WholeLists(unittest.TestCase):
+    """`reflector.py` keeps a small state; `definitions.py` looks everything up in the whole list."""
+
+    def agree(self, kind, index):
+        words, data = generate.case(kind, 5, index)
+        try:
+            entries = read_trace(data)[: 90 if kind == "replay-parrot" else 40]
+        except InputRefused:
+            return
+        names = ("call", "modules", "parrots", "places")
+        options, _ = reference.read_words([word.decode() for word in words[1:]], names, ("summary",), 0)
+        plan = reference.read_plan(options)
+        house = definitions.House(plan, entries)
+        tallies = collections.Counter()
+        heard, is_lost = reference.reflect(plan, entries, lambda peer, datagram: tallies.update([(peer, datagram)]))
+        self.assertEqual([text for _, text in heard], house.replay_lines())
+        self.assertEqual(tallies, house.said())
+        self.assertEqual(is_lost, house.is_lost)
+
+    def test_evenings(self):
+        for kind in generate.selected(["replay"]):
+            for index in range(1 if kind == "replay-many" else 12):
+                if kind != "replay-parrot-full":
+                    with self.subTest(kind=kind, index=index):
+                        self.agree(kind, index)
+
+
+    def test_books(self):
+        for kind in ("check-legal", "check-broken"):
+            for index in range(40):
+                words, data = generate.case(kind, 5, index)
+                found = definitions.breach(read_book(data))
+                text = "input refused at %d: %s" % found if found else "legal"
+                self.assertTrue(output(words, data)[0].startswith(text), (kind, index, text))
+
+    def test_judge(self):
+        for kind in ("judge-calm", "judge-sharp", "judge-wild"):
+            for index in range(10):
+                words, data = generate.case(kind, 5, index)
+                data = data[: 64 * 70]
+                records = [data[at : at + 64] for at in range(0, len(data), 64)]
+                read = [(number(r[:8]), number(r[8:10]), decode(r[10:])) for r in records]
+                lines = [self.judge_line(*judged) for judged in zip(definitions.judged(read), read)]
+                self.assertEqual(output(words, data), ["%d %s" % numbered for numbered in enumerate(lines)])
+
+    def judge_line(self, verdict, record):
+        if verdict is None:
+            return "refused " + record[2].reason
+        word, value = verdict
+        if word == "busy":
+            value = value.place
+        return word if value is None else "%s %d" % (word, value)
+
+
+class Generator(unittest.TestCase):
+    def test_a_case_is_the_same_each_time(self):
+        for kind in generate.KINDS:
+            self.assertEqual(generate.case(kind, 1, 2), generate.case(kind, 1, 2))
+
+    def test_all_words_and_reasons_come(self):
+        """Each line that a command can print, but for those at the limits of size, comes in some case."""
+        words = collections.Counter()
+        for kind in generate.KINDS:
+            for index in range(40):
+                _, out = reference.run(*self.with_input(generate.case(kind, 1, index)))
+                for line in out.split(b"\n") if not kind.startswith("make") else ():
+                    words.update(line.split(b" "))
+        wanted = set(reference.COUNTED) - {"not-member"}
+        wanted |= {"cut", "kind", "field", "moment", "member", "verdict", "odd", "digit", "long"}
+        wanted |= {"conn", "lstn", "ackn", "nack", "ping", "disc", "stream", "broadcast", "legal", "lost", "words"}
+        wanted |= {"length", "magic", "address", "module", "crc", "packet", "voice", "data", "both", "reserved"}
+        self.assertEqual([word for word in sorted(wanted) if not words[word.encode()]], [])
+
+    def with_input(self, case):
+        words, data = case
+        return words, lambda: data
+
+
+if __name__ == "__main__":
+    unittest.main()

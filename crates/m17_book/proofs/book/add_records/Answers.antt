@@ -1,0 +1,35 @@
+use Rattle.std.proofs.Common.{ℕ, rules, arith}
+use Rattle.m17_book.specs.Records.{SpellsRecord}
+use Rattle.m17_book.specs.Walk.{spot, WrongRecord}
+use Rattle.m17_book.proofs.Passing.{first_passed, added, ended, stopped}
+use Rattle.m17_book.proofs.book.add_records.Goals as goal
+
+pub records-init : goal.records-init
+records-init g c = record {
+  passed = λ ahead is. first_passed SpellsRecord (spot c.args.cursor.now (g.S.Input.left c.args.source.now)) ahead c.args.records.now.items c.requires.fits is;
+  sound = search rules;
+}
+
+pub records-preserved : goal.records-preserved
+records-preserved g c = record {
+  passed = λ ahead is.
+      let before = c.records.invariant.passed ahead is in
+      added SpellsRecord WrongRecord c.args.cursor.now.place ahead c.records.records.items c.add_record.new.records.items
+      (spot c.records.cursor (g.S.Input.left c.records.source)) (spot c.add_record.new.cursor (g.S.Input.left c.add_record.new.source)) before
+      c.in-Ok-true.field-0 c.in-Ok-true.field-0-test (c.in-Ok-true.ensures.read before.rest before.rest_is);
+  sound = search rules;
+}
+
+pub returns-in-Ok-false-clause-read : goal.returns-in-Ok-false-clause-read
+returns-in-Ok-false-clause-read g c = λ ahead is.
+    let before = c.records.invariant.passed ahead is in
+    ended SpellsRecord WrongRecord c.args.cursor.now.place ahead c.records.records.items c.add_record.new.records.items
+    (spot c.records.cursor (g.S.Input.left c.records.source)) (spot c.add_record.new.cursor (g.S.Input.left c.add_record.new.source)) before
+    ℕ 0 c.in-Ok-false.field-0 c.in-Ok-false.field-0-test (omega arith) (c.in-Ok-false.ensures.read before.rest before.rest_is)
+
+pub returns-in-Err-clause-read : goal.returns-in-Err-clause-read
+returns-in-Err-clause-read g c = λ ahead is.
+    let before = c.records.invariant.passed ahead is in
+    stopped SpellsRecord WrongRecord c.args.cursor.now.place ahead c.records.records.items c.add_record.new.records.items
+    (spot c.records.cursor (g.S.Input.left c.records.source)) (spot c.add_record.new.cursor (g.S.Input.left c.add_record.new.source)) before
+    ℕ c.in-Err.refusal (omega arith) (c.in-Err.ensures.read before.rest before.rest_is)

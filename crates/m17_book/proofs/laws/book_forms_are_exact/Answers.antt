@@ -1,0 +1,16 @@
+use Rattle.m17_book.proofs.BookExact.{book_forms_are_exact}
+use Rattle.m17_book.proofs.OneFlaw.{one_record_flaw}
+use Rattle.m17_book.proofs.RecordClear.{FieldLaws, clear}
+use Rattle.m17_book.proofs.RecordReads.{reads_record}
+use Rattle.m17_book.proofs.laws.book_forms_are_exact.Goals as goal
+
+pub returns : goal.returns
+returns c =
+    let law : FieldLaws = record {
+      of_16 = c.fields_of_16_bits_are_exact.ensures;
+      of_32 = c.fields_of_32_bits_are_exact.ensures;
+      of_48 = c.fields_of_48_bits_are_exact.ensures;
+      of_64 = c.fields_of_64_bits_are_exact.ensures;
+      stream = c.one_spelling.ensures;
+    } in
+    book_forms_are_exact (clear law one_record_flaw) (reads_record c.reading_is_exact.ensures law)

@@ -1,0 +1,16 @@
+use Rattle.std.proofs.Common.{◌≡◌, ℕ, ◌-◌, ◌≤◌, List, length}
+use Rattle.m17_book.specs.Entries.{SpellsEntry}
+use Rattle.m17_book.specs.Walk.{spot, IsAt, HasPassed}
+use Rattle.m17_book.proofs.trace.add_entries.Given as goal
+
+-- the entries so far were passed, and the source has not failed
+abbrev pub invariant-entries : goal.invariant-entries
+invariant-entries g l = record {
+  passed : (ahead : List ℕ) → IsAt (spot l.fn.cursor (g.S.Input.left l.fn.source)) ahead
+      → HasPassed SpellsEntry l.fn.cursor.place ahead l.heard.items (spot l.cursor (g.S.Input.left l.source));
+  few : length l.heard.items ≤ 1000000;
+  sound : g.S.Input.faults l.source ≡ g.S.Input.faults l.fn.source;
+}
+
+abbrev pub decreases-entries : goal.decreases-entries
+decreases-entries g l = 1000001 - length l.heard.items

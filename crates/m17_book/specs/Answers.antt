@@ -1,0 +1,19 @@
+-- What readers of whole inputs answer where the bytes do not decide. This profile.
+use Rattle.std.specs.Prelude.{ℕ, List}
+use Rattle.m17_book.specs.Book.{IsBook}
+use Rattle.m17_book.specs.declared.record.Record.{Record}
+use Rattle.m17_book.specs.declared.refusal.FormRefusal.{FormRefusal}
+use Rattle.m17_book.specs.declared.refusal.FormRefusal.TheVariants.{Cut, Kind, Field, Large, ReadFault, NoMemory}
+
+-- The answers that the bytes do not decide: the source failed, or memory lacked. This profile.
+abbrev pub IsOutside : FormRefusal → Type 0
+IsOutside (Cut at) = ⊥
+IsOutside (Kind at byte) = ⊥
+IsOutside (Field at) = ⊥
+IsOutside (Large at) = ⊥
+IsOutside ReadFault = Unit {0}
+IsOutside NoMemory = Unit {0}
+
+-- the bytes are a book with these records, of some module
+abbrev pub IsBookOf : List ℕ → List Record → Type 0
+IsBookOf bytes records = (letter : ℕ) × IsBook bytes letter records

@@ -1,0 +1,81 @@
+ghost use Rattle.std.specs.Prelude.{◌≡◌, ◌↔◌, ◌<◌, ℕ, Bool, true, ◌+◌, ◌∷◌, [], ◌++◌, List, length, Result, Err, IsOk, IsErr, IsTrue, IfOk, OnOk, OnErr, IfErr};
+ghost use Rattle.m17_io.specs.Faults.{HasCause};
+ghost use Rattle.m17_book.specs.Ahead.{held, IsAhead};
+ghost use Rattle.m17_book.specs.Answers.{IsOutside};
+ghost use Rattle.m17_book.specs.Limits.{told, most_bytes};
+ghost use Rattle.m17_book.specs.Reading.{HasReadCause};
+ghost use Rattle.m17_book.specs.Walk.{IsCutAt, IsSettled};
+ghost use Rattle.m17_book.specs.declared.refusal.FormRefusal.{FormRefusal};
+ghost use Rattle.m17_book.specs.declared.refusal.FormRefusal.TheVariants.{NoMemory, ReadFault};
+
+use crate::FormRefusal;
+use crate::cursor::Cursor;
+use crate::form::MOST_BYTES;
+use m17_io::{Input, Sink};
+use m17_values::Failed;
+
+/// Adds a value at the end of the list.
+#[inline]
+pub(crate) fn add_to<T: Drop>(list: &mut Vec<T>, value: T) -> Result<(), FormRefusal>
+    ensures added { OnOk result (list.new.items ≡ list.old.items ++ value ∷ []) }
+    ensures no_memory { IfErr result (λ refusal. refusal ≡ NoMemory) }
+    ensures kept { OnErr result (list.new.items ≡ list.old.items) }
+{
+    match list.push(value) {
+        Ok(()) => Ok(()),
+        Err(_) => Err(FormRefusal::NoMemory),
+    }
+}
+
+/// The list that was read, or why it was not. A refusal of the bytes gives way to the one that there are too many of
+/// them, so the input is gone through to its end, or past the bound.
+pub(crate) fn finish<T: Drop, S: Input<K>, K: Sink>(
+    read: Result<(), FormRefusal>,
+    list: Vec<T>,
+    cursor: &mut Cursor,
+    source: &mut S,
+    out: &K,
+) -> Result<Vec<T>, FormRefusal>
+    requires quiet { K.held_back out.now ≡ 0 }
+    ensures ok { IfOk result (λ found. IsOk read × (found.items ≡ list.items)
+        × (source.new ≡ source.old)) }
+    ensures err { OnErr result (IsErr read) }
+    ensures outside { IfErr read (λ found. IsOutside found → IfErr result IsOutside) }
+    ensures settled { IfErr read (λ found. (total : ℕ) → (ahead : List ℕ)
+        → IsAhead (held cursor.old) (S.left source.old) ahead
+        → told total ≡ told (cursor.old.place + length ahead) → IsCutAt total found
+        → IfErr result (IsSettled total found)) }
+    ensures cause { (before : ℕ) → HasReadCause before (S.faults source.old) read
+        → HasReadCause before (S.faults source.new) result }
+{
+    match read {
+        Ok(()) => Ok(list),
+        Err(FormRefusal::NoMemory) => Err(FormRefusal::NoMemory),
+        Err(FormRefusal::ReadFault) => Err(FormRefusal::ReadFault),
+        Err(found) => match is_large(found, cursor, source, out) {
+            Ok(true) => Err(FormRefusal::Large { at: MOST_BYTES }),
+            Ok(false) => Err(found),
+            Err(_) => Err(FormRefusal::ReadFault),
+        },
+    }
+}
+
+/// Whether the input has more bytes than the bound, where this refusal was found. The place of a cut is its length.
+fn is_large<S: Input<K>, K: Sink>(
+    found: FormRefusal,
+    cursor: &mut Cursor,
+    source: &mut S,
+    out: &K,
+) -> Result<bool, Failed>
+    requires quiet { K.held_back out.now ≡ 0 }
+    ensures large { IfOk result (λ large. (total : ℕ) → (ahead : List ℕ)
+        → IsAhead (held cursor.old) (S.left source.old) ahead
+        → told total ≡ told (cursor.old.place + length ahead) → IsCutAt total found
+        → IsTrue large ↔ (most_bytes < total)) }
+    ensures cause { HasCause (S.faults source.old) (S.faults source.new) result }
+{
+    match found {
+        FormRefusal::Cut { at } => Ok(at > MOST_BYTES),
+        _ => cursor.goes_too_far(source, out),
+    }
+}

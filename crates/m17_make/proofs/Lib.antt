@@ -1,0 +1,6 @@
+pub mod Drawn
+pub mod Choices
+pub mod Steady
+pub mod Evenings
+pub mod Fits
+pub mod Texts

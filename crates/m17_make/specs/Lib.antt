@@ -1,0 +1,8 @@
+-- What callers speak of: the trace of an evening, and what it has of each kind.
+pub mod Draws
+pub mod Hotspots
+pub mod Moments
+pub mod Made
+pub mod Talk
+pub mod Make
+pub mod Laws

@@ -1,0 +1,113 @@
+ghost use Rattle.std.specs.Prelude.{◌≡◌, ◌≢◌, ◌<◌};
+ghost use Rattle.m17_values.specs.declared.heard.Heard.TheVariants.{End};
+ghost use Rattle.m17_make.specs.Moments.{moment_of};
+
+use crate::draws::Draws;
+use crate::hotspot::{HOTSPOTS, Hotspot, MODULES};
+use crate::made::Made;
+use crate::sending::heard;
+use crate::talk::Talk;
+use m17_values::Heard;
+use std::marker::Model;
+
+/// The joins come first, as many as there are hotspots.
+const JOINS: u32 = HOTSPOTS as u32;
+
+/// Of so many entries the first ones are PONGs, one of each hotspot.
+const ROUND: u32 = 300;
+
+/// How many milliseconds there are between the turns of a module.
+const TURN_MS: u64 = 40;
+
+/// Makes the entries of an evening one by one, without memory. Contracts see the evening: the index of the next entry,
+/// the last number drawn with, and what each of the three modules has. This profile.
+#[derive(Clone, Copy, Debug)]
+pub struct Maker {
+    entry: u32,
+    draws: Draws,
+    talks: [Talk; 3],
+}
+
+impl Model for Maker {
+    ghost use Rattle.std.specs.Prelude.{All};
+    ghost use Rattle.m17_make.specs.Talk.{IsSteady};
+    ghost use Rattle.m17_make.specs.Make.{Evening};
+
+    ghost Value = { Evening };
+
+    ghost view = { λ m. record { entry = m.entry; x = m.draws.x; talks = m.talks } };
+
+    ghost invariant = { λ m. All IsSteady m.talks };
+
+    ghost inverse = { λ e. record { entry = e.entry; draws = record { x = e.x }; talks = e.talks } };
+}
+
+impl Maker {
+    ghost use Rattle.m17_make.specs.Made.{heard_as, IsSound};
+    ghost use Rattle.m17_make.specs.Make.{begun_with, made_at, after};
+
+    /// An evening that is drawn from this seed, before its first entry. This profile.
+    pub fn new(seed: u64) -> Maker
+        ensures { result ≡ begun_with seed }
+    {
+        Maker {
+            entry: 0,
+            draws: Draws { x: seed },
+            talks: [Talk::silent(); 3],
+        }
+    }
+
+    /// How many entries were made. This profile.
+    pub fn entry(&self) -> u32
+        ensures { result ≡ self.now.entry }
+    {
+        self.entry
+    }
+
+    /// What is heard at the next entry, of 100,000: a datagram, or quiet. This profile.
+    pub fn next(&mut self) -> Heard
+        requires { self.old.entry < 100000 }
+        ensures heard { result ≡ heard_as (moment_of self.old.entry) (made_at self.old) }
+        ensures not_end { result ≢ End }
+        ensures after { self.new ≡ after self.old }
+    {
+        let at = moment(self.entry);
+        heard(at, &self.make())
+    }
+
+    // What the next entry is.
+    #[tactic(auto, unfolding(crate::specs::Make::made_at, crate::specs::Make::after))]
+    fn make(&mut self) -> Made
+        requires { self.old.entry < 100000 }
+        ensures made { result ≡ made_at self.old }
+        ensures sound { IsSound result }
+        ensures after { self.new ≡ after self.old }
+    {
+        let j = self.entry;
+        self.entry += 1;
+        if j < JOINS {
+            return Made::Conn {
+                hotspot: Hotspot::new(j as u8),
+            };
+        }
+        let round = (j - JOINS) % ROUND;
+        if round < JOINS {
+            return Made::Pong {
+                hotspot: Hotspot::new(round as u8),
+            };
+        }
+        let module = (j - JOINS) % u32::from(MODULES);
+        self.talks[module as usize].turn(module as u8, &mut self.draws)
+    }
+}
+
+// The moment of entry j, in milliseconds: all joins come at once.
+fn moment(j: u32) -> u64
+    ensures { result ≡ moment_of j }
+{
+    if j < JOINS {
+        0
+    } else {
+        TURN_MS * (u64::from((j - JOINS) / u32::from(MODULES)) + 1)
+    }
+}

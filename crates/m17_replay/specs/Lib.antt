@@ -1,0 +1,3 @@
+-- What callers speak of: what `replay` prints, and how it ends.
+pub mod Reasons
+pub mod Replay

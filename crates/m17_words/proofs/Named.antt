@@ -1,0 +1,46 @@
+-- Words that name no command, from those after the first one.
+use Rattle.std.proofs.Common.{◌≡◌, ℕ, Bool, List, [], ◌∷◌, codes, slice_index, ap, arith, refl}
+use Rattle.clap.specs.Words.{Text}
+use Rattle.m17_control.specs.declared.modules.Modules.{Modules}
+use Rattle.m17_words.specs.declared.command.Command.{Command}
+use Rattle.m17_words.specs.declared.command.Command.TheVariants.{Judge, Show, Replay, Make}
+use Rattle.m17_words.specs.Tables.{judge_table, show_table, replay_table, make_table, Takes, found}
+use Rattle.m17_words.specs.Words.{word_of, IsReplayWith, IsMakeWith, Names}
+
+-- the first letter tells commands apart
+first_letter : (a b : Text) → a ≡ b → slice_index a 0 ≡ slice_index b 0
+first_letter a b e = ap (λ (t : Text). slice_index t 0) e
+
+pub no_judge : (words : List Text) → (Takes judge_table words → ⊥) → (command : Command) → Names (codes "judge" ∷ words) command → ⊥
+no_judge words refuses Judge named = refuses named.1
+no_judge words refuses Show named = omega (arith, first_letter (codes "judge") (codes "show") named.0)
+no_judge words refuses (Replay call modules parrots places summary) named = omega (arith, first_letter (codes "judge") (codes "replay") named.0)
+no_judge words refuses (Make seed count) named = omega (arith, first_letter (codes "judge") (codes "make") named.0)
+
+pub no_show : (words : List Text) → (Takes show_table words → ⊥) → (command : Command) → Names (codes "show" ∷ words) command → ⊥
+no_show words refuses Judge named = omega (arith, first_letter (codes "show") (codes "judge") named.0)
+no_show words refuses Show named = refuses named.1
+no_show words refuses (Replay call modules parrots places summary) named = omega (arith, first_letter (codes "show") (codes "replay") named.0)
+no_show words refuses (Make seed count) named = omega (arith, first_letter (codes "show") (codes "make") named.0)
+
+-- a replay: `clap` refuses the words, or the values are none of a replay
+pub no_replay : (words : List Text) → (Takes replay_table words → (command : Command) → IsReplayWith (found replay_table words) command → ⊥)
+    → (command : Command) → Names (codes "replay" ∷ words) command → ⊥
+no_replay words refuses Judge named = omega (arith, first_letter (codes "replay") (codes "judge") named.0)
+no_replay words refuses Show named = omega (arith, first_letter (codes "replay") (codes "show") named.0)
+no_replay words refuses (Replay call modules parrots places summary) named = refuses named.1.0 (Replay call modules parrots places summary) named.1.1
+no_replay words refuses (Make seed count) named = omega (arith, first_letter (codes "replay") (codes "make") named.0)
+
+pub no_make : (words : List Text) → (Takes make_table words → (command : Command) → IsMakeWith (found make_table words) command → ⊥)
+    → (command : Command) → Names (codes "make" ∷ words) command → ⊥
+no_make words refuses Judge named = omega (arith, first_letter (codes "make") (codes "judge") named.0)
+no_make words refuses Show named = omega (arith, first_letter (codes "make") (codes "show") named.0)
+no_make words refuses (Replay call modules parrots places summary) named = omega (arith, first_letter (codes "make") (codes "replay") named.0)
+no_make words refuses (Make seed count) named = refuses named.1.0 (Make seed count) named.1.1
+
+pub no_first : (first : Text) (words : List Text) → (first ≡ codes "judge" → ⊥) → (first ≡ codes "show" → ⊥) → (first ≡ codes "replay" → ⊥) → (first ≡ codes "make" → ⊥)
+    → (command : Command) → Names (first ∷ words) command → ⊥
+no_first first words judge show replay make Judge named = judge named.0
+no_first first words judge show replay make Show named = show named.0
+no_first first words judge show replay make (Replay call modules parrots places summary) named = replay named.0
+no_first first words judge show replay make (Make seed count) named = make named.0

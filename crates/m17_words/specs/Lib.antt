@@ -1,0 +1,5 @@
+pub mod Tables
+pub mod Values
+pub mod Words
+-- for proofs alone
+pub mod First

@@ -1,0 +1,55 @@
+-- The options and arguments of each command, as `clap` takes them. This profile.
+use Rattle.std.specs.Prelude.{◌≡◌, ℕ, true, List, [], ◌∷◌, codes, Option, Some, unwrap_or}
+use Rattle.clap.specs.Words.{App, Row, Rule, Text, fault_of, first_of, is_simple_and_free, matches_of, new_app, new_rule, with_rule}
+use Rattle.clap.specs.Simple.{on_top}
+use Rattle.clap.specs.declared.builder.action.ArgAction.TheVariants.{SetTrue}
+
+-- a command with no option, and without the flags that `clap` adds for help and for the version
+abbrev pub bare : Text → App
+bare name = on_top (λ s. record s { no_binary_name = true; disable_help_flag = true; disable_version_flag = true })
+    (new_app name)
+
+-- an option with a value, a flag, and an argument that has to be there
+abbrev pub option : Text → Rule
+option name = record (new_rule name) { long = Some name }
+
+abbrev pub flag : Text → Rule
+flag name = record (new_rule name) { long = Some name; action = Some SetTrue }
+
+abbrev pub argument : Text → Rule
+argument name = record (new_rule name) { required = true }
+
+-- The table of each command. This profile.
+unfoldable pub judge_table : App
+judge_table = bare (codes "judge")
+
+unfoldable pub show_table : App
+show_table = bare (codes "show")
+
+unfoldable pub replay_table : App
+replay_table = with_rule (with_rule (with_rule (with_rule (with_rule (bare (codes "replay"))
+    (option (codes "call"))) (option (codes "modules"))) (option (codes "parrots")))
+    (option (codes "places"))) (flag (codes "summary"))
+
+unfoldable pub make_table : App
+make_table = with_rule (with_rule (bare (codes "make")) (argument (codes "seed"))) (argument (codes "count"))
+
+-- the words that such a command takes, and what it finds among them, are known from `clap`'s own definitions
+unfoldable pub IsSimple : App → Type 0
+IsSimple table = is_simple_and_free table ≡ true
+
+-- `clap` takes the words after the first: there is nothing that it refuses them for
+unfoldable pub Takes : App → List Text → Type 0
+Takes table words = fault_of table words ≡ []
+
+-- what `clap` finds among them, where it takes them
+unfoldable pub found : App → List Text → List Row
+found table words = matches_of table words
+
+-- the text that was found for an option or an argument, if there is one
+unfoldable pub text_of : List Row → Text → Option Text
+text_of found name = first_of name found
+
+-- the same, or what stands in place of an option that is left out
+abbrev pub text_or : List Row → Text → Text → Text
+text_or found name instead = unwrap_or (text_of found name) instead

@@ -1,0 +1,27 @@
+-- The values of options and arguments: which texts they are, and their bounds. This profile.
+use Rattle.std.specs.Prelude.{◌≡◌, ℕ, Bool, true, false, ◌<◌, ◌≤◌, ◌↔◌, List, All, Contains, IsTrue, codes, Option, None, Some}
+use Rattle.std.specs.Str.Parse.{IsNumeral, digits_value}
+use Rattle.m17_control.specs.declared.modules.Modules.{Modules}
+use Rattle.m17_control.specs.Modules.{serves, IsModulesText}
+
+-- The text is one or more decimal digits and nothing else, with this value, which is within its bounds.
+pub record IsNumber (least most : ℕ) (text : List ℕ) (number : ℕ) : Type 0 where
+  pub digits : IsNumeral 10 text
+  pub value : number ≡ digits_value 10 text
+  pub at_least : least ≤ number
+  pub at_most : number ≤ most
+
+-- The text names these modules: letters from A to Z, each once.
+pub record NamesModules (text : List ℕ) (modules : Modules) : Type 0 where
+  pub is_text : IsModulesText text
+  pub letters : (letter : ℕ) → IsTrue (serves modules letter) ↔ Contains text letter
+
+-- the parrots among the modules: none, where none are named
+abbrev pub NamesParrots : Option (List ℕ) → Modules → Modules → Type 0
+NamesParrots None modules parrots = (letter : ℕ) → serves parrots letter ≡ false
+NamesParrots (Some text) modules parrots =
+    NamesModules text parrots × All (λ letter. IsTrue (serves modules letter)) text
+
+-- a flag is there
+abbrev pub IsFlagged : Option (List ℕ) → Bool → Type 0
+IsFlagged text there = IsTrue there ↔ (text ≡ Some (codes "true"))

@@ -1,0 +1,53 @@
+-- The words of the command line, and what they ask for. This profile.
+use Rattle.std.specs.Prelude.{◌≡◌, ℕ, Bool, ◌-◌, ◌^◌, List, [], ◌∷◌, codes}
+use Rattle.clap.specs.Words.{Row, Text}
+use Rattle.m17_callsign.specs.Callsign.{IsCallsignOf}
+use Rattle.m17_control.specs.declared.modules.Modules.{Modules}
+use Rattle.m17_words.specs.declared.command.Command.{Command}
+use Rattle.m17_words.specs.declared.command.Command.TheVariants.{Judge, Show, Replay, Make}
+use Rattle.m17_words.specs.Tables.{judge_table, show_table, replay_table, make_table, Takes, found, text_of, text_or}
+use Rattle.m17_words.specs.Values.{IsNumber, NamesModules, NamesParrots, IsFlagged}
+
+-- the word that names a command
+abbrev pub word_of : Command → Text
+word_of Judge = codes "judge"
+word_of Show = codes "show"
+word_of (Replay call modules parrots places summary) = codes "replay"
+word_of (Make seed count) = codes "make"
+
+-- The values of a replay: its own callsign, the modules, which of them are parrots, the places, and whether the summary
+-- is printed.
+pub record IsReplay (found : List Row) (call : ℕ) (modules parrots : Modules) (places : ℕ) (summary : Bool)
+    : Type 0 where
+  pub call_is : IsCallsignOf (text_or found (codes "call") (codes "M17-TST")) call
+  pub modules_are : NamesModules (text_or found (codes "modules") (codes "ABC")) modules
+  pub parrots_are : NamesParrots (text_of found (codes "parrots")) modules parrots
+  pub places_are : IsNumber 1 256 (text_or found (codes "places") (codes "64")) places
+  pub summary_is : IsFlagged (text_of found (codes "summary")) summary
+
+-- the values of a made evening: the seed, and how many entries
+pub record IsMake (found : List Row) (seed count : ℕ) : Type 0 where
+  pub seed_is : IsNumber 0 (2 ^ 64 - 1) (text_or found (codes "seed") []) seed
+  pub count_is : IsNumber 0 100000 (text_or found (codes "count") []) count
+
+-- the same of a command
+abbrev pub IsReplayWith : List Row → Command → Type 0
+IsReplayWith found (Replay call modules parrots places summary) = IsReplay found call modules parrots places summary
+IsReplayWith found _ = ⊥
+
+abbrev pub IsMakeWith : List Row → Command → Type 0
+IsMakeWith found (Make seed count) = IsMake found seed count
+IsMakeWith found _ = ⊥
+
+-- The words after the first one give the values of the command.
+abbrev pub Gives : List Text → Command → Type 0
+Gives words Judge = Takes judge_table words
+Gives words Show = Takes show_table words
+Gives words (Replay call modules parrots places summary) = Takes replay_table words
+    × IsReplay (found replay_table words) call modules parrots places summary
+Gives words (Make seed count) = Takes make_table words × IsMake (found make_table words) seed count
+
+-- The words name a command: the first is its word, byte for byte, and the others give its values. This profile.
+abbrev pub Names : List Text → Command → Type 0
+Names [] command = ⊥
+Names (first ∷ words) command = (first ≡ word_of command) × Gives words command

@@ -1,0 +1,65 @@
+ghost use Rattle.std.specs.Prelude.{◌≡◌, ◌≤◌, ◌<◌, ◌^◌, ◌↔◌, ℕ, List, All, IsTrue, IfSome, IfNone, option_map};
+ghost use Rattle.m17_callsign.specs.Callsign.{IsCallsignOf};
+ghost use Rattle.m17_control.specs.declared.modules.Modules.{Modules};
+ghost use Rattle.m17_control.specs.Modules.{serves};
+ghost use Rattle.m17_words.specs.Values.{IsNumber, NamesModules, NamesParrots};
+
+use m17_callsign::{CallAddress, encode};
+use m17_control::Modules;
+
+// The number that a text of decimal digits writes, where it is within these bounds.
+pub(crate) fn number(text: &str, least: u64, most: u64) -> Option<u64>
+    ensures some { IfSome result (IsNumber least most text.now) }
+    ensures none { IfNone result ((n : ℕ) → ¬ IsNumber least most text.now n) }
+{
+    if matches!(text.as_bytes(), [b'+', ..]) {
+        return None;
+    }
+    match text.parse::<u64>() {
+        Ok(n) if least <= n && n <= most => Some(n),
+        Ok(_) => None,
+        Err(_) => None,
+    }
+}
+
+// The address of a callsign.
+pub(crate) fn call(text: &str) -> Option<CallAddress>
+    ensures some { IfSome result (IsCallsignOf text.now) }
+    ensures none { IfNone result ((a : ℕ) → ¬ IsCallsignOf text.now a) }
+{
+    match encode(text) {
+        Ok(address) => CallAddress::new(address),
+        Err(_) => None,
+    }
+}
+
+// The modules that a text names.
+pub(crate) fn modules(text: &str) -> Option<Modules>
+    ensures some { IfSome result (NamesModules text.now) }
+    ensures none { IfNone result ((m : Modules) → ¬ NamesModules text.now m) }
+{
+    match Modules::read(text) {
+        Ok(modules) => Some(modules),
+        Err(_) => None,
+    }
+}
+
+// The parrots that a text names, all of them among the modules.
+pub(crate) fn parrots(text: Option<&str>, modules: &Modules) -> Option<Modules>
+    ensures some { IfSome result (NamesParrots (option_map (λ s. s.now) text.entry) modules.now) }
+    ensures none { IfNone result ((p : Modules)
+        → ¬ NamesParrots (option_map (λ s. s.now) text.entry) modules.now p) }
+{
+    match text {
+        None => Some(Modules::none()),
+        Some(text) if are_among(text, modules) => self::modules(text),
+        Some(_) => None,
+    }
+}
+
+// Whether each letter of a text is among the modules.
+fn are_among(text: &str, modules: &Modules) -> bool
+    ensures { IsTrue result ↔ All (λ letter. IsTrue (serves modules.now letter)) text.now }
+{
+    text.as_bytes().iter().all(|letter| modules.has(*letter))
+}
