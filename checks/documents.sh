@@ -65,10 +65,10 @@ check "docs/architecture.md has each crate of crates.txt" crates_are_on_the_map
 
 # Links, and paths in back quotes that begin with a folder of the tree.
 paths_are_there() {
-    for text in "$top"/*.md "$top"/docs/*.md "$top"/bench/*.md; do
+    for text in "$top"/*.md "$top"/docs/*.md "$top"/bench/*.md "$top"/contrib/*.md "$top"/conformance/*.md; do
         {
             grep -o '](\([^)#]*\)' "$text" | sed 's/^](//' | grep -v '^[a-z]*:' | sed "s|^|${text%/*}/|"
-            grep -o '`\(crates\|docs\|examples\|bench\|checks\)/[A-Za-z0-9_./-]*`' "$text" | tr -d '`' | sed "s|^|$top/|"
+            grep -o '`\(crates\|docs\|examples\|bench\|checks\|contrib\|conformance\)/[A-Za-z0-9_./-]*`' "$text" | tr -d '`' | sed "s|^|$top/|"
         } | grep -v '/out/\|/NAME\|[*]' | while read -r path; do
             [ -e "$path" ] || echo "${text#"$top"/}: there is no ${path#"$top"/}"
         done
