@@ -185,3 +185,19 @@ fn however_late_one_echo_for_each_event(rt: HostRuntime) -> Result<(), Fail> {
     bench.gives(&rt, &leave(k, 2_999, Why::Asked), &told);
     Ok(())
 }
+
+#[test]
+fn a_talker_that_begins_anew_ends_its_own_echo(rt: HostRuntime) -> Result<(), Fail> {
+    let mut bench = made(&rt, rt.alloc());
+    let k = member(0, 0);
+    bench.gives(&rt, &join(&rt, k, 0, false), &[hello(k)]);
+    bench.opens(&rt, &sends(k, 0, 9, 0, false), &[]);
+    bench.goes_on(&rt, &sends(k, 40, 9, 1, true), &[]);
+    bench.gives(&rt, &tick(1_040), &[echo(k, 3, 0xfff6, 0, false)]);
+    bench.opens(&rt, &sends(k, 1_060, 8, 0, false), &[]);
+    bench.gives(&rt, &tick(1_200), &[]);
+    bench.goes_on(&rt, &sends(k, 1_210, 8, 1, true), &[]);
+    bench.gives(&rt, &tick(2_209), &[]);
+    bench.gives(&rt, &tick(2_210), &[echo(k, 8, 0xfff7, 0, false)]);
+    Ok(())
+}
