@@ -6,7 +6,11 @@ use Rattle.clap.specs.declared.builder.action.ArgAction.TheVariants.{SetTrue}
 
 -- a command with no option, and without the flags that `clap` adds for help and for the version
 abbrev pub bare : Text → App
-bare name = on_top (λ s. record s { no_binary_name = true; disable_help_flag = true; disable_version_flag = true })
+bare name = on_top (λ s. record s {
+  no_binary_name = true;
+  disable_help_flag = true;
+  disable_version_flag = true;
+})
     (new_app name)
 
 -- an option with a value, a flag, and an argument that has to be there
@@ -32,7 +36,8 @@ replay_table = with_rule (with_rule (with_rule (with_rule (with_rule (bare (code
     (option (codes "places"))) (flag (codes "summary"))
 
 unfoldable pub make_table : App
-make_table = with_rule (with_rule (bare (codes "make")) (argument (codes "seed"))) (argument (codes "count"))
+make_table = with_rule (with_rule (bare (codes "make")) (argument (codes "seed")))
+    (argument (codes "count"))
 
 -- the words that such a command takes, and what it finds among them, are known from `clap`'s own definitions
 unfoldable pub IsSimple : App → Type 0
