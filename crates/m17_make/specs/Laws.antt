@@ -1,5 +1,5 @@
 -- What is made is a trace, and how long it is. This profile.
-use Rattle.std.specs.Prelude.{◌≡◌, ℕ, ◌+◌, ◌^◌, ◌<◌, ◌≤◌, length, map}
+use Rattle.std.specs.Prelude.{◌≡◌, ℕ, ◌+◌, ◌≤◌, length}
 use Rattle.std.specs.List.{sum_by, range_with_len}
 use Rattle.m17_book.specs.Book.{IsTrace}
 use Rattle.m17_make.specs.Made.{entry_length}

@@ -1,14 +1,12 @@
 -- Words name one command.
-use Rattle.std.proofs.Common.{◌≡◌, ◌↔◌, ℕ, Bool, true, false, List, [], ◌∷◌, Option, None, Some, codes, slice_index, sym, ap, ap₂, subst, refl, ◌∙◌, arith, rules}
+use Rattle.std.proofs.Common.{◌≡◌, ℕ, Bool, true, false, List, [], ◌∷◌, Option, None, Some, codes, slice_index, sym, ap, ap₂, refl, ◌∙◌, arith, rules}
 use Rattle.std.specs.Prelude.{IsTrue}
 use Rattle.clap.specs.Words.{Text}
 use Rattle.m17_control.specs.declared.modules.Modules.{Modules}
 use Rattle.m17_control.specs.Modules.{serves}
-use Rattle.m17_words.specs.declared.command.Command.{Command}
 use Rattle.m17_words.specs.declared.command.Command.TheVariants.{Judge, Show, Replay, Make}
 use Rattle.m17_words.specs.Values.{NamesModules, NamesParrots}
-use Rattle.m17_words.specs.Words.{word_of, Names}
-use Rattle.m17_words.specs.Laws.{SameModules, SameCommand, OneCommand}
+use Rattle.m17_words.specs.Laws.{SameModules, OneCommand}
 
 -- one word begins with one letter
 letters : (first a b : Text) → first ≡ a → first ≡ b → slice_index a 0 ≡ slice_index b 0

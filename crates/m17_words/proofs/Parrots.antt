@@ -1,6 +1,5 @@
 -- Values that are none: of a command, of an option, and parrots among modules.
-use Rattle.std.proofs.Common.{◌≡◌, ℕ, Bool, List, Option, None, Some, IfNone}
-use Rattle.std.specs.List.{All}
+use Rattle.std.proofs.Common.{ℕ, Bool, List, Option, None, Some, IfNone}
 use Rattle.std.specs.Prelude.{IsTrue}
 use Rattle.std.proofs.lemmas.List.Elements.{All-weaker}
 use Rattle.clap.specs.Words.{Row}

@@ -1,5 +1,5 @@
 -- The options and arguments of each command, as `clap` takes them. This profile.
-use Rattle.std.specs.Prelude.{◌≡◌, ℕ, true, List, [], ◌∷◌, codes, Option, Some, unwrap_or}
+use Rattle.std.specs.Prelude.{◌≡◌, true, List, [], codes, Option, Some, unwrap_or}
 use Rattle.clap.specs.Words.{App, Row, Rule, Text, fault_of, first_of, is_simple_and_free, matches_of, new_app, new_rule, with_rule}
 use Rattle.clap.specs.Simple.{on_top}
 use Rattle.clap.specs.declared.builder.action.ArgAction.TheVariants.{SetTrue}
