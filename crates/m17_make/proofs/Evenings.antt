@@ -1,14 +1,13 @@
 -- What holds of an evening before each of its entries.
-use Rattle.std.proofs.Common.{◌≡◌, ℕ, zero, suc, ◌+◌, ◌-◌, ◌*◌, ◌/◌, ◌%◌, ◌<◌, ◌≤◌, nat_lt, List, [], ◌∷◌, length, refl, arith, if◌then◌else◌, ap, ◌∙◌, subst, add-one}
+use Rattle.std.proofs.Common.{◌≡◌, ℕ, zero, suc, ◌+◌, ◌-◌, ◌%◌, nat_lt, [], ◌∷◌, length, refl, arith, ◌∙◌, subst, add-one}
 use Rattle.std.specs.List.{All}
 use Rattle.std.proofs.Math.ListN.{length-set}
 use Rattle.std.proofs.lemmas.List.Elements.{All-set, All-cons, All-nil}
 use Rattle.std.proofs.lemmas.Bool.Decides.{nat_tests}
-use Rattle.m17_make.specs.declared.talk.Talk.{Talk}
 use Rattle.m17_make.specs.Made.{IsSound}
 use Rattle.m17_make.specs.Moments.{hotspots}
-use Rattle.m17_make.specs.Talk.{IsSteady, silent, turn}
-use Rattle.m17_make.specs.Make.{Evening, begun_with, is_pong, turn_at, made_at, after_turn, after, before, entry_made}
+use Rattle.m17_make.specs.Talk.{IsSteady, silent}
+use Rattle.m17_make.specs.Make.{Evening, is_pong, turn_at, made_at, after, before}
 use Rattle.m17_make.proofs.Choices.{by_test}
 use Rattle.m17_make.proofs.Steady.{steady_silent, turn_good, IsGoodTurn}
 

@@ -1,8 +1,7 @@
 -- The entries of an evening fit a trace, and how long each is.
-use Rattle.std.proofs.Common.{◌≡◌, ℕ, ◌+◌, ◌-◌, ◌*◌, ◌/◌, ◌%◌, ◌^◌, ◌<◌, ◌≤◌, Bool, true, false, List, [], ◌∷◌, ◌++◌, length, take, drop, codes, replicate, refl, arith, lit<, lit≤, if◌then◌else◌}
-use Rattle.std.specs.List.{All}
-use Rattle.std.proofs.lemmas.List.Elements.{All-append, All-cons, All-nil, All-from_recursion, All-replicate, All-drop}
-use Rattle.m17_fields.specs.Fields.{be_16, be_48, be_64, IsBytes}
+use Rattle.std.proofs.Common.{◌≡◌, ℕ, ◌+◌, ◌-◌, ◌%◌, ◌^◌, ◌<◌, ◌≤◌, Bool, List, [], ◌∷◌, ◌++◌, length, codes, replicate, refl, arith, lit<, lit≤}
+use Rattle.std.proofs.lemmas.List.Elements.{All-append, All-from_recursion, All-replicate}
+use Rattle.m17_fields.specs.Fields.{be_16, be_48, IsBytes}
 use Rattle.m17_lsd.specs.Lsd.{lsd_bytes}
 use Rattle.m17_stream.specs.Stream.{frame_field}
 use Rattle.m17_crc.specs.Crc.{crc_of}

@@ -1,13 +1,12 @@
 -- What holds of a module at all times, and what its turns make.
-use Rattle.std.proofs.Common.{◌≡◌, ℕ, ◌+◌, ◌-◌, ◌*◌, ◌/◌, ◌%◌, ◌^◌, ◌<◌, ◌≤◌, Bool, true, false, nat_eq, nat_lt, nat_le, ◌&&◌, Option, None, Some, refl, arith, if◌then◌else◌, sym, subst}
+use Rattle.std.proofs.Common.{◌≡◌, ℕ, ◌<◌, ◌≤◌, true, nat_eq, nat_lt, nat_le, ◌&&◌, Option, None, Some, refl, arith, sym, subst}
 use Rattle.std.proofs.lemmas.Bool.Decides.{nat_tests}
-use Rattle.std.proofs.lemmas.Grind.{common_steps}
 use Rattle.std.proofs.lemmas.Nat.{xor_of_16}
 use Rattle.m17_make.specs.declared.made.Made.{Made}
 use Rattle.m17_make.specs.declared.talk.Talk.{Talk}
 use Rattle.m17_make.specs.Draws.{draw, next_number}
 use Rattle.m17_make.specs.Made.{IsSound}
-use Rattle.m17_make.specs.Talk.{IsSteady, Turn, Turned, silent, other_of, made_by, talk_by, spoken, begun, awake, turn}
+use Rattle.m17_make.specs.Talk.{IsSteady, Turn, Turned, silent, made_by, talk_by, spoken, begun, awake, turn}
 use Rattle.m17_make.proofs.Choices.{by_test}
 
 pub draw_within : (k x : ℕ) → 0 < k → draw k x < k

@@ -1,5 +1,5 @@
 -- The text of an evening: entry by entry, its parts, its length, and that it is a trace.
-use Rattle.std.proofs.Common.{◌≡◌, ℕ, zero, suc, ◌+◌, ◌-◌, ◌*◌, ◌/◌, ◌^◌, ◌<◌, ◌≤◌, List, [], ◌∷◌, ◌++◌, length, map, take, min, nat_lt, refl, sym, ap, ap₂, ◌∙◌, arith, subst, append_assoc, append-nil, add-zero, add-one, length-append, Option, Some}
+use Rattle.std.proofs.Common.{◌≡◌, ℕ, zero, suc, ◌+◌, ◌-◌, ◌*◌, ◌^◌, ◌<◌, ◌≤◌, List, [], ◌∷◌, ◌++◌, length, map, take, min, nat_lt, refl, sym, ap, ap₂, ◌∙◌, arith, subst, append_assoc, append-nil, add-zero, add-one, length-append, Option, Some}
 use Rattle.std.specs.List.{flat_map, range_with_len, sum_by}
 use Rattle.std.proofs.Math.Seq.{take-append-add}
 use Rattle.std.proofs.lemmas.List.{take_min, take-append-le}
@@ -10,10 +10,10 @@ use Rattle.m17_io.specs.Sink.{AppendsPrefix}
 use Rattle.m17_values.specs.declared.heard.Heard.{Heard}
 use Rattle.m17_book.specs.Limits.{SpellsEach}
 use Rattle.m17_book.specs.Entries.{SpellsEntry, entry_bytes}
-use Rattle.m17_book.specs.Book.{IsTrace, trace_magic}
+use Rattle.m17_book.specs.Book.{trace_magic}
 use Rattle.m17_make.specs.Moments.{hotspots, moment_of}
 use Rattle.m17_make.specs.Made.{heard_as, entry_length}
-use Rattle.m17_make.specs.Make.{Evening, begun_with, before, after, made_at, entry_made, entry_heard, entries_of, heard_of, make_text}
+use Rattle.m17_make.specs.Make.{Evening, begun_with, before, after, made_at, entry_made, entry_heard, entries_of, make_text}
 use Rattle.m17_make.specs.Laws.{MakesATrace, LengthIsByKinds}
 use Rattle.m17_make.proofs.Choices.{by_test}
 use Rattle.m17_make.proofs.Evenings.{calm_before, made_fits}

@@ -1,5 +1,5 @@
 -- The twelve hotspots of an evening, counted from 0. This profile.
-use Rattle.std.specs.Prelude.{ℕ, false, ◌+◌, ◌*◌, ◌%◌, List, [], ◌∷◌, ◌++◌}
+use Rattle.std.specs.Prelude.{ℕ, false, ◌+◌, ◌*◌, ◌%◌, [], ◌∷◌}
 use Rattle.m17_values.specs.declared.peer.Peer.{Peer}
 
 -- the peer of hotspot i: 10.0.0.(i+1), port 17000

@@ -1,5 +1,5 @@
 -- What is made is a trace, and how long it is. This profile.
-use Rattle.std.specs.Prelude.{◌≡◌, ℕ, ◌+◌, ◌^◌, ◌<◌, ◌≤◌, length, map}
+use Rattle.std.specs.Prelude.{◌≡◌, ℕ, ◌+◌, ◌≤◌, length}
 use Rattle.std.specs.List.{sum_by, range_with_len}
 use Rattle.m17_book.specs.Book.{IsTrace}
 use Rattle.m17_make.specs.Made.{entry_length}
@@ -11,7 +11,8 @@ most_entries = 100000
 
 -- the text is a trace of what the link heard
 abbrev pub MakesATrace : Type 0
-MakesATrace = (seed count : ℕ) → count ≤ most_entries → IsTrace (make_text seed count) (heard_of seed count)
+MakesATrace = (seed count : ℕ) → count ≤ most_entries
+    → IsTrace (make_text seed count) (heard_of seed count)
 
 -- The text has the 8 bytes of the header, and for each entry the bytes of its kind.
 abbrev pub LengthIsByKinds : Type 0

@@ -1,5 +1,5 @@
 -- What an entry of an evening is, and what is heard of it. This profile.
-use Rattle.std.specs.Prelude.{◌≡◌, ◌<◌, ℕ, Bool, ◌+◌, ◌%◌, ◌^◌, ◌-◌, List, [], ◌∷◌, ◌++◌, codes, replicate}
+use Rattle.std.specs.Prelude.{◌<◌, ℕ, Bool, ◌%◌, ◌^◌, ◌-◌, List, [], ◌∷◌, ◌++◌, codes, replicate}
 use Rattle.m17_fields.specs.Fields.{be_16}
 use Rattle.m17_callsign.specs.AddressBytes.{address_bytes}
 use Rattle.m17_crc.specs.Crc.{crc_of}
@@ -29,13 +29,15 @@ abbrev pub pong_bytes : ℕ → List ℕ
 pong_bytes i = codes "PONG" ++ address_bytes (address_of i)
 
 abbrev pub frame_bytes : ℕ → ℕ → ℕ → Bool → List ℕ
-frame_bytes i sid number last = front_of i sid number last ++ be_16 (crc_of (front_of i sid number last))
+frame_bytes i sid number last =
+    front_of i sid number last ++ be_16 (crc_of (front_of i sid number last))
 
 -- what is heard at this moment
 unfoldable pub heard_as : ℕ → Made → Heard
 heard_as at (Conn i) = heard.Datagram (peer_of i) at (conn_bytes i)
 heard_as at (Pong i) = heard.Datagram (peer_of i) at (pong_bytes i)
-heard_as at (Frame i sid number last) = heard.Datagram (peer_of i) at (frame_bytes i sid number last)
+heard_as at (Frame i sid number last) =
+    heard.Datagram (peer_of i) at (frame_bytes i sid number last)
 heard_as at Quiet = heard.Quiet at
 
 -- how many bytes such an entry has in a trace

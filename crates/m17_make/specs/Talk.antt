@@ -39,7 +39,11 @@ talk_by d t = if d == 0 && nat_lt 0 t.number then t else
     (if d == 1 then t else
     (if d == 2 && nat_le 3 t.left
     then record t { held = Some t.number; number = t.number + 2; left = t.left - 2 } else
-    record t { number = t.number + 1; left = t.left - 1; rest = if t.left == 1 then 5 else t.rest }))
+    record t {
+      number = t.number + 1;
+      left = t.left - 1;
+      rest = if t.left == 1 then 5 else t.rest;
+    }))
 
 -- a turn of a module with a stream: one draw
 abbrev pub spoken : ℕ → ℕ → Talk → Turn

@@ -50,7 +50,8 @@ fn write_next<K: Sink>(maker: &mut Maker, out: &mut K) -> Result<(), Failed>
         → K.written out.new ≡ Some (before
         ++ entry_bytes (heard_as (moment_of maker.old.entry) (made_at maker.old)))) }
     ensures err { OnErr result ((before : List ℕ) → K.written out.old ≡ Some before
-        → AppendsPrefix before (entry_bytes (heard_as (moment_of maker.old.entry) (made_at maker.old)))
+        → AppendsPrefix before
+        (entry_bytes (heard_as (moment_of maker.old.entry) (made_at maker.old)))
         (K.written out.new)) }
 {
     let heard = maker.next();

@@ -39,7 +39,11 @@ impl Model for Maker {
 
     ghost invariant = { λ m. All IsSteady m.talks };
 
-    ghost inverse = { λ e. record { entry = e.entry; draws = record { x = e.x }; talks = e.talks } };
+    ghost inverse = { λ e. record {
+      entry = e.entry;
+      draws = record { x = e.x };
+      talks = e.talks;
+    } };
 }
 
 impl Maker {

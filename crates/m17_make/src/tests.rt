@@ -1,4 +1,5 @@
 use crate::{ENTRIES_MAX, Maker, make};
+use m17_crc::crc;
 use m17_memory::BytesSink;
 use m17_stream::{StreamPacket, read};
 use m17_values::{Failed, Heard};
@@ -96,6 +97,16 @@ fn modules_talk_by_turns(rt: HostRuntime) -> Result<(), Fail> {
     for (index, at) in QUIET {
         assert_eq!(rt; entry(index), Some(Heard::Quiet { at }));
     }
+    Ok(())
+}
+
+// The length and the CRC of 20,000 entries of seed 17, worked out by another program that was written from the rule.
+#[test]
+fn a_whole_evening_has_these_bytes(rt: HostRuntime) -> Result<(), Fail> {
+    let mut sink = BytesSink::make(rt.alloc(), 2_000_000, Vec::new(rt.alloc()))?;
+    assert_eq!(rt; make(17, 20_000, &mut sink), Ok(()));
+    assert_eq!(rt; sink.bytes().len(), 1318086);
+    assert_eq!(rt; crc(sink.bytes()), 0xaa82);
     Ok(())
 }
 

@@ -1,3 +1,4 @@
 pub mod Simple
 pub mod Named
 pub mod Parrots
+pub mod OneCommand

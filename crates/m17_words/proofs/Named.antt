@@ -1,11 +1,10 @@
 -- Words that name no command, from those after the first one.
-use Rattle.std.proofs.Common.{◌≡◌, ℕ, Bool, List, [], ◌∷◌, codes, slice_index, ap, arith, refl}
+use Rattle.std.proofs.Common.{◌≡◌, List, ◌∷◌, codes, slice_index, ap, arith}
 use Rattle.clap.specs.Words.{Text}
-use Rattle.m17_control.specs.declared.modules.Modules.{Modules}
 use Rattle.m17_words.specs.declared.command.Command.{Command}
 use Rattle.m17_words.specs.declared.command.Command.TheVariants.{Judge, Show, Replay, Make}
 use Rattle.m17_words.specs.Tables.{judge_table, show_table, replay_table, make_table, Takes, found}
-use Rattle.m17_words.specs.Words.{word_of, IsReplayWith, IsMakeWith, Names}
+use Rattle.m17_words.specs.Words.{IsReplayWith, IsMakeWith, Names}
 
 -- the first letter tells commands apart
 first_letter : (a b : Text) → a ≡ b → slice_index a 0 ≡ slice_index b 0

@@ -1,6 +1,5 @@
 -- Values that are none: of a command, of an option, and parrots among modules.
-use Rattle.std.proofs.Common.{◌≡◌, ℕ, Bool, List, Option, None, Some, IfNone}
-use Rattle.std.specs.List.{All}
+use Rattle.std.proofs.Common.{ℕ, Bool, List, Option, None, Some, IfNone}
 use Rattle.std.specs.Prelude.{IsTrue}
 use Rattle.std.proofs.lemmas.List.Elements.{All-weaker}
 use Rattle.clap.specs.Words.{Row}
@@ -25,9 +24,11 @@ no_parrots text (Some x) modules none = tt
 pub same_parrots : (text : List ℕ) (m m' : Modules) (found : Option (List ℕ)) (p : Modules) → NamesModules text m → NamesModules text m'
     → NamesParrots found m p → NamesParrots found m' p
 same_parrots text m m' None p named named' none = none
-same_parrots text m m' (Some t) p named named' some =
-    (some.0, All-weaker (λ letter. IsTrue (serves m letter)) (λ letter. IsTrue (serves m' letter))
-    (λ letter served. (named'.letters letter).1 ((named.letters letter).0 served)) t some.1)
+same_parrots text m m' (Some t) p named named' some = (
+  some.0,
+  All-weaker (λ letter. IsTrue (serves m letter)) (λ letter. IsTrue (serves m' letter))
+      (λ letter served. (named'.letters letter).1 ((named.letters letter).0 served)) t some.1,
+)
 
 pub not_replay : (rows : List Row) → ((call : ℕ) (modules parrots : Modules) (places : ℕ) (summary : Bool) → IsReplay rows call modules parrots places summary → ⊥)
     → (command : Command) → IsReplayWith rows command → ⊥

@@ -1,5 +1,6 @@
 pub mod Tables
 pub mod Values
 pub mod Words
+pub mod Laws
 -- for proofs alone
 pub mod First

@@ -1,12 +1,16 @@
 -- The options and arguments of each command, as `clap` takes them. This profile.
-use Rattle.std.specs.Prelude.{◌≡◌, ℕ, true, List, [], ◌∷◌, codes, Option, Some, unwrap_or}
+use Rattle.std.specs.Prelude.{◌≡◌, true, List, [], codes, Option, Some, unwrap_or}
 use Rattle.clap.specs.Words.{App, Row, Rule, Text, fault_of, first_of, is_simple_and_free, matches_of, new_app, new_rule, with_rule}
 use Rattle.clap.specs.Simple.{on_top}
 use Rattle.clap.specs.declared.builder.action.ArgAction.TheVariants.{SetTrue}
 
 -- a command with no option, and without the flags that `clap` adds for help and for the version
 abbrev pub bare : Text → App
-bare name = on_top (λ s. record s { no_binary_name = true; disable_help_flag = true; disable_version_flag = true })
+bare name = on_top (λ s. record s {
+  no_binary_name = true;
+  disable_help_flag = true;
+  disable_version_flag = true;
+})
     (new_app name)
 
 -- an option with a value, a flag, and an argument that has to be there
@@ -32,7 +36,8 @@ replay_table = with_rule (with_rule (with_rule (with_rule (with_rule (bare (code
     (option (codes "places"))) (flag (codes "summary"))
 
 unfoldable pub make_table : App
-make_table = with_rule (with_rule (bare (codes "make")) (argument (codes "seed"))) (argument (codes "count"))
+make_table = with_rule (with_rule (bare (codes "make")) (argument (codes "seed")))
+    (argument (codes "count"))
 
 -- the words that such a command takes, and what it finds among them, are known from `clap`'s own definitions
 unfoldable pub IsSimple : App → Type 0

@@ -17,8 +17,8 @@ word_of (Make seed count) = codes "make"
 
 -- The values of a replay: its own callsign, the modules, which of them are parrots, the places, and whether the summary
 -- is printed.
-pub record IsReplay (found : List Row) (call : ℕ) (modules parrots : Modules) (places : ℕ) (summary : Bool)
-    : Type 0 where
+pub record IsReplay (found : List Row) (call : ℕ) (modules parrots : Modules) (places : ℕ)
+    (summary : Bool) : Type 0 where
   pub call_is : IsCallsignOf (text_or found (codes "call") (codes "M17-TST")) call
   pub modules_are : NamesModules (text_or found (codes "modules") (codes "ABC")) modules
   pub parrots_are : NamesParrots (text_of found (codes "parrots")) modules parrots
@@ -32,7 +32,8 @@ pub record IsMake (found : List Row) (seed count : ℕ) : Type 0 where
 
 -- the same of a command
 abbrev pub IsReplayWith : List Row → Command → Type 0
-IsReplayWith found (Replay call modules parrots places summary) = IsReplay found call modules parrots places summary
+IsReplayWith found (Replay call modules parrots places summary) =
+    IsReplay found call modules parrots places summary
 IsReplayWith found _ = ⊥
 
 abbrev pub IsMakeWith : List Row → Command → Type 0

@@ -8,6 +8,7 @@
 mod clap_words;
 mod command;
 mod first;
+pub mod laws;
 mod reading;
 mod tables;
 mod values;

@@ -43,7 +43,8 @@ fn argument<'a>(alloc: Global, name: &'a str) -> Arg<'a>
 // The command with one more option or argument.
 fn with<'a>(command: Command<'a>, arg: Arg<'a>) -> Result<Command<'a>, WordsRefusal>
     requires { arg.global ≡ false }
-    ensures with { IfOk result (λ c. app_of c ≡ with_rule (app_of command.entry) (rule_of arg.entry)) }
+    ensures with { IfOk result (λ c. app_of c
+        ≡ with_rule (app_of command.entry) (rule_of arg.entry)) }
     ensures memory { IfErr result (λ e. e ≡ WordsRefusal.NoMemory) }
 {
     match command.arg(arg) {

@@ -1,5 +1,5 @@
-use Rattle.std.proofs.Common.{◌≡◌, ◌<◌, ◌≤◌, ℕ, List, ◌++◌, Option, Some, arith, refl, subst, sym, ap, ◌∙◌}
-use Rattle.m17_io.specs.Faults.{HasCause, HasRisen}
+use Rattle.std.proofs.Common.{◌≡◌, ℕ, ◌++◌, Some, arith, subst, sym, ap, ◌∙◌}
+use Rattle.m17_io.specs.Faults.{HasRisen}
 use Rattle.m17_make.specs.Make.{Evening, make_text}
 use Rattle.m17_make.proofs.Texts.{IsMaking, making_first, making_more, making_failed, header_failed, entry_index}
 use Rattle.m17_make.proofs.make_command.make.Goals as goal

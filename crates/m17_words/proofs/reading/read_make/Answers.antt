@@ -1,4 +1,4 @@
-use Rattle.std.proofs.Common.{◌≡◌, List, map, string_bytes, sym, subst, ap, ◌∙◌}
+use Rattle.std.proofs.Common.{List, map, string_bytes, sym, subst, ap, ◌∙◌}
 use Rattle.clap.specs.Words.{App, Row, Text}
 use Rattle.m17_words.specs.Tables.{IsSimple, found}
 use Rattle.m17_words.specs.Words.{IsMakeWith}

@@ -1,6 +1,5 @@
-use Rattle.std.proofs.Common.{◌≡◌, ℕ, List, Option, sym, subst}
+use Rattle.std.proofs.Common.{ℕ, List, Option, sym, subst}
 use Rattle.clap.specs.Words.{found_of, rows_of}
-use Rattle.m17_control.specs.declared.modules.Modules.{Modules}
 use Rattle.m17_words.specs.Values.{NamesModules, NamesParrots}
 use Rattle.m17_words.proofs.Parrots.{if_none, same_parrots, not_replay}
 use Rattle.m17_words.proofs.reading.replay_of.Goals as goal

@@ -1,7 +1,7 @@
-use Rattle.std.proofs.Common.{◌≡◌, ◌∙◌, ap₂, codes}
+use Rattle.std.proofs.Common.{◌∙◌, ap₂}
 use Rattle.std.proofs.lemmas.Result.{IfOk-weaker}
-use Rattle.clap.specs.Words.{app_of, rule_of, with_rule}
-use Rattle.m17_words.specs.Tables.{bare, replay_table}
+use Rattle.clap.specs.Words.{with_rule}
+use Rattle.m17_words.specs.Tables.{replay_table}
 use Rattle.m17_words.proofs.tables.replay_table.Goals as goal
 
 pub returns-clause-table : goal.returns-clause-table

@@ -1,7 +1,6 @@
 use Rattle.std.proofs.Common.{rules, ◌<◌, ◌%◌, ◌-◌, length, arith}
 use Rattle.std.proofs.lemmas.List.Elements.{All-set}
 use Rattle.m17_make.specs.Talk.{IsSteady}
-use Rattle.m17_make.specs.Make.{made_at, after}
 use Rattle.m17_make.proofs.Steady.{turned_steady, turned_sound}
 use Rattle.m17_make.proofs.maker.Maker.make.Goals as goal
 

@@ -1,0 +1,56 @@
+-- Words name one command.
+use Rattle.std.proofs.Common.{◌≡◌, ℕ, Bool, true, false, List, [], ◌∷◌, Option, None, Some, codes, slice_index, sym, ap, ap₂, refl, ◌∙◌, arith, rules}
+use Rattle.std.specs.Prelude.{IsTrue}
+use Rattle.clap.specs.Words.{Text}
+use Rattle.m17_control.specs.declared.modules.Modules.{Modules}
+use Rattle.m17_control.specs.Modules.{serves}
+use Rattle.m17_words.specs.declared.command.Command.TheVariants.{Judge, Show, Replay, Make}
+use Rattle.m17_words.specs.Values.{NamesModules, NamesParrots}
+use Rattle.m17_words.specs.Laws.{SameModules, OneCommand}
+
+-- one word begins with one letter
+letters : (first a b : Text) → first ≡ a → first ≡ b → slice_index a 0 ≡ slice_index b 0
+letters first a b e e' = ap (λ (t : Text). slice_index t 0) (sym e ∙ e')
+
+not_true : (b : Bool) → b ≡ false → IsTrue b → ⊥
+not_true true e h = let bad = e in cc
+not_true false e h = search rules
+
+same_modules : (text : List ℕ) (m m' : Modules) → NamesModules text m → NamesModules text m' → SameModules m' m
+same_modules text m m' named named' letter =
+    ((λ h. (named.letters letter).1 ((named'.letters letter).0 h)), (λ h. (named'.letters letter).1 ((named.letters letter).0 h)))
+
+same_parrots : (found : Option (List ℕ)) (m m' p p' : Modules) → NamesParrots found m p → NamesParrots found m' p' → SameModules p' p
+same_parrots None m m' p p' none none' letter =
+    ((λ h. absurd (not_true (serves p' letter) (none' letter) h)), (λ h. absurd (not_true (serves p letter) (none letter) h)))
+same_parrots (Some text) m m' p p' some some' letter = same_modules text p p' some.0 some'.0 letter
+
+pub one_command : OneCommand
+one_command [] command other named named' = absurd named
+one_command (first ∷ words) Judge Judge named named' = refl
+one_command (first ∷ words) Judge Show named named' = absurd (omega (arith, letters first (codes "judge") (codes "show") named.0 named'.0))
+one_command (first ∷ words) Judge (Replay c m p n s) named named' = absurd (omega (arith, letters first (codes "judge") (codes "replay") named.0 named'.0))
+one_command (first ∷ words) Judge (Make seed count) named named' = absurd (omega (arith, letters first (codes "judge") (codes "make") named.0 named'.0))
+one_command (first ∷ words) Show Judge named named' = absurd (omega (arith, letters first (codes "show") (codes "judge") named.0 named'.0))
+one_command (first ∷ words) Show Show named named' = refl
+one_command (first ∷ words) Show (Replay c m p n s) named named' = absurd (omega (arith, letters first (codes "show") (codes "replay") named.0 named'.0))
+one_command (first ∷ words) Show (Make seed count) named named' = absurd (omega (arith, letters first (codes "show") (codes "make") named.0 named'.0))
+one_command (first ∷ words) (Replay c m p n s) Judge named named' = absurd (omega (arith, letters first (codes "replay") (codes "judge") named.0 named'.0))
+one_command (first ∷ words) (Replay c m p n s) Show named named' = absurd (omega (arith, letters first (codes "replay") (codes "show") named.0 named'.0))
+one_command (first ∷ words) (Replay c m p n s) (Replay c' m' p' n' s') named named' =
+    let a = named.1.1 in
+    let b = named'.1.1 in (
+      b.call_is.sum ∙ sym a.call_is.sum,
+      same_modules _ m m' a.modules_are b.modules_are,
+      same_parrots _ m m' p p' a.parrots_are b.parrots_are,
+      b.places_are.value ∙ sym a.places_are.value,
+      ((λ h. a.summary_is.1 (b.summary_is.0 h)), (λ h. b.summary_is.1 (a.summary_is.0 h))),
+    )
+one_command (first ∷ words) (Replay c m p n s) (Make seed count) named named' = absurd (omega (arith, letters first (codes "replay") (codes "make") named.0 named'.0))
+one_command (first ∷ words) (Make seed count) Judge named named' = absurd (omega (arith, letters first (codes "make") (codes "judge") named.0 named'.0))
+one_command (first ∷ words) (Make seed count) Show named named' = absurd (omega (arith, letters first (codes "make") (codes "show") named.0 named'.0))
+one_command (first ∷ words) (Make seed count) (Replay c m p n s) named named' = absurd (omega (arith, letters first (codes "make") (codes "replay") named.0 named'.0))
+one_command (first ∷ words) (Make seed count) (Make seed' count') named named' =
+    let a = named.1.1 in
+    let b = named'.1.1 in
+    ap₂ Make (b.seed_is.value ∙ sym a.seed_is.value) (b.count_is.value ∙ sym a.count_is.value)

@@ -1,0 +1,8 @@
+//! What holds of all words. It is a function without arguments, which does nothing and ensures the law.
+ghost use Rattle.m17_words.specs.Laws.{OneCommand};
+
+/// Words name one command, with one value for each of its options and arguments. This profile.
+#[inline]
+pub fn words_name_one_command()
+    ensures { OneCommand }
+{}
