@@ -11,7 +11,9 @@ pub mod Outcomes
 pub mod Peers
 pub mod Rows
 pub mod Same
+pub mod Served
 pub mod Settled
+pub mod Stops
 pub mod Tables
 pub mod Taken
 pub mod Told

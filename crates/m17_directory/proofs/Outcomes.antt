@@ -37,7 +37,7 @@ pub settled_is : (past : Past) (claim : Option Claim) → settled_at past claim 
 unfolding settled_at
 settled_is past claim = settled_parts past claim (notice_at past.entries (now past)) (request_in (notice_at past.entries (now past)))
 
-others_is : (past : Past) → others_at past ≡ others_than (notice_at past.entries (now past)) (still_by (here_of past) (known_at past) (notice_at past.entries (now past)))
+pub others_is : (past : Past) → others_at past ≡ others_than (notice_at past.entries (now past)) (still_by (here_of past) (known_at past) (notice_at past.entries (now past)))
 unfolding others_at
 others_is past = refl
 
@@ -93,13 +93,13 @@ posts_before : (setup : Setup) (entries more : List Entry) (n : ℕ) → n < len
 unfolding posts_at
 posts_before setup entries more n l = ap (λ (o : Outcome). o.posts) (later_changes_nothing setup entries more n l)
 
-range_more : (a n : ℕ) → range_with_len a (suc n) ≡ range_with_len a n ++ (a + n) ∷ []
+pub range_more : (a n : ℕ) → range_with_len a (suc n) ≡ range_with_len a n ++ (a + n) ∷ []
 range_more a zero = let e : a ≡ a + 0 = omega arith in ap (λ i. i ∷ []) e
 range_more a (suc n) =
     let e : a + 1 + n ≡ a + suc n = omega arith in
     ap (λ xs. a ∷ xs) (range_more (a + 1) n ∙ ap (λ i. range_with_len (a + 1) n ++ i ∷ []) e)
 
-flat_append : {X Y : Type 0} (f : X → List Y) (xs ys : List X) → flat_map f (xs ++ ys) ≡ flat_map f xs ++ flat_map f ys
+pub flat_append : {X Y : Type 0} (f : X → List Y) (xs ys : List X) → flat_map f (xs ++ ys) ≡ flat_map f xs ++ flat_map f ys
 flat_append f [] ys = refl
 flat_append f (x ∷ xs) ys = ap (λ zs. f x ++ zs) (flat_append f xs ys) ∙ sym (append_assoc (f x) (flat_map f xs) (flat_map f ys))
 

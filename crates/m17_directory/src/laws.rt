@@ -27,3 +27,13 @@ pub fn one_entry_more()
 pub fn route_carries_link()
     ensures { law.RouteCarriesLink }
 {}
+
+/// All that a link routes goes to served modules.
+pub fn only_served_are_routed()
+    ensures { law.OnlyServedAreRouted }
+{}
+
+/// What a link that ends once routes to a served module is events without a Stop, and then the link's one Stop.
+pub fn route_ends_in_one_stop()
+    ensures { law.RouteEndsInOneStop }
+{}
