@@ -1,4 +1,5 @@
--- What a link heard, entry by entry, and what is looked up in it. Positions count from 0. This profile.
+-- What a link heard, entry by entry, and what is looked up in it. Positions count from 0. This
+-- profile.
 use Rattle.std.specs.Prelude.{◌≡◌, ◌⊎◌, ◌&&◌, ◌||◌, ℕ, zero, suc, ◌-◌, Bool, true, false, List, [], ◌∷◌, map, take, fold, max, slice_get, nat_le, Option, None, Some, unwrap_or, option_and_then, option_map, if◌then◌else◌}
 use Rattle.std.specs.List.{list_all, range_with_len}
 use Rattle.std.specs.Option.{option_map_or}
@@ -17,8 +18,8 @@ use Rattle.m17_control.specs.Forms.{Spells, Refuses}
 use Rattle.m17_control.specs.declared.modules.Modules.{Modules}
 use Rattle.m17_lookup.specs.Lookup.{last_below}
 
--- What an entry says: a packet from a peer, bytes that are none and why, that time went by, that the socket failed, or
--- that nothing more comes. Moments are milliseconds. This profile.
+-- What an entry says: a packet from a peer, bytes that are none and why, that time went by, that
+-- the socket failed, or that nothing more comes. Moments are milliseconds. This profile.
 pub data Notice : Type 0 where
   Sent : (from : Peer) (at : ℕ) (packet : Packet) → Notice
   Garbled : (from : Peer) (at : ℕ) (refusal : Refusal) → Notice
@@ -26,8 +27,8 @@ pub data Notice : Type 0 where
   Fault : Notice
   End : Notice
 
--- What was heard says this: of a datagram, the packet that its bytes spell, or the first reason why they are none. This
--- profile.
+-- What was heard says this: of a datagram, the packet that its bytes spell, or the first reason why
+-- they are none. This profile.
 abbrev pub Says : Heard → Notice → Type 0
 Says (heard.Datagram from at bytes) notice =
     ((p : Packet) × Spells p bytes × (notice ≡ Notice.Sent from at p))
@@ -36,8 +37,8 @@ Says (heard.Quiet at) notice = notice ≡ Notice.Quiet at
 Says heard.Fault notice = notice ≡ Notice.Fault
 Says heard.End notice = notice ≡ Notice.End
 
--- The place that an entry was given which asked for one, and how many departed members of the link are to be reported
--- before its peer is greeted. This profile.
+-- The place that an entry was given which asked for one, and how many departed members of the link
+-- are to be reported before its peer is greeted. This profile.
 pub record Claim : Type 0 where
   pub member : Member
   pub after : ℕ
@@ -47,8 +48,8 @@ pub record Entry : Type 0 where
   pub notice : Notice
   pub claim : Option Claim
 
--- The number of a link, the reflector's address, how many places there are, and the modules that are served: what its
--- directory is made with. This profile.
+-- The number of a link, the reflector's address, how many places there are, and the modules that
+-- are served: what its directory is made with. This profile.
 pub record Setup : Type 0 where
   pub link : ℕ
   pub name : ℕ
@@ -75,10 +76,11 @@ moment_of (Notice.Quiet at) = at
 moment_of Notice.Fault = 0
 moment_of Notice.End = 0
 
--- The link's moment before position n: the greatest of entries 0 to n - 1, and 0 without any; and at position n, the
--- greatest of entries 0 to n. This profile.
+-- The link's moment before position n: the greatest of entries 0 to n - 1, and 0 without any; and
+-- at position n, the greatest of entries 0 to n. This profile.
 abbrev pub moment_before : List Entry → ℕ → ℕ
-moment_before entries n = fold max 0 (map (λ (entry : Entry). moment_of entry.notice) (take n entries))
+moment_before entries n =
+    fold max 0 (map (λ (entry : Entry). moment_of entry.notice) (take n entries))
 
 abbrev pub moment_at : List Entry → ℕ → ℕ
 moment_at entries n = moment_before entries (suc n)
@@ -92,7 +94,8 @@ passes_time _ = true
 -- The order of peers: by family, IPv4 first, then by address, then by port. This profile.
 abbrev pub peer_cmp : Peer → Peer → Ordering
 peer_cmp a b =
-    ordering_then (bool_cmp a.six b.six) (ordering_then (slice_cmp nat_cmp a.ip b.ip) (nat_cmp a.port b.port))
+    ordering_then (bool_cmp a.six b.six)
+    (ordering_then (slice_cmp nat_cmp a.ip b.ip) (nat_cmp a.port b.port))
 
 abbrev pub is_peer : Peer → Peer → Bool
 is_peer a b = is_eq (peer_cmp a b)
@@ -111,8 +114,8 @@ abbrev pub says_disc : Peer → Notice → Bool
 says_disc x (Notice.Sent from at p) = is_peer x from && is_disc p
 says_disc x _ = false
 
--- The moment at which the peer was last heard before position n: the link's moment at the last packet from it there.
--- This profile.
+-- The moment at which the peer was last heard before position n: the link's moment at the last
+-- packet from it there. This profile.
 unfoldable pub last_heard : List Entry → Peer → ℕ → Option ℕ
 last_heard entries x n =
     option_map (moment_at entries) (last_below (λ i. is_from x (notice_at entries i)) n)
@@ -121,10 +124,12 @@ last_heard entries x n =
 abbrev pub silence_ms : ℕ
 silence_ms = 30000
 
--- The peer is silent at position n: time goes by there, and it was last heard 30,000 ms before or more. This profile.
+-- The peer is silent at position n: time goes by there, and it was last heard 30,000 ms before or
+-- more. This profile.
 unfoldable pub is_silent_at : List Entry → Peer → ℕ → Bool
 is_silent_at entries x n = passes_time (notice_at entries n)
-    && option_map_or (λ at. nat_le silence_ms (moment_at entries n - at)) (last_heard entries x n) false
+    && option_map_or (λ at. nat_le silence_ms (moment_at entries n - at))
+    (last_heard entries x n) false
 
 -- The link ends at so many faults in a row. This profile.
 abbrev pub most_faults : ℕ
@@ -138,16 +143,19 @@ abbrev pub is_end : Notice → Bool
 is_end Notice.End = true
 is_end _ = false
 
--- The link ends at position n: nothing more comes, or the entry is the last of 16 faults in a row. This profile.
+-- The link ends at position n: nothing more comes, or the entry is the last of 16 faults in a row.
+-- This profile.
 unfoldable pub ends_at : List Entry → ℕ → Bool
 ends_at entries n = is_end (notice_at entries n)
     || (nat_le most_faults (suc n)
-    && list_all (λ i. is_fault (notice_at entries i)) (range_with_len (suc n - most_faults) most_faults))
+    && list_all (λ i. is_fault (notice_at entries i))
+    (range_with_len (suc n - most_faults) most_faults))
 
 -- The peers that datagrams before position n came from, each once, in order. This profile.
 abbrev pub with_peer : Peer → List Peer → List Peer
 with_peer x [] = x ∷ []
-with_peer x (y ∷ peers) = match_ordering (peer_cmp x y) (x ∷ y ∷ peers) (y ∷ peers) (y ∷ with_peer x peers)
+with_peer x (y ∷ peers) =
+    match_ordering (peer_cmp x y) (x ∷ y ∷ peers) (y ∷ peers) (y ∷ with_peer x peers)
 
 abbrev pub with_sender : Notice → List Peer → List Peer
 with_sender (Notice.Sent from at p) peers = with_peer from peers

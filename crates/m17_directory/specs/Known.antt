@@ -1,4 +1,5 @@
--- Who is known to a link before a position, looked up in what it heard and in the claims. This profile.
+-- Who is known to a link before a position, looked up in what it heard and in the claims. This
+-- profile.
 use Rattle.std.specs.Prelude.{◌==◌, ◌&&◌, ◌||◌, ℕ, Bool, false, List, length, slice_get, Option, None, Some, unwrap_or, option_and_then, option_map, if◌then◌else◌}
 use Rattle.std.specs.List.{filter_map}
 use Rattle.m17_values.specs.declared.peer.Peer.{Peer}
@@ -10,8 +11,8 @@ use Rattle.m17_directory.specs.declared.known.Known.{Known}
 use Rattle.m17_directory.specs.declared.known.Request.{Request}
 use Rattle.m17_directory.specs.Entries.{Notice, Claim, Entry, Setup, notice_at, claim_at, is_from, says_disc, last_heard, is_silent_at, ends_at, peers_named}
 
--- What is looked back on at a position: the directory's setup, what the link heard, and of each entry before the
--- position whether it asked for a place. This profile.
+-- What is looked back on at a position: the directory's setup, what the link heard, and of each
+-- entry before the position whether it asked for a place. This profile.
 pub record Past : Type 0 where
   pub setup : Setup
   pub entries : List Entry
@@ -25,8 +26,8 @@ now past = length past.asked
 abbrev pub asks_for : Past → Peer → ℕ → Bool
 asks_for past x i = unwrap_or (slice_get past.asked i) false && is_from x (notice_at past.entries i)
 
--- What turns it whether the peer is known: it asks for a place, it says DISC, it is silent, or the link ends. This
--- profile.
+-- What turns it whether the peer is known: it asks for a place, it says DISC, it is silent, or the
+-- link ends. This profile.
 abbrev pub turns : Past → Peer → ℕ → Bool
 turns past x i = asks_for past x i || says_disc x (notice_at past.entries i)
     || is_silent_at past.entries x i || ends_at past.entries i
@@ -75,8 +76,8 @@ row_by past x i (Some claim) =
     if is_position i (last_given past claim.member.place)
     then option_map (row_of past x claim) (request_in (notice_at past.entries i)) else None
 
--- The peer, if it is known: what turned it last was an entry at which it asked for a place, and it has the place still.
--- This profile.
+-- The peer, if it is known: what turned it last was an entry at which it asked for a place, and it
+-- has the place still. This profile.
 unfoldable pub row_at : Past → Peer → Option Known
 row_at past x =
     option_and_then

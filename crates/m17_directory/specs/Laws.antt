@@ -30,8 +30,8 @@ LaterEntriesChangeNothing =
     (setup : Setup) (entries more : List Entry) (n : ℕ) → n < length entries →
     outcome_at setup (entries ++ more) n ≡ outcome_at setup entries n
 
--- One entry more posts what it posts at its position, behind all that was posted before; and so it is routed to each
--- module, and answered to each peer. This profile.
+-- One entry more posts what it posts at its position, behind all that was posted before; and so it
+-- is routed to each module, and answered to each peer. This profile.
 pub record OneEntryMore : Type 0 where
   pub posts : (setup : Setup) (entries : List Entry) (entry : Entry) →
       posted setup (entries ++ entry ∷ [])
@@ -120,8 +120,8 @@ abbrev pub is_stop : Body → Bool
 is_stop Stop = true
 is_stop _ = false
 
--- For each served module, what a link that ends once routes there is events without a Stop, and then the link's one
--- Stop. This profile.
+-- For each served module, what a link that ends once routes there is events without a Stop, and
+-- then the link's one Stop. This profile.
 abbrev pub RouteEndsInOneStop : Type 0
 RouteEndsInOneStop =
     (setup : Setup) (entries : List Entry) (letter : ℕ) → EndsOnce entries →

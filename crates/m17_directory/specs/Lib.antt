@@ -1,4 +1,5 @@
--- What callers speak of: what a link heard, who is known, what an entry becomes, what a directory stands for.
+-- What callers speak of: what a link heard, who is known, what an entry becomes, what a directory
+-- stands for.
 pub mod Entries
 pub mod Known
 pub mod Outcome

@@ -25,7 +25,8 @@ pub record Here : Type 0 where
   pub index : ℕ
   pub moment : ℕ
 
--- What it comes to: its verdict, what is posted, in order, and who of the known leaves, in order. This profile.
+-- What it comes to: its verdict, what is posted, in order, and who of the known leaves, in order.
+-- This profile.
 pub record Outcome : Type 0 where
   pub verdict : LinkVerdict
   pub posts : List Dispatch
@@ -34,7 +35,8 @@ pub record Outcome : Type 0 where
 abbrev pub only : LinkVerdict → Outcome
 only verdict = record { verdict = verdict; posts = []; left = [] }
 
--- an event for the module with this letter, which carries the tag of the entry and the link's moment
+-- an event for the module with this letter, which carries the tag of the entry and the link's
+-- moment
 abbrev pub to_module : Here → ℕ → Body → Dispatch
 to_module here letter what = ToModule letter (record {
   tag = record { link = here.setup.link; index = here.index };
@@ -44,7 +46,8 @@ to_module here letter what = ToModule letter (record {
 
 -- the same for each served module, in order of letters
 abbrev pub to_each_module : Here → Body → List Dispatch
-to_each_module here what = map (λ letter. to_module here letter what) (letters_of here.setup.modules)
+to_each_module here what =
+    map (λ letter. to_module here letter what) (letters_of here.setup.modules)
 
 -- a reply past all modules
 abbrev pub to_door : Here → Peer → Control → Dispatch
@@ -67,14 +70,15 @@ abbrev pub is_what : Request → Known → Bool
 is_what request k = k.letter == request.letter && k.callsign == request.callsign
     && (if request.listen then k.listen else not k.listen)
 
--- A request of one that is known: for a module that is not served, for what it has already, and for anything else.
--- This profile.
+-- A request of one that is known: for a module that is not served, for what it has already, and for
+-- anything else. This profile.
 abbrev pub known_asks : Here → Known → Request → Outcome
 known_asks here k request =
     if not (serves here.setup.modules request.letter)
     then posting (NotServed request.letter) (to_door here k.peer control.Nack)
     else (if is_what request k
-    then posting (Routed k.letter act.Again) (to_module here k.letter (body.Reply k.member control.Ackn))
+    then posting (Routed k.letter act.Again)
+    (to_module here k.letter (body.Reply k.member control.Ackn))
     else leaving here Asks Moved k)
 
 -- A request of another peer. This profile.
@@ -129,8 +133,9 @@ of_end here rows = record {
   left = rows;
 }
 
--- What becomes of a request that was asked, beside the others that are still known: with a claim the other at its
--- place leaves, if there is one, and the peer joins; without one it is turned away. This profile.
+-- What becomes of a request that was asked, beside the others that are still known: with a claim
+-- the other at its place leaves, if there is one, and the peer joins; without one it is turned
+-- away. This profile.
 abbrev pub has_place : ℕ → Known → Bool
 has_place place k = k.member.place == place
 

@@ -1,4 +1,5 @@
--- What each entry of a link comes to, and what all of them route to each module and answer each peer. This profile.
+-- What each entry of a link comes to, and what all of them route to each module and answer each
+-- peer. This profile.
 use Rattle.std.specs.Prelude.{◌==◌, ◌&&◌, ◌/◌, ℕ, zero, suc, ◌-◌, Bool, true, false, not, List, [], ◌∷◌, ◌++◌, length, map, filter, find, nat_lt, nat_le, Option, None, Some, if◌then◌else◌}
 use Rattle.std.specs.List.{filter_map, flat_map, range_with_len}
 use Rattle.m17_values.specs.declared.peer.Peer.{Peer}
@@ -16,7 +17,8 @@ use Rattle.m17_directory.specs.Entries.{Notice, Claim, Entry, Setup, notice_at, 
 use Rattle.m17_directory.specs.Known.{Past, now, known_at, request_in}
 use Rattle.m17_directory.specs.Outcome.{Here, Outcome, only, to_each_module, leave, of_packet, of_end, settled}
 
--- Each served module is told of the time where the link's moment passes a multiple of so many ms. This profile.
+-- Each served module is told of the time where the link's moment passes a multiple of so many ms.
+-- This profile.
 abbrev pub tick_ms : ℕ
 tick_ms = 20
 
@@ -32,7 +34,8 @@ here_of past = record {
 abbrev pub is_silent : ℕ → Known → Bool
 is_silent moment k = nat_le silence_ms (moment - k.heard_at)
 
--- Who of the known is silent at the position, where time goes by there, and who is still known. This profile.
+-- Who of the known is silent at the position, where time goes by there, and who is still known.
+-- This profile.
 abbrev pub silent_at : Past → List Known
 silent_at past =
     if passes_time (notice_at past.entries (now past))
@@ -50,7 +53,8 @@ row_for x rows = find (λ k. is_peer x k.peer) rows
 
 -- What the entry itself says comes to. This profile.
 abbrev pub said_at : Past → Notice → Outcome
-said_at past (Notice.Sent from at p) = of_packet (here_of past) from (row_for from (still_at past)) p
+said_at past (Notice.Sent from at p) =
+    of_packet (here_of past) from (row_for from (still_at past)) p
 said_at past (Notice.Garbled from at refusal) = only (Refused refusal)
 said_at past (Notice.Quiet at) = only Timed
 said_at past Notice.Fault =
@@ -64,8 +68,8 @@ ticks_at past =
     (moment_at past.entries (now past) / tick_ms)
     then to_each_module (here_of past) body.Tick else []
 
--- What the entry comes to before a claim: first the silent leave, in order of peers, then come the ticks, and then what
--- it says. This profile.
+-- What the entry comes to before a claim: first the silent leave, in order of peers, then come the
+-- ticks, and then what it says. This profile.
 unfoldable pub heard_at : Past → Outcome
 heard_at past =
     let said = said_at past (notice_at past.entries (now past)) in
@@ -83,7 +87,8 @@ others_than _ rows = rows
 unfoldable pub others_at : Past → List Known
 others_at past = others_than (notice_at past.entries (now past)) (still_at past)
 
--- What its request then comes to by its claim, where it asked: beside the others that are still known. This profile.
+-- What its request then comes to by its claim, where it asked: beside the others that are still
+-- known. This profile.
 abbrev pub settled_by : Past → Option Claim → Notice → Option Request → Outcome
 settled_by past claim (Notice.Sent from at p) (Some request) =
     settled (here_of past) (others_at past) from request claim
@@ -142,7 +147,8 @@ posts_at setup entries n = (outcome_at setup entries n).posts
 unfoldable pub posted : Setup → List Entry → List Dispatch
 posted setup entries = flat_map (posts_at setup entries) (range_with_len 0 (length entries))
 
--- The event, if it is for the module with this letter; the reply, if it is for this peer. This profile.
+-- The event, if it is for the module with this letter; the reply, if it is for this peer. This
+-- profile.
 abbrev pub event_for : ℕ → Dispatch → Option Event
 event_for letter (ToModule to event) = if to == letter then Some event else None
 event_for letter (ToDoor direct) = None
@@ -151,7 +157,8 @@ abbrev pub reply_for : Peer → Dispatch → Option Control
 reply_for x (ToModule to event) = None
 reply_for x (ToDoor direct) = if is_peer x direct.peer then Some direct.control else None
 
--- What the link routes to a module, entry by entry, and what it answers a peer past all modules. This profile.
+-- What the link routes to a module, entry by entry, and what it answers a peer past all modules.
+-- This profile.
 unfoldable pub routed : Setup → List Entry → ℕ → List Event
 routed setup entries letter = filter_map (event_for letter) (posted setup entries)
 

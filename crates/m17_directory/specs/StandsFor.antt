@@ -16,9 +16,9 @@ use Rattle.m17_directory.specs.Outcome.{Outcome}
 use Rattle.m17_directory.specs.declared.verdict.LinkVerdict.TheVariants.{Asks}
 use Rattle.m17_directory.specs.Routed.{past_at, asks_at, heard_at, settled_at, others_at}
 
--- What a directory keeps: how it was made, the link's moment, who is known, in order of peers, the request that waits
--- for a claim, if one does, who has left and was not reported yet, how many faults came last in a row, and whether the
--- link has ended. This profile.
+-- What a directory keeps: how it was made, the link's moment, who is known, in order of peers, the
+-- request that waits for a claim, if one does, who has left and was not reported yet, how many
+-- faults came last in a row, and whether the link has ended. This profile.
 pub record Kept : Type 0 where
   pub setup : Setup
   pub moment : ℕ
@@ -55,8 +55,9 @@ pub record StandsFor (kept : Kept) (entries : List Entry) : Type 0 where
 abbrev pub most_members : ℕ
 most_members = 512
 
--- What is true of every directory: it knows at most as many peers as there are places, 512 members are known and
--- departing at most, and the places of those that are known are places, each another. This profile.
+-- What is true of every directory: it knows at most as many peers as there are places, 512 members
+-- are known and departing at most, and the places of those that are known are places, each another.
+-- This profile.
 pub record IsBounded (kept : Kept) : Type 0 where
   pub known : length kept.known ≤ kept.setup.places
   pub members : length kept.known + length kept.departing ≤ most_members
@@ -93,8 +94,9 @@ pub record HasOutcome (old new : Kept) (answer : Answer) (outcome : Outcome) : T
   pub posts : answer.posts ≡ outcome.posts
   pub departing : new.departing ≡ with_left old.departing outcome.left
 
--- The link heard an entry that says this, behind these: the directory then stands for the list with it, without a
--- claim; its answer is what the entry comes to; and where it asks, those that are known are the others. This profile.
+-- The link heard an entry that says this, behind these: the directory then stands for the list with
+-- it, without a claim; its answer is what the entry comes to; and where it asks, those that are
+-- known are the others. This profile.
 pub record IsHeard (old new : Kept) (entries : List Entry) (notice : Notice) (answer : Answer)
     : Type 0 where
   pub stands : StandsFor new (entries ++ unclaimed notice ∷ [])
@@ -103,8 +105,9 @@ pub record IsHeard (old new : Kept) (entries : List Entry) (notice : Notice) (an
   pub others : answer.verdict ≡ Asks → new.known
       ≡ others_at (past_at old.setup (entries ++ unclaimed notice ∷ []) (length entries))
 
--- The request of the last entry, behind these, was settled by this claim: the directory then stands for the list in
--- which the entry has it, and its answer is what the request comes to. This profile.
+-- The request of the last entry, behind these, was settled by this claim: the directory then stands
+-- for the list in which the entry has it, and its answer is what the request comes to. This
+-- profile.
 pub record IsSettled (old new : Kept) (entries : List Entry) (entry : Entry) (answer : Answer)
     : Type 0 where
   pub stands : StandsFor new (entries ++ entry ∷ [])
@@ -115,7 +118,8 @@ pub record IsSettled (old new : Kept) (entries : List Entry) (entry : Entry) (an
 abbrev pub has_departing : Peer → List Departed → Bool
 has_departing x departing = list_any (λ d. is_peer x d.peer) departing
 
--- A request must wait: one is asked, and its peer has a departing member, or 512 are known and departing. This profile.
+-- A request must wait: one is asked, and its peer has a departing member, or 512 are known and
+-- departing. This profile.
 abbrev pub must_wait : Kept → Bool
 must_wait kept = option_map_or (λ asked. has_departing asked.peer kept.departing
     || (length kept.known + length kept.departing) == most_members) kept.asked false

@@ -12,6 +12,7 @@ mod directory;
 mod dispatch;
 mod known;
 pub mod laws;
+mod packets;
 mod people;
 mod post;
 mod stamp;
