@@ -91,7 +91,8 @@ check "m17 version and CHANGELOG.md name the same version" one_version
 made_examples() {
     needs python3
     cp "$top/examples/make.py" . && python3 make.py || return 1
-    cmp judge.bin "$top/examples/judge.bin" && cmp show.hex "$top/examples/show.hex"
+    cmp judge.bin "$top/examples/judge.bin" && cmp show.hex "$top/examples/show.hex" &&
+        cmp evening.trace "$top/examples/evening.trace"
 }
 check "examples/make.py makes the example inputs" made_examples
 

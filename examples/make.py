@@ -1,5 +1,6 @@
 #!/usr/bin/env python3
-"""Writes the example inputs beside this file: judge.bin for `m17 judge`, and show.hex for `m17 show`.
+"""Writes the example inputs beside this file: judge.bin for `m17 judge`, show.hex for `m17 show`, and evening.trace for
+`m17 replay`.
 
 The packets are made here from their layouts, and their CRCs by the plain division, so that the examples owe nothing to
 the program that reads them. All numbers have their highest byte first.
@@ -94,6 +95,47 @@ def show_packets():
     ]
 
 
+def datagram(moment, host, data):
+    """An entry of a trace: kind 1, the moment, family 4, the address 10.0.0.host, port 17000, the length, the bytes."""
+    peer = bytes([10, 0, 0, host]) + (17000).to_bytes(2, "big")
+    return b"\x01" + moment.to_bytes(8, "big") + b"\x04" + peer + bytes([len(data)]) + data
+
+
+def quiet(moment):
+    """An entry of a trace: nothing came until this moment."""
+    return b"\x02" + moment.to_bytes(8, "big")
+
+
+def evening():
+    """A talker and a listener on module A, and a stranger. Beside each entry stands what `replay` says of it."""
+    talker = address("AB1CD")
+    listener = address("N0CALL")
+
+    def frame(number):
+        return stream_packet(0x1234, number, "AB1CD")
+
+    return b"M17TRACE" + b"".join(
+        [
+            datagram(0, 1, b"CONN" + talker + b"A"),  # 0 A join
+            datagram(40, 1, frame(0)),  # 1 A opened
+            datagram(50, 2, b"LSTN" + listener + b"A"),  # 2 A join: to listen only
+            datagram(80, 1, frame(1)),  # 3 A continued
+            datagram(90, 2, stream_packet(0x5678, 0, "N0CALL")),  # 4 A listen-only
+            datagram(120, 1, frame(2)),  # 5 A continued
+            datagram(125, 1, frame(2)),  # 6 A repeat: the network sent it twice
+            datagram(130, 2, b"DISC" + listener),  # 7 A leave
+            datagram(160, 1, frame(3 | END_BIT)),  # 8 A continued: the last frame
+            datagram(200, 3, frame(4)),  # 9 not-connected
+            datagram(220, 3, b"CONN" + address("W1XYZ") + b"D"),  # 10 not-served D
+            datagram(240, 3, b"hello"),  # 11 refused length 5
+            quiet(3000),  # 12 quiet: and a PING goes out
+            datagram(3020, 1, b"PONG" + talker),  # 13 A alive
+            b"\x03",  # 14 fault: the socket failed
+            quiet(33020),  # 15 quiet: the talker was silent for 30,000 ms and leaves
+        ]
+    )
+
+
 def main():
     folder = os.path.dirname(os.path.abspath(__file__))
     with open(os.path.join(folder, "judge.bin"), "wb") as out:
@@ -101,6 +143,8 @@ def main():
     with open(os.path.join(folder, "show.hex"), "w") as out:
         for packet in show_packets():
             out.write(packet.hex().upper() + "\n")
+    with open(os.path.join(folder, "evening.trace"), "wb") as out:
+        out.write(evening())
 
 
 if __name__ == "__main__":
