@@ -8,7 +8,16 @@ use Rattle.m17_book.specs.Book.{HasBookForm, StopsBook}
 use Rattle.m17_book.specs.Progress.{Progress}
 use Rattle.m17_book.specs.declared.record.Record.{Record}
 use Rattle.m17_book.specs.declared.refusal.FormRefusal.{FormRefusal}
-use Rattle.m17_book.specs.declared.refusal.FormRefusal.TheVariants.{ReadFault}
+use Rattle.m17_book.specs.declared.refusal.FormRefusal.TheVariants.{Cut, Kind, Field, Large, ReadFault, NoMemory}
+
+-- The refusals that a reader gives: it knows no limit, and keeps nothing that takes memory. This profile.
+abbrev pub IsReadersRefusal : FormRefusal → Type 0
+IsReadersRefusal (Cut at) = Unit {0}
+IsReadersRefusal (Kind at byte) = Unit {0}
+IsReadersRefusal (Field at) = Unit {0}
+IsReadersRefusal (Large at) = ⊥
+IsReadersRefusal ReadFault = Unit {0}
+IsReadersRefusal NoMemory = ⊥
 
 -- The reader, over a source with so much left, has read these records from the front of the bytes: a header and the
 -- records stand there, or nothing was read yet; the rest of the bytes is to come.

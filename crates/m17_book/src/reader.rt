@@ -29,7 +29,7 @@ impl Model for Reader {
 }
 
 impl Reader {
-    ghost use Rattle.m17_book.specs.Reading.{HasRead, AnswersNext, HasNext, HasReadCause};
+    ghost use Rattle.m17_book.specs.Reading.{HasRead, AnswersNext, HasNext, HasReadCause, IsReadersRefusal};
 
     /// A reader that has read nothing.
     pub fn new() -> Reader
@@ -58,6 +58,8 @@ impl Reader {
             → (records : List Record) → HasRead self.old (S.left source.old) bytes records
             → HasBookForm bytes letter records
             → MatchResult result (λ found. found ≡ None) (λ refusal. refusal ≡ ReadFault) }
+        ensures open { IfOk result (λ _. self.new.refusal ≡ None) }
+        ensures kinds { self.old.refusal ≡ None → IfErr result IsReadersRefusal }
         ensures refused { IfErr result (λ refusal. self.new.refusal ≡ Some refusal) }
         ensures again { (refusal : FormRefusal) → self.old.refusal ≡ Some refusal
             → (result ≡ Err refusal) × (source.new ≡ source.old) }
@@ -86,6 +88,8 @@ impl Reader {
             → (records : List Record) → HasRead self.old (S.left source.old) bytes records
             → HasBookForm bytes letter records
             → MatchResult result (λ found. found ≡ None) (λ refusal. refusal ≡ ReadFault) }
+        ensures open { IfOk result (λ _. self.new.refusal ≡ None) }
+        ensures kinds { self.old.refusal ≡ None → IfErr result IsReadersRefusal }
         ensures refused { IfErr result (λ refusal. self.new.refusal ≡ Some refusal) }
         ensures again { (refusal : FormRefusal) → self.old.refusal ≡ Some refusal
             → (result ≡ Err refusal) × (source.new ≡ source.old) }
@@ -115,6 +119,8 @@ impl Reader {
         ensures answers { (bytes : List ℕ) → (records : List Record)
             → HasRead self.old (S.left source.old) bytes records
             → AnswersNext result self.new (S.left source.new) bytes records }
+        ensures stays { self.new.refusal ≡ self.old.refusal }
+        ensures kinds { IfErr result IsReadersRefusal }
         ensures cause { HasReadCause (S.faults source.old) (S.faults source.new) result }
     {
         match self.begin(source, out) {
@@ -133,6 +139,8 @@ impl Reader {
         ensures refused { IfErr result (λ refusal. (bytes : List ℕ) → (records : List Record)
             → HasRead self.old (S.left source.old) bytes records
             → (refusal ≡ ReadFault) ⊎ StopsBook bytes records refusal) }
+        ensures stays { self.new.refusal ≡ self.old.refusal }
+        ensures kinds { IfErr result IsReadersRefusal }
         ensures cause { HasReadCause (S.faults source.old) (S.faults source.new) result }
     {
         if self.begun {

@@ -3,7 +3,7 @@ ghost use Rattle.m17_book.specs.Ahead.{held, IsAhead};
 ghost use Rattle.m17_book.specs.Answers.{IsOutside};
 ghost use Rattle.m17_book.specs.Flaws.{RecordFlaw};
 ghost use Rattle.m17_book.specs.Limits.{told};
-ghost use Rattle.m17_book.specs.Reading.{HasReadCause};
+ghost use Rattle.m17_book.specs.Reading.{HasReadCause, IsReadersRefusal};
 ghost use Rattle.m17_book.specs.Records.{SpellsRecord};
 ghost use Rattle.m17_book.specs.Steps.{tell, IsNext, PassesHeader};
 ghost use Rattle.m17_book.specs.Walk.{spot, IsAt, PassesMagic, TakesEntry};
@@ -21,6 +21,7 @@ use m17_values::Heard;
 fn refusal_of(flaw: Flaw, place: u64, len: usize) -> FormRefusal
     ensures told { result ≡ tell flaw place len }
     ensures inside { IsOutside result → ⊥ }
+    ensures kinds { IsReadersRefusal result }
 {
     match flaw {
         Flaw::Cut => FormRefusal::Cut {
@@ -47,6 +48,7 @@ pub(crate) fn pass_header<S: Input<K>, K: Sink>(
         → IsAhead (held cursor.old) (S.left source.old) ahead
         → IsAhead (held cursor.new) (S.left source.new) ahead) }
     ensures place { OnErr result (cursor.new.place ≡ cursor.old.place) }
+    ensures kinds { IfErr result IsReadersRefusal }
     ensures cause { HasReadCause (S.faults source.old) (S.faults source.new) result }
 {
     let Ok(()) = cursor.fill(source, out) else {
@@ -78,6 +80,7 @@ pub(crate) fn next_record<S: Input<K>, K: Sink>(
     ensures place { OnErr result (cursor.new.place ≡ cursor.old.place) }
     ensures goes_on { IfOk result (λ next. IsSome next
         → told (cursor.old.place + 1) ≤ cursor.new.place) }
+    ensures kinds { IfErr result IsReadersRefusal }
     ensures cause { HasReadCause (S.faults source.old) (S.faults source.new) result }
 {
     let Ok(()) = cursor.fill(source, out) else {

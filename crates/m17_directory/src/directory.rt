@@ -116,7 +116,7 @@ impl Directory {
     /// number of entries heard before. For every list of entries that the directory may have come from, and for what the
     /// entry says, it is what the entry at this position comes to, and the directory then stands for the list with the
     /// entry. After `Asks` the peer's request stands asked, and `settle` says what becomes of it; after `Ended` nothing
-    /// more is heard. At most 283 things are posted. This profile.
+    /// more is heard. This profile.
     pub fn hear(&mut self, index: u64, h: &Heard, post: &mut Post) -> LinkVerdict
         requires nothing_posted { post.old ≡ [] }
         requires nothing_asked { self.old.asked ≡ None }
