@@ -28,4 +28,12 @@ pub use post::Post;
 pub use verdict::{Act, LinkVerdict};
 
 #[cfg(test)]
+mod plain;
+#[cfg(test)]
+mod plain_lists;
+#[cfg(test)]
+mod plain_tests;
+#[cfg(test)]
+mod room_tests;
+#[cfg(test)]
 mod tests;

@@ -44,15 +44,15 @@ fn peer(host: u8) -> Peer {
     }
 }
 
-fn member(place: u32, generation: u64) -> Member {
+pub(crate) fn member(place: u32, generation: u64) -> Member {
     Member { place, generation }
 }
 
-fn letter(rt: &impl Abort, byte: u8) -> ModuleLetter {
+pub(crate) fn letter(rt: &impl Abort, byte: u8) -> ModuleLetter {
     ModuleLetter::new(byte).expect(rt, "a module")
 }
 
-fn call(rt: &impl Abort, text: &str) -> CallAddress {
+pub(crate) fn call(rt: &impl Abort, text: &str) -> CallAddress {
     let address = encode(text).ok().expect(rt, "an address");
     CallAddress::new(address).expect(rt, "a callsign")
 }
@@ -65,7 +65,7 @@ fn said(from: &Peer, at: u64, control: &Control) -> Heard {
     }
 }
 
-fn conn(rt: &impl Abort, from: &Peer, at: u64, module: u8) -> Heard {
+pub(crate) fn conn(rt: &impl Abort, from: &Peer, at: u64, module: u8) -> Heard {
     let control = Control::Conn {
         from: call(rt, "AB1CD"),
         module: letter(rt, module),
