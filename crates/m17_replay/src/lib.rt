@@ -5,8 +5,13 @@
 #![tactic(auto)]
 
 mod ending;
+mod judging;
+mod lines;
+mod peers;
+mod reading;
 mod reason;
 mod replay_command;
+mod summary;
 
 pub use ending::ReplayEnding;
 pub use reason::TraceReason;
