@@ -8,7 +8,7 @@ use Rattle.m17_values.specs.declared.peer.Peer.{Peer}
 use Rattle.m17_ports.specs.declared.tally.Tally.{Tally}
 use Rattle.m17_floor.specs.declared.verdict.Verdict.{Verdict}
 use Rattle.m17_directory.specs.declared.verdict.LinkVerdict.{LinkVerdict}
-use Rattle.m17_directory.specs.Entries.{Entry, peers_named}
+use Rattle.m17_directory.specs.Entries.{Entry, peers_named, with_peer}
 use Rattle.m17_port_memory.specs.Kept.{TalliesKept}
 use Rattle.m17_port_memory.specs.Peers as mouth
 use Rattle.m17_house.specs.declared.plan.Plan.{Plan}
@@ -28,10 +28,12 @@ pub record Writes {T E : Type 0} (result : Result T E) (text : List ℕ)
   pub part_of_it : OnErr result ((before : List ℕ) → first ≡ Some before
       → AppendsPrefix before text written)
 
--- the lines of these kinds, with how many of the entries are of each
+-- the line of a kind, with how many of the entries are of it; and the lines of these kinds
+abbrev pub kind_line : List Outcome → Kind → List ℕ
+kind_line outcomes kind = count_line (kind_word kind) (count_at (kind_place kind) outcomes)
+
 abbrev pub kinds_text : List Outcome → List Kind → List ℕ
-kinds_text outcomes kinds = flat_map
-    (λ kind. count_line (kind_word kind) (count_at (kind_place kind) outcomes)) kinds
+kinds_text outcomes kinds = flat_map (kind_line outcomes) kinds
 
 -- the device that failed, where a run ended before its trace was read whole
 abbrev pub stopped_by : {T : Type 0} → Result T ReplayEnding → Option Fault
@@ -42,6 +44,11 @@ stopped_by (Err ending) = failed_device ending
 abbrev pub sender_of : Heard → Option Peer
 sender_of (heard.Datagram from at bytes) = Some from
 sender_of _ = None
+
+-- the peers that were named before, and the sender of what is heard next
+abbrev pub with_heard : Heard → List Peer → List Peer
+with_heard (heard.Datagram from at bytes) peers = with_peer from peers
+with_heard _ peers = peers
 
 -- what was heard is that the socket failed
 abbrev pub is_fault_heard : Heard → Bool

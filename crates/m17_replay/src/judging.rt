@@ -1,4 +1,5 @@
-ghost use Rattle.std.specs.Prelude.{◌≡◌, IfOk};
+ghost use Rattle.std.specs.Prelude.{◌≡◌, ◌<◌, ◌-◌, length, slice_get, Some, IfOk, if◌then◌else◌};
+ghost use Rattle.m17_values.specs.declared.heard.Heard.{Heard};
 ghost use Rattle.m17_book.specs.Answers.{HasEnd};
 ghost use Rattle.m17_house.specs.Replay.{IsPlan};
 ghost use Rattle.m17_replay.specs.Run.{is_fault_heard, CanPrint, IsJudged};
@@ -49,13 +50,13 @@ pub(crate) fn judge_heard(
         Ok(judged) => judged,
         Err(no_memory) => return Err(no_memory),
     };
-    let named = match name_peers_for(alloc, summary, &heard[..verdicts.len()]) {
+    let front = &heard[..verdicts.len()];
+    let named = match name_peers_for(alloc, summary, front) {
         Ok(named) => named,
         Err(no_memory) => return Err(no_memory),
     };
-    let last = verdicts.len() - 1;
-    let lost = is_fault(&heard[last]);
-    let count = if lost { verdicts.len() } else { last };
+    let lost = ends_in_fault(front);
+    let count = count_heard(verdicts.len(), lost);
     Ok(Replayed {
         verdicts,
         packets,
@@ -66,6 +67,17 @@ pub(crate) fn judge_heard(
     })
 }
 
+// The last that was heard is that the socket failed.
+fn ends_in_fault(heard: &[Heard]) -> bool
+    ensures { (h : Heard) → slice_get heard.now (length heard.now - 1) ≡ Some h →
+        result ≡ is_fault_heard h }
+{
+    match heard.last() {
+        Some(one) => is_fault(one),
+        None => false,
+    }
+}
+
 // The socket failed.
 fn is_fault(heard: &Heard) -> bool
     ensures { result ≡ is_fault_heard heard.now }
@@ -74,4 +86,12 @@ fn is_fault(heard: &Heard) -> bool
         Heard::Fault => true,
         _ => false,
     }
+}
+
+// How many entries of so many were heard before the end, by whether the link was lost.
+fn count_heard(len: usize, lost: bool) -> usize
+    requires some { 0 < len }
+    ensures { result ≡ (if lost then len else len - 1) }
+{
+    if lost { len } else { len - 1 }
 }

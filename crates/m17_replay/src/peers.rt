@@ -1,13 +1,26 @@
-ghost use Rattle.std.specs.Prelude.{◌≡◌, List, [], length, IsTrue, IfOk, if◌then◌else◌};
+ghost use Rattle.std.specs.Prelude.{◌≡◌, true, List, [], ◌∷◌, ◌++◌, length, IfOk, OnOk, if◌then◌else◌};
 ghost use Rattle.std.specs.List.{filter_map};
 ghost use Rattle.m17_directory.specs.Entries.{Entry, peers_named};
 ghost use Rattle.m17_house.specs.Replay.{SaysEach, HasNoTallies};
-ghost use Rattle.m17_replay.specs.Run.{sender_of, AreNamed};
+ghost use Rattle.m17_replay.specs.Run.{sender_of, with_heard, AreNamed};
 
 use m17_port_memory::TallyMouth;
 use m17_values::{Heard, NoMemory, Peer};
 use std::alloc::Global;
 use std::collections::BTreeSet;
+
+// Adds the sender of a datagram.
+fn add_sender(peers: &mut Vec<Peer>, one: &Heard) -> Result<(), NoMemory>
+    ensures { OnOk result (peers.new.items ≡ peers.old.items ++ filter_map sender_of (one.now ∷ [])) }
+{
+    match one {
+        Heard::Datagram { from, .. } => match peers.push(*from) {
+            Ok(()) => Ok(()),
+            Err(_) => Err(NoMemory),
+        },
+        _ => Ok(()),
+    }
+}
 
 // Who each datagram came from, one after another.
 fn senders_of(alloc: Global, heard: &[Heard]) -> Result<Vec<Peer>, NoMemory>
@@ -15,10 +28,9 @@ fn senders_of(alloc: Global, heard: &[Heard]) -> Result<Vec<Peer>, NoMemory>
 {
     let mut peers = Vec::new(alloc);
     for one in heard {
-        if let Heard::Datagram { from, .. } = one {
-            if peers.push(*from).is_err() {
-                return Err(NoMemory);
-            }
+        match add_sender(&mut peers, one) {
+            Ok(()) => {}
+            Err(no_memory) => return Err(no_memory),
         }
     }
     Ok(peers)
@@ -31,7 +43,7 @@ pub(crate) fn make_mouth(
     heard: &[Heard],
 ) -> Result<TallyMouth, NoMemory>
     ensures empty { IfOk result (λ mouth. HasNoTallies mouth) }
-    ensures named { IfOk result (λ mouth. IsTrue summary →
+    ensures named { IfOk result (λ mouth. summary ≡ true →
         AreNamed (filter_map sender_of heard.now) mouth) }
 {
     if !summary {
@@ -44,6 +56,19 @@ pub(crate) fn make_mouth(
     }
 }
 
+// Names the sender of a datagram, unless it is named.
+fn name_sender(named: &mut BTreeSet<Peer>, one: &Heard) -> Result<(), NoMemory>
+    ensures { OnOk result (named.new.keys ≡ with_heard one.now named.old.keys) }
+{
+    match one {
+        Heard::Datagram { from, .. } => match named.insert(*from) {
+            Ok(_) => Ok(()),
+            Err(_) => Err(NoMemory),
+        },
+        _ => Ok(()),
+    }
+}
+
 // The peers that datagrams came from, each once, in their order.
 fn name_peers(alloc: Global, heard: &[Heard]) -> Result<BTreeSet<Peer>, NoMemory>
     ensures { IfOk result (λ named. (entries : List Entry) → SaysEach heard.now entries →
@@ -51,10 +76,9 @@ fn name_peers(alloc: Global, heard: &[Heard]) -> Result<BTreeSet<Peer>, NoMemory
 {
     let mut named = BTreeSet::new(alloc);
     for one in heard {
-        if let Heard::Datagram { from, .. } = one {
-            if named.insert(*from).is_err() {
-                return Err(NoMemory);
-            }
+        match name_sender(&mut named, one) {
+            Ok(()) => {}
+            Err(no_memory) => return Err(no_memory),
         }
     }
     Ok(named)

@@ -1,10 +1,10 @@
-ghost use Rattle.std.specs.Prelude.{◌≡◌, ℕ, List, Some, IfOk, OnErr};
+ghost use Rattle.std.specs.Prelude.{◌≡◌, ℕ, true, List, Some, IfOk, OnErr};
 ghost use Rattle.m17_io.specs.Faults.{HasCause, HasCauses};
 ghost use Rattle.m17_print.specs.Endings.{Grows};
 ghost use Rattle.m17_house.specs.Replay.{IsPlan};
 ghost use Rattle.m17_directory.specs.Entries.{Entry};
 ghost use Rattle.m17_house.specs.declared.plan.Plan.{Plan};
-ghost use Rattle.m17_replay.specs.Replay.{failed_device, replay_text, ComesToReplay};
+ghost use Rattle.m17_replay.specs.Replay.{failed_device, replay_text, summary_text, ComesToReplay};
 ghost use Rattle.m17_replay.specs.Run.{CanPrint, StandsFor, Writes};
 
 use crate::ReplayEnding;
@@ -71,9 +71,21 @@ fn print_replayed<K: Sink>(
         Writes result (replay_text plan summary entries) (K.written out.old) (K.written out.new) }
     ensures same { replayed.new.lost ≡ replayed.old.lost }
 {
-    if !summary {
-        return print_lines(&replayed.verdicts, &replayed.packets, replayed.count, out);
+    if summary {
+        return print_summary(replayed, out);
     }
+    print_lines(&replayed.verdicts, &replayed.packets, replayed.count, out)
+}
+
+// Writes the summary.
+fn print_summary<K: Sink>(replayed: &mut Replayed, out: &mut K) -> Result<(), Failed>
+    requires can { CanPrint replayed.old }
+    ensures cause { HasCause (K.faults out.old) (K.faults out.new) result }
+    ensures writes { (plan : Plan) → (entries : List Entry) →
+        StandsFor plan true entries replayed.old →
+        Writes result (summary_text plan entries) (K.written out.old) (K.written out.new) }
+    ensures same { replayed.new.lost ≡ replayed.old.lost }
+{
     match print_counts(&replayed.verdicts, &replayed.packets, replayed.count, out) {
         Ok(()) => print_peers(&mut replayed.named, &replayed.mouth, out),
         Err(failed) => Err(failed),

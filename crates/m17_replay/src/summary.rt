@@ -9,7 +9,7 @@ ghost use Rattle.m17_house.specs.declared.plan.Plan.{Plan};
 ghost use Rattle.m17_report.specs.Counted.{CountsAre};
 ghost use Rattle.m17_report.specs.Summary.{counts_text, peer_line, peers_text, Outcome};
 ghost use Rattle.m17_replay.specs.Replay.{outcome_of};
-ghost use Rattle.m17_replay.specs.Run.{kinds_text, AreNamed, AreVerdicts, TalliesAre, Writes};
+ghost use Rattle.m17_replay.specs.Run.{kind_line, kinds_text, AreNamed, AreVerdicts, TalliesAre, Writes};
 
 use crate::lines::write_line;
 use m17_directory::LinkVerdict;
@@ -59,6 +59,21 @@ fn count_entries(verdicts: &[LinkVerdict], packets: &[Option<Verdict>], count: u
     counts
 }
 
+// Writes the line of a kind.
+fn print_kind<K: Sink>(
+    line: &mut Line,
+    kind: Kind,
+    counts: &Counts,
+    out: &mut K,
+) -> Result<(), Failed>
+    ensures cause { HasCause (K.faults out.old) (K.faults out.new) result }
+    ensures writes { (outcomes : List Outcome) → CountsAre counts.now outcomes →
+        Writes result (kind_line outcomes kind) (K.written out.old) (K.written out.new) }
+{
+    make_kind_line(line, kind, counts.of(kind));
+    write_line(line, out)
+}
+
 // Writes the lines of these kinds, in order.
 fn print_kinds<K: Sink>(
     line: &mut Line,
@@ -71,8 +86,7 @@ fn print_kinds<K: Sink>(
         Writes result (kinds_text outcomes kinds.now) (K.written out.old) (K.written out.new) }
 {
     for kind in kinds {
-        make_kind_line(line, *kind, counts.of(*kind));
-        match write_line(line, out) {
+        match print_kind(line, *kind, counts, out) {
             Ok(()) => {}
             Err(failed) => return Err(failed),
         }
