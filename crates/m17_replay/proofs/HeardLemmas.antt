@@ -95,7 +95,7 @@ head_or_later y x peers has = elim (Contains-append_cases (y ∷ []) peers x has
   | inr later ↦ inr later
 ]
 
-later : (y x : Peer) (peers : List Peer) → Contains peers x → Contains (y ∷ peers) x
+pub later : (y x : Peer) (peers : List Peer) → Contains peers x → Contains (y ∷ peers) x
 later y x peers has = Contains-append_right (y ∷ []) peers x has
 
 here : (y x : Peer) (peers : List Peer) → y ≡ x → Contains (y ∷ peers) x

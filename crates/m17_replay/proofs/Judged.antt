@@ -1,5 +1,5 @@
 -- What is kept of a replay, once it was judged.
-use Rattle.std.proofs.Common.{◌≡◌, ℕ, ◌+◌, ◌-◌, ◌<◌, ◌≤◌, Bool, true, false, List, [], ◌∷◌, ◌++◌, length, take, get_or, Contains, Option, Some, slice_get, if◌then◌else◌, refl, sym, ap, subst, ◌∙◌, arith, length-append}
+use Rattle.std.proofs.Common.{◌≡◌, ℕ, zero, suc, ◌+◌, ◌-◌, ◌<◌, ◌≤◌, Bool, true, false, List, [], ◌∷◌, ◌++◌, length, take, get_or, Contains, Option, Some, slice_get, if◌then◌else◌, refl, sym, ap, subst, ◌∙◌, arith, length-append}
 use Rattle.std.specs.List.{filter_map, range_with_len}
 use Rattle.std.proofs.lemmas.List.{take_all, take-append-le, get_or_append_left}
 use Rattle.std.proofs.lemmas.List.Elements.{filter_map-append, Contains-append_left}
@@ -128,6 +128,34 @@ can_print plan summary heard replayed first is names count were same =
       all_named = all_named plan heard _ _ _ is summary replayed.named.keys first (named_is plan heard _ _ _ is summary replayed.named.keys names) were same;
     }
 
+-- the same where the count of the verdicts has other names
+pub judged_at : (plan : Plan) (summary : Bool) (heard : List Heard) (replayed : Replayed) (len size : ℕ) (is : IsReplayed plan heard replayed.verdicts.items replayed.packets.items replayed.mouth)
+    → len ≡ length replayed.verdicts.items → size ≡ length replayed.verdicts.items
+    → ((entries : List Entry) → SaysEach (take len heard) entries → replayed.named.keys ≡ (if summary then peers_named entries (length entries) else []))
+    → ((h : Heard) → slice_get (take len heard) (length (take len heard) - 1) ≡ Some h → replayed.lost ≡ is_fault_heard h)
+    → replayed.count ≡ (if replayed.lost then size else size - 1)
+    → IsJudged plan summary heard replayed
+judged_at plan summary heard replayed len size is e f names tells count =
+    judged plan summary heard replayed is
+        (subst (λ (n : ℕ). (entries : List Entry) → SaysEach (take n heard) entries → replayed.named.keys ≡ (if summary then peers_named entries (length entries) else [])) e names)
+        (subst (λ (n : ℕ). (h : Heard) → slice_get (take n heard) (length (take n heard) - 1) ≡ Some h → replayed.lost ≡ is_fault_heard h) e tells)
+        (subst (λ (n : ℕ). replayed.count ≡ (if replayed.lost then n else n - 1)) f count)
+
+pub can_print_at : (plan : Plan) (summary : Bool) (heard : List Heard) (replayed : Replayed) (first : TalliesKept) (len size : ℕ) (is : IsReplayed plan heard replayed.verdicts.items replayed.packets.items replayed.mouth)
+    → len ≡ length replayed.verdicts.items → size ≡ length replayed.verdicts.items
+    → ((entries : List Entry) → SaysEach (take len heard) entries → replayed.named.keys ≡ (if summary then peers_named entries (length entries) else []))
+    → replayed.count ≡ (if replayed.lost then size else size - 1)
+    → (summary ≡ true → AreNamed (filter_map sender_of heard) first) → named_in replayed.mouth.entries ≡ named_in first.entries
+    → CanPrint replayed
+can_print_at plan summary heard replayed first len size is e f names count were same =
+    can_print plan summary heard replayed first is
+        (subst (λ (n : ℕ). (entries : List Entry) → SaysEach (take n heard) entries → replayed.named.keys ≡ (if summary then peers_named entries (length entries) else [])) e names)
+        (subst (λ (n : ℕ). replayed.count ≡ (if replayed.lost then n else n - 1)) f count)
+        were same
+
 -- so many of a list that has them
 pub taken : (n : ℕ) (xs : List Heard) → n ≤ length xs → n ≡ length (take n xs)
-taken n xs fits = search rules
+taken zero [] fits = refl
+taken zero (x ∷ xs) fits = refl
+taken (suc n) [] fits = absurd (omega arith)
+taken (suc n) (x ∷ xs) fits = omega (arith, taken n xs (omega arith))

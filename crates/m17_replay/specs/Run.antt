@@ -17,6 +17,7 @@ use Rattle.m17_io.specs.declared.fault.Fault.{Fault}
 use Rattle.m17_report.specs.declared.kind.Kind.{Kind}
 use Rattle.m17_report.specs.Summary.{count_at, count_line, kind_place, kind_word, Outcome}
 use Rattle.m17_replay.specs.declared.ending.ReplayEnding.{ReplayEnding}
+use Rattle.m17_replay.specs.declared.ending.ReplayEnding.TheVariants.{Finished, LinkLost, WriteFailed}
 use Rattle.m17_replay.specs.declared.judging.Replayed.{Replayed}
 use Rattle.m17_replay.specs.Replay.{failed_device, heard_count, is_lost, tally_at}
 
@@ -39,6 +40,12 @@ kinds_text outcomes kinds = flat_map (kind_line outcomes) kinds
 abbrev pub stopped_by : {T : Type 0} → Result T ReplayEnding → Option Fault
 stopped_by (Ok _) = None
 stopped_by (Err ending) = failed_device ending
+
+-- how a run ends whose trace was judged: by what became of its text, and whether the link was lost
+abbrev pub judged_ending : {T E : Type 0} → Result T E → Bool → ReplayEnding
+judged_ending (Ok _) true = LinkLost
+judged_ending (Ok _) false = Finished
+judged_ending (Err _) lost = WriteFailed
 
 -- who a datagram came from
 abbrev pub sender_of : Heard → Option Peer

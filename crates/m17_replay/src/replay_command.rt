@@ -5,7 +5,7 @@ ghost use Rattle.m17_house.specs.Replay.{IsPlan};
 ghost use Rattle.m17_directory.specs.Entries.{Entry};
 ghost use Rattle.m17_house.specs.declared.plan.Plan.{Plan};
 ghost use Rattle.m17_replay.specs.Replay.{failed_device, replay_text, summary_text, ComesToReplay};
-ghost use Rattle.m17_replay.specs.Run.{CanPrint, StandsFor, Writes};
+ghost use Rattle.m17_replay.specs.Run.{judged_ending, CanPrint, StandsFor, Writes};
 
 use crate::ReplayEnding;
 use crate::judging::{Replayed, judge_heard};
@@ -51,10 +51,24 @@ pub fn replay<S: Input<K>, K: Sink>(
         Ok(replayed) => replayed,
         Err(no_memory) => return Err(no_memory),
     };
-    match print_replayed(summary, &mut replayed, out) {
-        Ok(()) if replayed.lost => Ok(ReplayEnding::LinkLost),
-        Ok(()) => Ok(ReplayEnding::Finished),
-        Err(_) => Ok(ReplayEnding::WriteFailed),
+    let lost = replayed.lost;
+    let printed = print_replayed(summary, &mut replayed, out);
+    Ok(ending_of(printed, lost))
+}
+
+// How a run ends whose trace was judged.
+fn ending_of(printed: Result<(), Failed>, lost: bool) -> ReplayEnding
+    ensures { result ≡ judged_ending printed lost }
+{
+    match printed {
+        Ok(()) => {
+            if lost {
+                ReplayEnding::LinkLost
+            } else {
+                ReplayEnding::Finished
+            }
+        }
+        Err(_) => ReplayEnding::WriteFailed,
     }
 }
 
@@ -69,7 +83,6 @@ fn print_replayed<K: Sink>(
     ensures writes { (plan : Plan) → (entries : List Entry) →
         StandsFor plan summary entries replayed.old →
         Writes result (replay_text plan summary entries) (K.written out.old) (K.written out.new) }
-    ensures same { replayed.new.lost ≡ replayed.old.lost }
 {
     if summary {
         return print_summary(replayed, out);
@@ -84,7 +97,6 @@ fn print_summary<K: Sink>(replayed: &mut Replayed, out: &mut K) -> Result<(), Fa
     ensures writes { (plan : Plan) → (entries : List Entry) →
         StandsFor plan true entries replayed.old →
         Writes result (summary_text plan entries) (K.written out.old) (K.written out.new) }
-    ensures same { replayed.new.lost ≡ replayed.old.lost }
 {
     match print_counts(&replayed.verdicts, &replayed.packets, replayed.count, out) {
         Ok(()) => print_peers(&mut replayed.named, &replayed.mouth, out),
