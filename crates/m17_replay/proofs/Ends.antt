@@ -131,7 +131,7 @@ pub peer_failed : (failed : Failed) (tally : Peer → Tally) (peer : Peer) (old 
 peer_failed failed tally peer old new all done x y z e before part =
     let line = peer_line peer (tally peer) in
     writes_same (Err failed) ((done ++ line) ++ peers_text tally new) all x z (append_assoc done line (peers_text tally new) ∙ ap (λ peers. done ++ peers_text tally peers) (sym e) ∙ before.1)
-        (writes_part failed failed (done ++ line) (peers_text tally new) x z (writes_then tt (Err failed) done line x y z before.0 part))
+    (writes_part failed failed (done ++ line) (peers_text tally new) x z (writes_then tt (Err failed) done line x y z before.0 part))
 
 -- the counts, and then the peers that are named
 pub summary_named : (plan : Plan) (entries : List Entry) (count : ℕ) (named : List Peer) → count ≡ heard_count entries → named ≡ peers_named entries (length entries)

@@ -150,7 +150,7 @@ named_sent all entries (suc n) fits says q has = elim (slice_get_cases all n).1 
   | inl found ↦
       let next : n + 1 ≡ suc n = omega arith in
       with_heard_cases found.0 (peers_named entries n) (filter_map sender_of all) q (λ x is. contains_sender all n found.0 x found.2 is)
-          (λ old. named_sent all entries n (omega arith) says q old)
-          (subst (λ (peers : List Peer). Contains peers q) (ap (peers_named entries) (sym next) ∙ named_more all entries n found.0 says found.2) has)
+      (λ old. named_sent all entries n (omega arith) says q old)
+      (subst (λ (peers : List Peer). Contains peers q) (ap (peers_named entries) (sym next) ∙ named_more all entries n found.0 says found.2) has)
   | inr past ↦ absurd (omega (arith, past.0))
 ]

@@ -71,8 +71,8 @@ module _ (plan : Plan) (heard : List Heard) (verdicts : List LinkVerdict) (packe
       let all : filter_map sender_of heard ≡ filter_map sender_of is.replay.front ++ filter_map sender_of is.replay.rest =
       ap (filter_map sender_of) is.replay.heard_is ∙ filter_map-append sender_of is.replay.front is.replay.rest in
       subst (λ (senders : List Peer). Contains senders x) (sym all)
-          (Contains-append_left (filter_map sender_of is.replay.front) (filter_map sender_of is.replay.rest) x
-          (named_sent is.replay.front is.entries (length is.entries) (omega (arith, front_count)) is.replay.says x has))
+      (Contains-append_left (filter_map sender_of is.replay.front) (filter_map sender_of is.replay.rest) x
+      (named_sent is.replay.front is.entries (length is.entries) (omega (arith, front_count)) is.replay.says x has))
 
   -- each that is named has a tally
   all_named : (summary : Bool) (named : List Peer) (first : TalliesKept) → named ≡ (if summary then peers_named is.entries (length is.entries) else [])
@@ -137,9 +137,9 @@ pub judged_at : (plan : Plan) (summary : Bool) (heard : List Heard) (replayed : 
     → IsJudged plan summary heard replayed
 judged_at plan summary heard replayed len size is e f names tells count =
     judged plan summary heard replayed is
-        (subst (λ (n : ℕ). (entries : List Entry) → SaysEach (take n heard) entries → replayed.named.keys ≡ (if summary then peers_named entries (length entries) else [])) e names)
-        (subst (λ (n : ℕ). (h : Heard) → slice_get (take n heard) (length (take n heard) - 1) ≡ Some h → replayed.lost ≡ is_fault_heard h) e tells)
-        (subst (λ (n : ℕ). replayed.count ≡ (if replayed.lost then n else n - 1)) f count)
+    (subst (λ (n : ℕ). (entries : List Entry) → SaysEach (take n heard) entries → replayed.named.keys ≡ (if summary then peers_named entries (length entries) else [])) e names)
+    (subst (λ (n : ℕ). (h : Heard) → slice_get (take n heard) (length (take n heard) - 1) ≡ Some h → replayed.lost ≡ is_fault_heard h) e tells)
+    (subst (λ (n : ℕ). replayed.count ≡ (if replayed.lost then n else n - 1)) f count)
 
 pub can_print_at : (plan : Plan) (summary : Bool) (heard : List Heard) (replayed : Replayed) (first : TalliesKept) (len size : ℕ) (is : IsReplayed plan heard replayed.verdicts.items replayed.packets.items replayed.mouth)
     → len ≡ length replayed.verdicts.items → size ≡ length replayed.verdicts.items
@@ -149,9 +149,9 @@ pub can_print_at : (plan : Plan) (summary : Bool) (heard : List Heard) (replayed
     → CanPrint replayed
 can_print_at plan summary heard replayed first len size is e f names count were same =
     can_print plan summary heard replayed first is
-        (subst (λ (n : ℕ). (entries : List Entry) → SaysEach (take n heard) entries → replayed.named.keys ≡ (if summary then peers_named entries (length entries) else [])) e names)
-        (subst (λ (n : ℕ). replayed.count ≡ (if replayed.lost then n else n - 1)) f count)
-        were same
+    (subst (λ (n : ℕ). (entries : List Entry) → SaysEach (take n heard) entries → replayed.named.keys ≡ (if summary then peers_named entries (length entries) else [])) e names)
+    (subst (λ (n : ℕ). replayed.count ≡ (if replayed.lost then n else n - 1)) f count)
+    were same
 
 -- so many of a list that has them
 pub taken : (n : ℕ) (xs : List Heard) → n ≤ length xs → n ≡ length (take n xs)

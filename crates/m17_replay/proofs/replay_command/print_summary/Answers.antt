@@ -13,7 +13,7 @@ returns-in-Ok-clause-writes g c = λ plan entries stands.
     let peers = peers_text (tally_at plan entries) c.args.replayed.now.named.keys in
     let verdicts = are_verdicts plan entries _ _ _ _ c.deref.ensures.value c.deref-2.ensures.value stands.verdicts in
     writes_same _ _ _ _ _ (summary_named plan entries count c.args.replayed.now.named.keys stands.count_is (stands.named_are refl))
-        (writes_then c.in-Ok.field-0 c.print_peers.result counts peers _ _ _ (c.in-Ok.ensures.writes plan entries verdicts) (c.print_peers.ensures.writes (tally_at plan entries) stands.tallies))
+    (writes_then c.in-Ok.field-0 c.print_peers.result counts peers _ _ _ (c.in-Ok.ensures.writes plan entries verdicts) (c.print_peers.ensures.writes (tally_at plan entries) stands.tallies))
 
 pub returns-in-Err-clause-writes : goal.returns-in-Err-clause-writes
 returns-in-Err-clause-writes g c = λ plan entries stands.
@@ -22,4 +22,4 @@ returns-in-Err-clause-writes g c = λ plan entries stands.
     let peers = peers_text (tally_at plan entries) c.args.replayed.now.named.keys in
     let verdicts = are_verdicts plan entries _ _ _ _ c.deref.ensures.value c.deref-2.ensures.value stands.verdicts in
     writes_same _ _ _ _ _ (summary_named plan entries count c.args.replayed.now.named.keys stands.count_is (stands.named_are refl))
-        (writes_part c.in-Err.failed c.in-Err.failed counts peers _ _ (c.in-Err.ensures.writes plan entries verdicts))
+    (writes_part c.in-Err.failed c.in-Err.failed counts peers _ _ (c.in-Err.ensures.writes plan entries verdicts))
