@@ -16,3 +16,6 @@ mod summary;
 pub use ending::ReplayEnding;
 pub use reason::TraceReason;
 pub use replay_command::replay;
+
+#[cfg(test)]
+mod tests;
