@@ -1,5 +1,7 @@
 -- What readers of whole inputs answer where the bytes do not decide. This profile.
-use Rattle.std.specs.Prelude.{ℕ, List}
+use Rattle.std.specs.Prelude.{◌≡◌, ℕ, List, [], ◌∷◌, ◌++◌}
+use Rattle.m17_values.specs.declared.heard.Heard.{Heard}
+use Rattle.m17_values.specs.declared.heard.Heard.TheVariants.{End}
 use Rattle.m17_book.specs.Book.{IsBook}
 use Rattle.m17_book.specs.declared.record.Record.{Record}
 use Rattle.m17_book.specs.declared.refusal.FormRefusal.{FormRefusal}
@@ -17,3 +19,7 @@ IsOutside NoMemory = Unit {0}
 -- the bytes are a book with these records, of some module
 abbrev pub IsBookOf : List ℕ → List Record → Type 0
 IsBookOf bytes records = (letter : ℕ) × IsBook bytes letter records
+
+-- what was heard ends with the end
+abbrev pub HasEnd : List Heard → Type 0
+HasEnd heard = (entries : List Heard) × (heard ≡ entries ++ End ∷ [])

@@ -1,8 +1,8 @@
-ghost use Rattle.std.specs.Prelude.{◌≡◌, ◌⊎◌, ℕ, ◌+◌, ◌<◌, ◌≤◌, List, [], ◌∷◌, ◌++◌, length, Option, Some, IsTrue, IfOk, IfErr, OnErr, MatchResult};
+ghost use Rattle.std.specs.Prelude.{◌≡◌, ◌⊎◌, ℕ, ◌+◌, ◌<◌, ◌≤◌, List, [], ◌∷◌, ◌++◌, length, Option, Some, IsTrue, IfOk, IfErr, OnErr, OnOk, MatchResult};
 ghost use Rattle.m17_values.specs.declared.heard.Heard.{Heard};
 ghost use Rattle.m17_values.specs.declared.heard.Heard.TheVariants.{End};
 ghost use Rattle.m17_book.specs.Ahead.{held, IsAhead};
-ghost use Rattle.m17_book.specs.Answers.{IsOutside};
+ghost use Rattle.m17_book.specs.Answers.{HasEnd, IsOutside};
 ghost use Rattle.m17_book.specs.Book.{IsTrace, RefusesTrace};
 ghost use Rattle.m17_book.specs.Entries.{SpellsEntry};
 ghost use Rattle.m17_book.specs.Reading.{HasReadCause};
@@ -37,6 +37,7 @@ pub fn read_trace<S: Source>(alloc: Global, s: &mut S) -> Result<Vec<Heard>, For
         → MatchResult result (λ _. ⊥) (λ told. IsOutside told ⊎ (told ≡ refusal)) }
     ensures nothing_left { IfOk result (λ _. (bytes : List ℕ) → S.left s.old ≡ Some bytes
         → S.left s.new ≡ Some []) }
+    ensures ends { IfOk result (λ heard. HasEnd heard.items) }
     ensures cause { HasReadCause (S.faults s.old) (S.faults s.new) result }
 {
     read_trace_for(alloc, s, &Silent)
@@ -61,6 +62,7 @@ pub fn read_trace_for<S: Input<K>, K: Sink>(
         → MatchResult result (λ _. ⊥) (λ told. IsOutside told ⊎ (told ≡ refusal)) }
     ensures nothing_left { IfOk result (λ _. (bytes : List ℕ) → S.left s.old ≡ Some bytes
         → S.left s.new ≡ Some []) }
+    ensures ends { IfOk result (λ heard. HasEnd heard.items) }
     ensures cause { HasReadCause (S.faults s.old) (S.faults s.new) result }
 {
     traces_are_exact();
@@ -82,6 +84,7 @@ fn add_trace<S: Input<K>, K: Sink>(
     ensures read { (bytes : List ℕ) → cursor.old.place ≡ 0
         → IsAt (spot cursor.old (S.left source.old)) bytes
         → ReadsTrace result bytes heard.new.items (spot cursor.new (S.left source.new)) }
+    ensures ends { OnOk result (HasEnd heard.new.items) }
     ensures cause { HasReadCause (S.faults source.old) (S.faults source.new) result }
 {
     match pass_magic(cursor, source, out) {

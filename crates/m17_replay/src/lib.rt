@@ -5,9 +5,17 @@
 #![tactic(auto)]
 
 mod ending;
+mod judging;
+mod lines;
+mod peers;
+mod reading;
 mod reason;
 mod replay_command;
+mod summary;
 
 pub use ending::ReplayEnding;
 pub use reason::TraceReason;
 pub use replay_command::replay;
+
+#[cfg(test)]
+mod tests;

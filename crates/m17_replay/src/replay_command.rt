@@ -1,13 +1,20 @@
-ghost use Rattle.std.specs.Prelude.{◌≡◌, ℕ, List, Some, IfOk, OnErr};
-ghost use Rattle.m17_io.specs.Faults.{HasCauses};
+ghost use Rattle.std.specs.Prelude.{◌≡◌, ℕ, true, List, Some, IfOk, OnErr};
+ghost use Rattle.m17_io.specs.Faults.{HasCause, HasCauses};
 ghost use Rattle.m17_print.specs.Endings.{Grows};
 ghost use Rattle.m17_house.specs.Replay.{IsPlan};
-ghost use Rattle.m17_replay.specs.Replay.{failed_device, ComesToReplay};
+ghost use Rattle.m17_directory.specs.Entries.{Entry};
+ghost use Rattle.m17_house.specs.declared.plan.Plan.{Plan};
+ghost use Rattle.m17_replay.specs.Replay.{failed_device, replay_text, summary_text, ComesToReplay};
+ghost use Rattle.m17_replay.specs.Run.{judged_ending, CanPrint, StandsFor, Writes};
 
 use crate::ReplayEnding;
+use crate::judging::{Replayed, judge_heard};
+use crate::lines::print_lines;
+use crate::reading::read_heard;
+use crate::summary::{print_counts, print_peers};
 use m17_house::Plan;
 use m17_io::{Input, Sink};
-use m17_values::NoMemory;
+use m17_values::{Failed, NoMemory};
 use std::alloc::Global;
 
 /// Replays a trace: reads it whole, judges what its one link heard as the reflector of this plan would have done, and
@@ -35,5 +42,64 @@ pub fn replay<S: Input<K>, K: Sink>(
     ensures no_fault { OnErr result ((S.faults input.new ≡ S.faults input.old)
         × (K.faults out.new ≡ K.faults out.old)) }
 {
-    Err(NoMemory)
+    let heard = match read_heard(alloc, input, out) {
+        Ok(Ok(heard)) => heard,
+        Ok(Err(ending)) => return Ok(ending),
+        Err(no_memory) => return Err(no_memory),
+    };
+    let mut replayed = match judge_heard(alloc, plan, summary, &heard) {
+        Ok(replayed) => replayed,
+        Err(no_memory) => return Err(no_memory),
+    };
+    let lost = replayed.lost;
+    let printed = print_replayed(summary, &mut replayed, out);
+    Ok(ending_of(printed, lost))
+}
+
+// How a run ends whose trace was judged.
+fn ending_of(printed: Result<(), Failed>, lost: bool) -> ReplayEnding
+    ensures { result ≡ judged_ending printed lost }
+{
+    match printed {
+        Ok(()) => {
+            if lost {
+                ReplayEnding::LinkLost
+            } else {
+                ReplayEnding::Finished
+            }
+        }
+        Err(_) => ReplayEnding::WriteFailed,
+    }
+}
+
+// Writes the summary, where one is asked for, or else the lines of the entries.
+fn print_replayed<K: Sink>(
+    summary: bool,
+    replayed: &mut Replayed,
+    out: &mut K,
+) -> Result<(), Failed>
+    requires can { CanPrint replayed.old }
+    ensures cause { HasCause (K.faults out.old) (K.faults out.new) result }
+    ensures writes { (plan : Plan) → (entries : List Entry) →
+        StandsFor plan summary entries replayed.old →
+        Writes result (replay_text plan summary entries) (K.written out.old) (K.written out.new) }
+{
+    if summary {
+        return print_summary(replayed, out);
+    }
+    print_lines(&replayed.verdicts, &replayed.packets, replayed.count, out)
+}
+
+// Writes the summary.
+fn print_summary<K: Sink>(replayed: &mut Replayed, out: &mut K) -> Result<(), Failed>
+    requires can { CanPrint replayed.old }
+    ensures cause { HasCause (K.faults out.old) (K.faults out.new) result }
+    ensures writes { (plan : Plan) → (entries : List Entry) →
+        StandsFor plan true entries replayed.old →
+        Writes result (summary_text plan entries) (K.written out.old) (K.written out.new) }
+{
+    match print_counts(&replayed.verdicts, &replayed.packets, replayed.count, out) {
+        Ok(()) => print_peers(&mut replayed.named, &replayed.mouth, out),
+        Err(failed) => Err(failed),
+    }
 }

@@ -1,0 +1,140 @@
+-- What is written of a replay, and how `replay` comes to its end.
+use Rattle.std.proofs.Common.{◌≡◌, ℕ, Bool, true, false, List, [], ◌∷◌, ◌++◌, length, map, take, drop, Option, None, Some, Result, Ok, Err, refl, sym, ap, subst, ◌∙◌, inl, inr, append_assoc, arith, MatchResult}
+use Rattle.std.specs.List.{flat_map, range_with_len}
+use Rattle.std.proofs.lemmas.List.{take-append-drop}
+use Rattle.m17_values.specs.declared.failures.Failed.{Failed}
+use Rattle.m17_io.specs.Faults.{HasCause, HasCauses, HasRisen}
+use Rattle.m17_values.specs.declared.peer.Peer.{Peer}
+use Rattle.m17_ports.specs.declared.tally.Tally.{Tally}
+use Rattle.m17_floor.specs.declared.verdict.Verdict.{Verdict}
+use Rattle.m17_directory.specs.declared.verdict.LinkVerdict.{LinkVerdict}
+use Rattle.m17_values.specs.declared.heard.Heard.{Heard}
+use Rattle.m17_book.specs.Book.{IsTrace}
+use Rattle.m17_directory.specs.Entries.{Entry, peers_named}
+use Rattle.m17_house.specs.declared.plan.Plan.{Plan}
+use Rattle.m17_report.specs.Summary.{counts_text, peer_line, peers_text}
+use Rattle.m17_replay.specs.declared.judging.Replayed.{Replayed}
+use Rattle.m17_replay.specs.Replay.{failed_device, heard_count, line_of, lines_text, outcome_of, replay_text, summary_text, tally_at, ComesToReplay, IsReplayText}
+use Rattle.m17_replay.specs.Run.{judged_ending, AreVerdicts, IsJudged, Writes}
+use Rattle.m17_replay.proofs.Writing.{writes_part, writes_same, writes_then}
+
+-- the lines of so many entries are the text without a summary
+lines_are : (plan : Plan) (entries : List Entry) (count : ℕ) → count ≡ heard_count entries → flat_map (line_of plan entries) (range_with_len 0 count) ≡ lines_text plan entries
+unfolding lines_text
+lines_are plan entries count e = ap (λ n. flat_map (line_of plan entries) (range_with_len 0 n)) e
+
+pub without_summary : (plan : Plan) (summary : Bool) (entries : List Entry) (count : ℕ) (result : Result (Unit {0}) Failed) (x y : Option (List ℕ)) → summary ≡ false → count ≡ heard_count entries
+    → Writes result (flat_map (line_of plan entries) (range_with_len 0 count)) x y → Writes result (replay_text plan summary entries) x y
+without_summary plan false entries count result x y none e writes = writes_same result _ _ x y (lines_are plan entries count e) writes
+without_summary plan true entries count result x y none e writes = cc
+
+pub with_summary : (plan : Plan) (summary : Bool) (entries : List Entry) (result : Result (Unit {0}) Failed) (x y : Option (List ℕ)) → summary ≡ true
+    → Writes result (summary_text plan entries) x y → Writes result (replay_text plan summary entries) x y
+with_summary plan true entries result x y so writes = writes
+with_summary plan false entries result x y so writes = cc
+
+-- the counts, and then the peers, are the summary
+summary_is : (plan : Plan) (entries : List Entry) (count : ℕ) → count ≡ heard_count entries
+    → counts_text count (map (outcome_of plan entries) (range_with_len 0 count)) ++ peers_text (tally_at plan entries) (peers_named entries (length entries)) ≡ summary_text plan entries
+unfolding summary_text
+summary_is plan entries count e = ap (λ n. counts_text n (map (outcome_of plan entries) (range_with_len 0 n)) ++ peers_text (tally_at plan entries) (peers_named entries (length entries))) e
+
+module _ (plan : Plan) (summary : Bool) (bytes : List ℕ) (heard : List Heard) (replayed : Replayed) (trace : IsTrace bytes heard) (is : IsJudged plan summary heard replayed) where
+  -- its text
+  is_text : (lost : Bool) → replayed.lost ≡ lost → IsReplayText plan summary lost bytes (replay_text plan summary is.entries)
+  is_text lost e = record {
+    heard = heard;
+    entries = is.entries;
+    is_trace = trace;
+    is_replay = is.is_replay;
+    is_lost_so = is.is_lost_so ∙ e;
+    text_is = refl;
+  }
+
+  -- how it ends
+  pub ended : (result : Result (Unit {0}) Failed) (lost : Bool) (left first before_it written : Option (List ℕ)) → left ≡ Some [] → replayed.lost ≡ lost → before_it ≡ first
+      → Writes result (replay_text plan summary is.entries) before_it written
+      → ComesToReplay plan summary (judged_ending result lost) bytes left first written
+  ended (Ok v) true left first before_it written none e same writes =
+      let text = is_text true e in
+      record {
+        said = ((replay_text plan summary is.entries, text), none);
+        printed = λ before told. (replay_text plan summary is.entries, writes.all_of_it before (same ∙ told), text);
+      }
+  ended (Ok v) false left first before_it written none e same writes =
+      let text = is_text false e in
+      record {
+        said = ((replay_text plan summary is.entries, text), none);
+        printed = λ before told. (replay_text plan summary is.entries, writes.all_of_it before (same ∙ told), text);
+      }
+  ended (Err failed) lost left first before_it written none e same writes = record {
+    said = tt;
+    printed = λ before told.
+        let part = writes.part_of_it before (same ∙ told) in
+        let whole = replay_text plan summary is.entries in
+        (take part.0 whole, part.1, inr (lost, whole, drop part.0 whole, is_text lost e, sym (take-append-drop part.0 whole)));
+  }
+
+-- the counts of faults: the trace was read without one, and then its text was written, or not
+pub ended_causes : (a b c d e : ℕ) (result : Result (Unit {0}) Failed) (lost : Bool) → HasCauses (a, b) (c, d) None → HasCause d e result
+    → HasCauses (a, b) (c, e) (failed_device (judged_ending result lost))
+ended_causes a b c d e (Ok v) true first then = record {
+  reads_counted = first.reads_counted;
+  writes_counted = omega (arith, first.writes_counted, then.counted);
+  read_failed = λ is. cc;
+  write_failed = λ is. cc;
+  no_read_fault = λ _. first.no_read_fault (λ is. cc);
+  no_write_fault = λ _. then.no_fault ∙ first.no_write_fault (λ is. cc);
+}
+ended_causes a b c d e (Ok v) false first then = record {
+  reads_counted = first.reads_counted;
+  writes_counted = omega (arith, first.writes_counted, then.counted);
+  read_failed = λ is. cc;
+  write_failed = λ is. cc;
+  no_read_fault = λ _. first.no_read_fault (λ is. cc);
+  no_write_fault = λ _. then.no_fault ∙ first.no_write_fault (λ is. cc);
+}
+ended_causes a b c d e (Err failed) lost first then = record {
+  reads_counted = first.reads_counted;
+  writes_counted = omega (arith, first.writes_counted, then.counted);
+  read_failed = λ is. cc;
+  write_failed = λ _. subst (λ (n : ℕ). HasRisen n e) (first.no_write_fault (λ is. cc)) then.failed;
+  no_read_fault = λ _. first.no_read_fault (λ is. cc);
+  no_write_fault = λ is. absurd (is refl);
+}
+
+-- what an answer says of one of its cases
+pub in_ok : {T E : Type 0} (result : Result T E) (P : T → Type 0) (Q : E → Type 0) (value : T) → result ≡ Ok value → MatchResult result P Q → P value
+in_ok result P Q value e says = subst (λ (r : Result _ _). MatchResult r P Q) e says
+
+pub in_err : {T E : Type 0} (result : Result T E) (P : T → Type 0) (Q : E → Type 0) (failure : E) → result ≡ Err failure → MatchResult result P Q → Q failure
+in_err result P Q failure e says = subst (λ (r : Result _ _). MatchResult r P Q) e says
+
+-- verdicts by other names
+pub are_verdicts : (plan : Plan) (entries : List Entry) (verdicts these : List LinkVerdict) (packets those : List (Option Verdict)) → these ≡ verdicts → those ≡ packets
+    → AreVerdicts plan entries verdicts packets → AreVerdicts plan entries these those
+are_verdicts plan entries verdicts these packets those e f are = record { each = e ∙ are.each; each_packet = f ∙ are.each_packet }
+
+-- the line of a peer, and then those of the others
+pub peer_written : (tally : Peer → Tally) (peer : Peer) (old new : List Peer) (all done : List ℕ) (x y z : Option (List ℕ)) → old ≡ peer ∷ new
+    → Writes {T = Unit {0}} {E = Failed} (Ok tt) done x y × (done ++ peers_text tally old ≡ all) → Writes {T = Unit {0}} {E = Failed} (Ok tt) (peer_line peer (tally peer)) y z
+    → (more : List ℕ) × Writes {T = Unit {0}} {E = Failed} (Ok tt) more x z × (more ++ peers_text tally new ≡ all)
+peer_written tally peer old new all done x y z e before line = (
+  done ++ peer_line peer (tally peer),
+  writes_then tt (Ok tt) done (peer_line peer (tally peer)) x y z before.0 line,
+  append_assoc done (peer_line peer (tally peer)) (peers_text tally new) ∙ ap (λ peers. done ++ peers_text tally peers) (sym e) ∙ before.1,
+)
+
+pub peer_failed : (failed : Failed) (tally : Peer → Tally) (peer : Peer) (old new : List Peer) (all done : List ℕ) (x y z : Option (List ℕ)) → old ≡ peer ∷ new
+    → Writes {T = Unit {0}} {E = Failed} (Ok tt) done x y × (done ++ peers_text tally old ≡ all) → Writes {T = Unit {0}} (Err failed) (peer_line peer (tally peer)) y z
+    → Writes {T = Unit {0}} (Err failed) all x z
+peer_failed failed tally peer old new all done x y z e before part =
+    let line = peer_line peer (tally peer) in
+    writes_same (Err failed) ((done ++ line) ++ peers_text tally new) all x z (append_assoc done line (peers_text tally new) ∙ ap (λ peers. done ++ peers_text tally peers) (sym e) ∙ before.1)
+    (writes_part failed failed (done ++ line) (peers_text tally new) x z (writes_then tt (Err failed) done line x y z before.0 part))
+
+-- the counts, and then the peers that are named
+pub summary_named : (plan : Plan) (entries : List Entry) (count : ℕ) (named : List Peer) → count ≡ heard_count entries → named ≡ peers_named entries (length entries)
+    → counts_text count (map (outcome_of plan entries) (range_with_len 0 count)) ++ peers_text (tally_at plan entries) named ≡ summary_text plan entries
+summary_named plan entries count named e f =
+    ap (λ peers. counts_text count (map (outcome_of plan entries) (range_with_len 0 count)) ++ peers_text (tally_at plan entries) peers) f ∙ summary_is plan entries count e

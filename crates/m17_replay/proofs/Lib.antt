@@ -1,0 +1,5 @@
+mod Writing
+mod Steps
+mod HeardLemmas
+mod Judged
+mod Ends

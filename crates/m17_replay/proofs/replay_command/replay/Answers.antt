@@ -1,0 +1,40 @@
+use Rattle.std.proofs.Common.{List, refl, sym, subst}
+use Rattle.m17_io.specs.Faults.{HasCauses}
+use Rattle.m17_values.specs.declared.heard.Heard.{Heard}
+use Rattle.m17_book.specs.Book.{IsTrace}
+use Rattle.m17_print.proofs.Grown.{grows_none, grows_then}
+use Rattle.m17_replay.specs.declared.ending.ReplayEnding.{ReplayEnding}
+use Rattle.m17_replay.specs.Replay.{failed_device, ComesToReplay}
+use Rattle.m17_replay.specs.Run.{stopped_by}
+use Rattle.m17_replay.proofs.Ends.{ended, ended_causes, in_err, in_ok}
+use Rattle.m17_replay.proofs.Writing.{writes_grow}
+use Rattle.m17_replay.proofs.replay_command.replay.Goals as goal
+
+pub returns-in-Ok-Err-clause-ended : goal.returns-in-Ok-Err-clause-ended
+returns-in-Ok-Err-clause-ended g c = λ bytes told.
+    let says = in_err c.in-Ok-Err.field-0 _ _ c.in-Ok-Err.ending c.in-Ok-Err.field-0-is (c.in-Ok-Err.ensures.read bytes told) in
+    says c.args.plan.now c.args.summary
+
+pub returns-clause-ended : goal.returns-clause-ended
+returns-clause-ended g c = λ bytes told.
+    let read = in_ok c.in-Ok-Ok.field-0 _ _ c.in-Ok-Ok.heard c.in-Ok-Ok.field-0-is (c.in-Ok-Ok.ensures.read bytes told) in
+    let judged = c.in-Ok.ensures.judged in
+    subst (λ (ending : ReplayEnding). ComesToReplay c.args.plan.now c.args.summary ending bytes (g.S.Input.left c.read_heard.new.input) (g.K.Sink.written c.args.out.now) (g.K.Sink.written c.print_replayed-printed.new.out))
+    (sym c.ending_of.ensures)
+    (ended c.args.plan.now c.args.summary bytes c.deref.result.now c.in-Ok.replayed (subst (λ (heard : List Heard). IsTrace bytes heard) (sym c.deref.ensures.value) read.0) judged
+    c.print_replayed-printed.result c.in-Ok.replayed.lost _ _ _ _ read.1 refl c.in-Ok-Ok.ensures.nothing_written
+    (c.print_replayed-printed.ensures.writes c.args.plan.now judged.entries judged.stands))
+
+pub returns-clause-causes : goal.returns-clause-causes
+returns-clause-causes g c =
+    let ins = g.S.Input.faults in
+    let outs = g.K.Sink.faults in
+    let read = subst (λ read. HasCauses (ins c.args.input.now, outs c.args.out.now) (ins c.read_heard.new.input, outs c.read_heard.new.out) (stopped_by read)) c.in-Ok-Ok.field-0-is c.in-Ok-Ok.ensures.causes in
+    subst (λ (ending : ReplayEnding). HasCauses (ins c.args.input.now, outs c.args.out.now) (ins c.read_heard.new.input, outs c.print_replayed-printed.new.out) (failed_device ending))
+    (sym c.ending_of.ensures)
+    (ended_causes _ _ _ _ _ c.print_replayed-printed.result c.in-Ok.replayed.lost read c.print_replayed-printed.ensures.cause)
+
+pub returns-clause-appended : goal.returns-clause-appended
+returns-clause-appended g c =
+    let judged = c.in-Ok.ensures.judged in
+    grows_then _ _ _ (grows_none _ _ c.in-Ok-Ok.ensures.nothing_written) (writes_grow c.print_replayed-printed.result _ _ _ (c.print_replayed-printed.ensures.writes c.args.plan.now judged.entries judged.stands))

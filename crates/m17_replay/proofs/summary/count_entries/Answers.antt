@@ -1,0 +1,19 @@
+use Rattle.std.proofs.Common.{◌≡◌, ◌∷◌, ◌++◌, [], length, map, sym, ap, subst, ◌∙◌, None, arith}
+use Rattle.std.specs.List.{range_with_len}
+use Rattle.std.proofs.lemmas.List.FromFn.{length-map-range_with_len, map-range_with_len_more}
+use Rattle.m17_directory.specs.Routed.{link_verdict}
+use Rattle.m17_house.specs.Replay.{setup_of, packet_verdict}
+use Rattle.m17_report.specs.Counted.{CountsAre}
+use Rattle.m17_replay.specs.Replay.{outcome_of}
+use Rattle.m17_replay.proofs.Steps.{counted_more}
+use Rattle.m17_replay.proofs.summary.count_entries.Goals as goal
+
+pub loop-n-init : goal.loop-n-init
+loop-n-init c = λ plan entries are. c.new-counts.ensures
+
+pub loop-n-preserved : goal.loop-n-preserved
+loop-n-preserved c = λ plan entries are.
+    let size = length-map-range_with_len (outcome_of plan entries) 0 c.loop-n.n in
+    let more = c.count.ensures _ (omega (arith, size)) (c.loop-n.invariant plan entries are) in
+    subst (λ outcomes. CountsAre c.count.new.self outcomes)
+    (counted_more plan entries c.args.verdicts.now c.args.packets.now c.loop-n.n _ _ are (omega (arith, c.requires.there)) (omega (arith, c.requires.there)) c.index-verdicts-n.is) more

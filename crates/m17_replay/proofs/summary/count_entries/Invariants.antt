@@ -1,0 +1,12 @@
+use Rattle.std.proofs.Common.{ℕ, List, map}
+use Rattle.std.specs.List.{range_with_len}
+use Rattle.m17_directory.specs.Entries.{Entry}
+use Rattle.m17_house.specs.declared.plan.Plan.{Plan}
+use Rattle.m17_report.specs.Counted.{CountsAre}
+use Rattle.m17_replay.specs.Replay.{outcome_of}
+use Rattle.m17_replay.specs.Run.{AreVerdicts}
+use Rattle.m17_replay.proofs.summary.count_entries.Given as goal
+
+-- so many were counted
+abbrev pub invariant-loop-n : goal.invariant-loop-n
+invariant-loop-n l = (plan : Plan) → (entries : List Entry) → AreVerdicts plan entries l.fn.verdicts l.fn.packets → CountsAre l.counts (map (outcome_of plan entries) (range_with_len 0 l.n))

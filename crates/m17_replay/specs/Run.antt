@@ -1,0 +1,98 @@
+-- Where a run of `replay` stands between its steps. No public clause cites this module.
+use Rattle.std.specs.Prelude.{◌≡◌, ℕ, ◌≤◌, Bool, true, false, List, [], ◌++◌, length, Contains, Option, None, Some, Result, Ok, Err, OnOk, OnErr}
+use Rattle.std.specs.List.{flat_map}
+use Rattle.m17_io.specs.Sink.{AppendsPrefix}
+use Rattle.m17_values.specs.declared.heard.Heard.{Heard}
+use Rattle.m17_values.specs.declared.heard.Heard.TheVariants as heard
+use Rattle.m17_values.specs.declared.peer.Peer.{Peer}
+use Rattle.m17_ports.specs.declared.tally.Tally.{Tally}
+use Rattle.m17_floor.specs.declared.verdict.Verdict.{Verdict}
+use Rattle.m17_directory.specs.declared.verdict.LinkVerdict.{LinkVerdict}
+use Rattle.m17_directory.specs.Entries.{Entry, peers_named, with_peer}
+use Rattle.m17_port_memory.specs.Kept.{TalliesKept}
+use Rattle.m17_port_memory.specs.Peers as mouth
+use Rattle.m17_house.specs.declared.plan.Plan.{Plan}
+use Rattle.m17_house.specs.Replay.{IsReplayOf, verdicts_of, packet_verdicts_of}
+use Rattle.m17_io.specs.declared.fault.Fault.{Fault}
+use Rattle.m17_report.specs.declared.kind.Kind.{Kind}
+use Rattle.m17_report.specs.Summary.{count_at, count_line, kind_place, kind_word, Outcome}
+use Rattle.m17_replay.specs.declared.ending.ReplayEnding.{ReplayEnding}
+use Rattle.m17_replay.specs.declared.ending.ReplayEnding.TheVariants.{Finished, LinkLost, WriteFailed}
+use Rattle.m17_replay.specs.declared.judging.Replayed.{Replayed}
+use Rattle.m17_replay.specs.Replay.{failed_device, heard_count, is_lost, tally_at}
+
+-- The text was appended to what stood there; or, where the sink failed, a first part of it.
+pub record Writes {T E : Type 0} (result : Result T E) (text : List ℕ)
+    (first written : Option (List ℕ)) : Type 0 where
+  pub all_of_it : OnOk result ((before : List ℕ) → first ≡ Some before
+      → written ≡ Some (before ++ text))
+  pub part_of_it : OnErr result ((before : List ℕ) → first ≡ Some before
+      → AppendsPrefix before text written)
+
+-- the line of a kind, with how many of the entries are of it; and the lines of these kinds
+abbrev pub kind_line : List Outcome → Kind → List ℕ
+kind_line outcomes kind = count_line (kind_word kind) (count_at (kind_place kind) outcomes)
+
+abbrev pub kinds_text : List Outcome → List Kind → List ℕ
+kinds_text outcomes kinds = flat_map (kind_line outcomes) kinds
+
+-- the device that failed, where a run ended before its trace was read whole
+abbrev pub stopped_by : {T : Type 0} → Result T ReplayEnding → Option Fault
+stopped_by (Ok _) = None
+stopped_by (Err ending) = failed_device ending
+
+-- how a run ends whose trace was judged: by what became of its text, and whether the link was lost
+abbrev pub judged_ending : {T E : Type 0} → Result T E → Bool → ReplayEnding
+judged_ending (Ok _) true = LinkLost
+judged_ending (Ok _) false = Finished
+judged_ending (Err _) lost = WriteFailed
+
+-- who a datagram came from
+abbrev pub sender_of : Heard → Option Peer
+sender_of (heard.Datagram from at bytes) = Some from
+sender_of _ = None
+
+-- the peers that were named before, and the sender of what is heard next
+abbrev pub with_heard : Heard → List Peer → List Peer
+with_heard (heard.Datagram from at bytes) peers = with_peer from peers
+with_heard _ peers = peers
+
+-- what was heard is that the socket failed
+abbrev pub is_fault_heard : Heard → Bool
+is_fault_heard heard.Fault = true
+is_fault_heard _ = false
+
+-- These are the verdicts of the entries of a replay.
+pub record AreVerdicts (plan : Plan) (entries : List Entry) (verdicts : List LinkVerdict)
+    (packets : List (Option Verdict)) : Type 0 where
+  pub each : verdicts ≡ verdicts_of plan entries
+  pub each_packet : packets ≡ packet_verdicts_of plan entries
+
+-- Each of the peers has a tally; and each tally is the one of its peer.
+abbrev pub AreNamed : List Peer → TalliesKept → Type 0
+AreNamed peers kept = (x : Peer) → Contains peers x → Contains (mouth.named_in kept.entries) x
+
+abbrev pub TalliesAre : (Peer → Tally) → TalliesKept → Type 0
+TalliesAre tally kept = (x : Peer) (t : Tally) → mouth.tally_at kept.entries x ≡ Some t → t ≡ tally x
+
+-- All that is printed is there: the verdicts reach so far, and each peer that is named has a tally.
+pub record CanPrint (replayed : Replayed) : Type 0 where
+  pub verdicts_reach : replayed.count ≤ length replayed.verdicts.items
+  pub packets_reach : replayed.count ≤ length replayed.packets.items
+  pub all_named : AreNamed replayed.named.keys replayed.mouth
+
+-- What is kept of the replay of these entries is what the replay says.
+pub record StandsFor (plan : Plan) (summary : Bool) (entries : List Entry) (replayed : Replayed)
+    : Type 0 where
+  pub verdicts : AreVerdicts plan entries replayed.verdicts.items replayed.packets.items
+  pub count_is : replayed.count ≡ heard_count entries
+  pub tallies : TalliesAre (tally_at plan entries) replayed.mouth
+  pub named_are : summary ≡ true → replayed.named.keys ≡ peers_named entries (length entries)
+
+-- The trace was judged: this is kept of its replay.
+pub record IsJudged (plan : Plan) (summary : Bool) (heard : List Heard) (replayed : Replayed)
+    : Type 0 where
+  pub entries : List Entry
+  pub is_replay : IsReplayOf plan heard entries
+  pub is_lost_so : is_lost entries ≡ replayed.lost
+  pub stands : StandsFor plan summary entries replayed

@@ -1,0 +1,64 @@
+ghost use Rattle.std.specs.Prelude.{◌≡◌, ◌<◌, ◌≤◌, List, length};
+ghost use Rattle.std.specs.List.{flat_map, range_with_len};
+ghost use Rattle.m17_io.specs.Faults.{HasCause};
+ghost use Rattle.m17_directory.specs.Entries.{Entry};
+ghost use Rattle.m17_house.specs.declared.plan.Plan.{Plan};
+ghost use Rattle.m17_replay.specs.Replay.{line_of};
+ghost use Rattle.m17_replay.specs.Run.{AreVerdicts, Writes};
+
+use m17_directory::LinkVerdict;
+use m17_floor::Verdict;
+use m17_io::Sink;
+use m17_print::Line;
+use m17_report::make_verdict_line;
+use m17_values::Failed;
+
+// Writes a line that was made.
+pub(crate) fn write_line<K: Sink>(line: &Line, out: &mut K) -> Result<(), Failed>
+    ensures cause { HasCause (K.faults out.old) (K.faults out.new) result }
+    ensures writes { Writes result line.now (K.written out.old) (K.written out.new) }
+{
+    out.write(line.bytes())
+}
+
+// Writes the line of entry `n`.
+fn print_entry<K: Sink>(
+    line: &mut Line,
+    n: usize,
+    verdicts: &[LinkVerdict],
+    packets: &[Option<Verdict>],
+    out: &mut K,
+) -> Result<(), Failed>
+    requires there { (n < length verdicts.now) × (n < length packets.now) }
+    ensures cause { HasCause (K.faults out.old) (K.faults out.new) result }
+    ensures writes { (plan : Plan) → (entries : List Entry) →
+        AreVerdicts plan entries verdicts.now packets.now →
+        Writes result (line_of plan entries n) (K.written out.old) (K.written out.new) }
+{
+    make_verdict_line(line, n as u64, &verdicts[n], &packets[n]);
+    write_line(line, out)
+}
+
+// Writes the lines of the first `count` entries, in order.
+pub(crate) fn print_lines<K: Sink>(
+    verdicts: &[LinkVerdict],
+    packets: &[Option<Verdict>],
+    count: usize,
+    out: &mut K,
+) -> Result<(), Failed>
+    requires there { (count ≤ length verdicts.now) × (count ≤ length packets.now) }
+    ensures cause { HasCause (K.faults out.old) (K.faults out.new) result }
+    ensures writes { (plan : Plan) → (entries : List Entry) →
+        AreVerdicts plan entries verdicts.now packets.now →
+        Writes result (flat_map (line_of plan entries) (range_with_len 0 count))
+        (K.written out.old) (K.written out.new) }
+{
+    let mut line = Line::new();
+    for n in 0..count {
+        match print_entry(&mut line, n, verdicts, packets, out) {
+            Ok(()) => {}
+            Err(failed) => return Err(failed),
+        }
+    }
+    Ok(())
+}

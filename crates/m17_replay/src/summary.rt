@@ -1,0 +1,156 @@
+ghost use Rattle.std.specs.Prelude.{◌≡◌, ◌≤◌, ℕ, List, length, map, Contains};
+ghost use Rattle.std.specs.List.{flat_map, range_with_len};
+ghost use Rattle.m17_io.specs.Faults.{HasCause};
+ghost use Rattle.m17_values.specs.declared.peer.Peer.{Peer};
+ghost use Rattle.m17_ports.specs.declared.tally.Tally.{Tally};
+ghost use Rattle.m17_port_memory.specs.Peers.{named_in};
+ghost use Rattle.m17_directory.specs.Entries.{Entry};
+ghost use Rattle.m17_house.specs.declared.plan.Plan.{Plan};
+ghost use Rattle.m17_report.specs.Counted.{CountsAre};
+ghost use Rattle.m17_report.specs.Summary.{counts_text, peer_line, peers_text, Outcome};
+ghost use Rattle.m17_replay.specs.Replay.{outcome_of};
+ghost use Rattle.m17_replay.specs.Run.{kind_line, kinds_text, AreNamed, AreVerdicts, TalliesAre, Writes};
+
+use crate::lines::write_line;
+use m17_directory::LinkVerdict;
+use m17_floor::Verdict;
+use m17_io::Sink;
+use m17_port_memory::TallyMouth;
+use m17_print::Line;
+use m17_report::{Counts, Kind, make_entries_line, make_kind_line, make_peer_line};
+use m17_values::{Failed, Peer};
+use std::collections::BTreeSet;
+
+// The kinds of entries, in the order of the summary.
+const KINDS: [Kind; 20] = [
+    Kind::Join,
+    Kind::Again,
+    Kind::Leave,
+    Kind::Pong,
+    Kind::Alive,
+    Kind::Opened,
+    Kind::Continued,
+    Kind::Busy,
+    Kind::Repeat,
+    Kind::Late,
+    Kind::AfterEnd,
+    Kind::NotMember,
+    Kind::ListenOnly,
+    Kind::Refused,
+    Kind::NotConnected,
+    Kind::NotServed,
+    Kind::Full,
+    Kind::Stray,
+    Kind::Quiet,
+    Kind::Fault,
+];
+
+// Counts the first `count` entries by their kinds.
+fn count_entries(verdicts: &[LinkVerdict], packets: &[Option<Verdict>], count: usize) -> Counts
+    requires there { (count ≤ length verdicts.now) × (count ≤ length packets.now) }
+    ensures { (plan : Plan) → (entries : List Entry) →
+        AreVerdicts plan entries verdicts.now packets.now →
+        CountsAre result (map (outcome_of plan entries) (range_with_len 0 count)) }
+{
+    let mut counts = Counts::new();
+    for n in 0..count {
+        counts.count(&verdicts[n], &packets[n]);
+    }
+    counts
+}
+
+// Writes the line of a kind.
+fn print_kind<K: Sink>(
+    line: &mut Line,
+    kind: Kind,
+    counts: &Counts,
+    out: &mut K,
+) -> Result<(), Failed>
+    ensures cause { HasCause (K.faults out.old) (K.faults out.new) result }
+    ensures writes { (outcomes : List Outcome) → CountsAre counts.now outcomes →
+        Writes result (kind_line outcomes kind) (K.written out.old) (K.written out.new) }
+{
+    make_kind_line(line, kind, counts.of(kind));
+    write_line(line, out)
+}
+
+// Writes the lines of these kinds, in order.
+fn print_kinds<K: Sink>(
+    line: &mut Line,
+    kinds: &[Kind],
+    counts: &Counts,
+    out: &mut K,
+) -> Result<(), Failed>
+    ensures cause { HasCause (K.faults out.old) (K.faults out.new) result }
+    ensures writes { (outcomes : List Outcome) → CountsAre counts.now outcomes →
+        Writes result (kinds_text outcomes kinds.now) (K.written out.old) (K.written out.new) }
+{
+    for kind in kinds {
+        match print_kind(line, *kind, counts, out) {
+            Ok(()) => {}
+            Err(failed) => return Err(failed),
+        }
+    }
+    Ok(())
+}
+
+// Writes how many entries there are, and how many of each kind.
+pub(crate) fn print_counts<K: Sink>(
+    verdicts: &[LinkVerdict],
+    packets: &[Option<Verdict>],
+    count: usize,
+    out: &mut K,
+) -> Result<(), Failed>
+    requires there { (count ≤ length verdicts.now) × (count ≤ length packets.now) }
+    ensures cause { HasCause (K.faults out.old) (K.faults out.new) result }
+    ensures writes { (plan : Plan) → (entries : List Entry) →
+        AreVerdicts plan entries verdicts.now packets.now →
+        Writes result (counts_text count (map (outcome_of plan entries) (range_with_len 0 count)))
+        (K.written out.old) (K.written out.new) }
+{
+    let counts = count_entries(verdicts, packets, count);
+    let mut line = Line::new();
+    make_entries_line(&mut line, count as u64);
+    match write_line(&line, out) {
+        Ok(()) => print_kinds(&mut line, &KINDS, &counts, out),
+        Err(failed) => Err(failed),
+    }
+}
+
+// Writes the line of a peer.
+fn print_peer<K: Sink>(
+    line: &mut Line,
+    peer: &Peer,
+    mouth: &TallyMouth,
+    out: &mut K,
+) -> Result<(), Failed>
+    requires named { Contains (named_in mouth.now.entries) peer.now }
+    ensures cause { HasCause (K.faults out.old) (K.faults out.new) result }
+    ensures writes { (tally : Peer → Tally) → TalliesAre tally mouth.now →
+        Writes result (peer_line peer.now (tally peer.now)) (K.written out.old) (K.written out.new) }
+{
+    let tally = mouth.tally(peer).unwrap();
+    make_peer_line(line, peer, &tally);
+    write_line(line, out)
+}
+
+// Writes the lines of the peers that are named, in order, and names nobody then.
+pub(crate) fn print_peers<K: Sink>(
+    named: &mut BTreeSet<Peer>,
+    mouth: &TallyMouth,
+    out: &mut K,
+) -> Result<(), Failed>
+    requires named { AreNamed named.old.keys mouth.now }
+    ensures cause { HasCause (K.faults out.old) (K.faults out.new) result }
+    ensures writes { (tally : Peer → Tally) → TalliesAre tally mouth.now →
+        Writes result (peers_text tally named.old.keys) (K.written out.old) (K.written out.new) }
+{
+    let mut line = Line::new();
+    while let Some(peer) = named.pop_first() {
+        match print_peer(&mut line, &peer, mouth, out) {
+            Ok(()) => {}
+            Err(failed) => return Err(failed),
+        }
+    }
+    Ok(())
+}
