@@ -1,7 +1,8 @@
 -- What a run of the program promises, by its words. This profile.
-use Rattle.std.specs.Prelude.{◌≡◌, ◌⊎◌, ℕ, Bool, List}
+use Rattle.std.specs.Prelude.{◌≡◌, ◌⊎◌, ℕ, ◌≤◌, Bool, List}
 use Rattle.m17_control.specs.declared.modules.Modules.{Modules}
 use Rattle.m17_house.specs.declared.plan.Plan.{Plan}
+use Rattle.m17_house.specs.Replay.{IsPlan}
 use Rattle.m17_words.specs.declared.command.Command.{Command}
 use Rattle.m17_words.specs.declared.command.Command.TheVariants.{Judge, Show, Replay, Make}
 use Rattle.m17_words.specs.Words.{Names}
@@ -38,3 +39,17 @@ RunsWords words status before after =
     ((command : Command) × Names words command × Runs command status before after)
     ⊎ (AreRefused words × RefusesWords status before after)
     ⊎ ((status ≡ NoMemory) × (after ≡ before))
+
+-- What a run promises whose words name no command: that they are refused, or there was no memory for reading them and
+-- no device was touched. This profile.
+abbrev pub EndsRefused : Status → Outside → Outside → Type 0
+EndsRefused status before after =
+    RefusesWords status before after ⊎ ((status ≡ NoMemory) × (after ≡ before))
+
+-- The values of a command are within the bounds that its run needs, as those of a command that words name are. This
+-- profile.
+abbrev pub IsRunnable : Command → Type 0
+IsRunnable Judge = Unit {0}
+IsRunnable Show = Unit {0}
+IsRunnable (Make seed count) = count ≤ 100000
+IsRunnable (Replay call modules parrots places summary) = IsPlan (plan_of call modules parrots places)
