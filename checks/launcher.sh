@@ -67,6 +67,7 @@ help_and_version() {
     for word in help --help; do
         without_rt tree/m17 $word >got 2>err || return 1
         has got 'm17 judge < RECORDS' && has got 'm17 show < HEX-LINES' && has got 'status  0' || return 1
+        has got 'm17 make SEED COUNT' && has got 'm17 replay [OPTION].. < TRACE' && has got '        7   ' || return 1
     done
     without_rt tree/m17 version >got 2>err && has got 'not built yet' || return 1
     [ ! -s err ] && [ ! -e tree/crates/m17_app/out ] || return 1

@@ -8,7 +8,7 @@ use Rattle.m17_app.specs.declared.status.Status.TheVariants.{WriteFailed}
 use Rattle.m17_app.specs.Status.{outside, WritesLast}
 
 -- all of a line is a first part of it
-whole_line : (line : List ℕ) (written written' : Option (List ℕ)) → ((xs : List ℕ) → written ≡ Some xs → written' ≡ Some (xs ++ line))
+pub whole_line : (line : List ℕ) (written written' : Option (List ℕ)) → ((xs : List ℕ) → written ≡ Some xs → written' ≡ Some (xs ++ line))
     → (xs : List ℕ) → written ≡ Some xs → AppendsPrefix xs line written'
 whole_line line written written' writes xs told =
     (length line, writes xs told ∙ ap (λ ys. Some (xs ++ ys)) (sym (take_all (length line) line (omega arith))))

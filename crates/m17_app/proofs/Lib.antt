@@ -4,5 +4,8 @@ pub mod LastLines
 pub mod Concluded
 pub mod JudgeRuns
 pub mod ShowRuns
+pub mod MakeRuns
+pub mod ReplayRuns
+pub mod Runnable
 pub mod WordsRefused
 pub mod Codes

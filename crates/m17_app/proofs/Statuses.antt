@@ -1,11 +1,12 @@
 -- The status of an ending, and which device an ending tells of.
-use Rattle.std.proofs.Common.{◌≡◌, ◌≢◌, ◌⊎◌, Some, refl, sym, ◌∙◌, inl, inr}
+use Rattle.std.proofs.Common.{◌≡◌, ◌≢◌, ◌⊎◌, Option, Some, refl, sym, ◌∙◌, inl, inr}
+use Rattle.m17_io.specs.declared.fault.Fault.{Fault}
 use Rattle.m17_io.specs.declared.fault.Fault.TheVariants.{Read, Write}
 use Rattle.m17_print.specs.Endings.{failed_device}
 use Rattle.m17_print.specs.declared.ending.Ending.{Ending}
 use Rattle.m17_print.specs.declared.ending.Ending.TheVariants as endings
 use Rattle.m17_app.specs.declared.status.Status.{Status}
-use Rattle.m17_app.specs.declared.status.Status.TheVariants.{Finished, InputRefused, WordsRefused, ReadFailed, WriteFailed, NoMemory}
+use Rattle.m17_app.specs.declared.status.Status.TheVariants.{Finished, InputRefused, WordsRefused, ReadFailed, WriteFailed, LinkLost, NoMemory}
 use Rattle.m17_app.specs.Status.{status_of}
 
 -- a status is that of a failed write, or another
@@ -15,6 +16,7 @@ is_write_failed InputRefused = inr (λ e. cc)
 is_write_failed WordsRefused = inr (λ e. cc)
 is_write_failed ReadFailed = inr (λ e. cc)
 is_write_failed WriteFailed = inl refl
+is_write_failed LinkLost = inr (λ e. cc)
 is_write_failed NoMemory = inr (λ e. cc)
 
 -- one that isn't is the status that was given
@@ -22,25 +24,34 @@ pub own_status : (own status : Status) → (status ≡ own) ⊎ (status ≡ Writ
 own_status own status (inl h) other = h
 own_status own status (inr h) other = absurd (other h)
 
-pub read_told : {R : Type 0} (ending : Ending R) → status_of ending ≡ ReadFailed → failed_device ending ≡ Some Read
+-- an ending's own status tells of the device that failed, and of no memory and no words
+pub record Told (own : Status) (fault : Option Fault) : Type 0 where
+  pub read_told : own ≡ ReadFailed → fault ≡ Some Read
+  pub read_failed : fault ≡ Some Read → own ≡ ReadFailed
+  pub write_told : own ≡ WriteFailed → fault ≡ Some Write
+  pub write_failed : fault ≡ Some Write → own ≡ WriteFailed
+  pub no_memory : own ≢ NoMemory
+  pub no_words : own ≢ WordsRefused
+
+read_told : {R : Type 0} (ending : Ending R) → status_of ending ≡ ReadFailed → failed_device ending ≡ Some Read
 read_told endings.Finished e = cc
 read_told (endings.Refused place reason) e = cc
 read_told endings.ReadFailed e = refl
 read_told endings.WriteFailed e = cc
 
-pub read_failed : {R : Type 0} (ending : Ending R) → failed_device ending ≡ Some Read → status_of ending ≡ ReadFailed
+read_failed : {R : Type 0} (ending : Ending R) → failed_device ending ≡ Some Read → status_of ending ≡ ReadFailed
 read_failed endings.Finished e = cc
 read_failed (endings.Refused place reason) e = cc
 read_failed endings.ReadFailed e = refl
 read_failed endings.WriteFailed e = cc
 
-pub write_told : {R : Type 0} (ending : Ending R) → status_of ending ≡ WriteFailed → failed_device ending ≡ Some Write
+write_told : {R : Type 0} (ending : Ending R) → status_of ending ≡ WriteFailed → failed_device ending ≡ Some Write
 write_told endings.Finished e = cc
 write_told (endings.Refused place reason) e = cc
 write_told endings.ReadFailed e = cc
 write_told endings.WriteFailed e = refl
 
-pub write_failed : {R : Type 0} (ending : Ending R) → failed_device ending ≡ Some Write → status_of ending ≡ WriteFailed
+write_failed : {R : Type 0} (ending : Ending R) → failed_device ending ≡ Some Write → status_of ending ≡ WriteFailed
 write_failed endings.Finished e = cc
 write_failed (endings.Refused place reason) e = cc
 write_failed endings.ReadFailed e = cc
@@ -58,6 +69,17 @@ no_words endings.Finished e = cc
 no_words (endings.Refused place reason) e = cc
 no_words endings.ReadFailed e = cc
 no_words endings.WriteFailed e = cc
+
+-- so each ending tells
+pub told : {R : Type 0} (ending : Ending R) → Told (status_of ending) (failed_device ending)
+told ending = record {
+  read_told = read_told ending;
+  read_failed = read_failed ending;
+  write_told = write_told ending;
+  write_failed = write_failed ending;
+  no_memory = no_memory ending;
+  no_words = no_words ending;
+}
 
 -- nor does a run of a command
 pub never : (other own status : Status) → (status ≡ own) ⊎ (status ≡ WriteFailed) → own ≢ other → WriteFailed ≢ other → status ≢ other

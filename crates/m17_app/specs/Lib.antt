@@ -1,2 +1,5 @@
 pub mod Status
 pub mod Run
+pub mod Make
+pub mod Replayed
+pub mod Commands

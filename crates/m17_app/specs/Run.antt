@@ -1,5 +1,5 @@
 -- The words of the program, and what a run of each command promises. This profile.
-use Rattle.std.specs.Prelude.{◌≡◌, ◌≢◌, ◌⊎◌, ℕ, List, [], ◌∷◌, ◌++◌, codes, Option, Some}
+use Rattle.std.specs.Prelude.{◌≡◌, ◌≢◌, ◌⊎◌, ℕ, List, [], ◌++◌, Option, Some}
 use Rattle.m17_io.specs.Faults.{HasRisen}
 use Rattle.m17_io.specs.Sink.{AppendsPrefix}
 use Rattle.m17_print.specs.Endings.{last_line, words_refused_line}
@@ -13,21 +13,15 @@ use Rattle.m17_show.specs.declared.reason.ShowReason.{ShowReason}
 use Rattle.m17_show.specs.Lines.{AreLineCount, RefusesLine}
 use Rattle.m17_show.specs.Reasons.{show_reason_words}
 use Rattle.m17_show.specs.Show.{IsTextOfFirst, IsShowText, PrintsShow}
+use Rattle.m17_words.specs.declared.command.Command.{Command}
+use Rattle.m17_words.specs.Words.{Names}
 use Rattle.m17_app.specs.declared.status.Status.{Status}
 use Rattle.m17_app.specs.declared.status.Status.TheVariants.{Finished, InputRefused, WordsRefused, ReadFailed, WriteFailed, NoMemory}
 use Rattle.m17_app.specs.Status.{status_of, Outside, HasCause}
 
--- the words are the one word `judge`
-abbrev pub NamesJudge : List (List ℕ) → Type 0
-NamesJudge words = words ≡ codes "judge" ∷ []
-
--- the words are the one word `show`
-abbrev pub NamesShow : List (List ℕ) → Type 0
-NamesShow words = words ≡ codes "show" ∷ []
-
 -- the words name no command
 abbrev pub AreRefused : List (List ℕ) → Type 0
-AreRefused words = ¬ NamesJudge words × ¬ NamesShow words
+AreRefused words = (command : Command) → ¬ Names words command
 
 -- the status says that the whole of a command's text stands written
 abbrev pub IsWhole : Status → Type 0

@@ -1,15 +1,17 @@
 ghost use Rattle.std.specs.Prelude.{◌≡◌, ℕ, Option, List};
 ghost use Rattle.m17_print.specs.Endings.{last_line, words_refused_line};
 ghost use Rattle.m17_app.specs.Status.{status_of, outside, WritesLast};
+ghost use Rattle.m17_app.specs.Replayed.{replay_last_line, replay_status};
 ghost use Rattle.m17_app.specs.declared.status.Status.TheVariants.{WordsRefused};
 
 use crate::status::Status;
 use m17_io::Sink;
 use m17_print::{Ending, Line, Reason};
+use m17_replay::ReplayEnding;
 
 // Writes a last line, which may be empty, hands on all that was written, and answers the status, or that the sink
 // failed.
-fn end_with<K: Sink>(out: &mut K, line: &[u8], status: Status) -> Status
+pub fn end_with<K: Sink>(out: &mut K, line: &[u8], status: Status) -> Status
     ensures { (left : Option (List ℕ)) (reads : ℕ) → WritesLast line.now status result
         (outside left reads (K.written out.old) (K.faults out.old) (K.held_back out.old))
         (outside left reads (K.written out.new) (K.faults out.new) (K.held_back out.new)) }
@@ -43,6 +45,26 @@ pub fn conclude<K: Sink, R: Reason>(out: &mut K, ending: &Ending<R>) -> Status
     let mut line = Line::new();
     line.make_last(ending);
     end_with(out, line.bytes(), status(ending))
+}
+
+// Ends a run of `replay` that ended so.
+pub fn conclude_replay<K: Sink>(out: &mut K, ending: &ReplayEnding) -> Status
+    ensures { (left : Option (List ℕ)) (reads : ℕ) →
+        WritesLast (replay_last_line ending.now) (replay_status ending.now) result
+        (outside left reads (K.written out.old) (K.faults out.old) (K.held_back out.old))
+        (outside left reads (K.written out.new) (K.faults out.new) (K.held_back out.new)) }
+{
+    let ending = match ending {
+        ReplayEnding::LinkLost => return end_with(out, b"link lost\n", Status::LinkLost),
+        ReplayEnding::Finished => Ending::Finished,
+        ReplayEnding::Refused { place, reason } => Ending::Refused {
+            place: *place,
+            reason: *reason,
+        },
+        ReplayEnding::ReadFailed => Ending::ReadFailed,
+        ReplayEnding::WriteFailed => Ending::WriteFailed,
+    };
+    conclude(out, &ending)
 }
 
 // The status of a run that ended so.

@@ -5,10 +5,11 @@
 //! left to `m17_buffers`, and what the commands print to their own crates.
 #![tactic(auto)]
 
-mod command;
 mod conclude;
 mod interruption;
 mod run;
+mod run_make;
+mod run_replay;
 mod status;
 mod std_in;
 mod std_out;
@@ -50,6 +51,8 @@ fn words_of(rt: HostRuntime) -> Option<Vec<String>> {
     }
 }
 
+#[cfg(test)]
+mod replay_tests;
 #[cfg(test)]
 mod std_tests;
 #[cfg(test)]

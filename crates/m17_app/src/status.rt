@@ -11,6 +11,8 @@ pub enum Status {
     ReadFailed,
     /// The sink failed, in place of all others.
     WriteFailed,
+    /// The link that was replayed was lost by its faults.
+    LinkLost,
     /// There was no memory.
     NoMemory,
 }
@@ -29,6 +31,7 @@ impl Status {
             Status::WordsRefused => 2,
             Status::ReadFailed => 3,
             Status::WriteFailed => 4,
+            Status::LinkLost => 7,
             Status::NoMemory => 70,
         }
     }

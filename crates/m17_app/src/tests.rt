@@ -27,7 +27,7 @@ fn words(alloc: Global, given: &[&str]) -> Result<Vec<String>, AllocError> {
 }
 
 // Runs the program, and hands back its status and what it wrote.
-fn ran(
+pub fn ran(
     rt: &HostRuntime,
     given: &[&str],
     input: Vec<u8>,
@@ -220,6 +220,60 @@ fn each_way_to_end_has_its_status_and_last_line(rt: HostRuntime) -> Result<(), F
         let (answer, written) = ran(&rt, given, input, read_fails, write_fails)?;
         assert_eq!(rt; answer, status, "{text}");
         assert_eq!(rt; written.as_slice(), text.as_bytes());
+    }
+    Ok(())
+}
+
+// The trace of `make 0 2`.
+#[rattlefmt::skip]
+pub const MADE: [u8; 64] = [
+    0x4d, 0x31, 0x37, 0x54, 0x52, 0x41, 0x43, 0x45, 0x01, 0, 0, 0, 0, 0, 0, 0, 0, 0x04, 0x0a, 0, 0,
+    0x01, 0x42, 0x68, 0x0b, 0x43, 0x4f, 0x4e, 0x4e, 0, 0, 0, 0x01, 0x79, 0x60, 0x41, 0x01, 0, 0, 0,
+    0, 0, 0, 0, 0, 0x04, 0x0a, 0, 0, 0x02, 0x42, 0x68, 0x0b, 0x43, 0x4f, 0x4e, 0x4e, 0, 0, 0, 0x02,
+    0x73, 0x60, 0x42,
+];
+
+#[test]
+fn an_evening_is_made(rt: HostRuntime) -> Result<(), Fail> {
+    let alloc = rt.alloc();
+    // Each call writes the header, an entry, or the last line, which is empty; the last call is the flush.
+    let runs: [(&[&str], &[u64], u8, usize); 7] = [
+        (&["make", "0", "2"], &[], 0, 64),
+        (&["make", "0", "0"], &[], 0, 8),
+        (&["make", "18446744073709551615", "0"], &[], 0, 8),
+        (&["make", "0", "2"], &[0], 4, 0),
+        (&["make", "0", "2"], &[2], 4, 36),
+        (&["make", "0", "2"], &[3], 4, 64),
+        (&["make", "0", "2"], &[4], 4, 64),
+    ];
+    for (given, write_fails, status, length) in runs {
+        // A source that fails is not read.
+        let (answer, written) = ran(&rt, given, Vec::new(alloc), &[0], write_fails)?;
+        assert_eq!(rt; answer, status);
+        assert_eq!(rt; written.len(), length);
+        assert!(rt; MADE.starts_with(written.as_slice()));
+    }
+    Ok(())
+}
+
+#[test]
+fn words_past_their_bounds_are_refused(rt: HostRuntime) -> Result<(), Fail> {
+    let refused: [&[&str]; 10] = [
+        &["make", "0", "100001"],
+        &["make", "0"],
+        &["make", "18446744073709551616", "0"],
+        &["make", "0", "1", "2"],
+        &["replay", "--places", "257"],
+        &["replay", "--places", "0"],
+        &["replay", "--modules", "AA"],
+        &["replay", "--modules", ""],
+        &["replay", "--modules", "AB", "--parrots", "C"],
+        &["replay", "--call", "m17-tst"],
+    ];
+    for given in refused {
+        let (status, written) = ran(&rt, given, Vec::new(rt.alloc()), &[0], &[])?;
+        assert_eq!(rt; status, 2);
+        assert_eq!(rt; written.as_slice(), b"words refused\n".as_slice());
     }
     Ok(())
 }

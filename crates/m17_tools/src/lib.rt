@@ -1,8 +1,11 @@
-//! The commands on bytes, under one name: `judge` gives the floor rule's verdict on records of packets, and `show` says
-//! what the bytes of hex lines are. It promises nothing of its own: each command is a crate, so that neither waits for the
-//! other's proof. How a command ends, and the lines that it prints, is `m17_print`'s.
+//! The commands on bytes, under one name: `judge` gives the floor rule's verdict on records of packets, `show` says what
+//! the bytes of hex lines are, `make` writes the trace of an evening, and `replay` tells what a reflector does with one.
+//! It promises nothing of its own: each command is a crate, so that none waits for another's proof. How `judge` and
+//! `show` end, and the lines that they print, is `m17_print`'s.
 #![tactic(auto)]
 
 pub use m17_judge::{JudgeReason, judge};
+pub use m17_make::make;
 pub use m17_print::{Ending, Reason};
+pub use m17_replay::{ReplayEnding, TraceReason, replay};
 pub use m17_show::{ShowReason, show};

@@ -1,0 +1,158 @@
+-- A run of `replay`, from its ending to what it promises.
+use Rattle.std.proofs.Common.{◌≡◌, ◌≢◌, ◌⊎◌, ℕ, Bool, List, [], ◌++◌, Option, Some, refl, sym, ap, subst, ◌∙◌, inl, inr}
+use Rattle.std.specs.Prelude.{false, true}
+use Rattle.std.proofs.lemmas.List.{append-nil}
+use Rattle.m17_io.specs.Faults.{HasRisen, HasCauses}
+use Rattle.m17_io.specs.declared.fault.Fault.TheVariants.{Read, Write}
+use Rattle.m17_values.specs.declared.heard.Heard.{Heard}
+use Rattle.m17_print.specs.Endings.{Grows}
+use Rattle.m17_book.specs.Book.{IsTrace, RefusesTrace}
+use Rattle.m17_book.specs.Laws.{TracesAreExact}
+use Rattle.m17_house.specs.declared.plan.Plan.{Plan}
+use Rattle.m17_replay.specs.declared.ending.ReplayEnding.{ReplayEnding}
+use Rattle.m17_replay.specs.declared.ending.ReplayEnding.TheVariants as endings
+use Rattle.m17_replay.specs.declared.reason.TraceReason.{TraceReason}
+use Rattle.m17_replay.specs.Reasons.{refusal_told}
+use Rattle.m17_replay.specs.Replay.{IsReplayText, SaysReplay, PrintsReplay, failed_device, ComesToReplay}
+use Rattle.m17_app.specs.declared.status.Status.{Status}
+use Rattle.m17_app.specs.declared.status.Status.TheVariants.{Finished, InputRefused, WordsRefused, ReadFailed, WriteFailed, LinkLost, NoMemory}
+use Rattle.m17_app.specs.Status.{Outside, HasCause, WritesLast}
+use Rattle.m17_app.specs.Replayed.{replay_last_line, replay_status, IsRunText, IsWholeReplay, StandsReplay, RunsReplay}
+use Rattle.m17_app.proofs.Statuses.{Told, own_status, never}
+use Rattle.m17_app.proofs.Concluded.{counts, cause_from, sound_from, line_stands, whole_from}
+
+-- what an ending tells of the devices
+told : (ending : ReplayEnding) → Told (replay_status ending) (failed_device ending)
+told endings.Finished = record { read_told = λ e. cc; read_failed = λ e. cc; write_told = λ e. cc; write_failed = λ e. cc; no_memory = λ e. cc; no_words = λ e. cc }
+told endings.LinkLost = record { read_told = λ e. cc; read_failed = λ e. cc; write_told = λ e. cc; write_failed = λ e. cc; no_memory = λ e. cc; no_words = λ e. cc }
+told (endings.Refused place reason) = record { read_told = λ e. cc; read_failed = λ e. cc; write_told = λ e. cc; write_failed = λ e. cc; no_memory = λ e. cc; no_words = λ e. cc }
+told endings.ReadFailed = record { read_told = λ _. refl; read_failed = λ _. refl; write_told = λ e. cc; write_failed = λ e. cc; no_memory = λ e. cc; no_words = λ e. cc }
+told endings.WriteFailed = record { read_told = λ e. cc; read_failed = λ e. cc; write_told = λ _. refl; write_failed = λ _. refl; no_memory = λ e. cc; no_words = λ e. cc }
+
+-- what an ending says of the input, by its status
+finished_as : (plan : Plan) (summary : Bool) (ending : ReplayEnding) (input : List ℕ) (left : Option (List ℕ)) → replay_status ending ≡ Finished → SaysReplay plan summary ending input left
+    → ((text : List ℕ) × IsReplayText plan summary false input text) × (left ≡ Some [])
+finished_as plan summary endings.Finished input left e said = said
+finished_as plan summary endings.LinkLost input left e said = cc
+finished_as plan summary (endings.Refused place reason) input left e said = cc
+finished_as plan summary endings.ReadFailed input left e said = cc
+finished_as plan summary endings.WriteFailed input left e said = cc
+
+lost_as : (plan : Plan) (summary : Bool) (ending : ReplayEnding) (input : List ℕ) (left : Option (List ℕ)) → replay_status ending ≡ LinkLost → SaysReplay plan summary ending input left
+    → ((text : List ℕ) × IsReplayText plan summary true input text) × (left ≡ Some [])
+lost_as plan summary endings.Finished input left e said = cc
+lost_as plan summary endings.LinkLost input left e said = said
+lost_as plan summary (endings.Refused place reason) input left e said = cc
+lost_as plan summary endings.ReadFailed input left e said = cc
+lost_as plan summary endings.WriteFailed input left e said = cc
+
+refused_as : (plan : Plan) (summary : Bool) (ending : ReplayEnding) (input : List ℕ) (left : Option (List ℕ)) → replay_status ending ≡ InputRefused → SaysReplay plan summary ending input left
+    → (place : ℕ) × (reason : TraceReason) × RefusesTrace input (refusal_told place reason)
+refused_as plan summary endings.Finished input left e said = cc
+refused_as plan summary endings.LinkLost input left e said = cc
+refused_as plan summary (endings.Refused place reason) input left e said = (place, reason, said)
+refused_as plan summary endings.ReadFailed input left e said = cc
+refused_as plan summary endings.WriteFailed input left e said = cc
+
+-- the whole text, with its last line
+whole_text : (plan : Plan) (summary : Bool) (ending : ReplayEnding) (input : List ℕ) (left : Option (List ℕ)) (text : List ℕ) → SaysReplay plan summary ending input left
+    → PrintsReplay plan summary ending input text → IsRunText plan summary (replay_status ending) input (text ++ replay_last_line ending)
+whole_text plan summary endings.Finished input left text said printed =
+    subst (λ (xs : List ℕ). IsReplayText plan summary false input xs) (sym (append-nil text)) printed
+whole_text plan summary endings.LinkLost input left text said printed = (text, printed, refl)
+whole_text plan summary (endings.Refused place reason) input left text said printed =
+    (place, reason, said, ap (λ (xs : List ℕ). xs ++ replay_last_line (endings.Refused place reason)) printed)
+whole_text plan summary endings.ReadFailed input left text said printed = tt
+whole_text plan summary endings.WriteFailed input left text said printed = tt
+
+-- a whole text is the ending's own
+not_write_failed : (status : Status) → IsWholeReplay status → status ≢ WriteFailed
+not_write_failed status (inl h) e = cc
+not_write_failed status (inr (inl h)) e = cc
+not_write_failed status (inr (inr h)) e = cc
+
+-- nothing stood against it
+complete_as : (plan : Plan) (summary : Bool) (ending : ReplayEnding) (status : Status) (input : List ℕ) (heard : List Heard) (left : Option (List ℕ)) (before after : Outside)
+    → TracesAreExact → (status ≡ replay_status ending) ⊎ (status ≡ WriteFailed) → HasCause status before after → SaysReplay plan summary ending input left → IsTrace input heard
+    → ¬ HasRisen before.reads after.reads → ¬ HasRisen before.writes after.writes → (status ≡ Finished) ⊎ (status ≡ LinkLost) ⊎ (status ≡ NoMemory)
+complete_as plan summary ending status input heard left before after exact (inr h) cause said is no_read no_write = absurd (no_write (cause.write_failed h))
+complete_as plan summary endings.Finished status input heard left before after exact (inl h) cause said is no_read no_write = inl h
+complete_as plan summary endings.LinkLost status input heard left before after exact (inl h) cause said is no_read no_write = inr (inl h)
+complete_as plan summary (endings.Refused place reason) status input heard left before after exact (inl h) cause said is no_read no_write =
+    absurd (exact.not_both input heard (refusal_told place reason) is said)
+complete_as plan summary endings.ReadFailed status input heard left before after exact (inl h) cause said is no_read no_write = absurd (no_read (cause.read_failed h))
+complete_as plan summary endings.WriteFailed status input heard left before after exact (inl h) cause said is no_read no_write = absurd (no_write (cause.write_failed h))
+
+-- what is said of the input after the last line, which leaves the input alone
+abbrev pub Came : Plan → Bool → ReplayEnding → Outside → Outside → Type 0
+Came plan summary ending before mid = (input : List ℕ) → before.left ≡ Some input → ComesToReplay plan summary ending input mid.left before.written mid.written
+
+-- what stands written
+stands : (plan : Plan) (summary : Bool) (ending : ReplayEnding) (status : Status) (input first text : List ℕ) (before mid after : Outside)
+    → HasCauses (counts before) (counts mid) (failed_device ending) → WritesLast (replay_last_line ending) (replay_status ending) status mid after
+    → mid.written ≡ Some (first ++ text) → PrintsReplay plan summary ending input text → StandsReplay plan summary status input first before after
+stands plan summary ending status input first text before mid after causes last written printed =
+    let line = line_stands (replay_last_line ending) (replay_status ending) status first text mid after last written in
+    record {
+      ending = ending;
+      status_is = last.answer;
+      sound = λ is. sound_from (replay_status ending) (failed_device ending) (replay_last_line ending) status before mid after causes last (ap failed_device is);
+      text = text;
+      printed = printed;
+      last = line.last;
+      cut = line.cut;
+      last_is = line.last_is;
+      whole = line.whole;
+      written_is = line.written_is;
+    }
+
+-- the whole run
+pub ran : (plan : Plan) (summary : Bool) (ending : ReplayEnding) (status : Status) (before mid after : Outside) → TracesAreExact → Came plan summary ending before mid
+    → HasCauses (counts before) (counts mid) (failed_device ending) → Grows before.written mid.written
+    → WritesLast (replay_last_line ending) (replay_status ending) status mid after → RunsReplay plan summary status before after
+ran plan summary ending status before mid after exact came causes grows last =
+    let cause = cause_from (replay_status ending) (failed_device ending) (replay_last_line ending) status before mid after (told ending) causes last in
+    let left : after.left ≡ mid.left = last.input_untouched.0 in
+    let own : status ≢ WriteFailed → status ≡ replay_status ending = own_status (replay_status ending) status last.answer in
+    let some_memory : status ≢ NoMemory = never NoMemory (replay_status ending) status last.answer (told ending).no_memory (λ e. cc) in
+    let said : (input : List ℕ) → before.left ≡ Some input → SaysReplay plan summary ending input after.left =
+    λ input is. subst (λ (rest : Option (List ℕ)). SaysReplay plan summary ending input rest) (sym left) (came input is).said in
+    record {
+      cause = λ _. cause;
+      no_memory = λ is. absurd (some_memory is);
+      finished = λ is input is_input. finished_as plan summary ending input after.left (sym (own (λ e. cc)) ∙ is) (said input is_input);
+      lost = λ is input is_input. lost_as plan summary ending input after.left (sym (own (λ e. cc)) ∙ is) (said input is_input);
+      refused = λ is input is_input. refused_as plan summary ending input after.left (sym (own (λ e. cc)) ∙ is) (said input is_input);
+      text = λ whole input first is_input is_first.
+          let text = (came input is_input).printed first is_first in
+          let other = not_write_failed status whole in (
+            text.0 ++ replay_last_line ending,
+            whole_from (replay_last_line ending) (replay_status ending) status mid after first text.0 last other text.1,
+            subst (λ (s : Status). IsRunText plan summary s input (text.0 ++ replay_last_line ending)) (sym (own other)) (whole_text plan summary ending input after.left text.0 (said input is_input) text.2),
+          );
+      stands = λ _ input first is_input is_first.
+          let text = (came input is_input).printed first is_first in
+          stands plan summary ending status input first text.0 before mid after causes last text.1 text.2;
+      last = λ not_write _ first is_first.
+          let text = grows first is_first in
+          (ending, text.0, own not_write, last.whole not_write (first ++ text.0) text.1);
+      complete = λ input heard is_input is no_read no_write.
+          complete_as plan summary ending status input heard after.left before after exact last.answer cause (said input is_input) is no_read no_write;
+      no_words = never WordsRefused (replay_status ending) status last.answer (told ending).no_words (λ e. cc);
+    }
+
+-- there was no memory
+pub no_run : (plan : Plan) (summary : Bool) (before after : Outside) → after.written ≡ before.written → after.reads ≡ before.reads → after.writes ≡ before.writes
+    → RunsReplay plan summary NoMemory before after
+no_run plan summary before after written reads writes = record {
+  cause = λ other. absurd (other refl);
+  no_memory = λ _. (written, reads, writes);
+  finished = λ e. cc;
+  lost = λ e. cc;
+  refused = λ e. cc;
+  text = λ e. elim e [ inl x ↦ cc | inr (inl y) ↦ cc | inr (inr z) ↦ cc ];
+  stands = λ other. absurd (other refl);
+  last = λ _ other. absurd (other refl);
+  complete = λ input heard is_input is no_read no_write. inr (inr refl);
+  no_words = λ e. cc;
+}

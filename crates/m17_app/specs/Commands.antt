@@ -1,0 +1,55 @@
+-- What a run of the program promises, by its words. This profile.
+use Rattle.std.specs.Prelude.{◌≡◌, ◌⊎◌, ℕ, ◌≤◌, Bool, List}
+use Rattle.m17_control.specs.declared.modules.Modules.{Modules}
+use Rattle.m17_house.specs.declared.plan.Plan.{Plan}
+use Rattle.m17_house.specs.Replay.{IsPlan}
+use Rattle.m17_words.specs.declared.command.Command.{Command}
+use Rattle.m17_words.specs.declared.command.Command.TheVariants.{Judge, Show, Replay, Make}
+use Rattle.m17_words.specs.Words.{Names}
+use Rattle.m17_app.specs.declared.status.Status.{Status}
+use Rattle.m17_app.specs.declared.status.Status.TheVariants.{NoMemory}
+use Rattle.m17_app.specs.Status.{Outside}
+use Rattle.m17_app.specs.Run.{AreRefused, RunsJudge, RunsShow, RefusesWords}
+use Rattle.m17_app.specs.Make.{RunsMake}
+use Rattle.m17_app.specs.Replayed.{RunsReplay}
+
+-- the plan of a replay: patient, and with no tapes
+abbrev pub plan_of : ℕ → Modules → Modules → ℕ → Plan
+plan_of call modules parrots places = record {
+  name = call;
+  modules = modules;
+  parrots = parrots;
+  places = places;
+  patient = Bool.true;
+  entries = 0;
+}
+
+-- What the run of a command promises. This profile.
+abbrev pub Runs : Command → Status → Outside → Outside → Type 0
+Runs Judge status before after = RunsJudge status before after
+Runs Show status before after = RunsShow status before after
+Runs (Make seed count) status before after = RunsMake seed count status before after
+Runs (Replay call modules parrots places summary) status before after =
+    RunsReplay (plan_of call modules parrots places) summary status before after
+
+-- What a run promises: that of the command which its words name, or that they are refused where they name none; or
+-- there was no memory for reading them, and no device was touched. This profile.
+abbrev pub RunsWords : List (List ℕ) → Status → Outside → Outside → Type 0
+RunsWords words status before after =
+    ((command : Command) × Names words command × Runs command status before after)
+    ⊎ (AreRefused words × RefusesWords status before after)
+    ⊎ ((status ≡ NoMemory) × (after ≡ before))
+
+-- What a run promises whose words name no command: that they are refused, or there was no memory for reading them and
+-- no device was touched. This profile.
+abbrev pub EndsRefused : Status → Outside → Outside → Type 0
+EndsRefused status before after =
+    RefusesWords status before after ⊎ ((status ≡ NoMemory) × (after ≡ before))
+
+-- The values of a command are within the bounds that its run needs, as those of a command that words name are. This
+-- profile.
+abbrev pub IsRunnable : Command → Type 0
+IsRunnable Judge = Unit {0}
+IsRunnable Show = Unit {0}
+IsRunnable (Make seed count) = count ≤ 100000
+IsRunnable (Replay call modules parrots places summary) = IsPlan (plan_of call modules parrots places)
