@@ -1,5 +1,5 @@
 -- Actions that are done one after another, and answers of a book.
-use Rattle.std.proofs.Common.{◌≡◌, ℕ, List, [], ◌∷◌, ◌++◌, Result, Ok, Err, OnOk, OnErr, MatchResult, refl, sym, subst}
+use Rattle.std.proofs.Common.{◌≡◌, ℕ, List, [], ◌∷◌, ◌++◌, Result, Ok, Err, OnOk, OnErr, MatchResult, map, refl, sym, subst, ap}
 use Rattle.m17_values.specs.declared.peer.Peer.{Peer}
 use Rattle.m17_client.specs.declared.state.Action.{Action}
 use Rattle.m17_client.specs.Standing.{Standing}
@@ -46,3 +46,9 @@ IsClientRun-append to c before [] mid between more new after run rest =
     (subst (λ (o : Outside). IsClientRun to mid o more new after) run.1 rest)
 IsClientRun-append to c before (first ∷ others) mid between more new after run rest =
     (run.0, run.1, run.2, IsClientRun-append to first.after run.0 others mid between more new after run.3 rest)
+
+-- a list with one element more, each mapped
+pub map-push : {X Y : Type 0} (f : X → Y) (xs : List X) (x : X)
+    → map f (xs ++ x ∷ []) ≡ map f xs ++ f x ∷ []
+map-push f [] x = refl
+map-push f (first ∷ rest) x = ap (λ ys. f first ∷ ys) (map-push f rest x)

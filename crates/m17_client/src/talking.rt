@@ -1,9 +1,11 @@
-ghost use Rattle.std.specs.Prelude.{◌≡◌, ◌≢◌, ◌⊎◌, ◌↔◌, ℕ, true, false, IsTrue, ◌<◌, ◌≤◌, List, [], ◌∷◌, length, map, take, slice_get, nat_lt, if◌then◌else◌, All, Some, ◌+◌, ◌-◌, ◌^◌};
+ghost use Rattle.std.specs.Prelude.{◌≡◌, ◌≢◌, ◌⊎◌, ◌↔◌, ℕ, true, false, IsTrue, ◌<◌, ◌≤◌, List, [], ◌∷◌, length, map, take, slice_get, nat_le, nat_lt, if◌then◌else◌, All, Some, ◌+◌, ◌-◌, ◌^◌};
 ghost use Rattle.std.specs.Option.{option_to_list};
 ghost use Rattle.m17_stream.specs.declared.packet.StreamPacket.{StreamPacket};
+ghost use Rattle.m17_values.specs.declared.heard.Heard.{Heard};
 ghost use Rattle.m17_client.specs.declared.state.Input.{Input};
+ghost use Rattle.m17_client.specs.declared.state.State.{State};
 ghost use Rattle.m17_client.specs.Deeds.{IsClientRun, Stepped, outside};
-ghost use Rattle.m17_client.specs.Talk.{IsConnected, IsOpened, LeavesInTime, Opens, SendsDue, inputs_of};
+ghost use Rattle.m17_client.specs.Talk.{faults_with, Follows, IsClosed, IsConnected, IsOpened, IsOver, IsTalkEntry, LeavesInTime, Opens, SendsDue, inputs_of};
 
 use crate::deeds::{Keeping, turn};
 use crate::{Client, Input, State};
@@ -93,21 +95,106 @@ impl Conversation {
         stay: u64,
         mouth: &mut M,
         book: &mut B,
-    ) -> bool {
+    ) -> bool
+        requires within { self.old.sent ≤ length script.now }
+        requires few { self.old.faults < 16 }
+        ensures taken { (steps : List Stepped)
+            × IsTalkEntry (record { to = to.now; script = script.now; stay = stay }) (course_of self.old) entry.now steps (course_of self.new)
+            × IsClientRun to.now self.old.client
+            (outside (M.said mouth.old) (M.tallies mouth.old) (M.faults mouth.old)
+            (B.written book.old) (B.faults book.old) self.old.keeping)
+            steps self.new.client
+            (outside (M.said mouth.new) (M.tallies mouth.new) (M.faults mouth.new)
+            (B.written book.new) (B.faults book.new) self.new.keeping) }
+        ensures over { IsTrue result ↔ IsOver entry.now (course_of self.new) }
+        ensures within { self.new.sent ≤ length script.now }
+        ensures few { result ≡ false → self.new.faults < 16 }
+        ensures ended { entry.now ≡ Heard.End → self.new.ended ≡ true }
+        ensures not_ended { entry.now ≢ Heard.End → self.new.ended ≡ self.old.ended }
+    {
         match entry {
             Heard::End => {
                 self.ended = true;
-                return true;
+                true
             }
-            Heard::Fault => self.faults += 1,
-            _ => self.faults = 0,
+            _ => self.follow(entry, to, script, stay, mouth, book),
         }
+    }
+
+    // The same of an entry that is no End.
+    fn follow<M: Mouth, B: Book>(
+        &mut self,
+        entry: &Heard,
+        to: &Peer,
+        script: &[(u64, StreamPacket)],
+        stay: u64,
+        mouth: &mut M,
+        book: &mut B,
+    ) -> bool
+        requires within { self.old.sent ≤ length script.now }
+        requires few { self.old.faults < 16 }
+        ensures followed { (steps : List Stepped)
+            × Follows (record { to = to.now; script = script.now; stay = stay }) (course_of self.old) entry.now steps (course_of self.new)
+            × IsClientRun to.now self.old.client
+            (outside (M.said mouth.old) (M.tallies mouth.old) (M.faults mouth.old)
+            (B.written book.old) (B.faults book.old) self.old.keeping)
+            steps self.new.client
+            (outside (M.said mouth.new) (M.tallies mouth.new) (M.faults mouth.new)
+            (B.written book.new) (B.faults book.new) self.new.keeping) }
+        ensures over { IsTrue result ↔ ((16 ≤ self.new.faults) ⊎ IsClosed self.new.client) }
+        ensures within { self.new.sent ≤ length script.now }
+        ensures ended { self.new.ended ≡ self.old.ended }
+    {
+        self.faults = faults_after(entry, self.faults);
         self.open(entry, to, mouth, book);
-        if self.is_connected() {
-            self.send_due(script, to, mouth, book);
-        }
+        self.send_if_connected(script, to, mouth, book);
         self.leave_in_time(script, stay, to, mouth, book);
-        self.faults >= MOST_FAULTS || matches!(self.client.state(), State::Closed(_))
+        self.is_over()
+    }
+
+    // Whether the talk is over behind an entry that is no End.
+    fn is_over(&self) -> bool
+        ensures { IsTrue result ↔ ((16 ≤ self.now.faults) ⊎ IsClosed self.now.client) }
+    {
+        if self.faults >= MOST_FAULTS {
+            return true;
+        }
+        match self.client.state() {
+            State::Closed(_) => true,
+            State::Idle => false,
+            State::Connecting { .. } => false,
+            State::Connected { .. } => false,
+            State::Leaving => false,
+        }
+    }
+
+    // Sends what is due, where the client is connected.
+    fn send_if_connected<M: Mouth, B: Book>(
+        &mut self,
+        script: &[(u64, StreamPacket)],
+        to: &Peer,
+        mouth: &mut M,
+        book: &mut B,
+    )
+        requires { self.old.sent ≤ length script.now }
+        ensures sent { (steps : List Stepped)
+            × (IsConnected self.old.client
+            → SendsDue script.now (course_of self.old) steps (course_of self.new))
+            × ((IsConnected self.old.client → ⊥)
+            → (steps ≡ []) × (course_of self.new ≡ course_of self.old))
+            × IsClientRun to.now self.old.client
+            (outside (M.said mouth.old) (M.tallies mouth.old) (M.faults mouth.old)
+            (B.written book.old) (B.faults book.old) self.old.keeping)
+            steps self.new.client
+            (outside (M.said mouth.new) (M.tallies mouth.new) (M.faults mouth.new)
+            (B.written book.new) (B.faults book.new) self.new.keeping) }
+        ensures within { self.new.sent ≤ length script.now }
+        ensures ended { self.new.ended ≡ self.old.ended }
+    {
+        if !self.is_connected() {
+            return;
+        }
+        self.send_due(script, to, mouth, book);
     }
 
     // Steps the client on what an entry is stepped as.
@@ -120,7 +207,7 @@ impl Conversation {
             (outside (M.said mouth.new) (M.tallies mouth.new) (M.faults mouth.new)
             (B.written book.new) (B.faults book.new) self.new.keeping) }
         ensures course { IsOpened (course_of self.old) self.new.client (course_of self.new) }
-        ensures ended { self.new.ended ≡ self.old.ended }
+        ensures same { (self.new.ended ≡ self.old.ended) × (self.new.sent ≡ self.old.sent) }
     {
         match opening(entry, to) {
             Some(input) => self.enter(&input, to, mouth, book),
@@ -138,7 +225,7 @@ impl Conversation {
             (outside (M.said mouth.new) (M.tallies mouth.new) (M.faults mouth.new)
             (B.written book.new) (B.faults book.new) self.new.keeping) }
         ensures course { IsOpened (course_of self.old) self.new.client (course_of self.new) }
-        ensures ended { self.new.ended ≡ self.old.ended }
+        ensures same { (self.new.ended ≡ self.old.ended) × (self.new.sent ≡ self.old.sent) }
     {
         let was = self.is_connected();
         turn(&mut self.client, input, to, mouth, book, &mut self.keeping);
@@ -154,6 +241,7 @@ impl Conversation {
         ensures stays_in { was ≡ true → self.new ≡ self.old }
         ensures stays_out { (IsConnected self.old.client → ⊥) → self.new ≡ self.old }
         ensures same { (self.new.client ≡ self.old.client) × (self.new.keeping ≡ self.old.keeping) }
+        ensures kept { (self.new.ended ≡ self.old.ended) × (self.new.sent ≡ self.old.sent) }
     {
         if was || !self.is_connected() {
             return;
@@ -193,6 +281,7 @@ impl Conversation {
             steps self.new.client
             (outside (M.said mouth.new) (M.tallies mouth.new) (M.faults mouth.new)
             (B.written book.new) (B.faults book.new) self.new.keeping) }
+        ensures within { self.new.sent ≤ length script.now }
         ensures ended { self.new.ended ≡ self.old.ended }
     {
         let elapsed = self.client.moment().saturating_sub(self.connected_at);
@@ -261,7 +350,7 @@ impl Conversation {
             steps self.new.client
             (outside (M.said mouth.new) (M.tallies mouth.new) (M.faults mouth.new)
             (B.written book.new) (B.faults book.new) self.new.keeping) }
-        ensures ended { self.new.ended ≡ self.old.ended }
+        ensures same { (self.new.ended ≡ self.old.ended) × (self.new.sent ≡ self.old.sent) }
     {
         if !self.is_time_to_leave(script.len(), stay) {
             return;
@@ -303,7 +392,15 @@ impl Conversation {
     }
 
     // How the talk ended.
-    fn end(&self) -> TalkEnd {
+    fn end(&self) -> TalkEnd
+        ensures { result ≡ record {
+          state = self.now.client.state;
+          kept = self.now.keeping.kept;
+          ended = self.now.ended;
+          lost = nat_le 16 self.now.faults;
+          book_failed = self.now.keeping.book_failed;
+        } }
+    {
         TalkEnd {
             state: self.client.state(),
             kept: self.keeping.kept,
@@ -311,6 +408,19 @@ impl Conversation {
             lost: self.faults >= MOST_FAULTS,
             book_failed: self.keeping.book_failed,
         }
+    }
+}
+
+// How many of the last things heard are faults, with one more thing heard.
+fn faults_after(entry: &Heard, faults: u32) -> u32
+    requires { faults < 16 }
+    ensures { result ≡ faults_with entry.now faults }
+{
+    match entry {
+        Heard::Fault => faults + 1,
+        Heard::End => faults,
+        Heard::Datagram { .. } => 0,
+        Heard::Quiet { .. } => 0,
     }
 }
 
