@@ -1,12 +1,9 @@
-use crate::{Action, Client, Ending, Input, State, TalkEnd, talk};
+use crate::{Action, Client, Ending, Input, State};
 use arrayvec::ArrayVec;
 use m17_callsign::CallAddress;
 use m17_control::ModuleLetter;
-use m17_port_memory::{ListBook, ListMouth, ScriptEar};
-use m17_ports::Shelf;
 use m17_samples::{ab1cd, frame};
-use m17_stream::StreamPacket;
-use m17_values::{Gram, Heard, Peer};
+use m17_values::Gram;
 use std::process::Abort;
 use std::test::Fail;
 
@@ -30,25 +27,6 @@ fn client(listen: bool) -> Option<Client> {
 
 fn datagram(at: u64, bytes: &[u8]) -> Input {
     Input::Datagram {
-        at,
-        bytes: Gram::of(bytes),
-    }
-}
-
-fn ten(last: u8) -> Peer {
-    let mut ip = [0; 16];
-    ip[0] = 10;
-    ip[3] = last;
-    Peer {
-        six: false,
-        ip,
-        port: 17_000,
-    }
-}
-
-fn heard(last: u8, at: u64, bytes: &[u8]) -> Heard {
-    Heard::Datagram {
-        from: ten(last),
         at,
         bytes: Gram::of(bytes),
     }
@@ -270,111 +248,5 @@ fn each_state_meets_each_packet(rt: HostRuntime) -> Result<(), Fail> {
             State::Closed(Ending::Asked),
         );
     }
-    Ok(())
-}
-
-#[test]
-fn a_talk_sends_its_script_and_leaves(rt: HostRuntime) -> Result<(), Fail> {
-    let alloc = rt.alloc();
-    let entries = [
-        Heard::Quiet { at: 0 },
-        heard(9, 10, b"ACKN"),
-        heard(9, 20, b"DISC"),
-    ];
-    let mut ear = ScriptEar::new(Vec::from_array(alloc, entries)?);
-    let mut mouth = ListMouth::make(alloc, 9, Vec::new(alloc))
-        .ok()
-        .ok_or("no memory")?;
-    let mut book = Shelf {
-        inner: Some(
-            ListBook::make(alloc, 640, Vec::new(alloc))
-                .ok()
-                .ok_or("no memory")?,
-        ),
-    };
-    let script = [(0u64, frame(0x1234, 0, false))];
-    let c = client(false).ok_or("no client")?;
-    let end = talk(&rt, &mut ear, &mut mouth, &mut book, &ten(9), c, &script, 0);
-    let wanted = TalkEnd {
-        state: State::Closed(Ending::Asked),
-        kept: 0,
-        ended: false,
-        lost: false,
-        book_failed: false,
-    };
-    assert_eq!(rt; end, wanted);
-    assert_eq!(rt; mouth.list().len(), 3);
-    assert_eq!(rt; mouth.list()[0].1.bytes(), CONN.as_slice());
-    assert_eq!(rt;
-        mouth.list()[1].1.bytes(),
-        m17_stream::write(&script[0].1).as_slice()
-    );
-    assert_eq!(rt; mouth.list()[2].1.bytes(), PART.as_slice());
-    Ok(())
-}
-
-#[test]
-fn a_talk_ends_with_its_ear(rt: HostRuntime) -> Result<(), Fail> {
-    let alloc = rt.alloc();
-    let mut ear = ScriptEar::new(Vec::from_array(alloc, [Heard::Quiet { at: 0 }])?);
-    let mut mouth = ListMouth::make(alloc, 9, Vec::new(alloc))
-        .ok()
-        .ok_or("no memory")?;
-    let mut shelf: Shelf<ListBook> = Shelf { inner: None };
-    let c = client(false).ok_or("no client")?;
-    let end = talk(&rt, &mut ear, &mut mouth, &mut shelf, &ten(9), c, &[], 0);
-    assert!(rt; end.ended);
-    assert!(rt; !end.lost);
-    assert_eq!(rt; end.state, State::Connecting { tries: 1 });
-    assert_eq!(rt; mouth.list().len(), 1);
-    let mut faults = Vec::new(alloc);
-    for _ in 0..16u32 {
-        assert!(rt; faults.push(Heard::Fault).is_ok());
-    }
-    let mut deaf = ScriptEar::new(faults);
-    let c = client(false).ok_or("no client")?;
-    let end = talk(&rt, &mut deaf, &mut mouth, &mut shelf, &ten(9), c, &[], 0);
-    assert!(rt; end.lost);
-    assert!(rt; !end.ended);
-    Ok(())
-}
-
-/// The book fails at its first write, and the mouth at its second call; a datagram of another peer is only a tick; and
-/// it leaves 100 ms after it became connected, not before.
-#[test]
-fn failures_and_strangers_do_not_stop_a_talk(rt: HostRuntime) -> Result<(), Fail> {
-    let alloc = rt.alloc();
-    let packet = m17_stream::write(&frame(1, 1, false));
-    let later = m17_stream::write(&frame(1, 2, false));
-    let entries = [
-        Heard::Quiet { at: 0 },
-        heard(8, 5, b"ACKN"),
-        heard(9, 10, b"ACKN"),
-        heard(9, 20, &packet),
-        heard(9, 30, &later),
-        heard(9, 40, &PING),
-        Heard::Quiet { at: 109 },
-        heard(9, 110, &PING),
-        heard(9, 120, b"DISC"),
-    ];
-    let mut ear = ScriptEar::new(Vec::from_array(alloc, entries)?);
-    let mut mouth = ListMouth::make(alloc, 9, [1].to_vec(alloc)?)
-        .ok()
-        .ok_or("no memory")?;
-    let book = ListBook::make(alloc, 640, [0].to_vec(alloc)?)
-        .ok()
-        .ok_or("no memory")?;
-    let mut shelf = Shelf { inner: Some(book) };
-    let c = client(false).ok_or("no client")?;
-    let end = talk(&rt, &mut ear, &mut mouth, &mut shelf, &ten(9), c, &[], 100);
-    assert_eq!(rt; end.state, State::Closed(Ending::Asked));
-    assert_eq!(rt; end.kept, 2);
-    assert!(rt; end.book_failed);
-    assert_eq!(rt; mouth.list().len(), 3);
-    assert_eq!(rt; mouth.list()[0].1.bytes(), CONN.as_slice());
-    assert_eq!(rt; mouth.list()[1].1.bytes(), PONG.as_slice());
-    assert_eq!(rt; mouth.list()[2].1.bytes(), PART.as_slice());
-    let Shelf { inner } = shelf;
-    assert_eq!(rt; inner.ok_or("no book")?.bytes().len(), 0);
     Ok(())
 }
