@@ -1,6 +1,6 @@
 -- The client's table, as one step from where a client stands: what it says or keeps, and where it stands then. This
 -- profile.
-use Rattle.std.specs.Prelude.{◌≡◌, ◌≢◌, ◌⊎◌, ℕ, Bool, true, false, ◌+◌, ◌<◌, ◌≤◌, List, ◌++◌, Option, None, Some, if◌then◌else◌}
+use Rattle.std.specs.Prelude.{◌≡◌, ◌≢◌, ◌⊎◌, ℕ, Bool, false, ◌+◌, ◌<◌, ◌≤◌, List, ◌++◌, Option, None, Some, if◌then◌else◌}
 use Rattle.std.specs.Option.{option_to_list}
 use Rattle.m17_stream.specs.Stream.{SpellsStream, IsAhead}
 use Rattle.m17_stream.specs.declared.packet.StreamPacket.{StreamPacket}
