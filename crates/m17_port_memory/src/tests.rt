@@ -41,8 +41,19 @@ fn an_ear_hands_out_its_script_and_then_ends(rt: HostRuntime) -> Result<(), Fail
 #[test]
 fn a_mouth_counts_what_is_said_to_each_peer(rt: HostRuntime) -> Result<(), Fail> {
     let peers = [peer(2), peer(1), peer(2)];
-    let mut mouth = TallyMouth::make(rt.alloc(), &peers).ok().ok_or("no memory")?;
-    let texts: [&[u8]; 8] = [b"ACKN", b"NACK", b"PINGabcdef", b"PONG", b"DISC", b"M17 ", b"DISCabcdef", b"CONN"];
+    let mut mouth = TallyMouth::make(rt.alloc(), &peers)
+        .ok()
+        .ok_or("no memory")?;
+    let texts: [&[u8]; 8] = [
+        b"ACKN",
+        b"NACK",
+        b"PINGabcdef",
+        b"PONG",
+        b"DISC",
+        b"M17 ",
+        b"DISCabcdef",
+        b"CONN",
+    ];
     for text in texts {
         assert_eq!(rt; mouth.say(&peer(2), text), Ok(()));
         assert_eq!(rt; mouth.say(&peer(3), text), Ok(()));
@@ -64,7 +75,9 @@ fn a_mouth_counts_what_is_said_to_each_peer(rt: HostRuntime) -> Result<(), Fail>
 #[test]
 fn lists_keep_what_fits_and_fail_where_they_were_told(rt: HostRuntime) -> Result<(), Fail> {
     let alloc = rt.alloc();
-    let mut mouth = ListMouth::make(alloc, 2, [1].to_vec(alloc)?).ok().ok_or("no memory")?;
+    let mut mouth = ListMouth::make(alloc, 2, [1].to_vec(alloc)?)
+        .ok()
+        .ok_or("no memory")?;
     assert_eq!(rt; mouth.say(&peer(1), b"ab"), Ok(()));
     assert_eq!(rt; mouth.say(&peer(1), b"cd"), Err(Failed));
     assert_eq!(rt; mouth.say(&peer(1), &[0; 65]), Err(Failed));
@@ -73,7 +86,9 @@ fn lists_keep_what_fits_and_fail_where_they_were_told(rt: HostRuntime) -> Result
     assert_eq!(rt; mouth.list().len(), 2);
     assert_eq!(rt; mouth.list()[0].0, peer(1));
     assert_eq!(rt; mouth.list()[0].1.bytes(), b"ab".as_slice());
-    let book = ListBook::make(alloc, 3, [0].to_vec(alloc)?).ok().ok_or("no memory")?;
+    let book = ListBook::make(alloc, 3, [0].to_vec(alloc)?)
+        .ok()
+        .ok_or("no memory")?;
     let mut shelf = Shelf { inner: Some(book) };
     assert_eq!(rt; shelf.write(b"ab"), Err(Failed));
     assert_eq!(rt; shelf.write(b"cd"), Ok(()));
@@ -91,7 +106,9 @@ fn ports_hand_out_what_they_have_in_order(rt: HostRuntime) -> Result<(), Fail> {
     let mut links = Vec::new(alloc);
     for at in [1, 2] {
         let ear = ScriptEar::new(Vec::from_array(alloc, [Heard::Quiet { at }])?);
-        let mouth = ListMouth::make(alloc, 1, Vec::new(alloc)).ok().ok_or("no memory")?;
+        let mouth = ListMouth::make(alloc, 1, Vec::new(alloc))
+            .ok()
+            .ok_or("no memory")?;
         assert!(rt; links.push((ear, mouth)).is_ok());
     }
     let mut ports = ScriptPorts::new(links, Vec::new(alloc), [1].to_vec(alloc)?);
