@@ -1,11 +1,10 @@
 -- What one more answer of an ear with a script does to what was heard, and to the count of faults.
-use Rattle.std.proofs.Common.{zero, suc, ◌≡◌, ◌≢◌, ◌⊎◌, inl, inr, ℕ, ◌+◌, ◌-◌, ◌^◌, ◌<◌, ◌≤◌, min, Bool, true, false, cond, List, [], ◌∷◌, ◌++◌, length, replicate, Option, Some, refl, sym, ◌∙◌, ap, arith, rules}
-use Rattle.std.specs.List.{count_by, slice_get}
+use Rattle.std.proofs.Common.{zero, suc, ◌≡◌, ◌≢◌, inl, inr, ℕ, ◌+◌, ◌-◌, ◌^◌, ◌≤◌, min, false, cond, List, [], ◌∷◌, ◌++◌, length, replicate, Some, refl, sym, ap, arith}
+use Rattle.std.specs.List.{count_by}
 use Rattle.std.proofs.lemmas.List.Sums.{sum_by-append, sum_by-cons}
 use Rattle.std.proofs.lemmas.Bool.{cases_lt}
 use Rattle.m17_values.specs.declared.heard.Heard.{Heard}
 use Rattle.m17_values.specs.declared.heard.Heard.TheVariants.{Datagram, Quiet, Fault, End}
-use Rattle.m17_io.specs.Faults.{HasRisen}
 use Rattle.m17_ports.specs.Told.{told_then}
 use Rattle.m17_ports.specs.Ear.{EndsPastCount}
 use Rattle.m17_port_memory.specs.Kept.{ScriptKept}

@@ -1,5 +1,5 @@
 -- What an ear with a script answers. This profile.
-use Rattle.std.specs.Prelude.{◌≡◌, ◌⊎◌, ℕ, Bool, true, false, List, [], ◌∷◌, ◌++◌, Option, Some, unwrap_or, slice_get, MatchOption, ◌+◌, ◌-◌, ◌^◌, min, count_by, replicate, refl}
+use Rattle.std.specs.Prelude.{◌≡◌, ◌⊎◌, ℕ, Bool, true, false, List, [], ◌∷◌, Option, Some, unwrap_or, slice_get, MatchOption, ◌+◌, ◌-◌, ◌^◌, min, count_by, replicate, refl}
 use Rattle.std.proofs.Common.{zero, suc, ap, inl, inr, subst}
 use Rattle.m17_values.specs.declared.heard.Heard.{Heard}
 use Rattle.m17_values.specs.declared.heard.Heard.TheVariants.{Datagram, Quiet, Fault, End}

@@ -1,4 +1,4 @@
-use Rattle.std.proofs.Common.{◌≡◌, ◌≤◌, ◌+◌, ◌-◌, ◌^◌, min, length, arith, subst}
+use Rattle.std.proofs.Common.{◌≡◌, ◌≤◌, ◌+◌, ◌-◌, ◌^◌, length, arith, subst}
 use Rattle.m17_values.specs.declared.heard.Heard.TheVariants.{End}
 use Rattle.m17_port_memory.specs.Kept.{ScriptKept}
 use Rattle.m17_port_memory.specs.Script.{IsAnswered}

@@ -1,6 +1,4 @@
-use Rattle.std.proofs.Common.{◌≡◌, ℕ, ◌+◌, ◌-◌, ◌^◌, ◌≤◌, min, cond, true, false, arith, ap, rules}
-use Rattle.std.specs.List.{count_by}
-use Rattle.m17_port_memory.specs.Script.{heard_of, is_fault, faults_of}
+use Rattle.std.proofs.Common.{arith}
 use Rattle.m17_port_memory.proofs.ScriptLemmas.{faults-answered, heard-answered, same-answered, no_fault}
 use Rattle.m17_port_memory.proofs.script_ear.ScriptEarEar.hear.Goals as goal
 

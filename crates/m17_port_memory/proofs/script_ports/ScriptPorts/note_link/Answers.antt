@@ -1,4 +1,4 @@
-use Rattle.std.proofs.Common.{◌≡◌, List, ℕ, ap}
+use Rattle.std.proofs.Common.{List, ℕ, ap}
 use Rattle.m17_ports.specs.declared.question.Question.TheVariants as Question
 use Rattle.m17_port_memory.proofs.PortsLemmas.{asked-kept}
 use Rattle.m17_port_memory.proofs.script_ports.ScriptPorts.note_link.Goals as goal
