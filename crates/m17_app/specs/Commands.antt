@@ -52,4 +52,5 @@ abbrev pub IsRunnable : Command → Type 0
 IsRunnable Judge = Unit {0}
 IsRunnable Show = Unit {0}
 IsRunnable (Make seed count) = count ≤ 100000
-IsRunnable (Replay call modules parrots places summary) = IsPlan (plan_of call modules parrots places)
+IsRunnable (Replay call modules parrots places summary) =
+    IsPlan (plan_of call modules parrots places)
