@@ -1,5 +1,5 @@
 -- Where a run of `replay` stands between its steps. No public clause cites this module.
-use Rattle.std.specs.Prelude.{◌≡◌, ℕ, ◌≤◌, Bool, true, false, List, [], ◌++◌, length, Contains, Option, None, Some, Result, Ok, Err, OnOk, OnErr}
+use Rattle.std.specs.Prelude.{◌≡◌, ℕ, ◌≤◌, Bool, true, false, List, ◌++◌, length, Contains, Option, None, Some, Result, Ok, Err, OnOk, OnErr}
 use Rattle.std.specs.List.{flat_map}
 use Rattle.m17_io.specs.Sink.{AppendsPrefix}
 use Rattle.m17_values.specs.declared.heard.Heard.{Heard}
