@@ -73,7 +73,8 @@ abbrev pub AreNamed : List Peer → TalliesKept → Type 0
 AreNamed peers kept = (x : Peer) → Contains peers x → Contains (mouth.named_in kept.entries) x
 
 abbrev pub TalliesAre : (Peer → Tally) → TalliesKept → Type 0
-TalliesAre tally kept = (x : Peer) (t : Tally) → mouth.tally_at kept.entries x ≡ Some t → t ≡ tally x
+TalliesAre tally kept =
+    (x : Peer) (t : Tally) → mouth.tally_at kept.entries x ≡ Some t → t ≡ tally x
 
 -- All that is printed is there: the verdicts reach so far, and each peer that is named has a tally.
 pub record CanPrint (replayed : Replayed) : Type 0 where
