@@ -1,5 +1,5 @@
 -- Where a run of `replay` stands between its steps. No public clause cites this module.
-use Rattle.std.specs.Prelude.{◌≡◌, ℕ, ◌≤◌, Bool, true, false, List, [], ◌++◌, length, Contains, Option, None, Some, Result, Ok, Err, OnOk, OnErr}
+use Rattle.std.specs.Prelude.{◌≡◌, ℕ, ◌≤◌, Bool, true, false, List, ◌++◌, length, Contains, Option, None, Some, Result, Ok, Err, OnOk, OnErr}
 use Rattle.std.specs.List.{flat_map}
 use Rattle.m17_io.specs.Sink.{AppendsPrefix}
 use Rattle.m17_values.specs.declared.heard.Heard.{Heard}
@@ -73,7 +73,8 @@ abbrev pub AreNamed : List Peer → TalliesKept → Type 0
 AreNamed peers kept = (x : Peer) → Contains peers x → Contains (mouth.named_in kept.entries) x
 
 abbrev pub TalliesAre : (Peer → Tally) → TalliesKept → Type 0
-TalliesAre tally kept = (x : Peer) (t : Tally) → mouth.tally_at kept.entries x ≡ Some t → t ≡ tally x
+TalliesAre tally kept =
+    (x : Peer) (t : Tally) → mouth.tally_at kept.entries x ≡ Some t → t ≡ tally x
 
 -- All that is printed is there: the verdicts reach so far, and each peer that is named has a tally.
 pub record CanPrint (replayed : Replayed) : Type 0 where

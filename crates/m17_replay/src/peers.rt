@@ -11,7 +11,8 @@ use std::collections::BTreeSet;
 
 // Adds the sender of a datagram.
 fn add_sender(peers: &mut Vec<Peer>, one: &Heard) -> Result<(), NoMemory>
-    ensures { OnOk result (peers.new.items ≡ peers.old.items ++ filter_map sender_of (one.now ∷ [])) }
+    ensures { OnOk result (peers.new.items ≡ peers.old.items
+        ++ filter_map sender_of (one.now ∷ [])) }
 {
     match one {
         Heard::Datagram { from, .. } => match peers.push(*from) {

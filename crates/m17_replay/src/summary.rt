@@ -127,7 +127,8 @@ fn print_peer<K: Sink>(
     requires named { Contains (named_in mouth.now.entries) peer.now }
     ensures cause { HasCause (K.faults out.old) (K.faults out.new) result }
     ensures writes { (tally : Peer → Tally) → TalliesAre tally mouth.now →
-        Writes result (peer_line peer.now (tally peer.now)) (K.written out.old) (K.written out.new) }
+        Writes result (peer_line peer.now (tally peer.now))
+        (K.written out.old) (K.written out.new) }
 {
     let tally = mouth.tally(peer).unwrap();
     make_peer_line(line, peer, &tally);

@@ -239,15 +239,31 @@ fn a_sink_that_fails_ends_the_run_after_the_lines_before(rt: HostRuntime) -> Res
         let fails: (&[u64], &[u64]) = (&[], &[call]);
         expect_failing(&rt, rt.alloc(), &plan, false, TWO_JOIN, fails, failed, text)?;
     }
-    let mut text = "";
-    let mut call = 1;
-    for line in SUMMARY.split_inclusive("\n") {
+    let without_last = SUMMARY.trim_end_matches(
+        "peer 10.0.0.2:17000 ackn 1 nack 0 ping 0 pong 0 disc 1 frame 0\n",
+    );
+    for (call, text) in [
+        (0, ""),
+        (1, ""),
+        (2, "entries 2\n"),
+        (3, "entries 2\njoin 2\n"),
+        (23, without_last),
+    ] {
         let fails: (&[u64], &[u64]) = (&[], &[call]);
         expect_failing(&rt, rt.alloc(), &plan, true, TWO_JOIN, fails, failed, text)?;
-        text = &SUMMARY[..text.len() + line.len()];
-        call += 1;
     }
-    Ok(())
+    let fails: (&[u64], &[u64]) = (&[], &[24]);
+    let finished = ReplayEnding::Finished;
+    expect_failing(
+        &rt,
+        rt.alloc(),
+        &plan,
+        true,
+        TWO_JOIN,
+        fails,
+        finished,
+        SUMMARY,
+    )
 }
 
 #[test]

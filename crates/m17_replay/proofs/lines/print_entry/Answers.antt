@@ -1,4 +1,4 @@
-use Rattle.std.proofs.Common.{get_or, length, sym, ap, ◌∙◌, None}
+use Rattle.std.proofs.Common.{get_or, length, ap, ◌∙◌, None}
 use Rattle.m17_directory.specs.Routed.{link_verdict}
 use Rattle.m17_house.specs.Replay.{setup_of, packet_verdict}
 use Rattle.m17_report.specs.Lines.{verdict_line}

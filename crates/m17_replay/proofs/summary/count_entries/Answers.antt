@@ -1,8 +1,5 @@
-use Rattle.std.proofs.Common.{◌≡◌, ◌∷◌, ◌++◌, [], length, map, sym, ap, subst, ◌∙◌, None, arith}
-use Rattle.std.specs.List.{range_with_len}
-use Rattle.std.proofs.lemmas.List.FromFn.{length-map-range_with_len, map-range_with_len_more}
-use Rattle.m17_directory.specs.Routed.{link_verdict}
-use Rattle.m17_house.specs.Replay.{setup_of, packet_verdict}
+use Rattle.std.proofs.Common.{subst, arith}
+use Rattle.std.proofs.lemmas.List.FromFn.{length-map-range_with_len}
 use Rattle.m17_report.specs.Counted.{CountsAre}
 use Rattle.m17_replay.specs.Replay.{outcome_of}
 use Rattle.m17_replay.proofs.Steps.{counted_more}

@@ -1,4 +1,4 @@
-use Rattle.std.proofs.Common.{ℕ, List, map}
+use Rattle.std.proofs.Common.{List, map}
 use Rattle.std.specs.List.{range_with_len}
 use Rattle.m17_directory.specs.Entries.{Entry}
 use Rattle.m17_house.specs.declared.plan.Plan.{Plan}

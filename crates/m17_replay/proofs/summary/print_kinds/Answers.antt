@@ -1,4 +1,4 @@
-use Rattle.std.proofs.Common.{refl, ◌∙◌, ap, length, arith, ◌≡◌}
+use Rattle.std.proofs.Common.{refl, ◌∙◌, ap, arith}
 use Rattle.std.proofs.lemmas.List.{take_all}
 use Rattle.m17_report.specs.declared.kind.Kind.TheVariants.{Join}
 use Rattle.m17_replay.specs.Run.{kind_line, kinds_text}

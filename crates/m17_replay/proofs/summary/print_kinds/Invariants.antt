@@ -1,4 +1,4 @@
-use Rattle.std.proofs.Common.{◌≡◌, ℕ, List, Ok, take}
+use Rattle.std.proofs.Common.{◌≡◌, List, Ok, take}
 use Rattle.m17_values.specs.declared.failures.Failed.{Failed}
 use Rattle.m17_report.specs.Counted.{CountsAre}
 use Rattle.m17_report.specs.Summary.{Outcome}
