@@ -25,8 +25,9 @@ fn peer(house: u8, n: u32) -> Peer {
     let mut ip = [0; 16];
     ip[0] = 10;
     ip[1] = house;
-    ip[2] = (n >> 8) as u8;
-    ip[3] = (n & 0xff) as u8;
+    let bytes = n.to_be_bytes();
+    ip[2] = bytes[2];
+    ip[3] = bytes[3];
     Peer {
         six: false,
         ip,
@@ -34,7 +35,7 @@ fn peer(house: u8, n: u32) -> Peer {
     }
 }
 
-// The next that is posted is a Join of this member, or its Leave because it was silent, or a NACK, and so on.
+// What was posted: a Join of a member, its Leave because it was silent, a Tick, a NACK, nothing, or something else.
 #[derive(Clone, Copy, Debug, PartialEq, Eq)]
 enum Next {
     Join(Member),
