@@ -406,7 +406,9 @@ fn run_list(rt: &impl Abort, alloc: Global, seed: u64, counts: &mut Counts) {
     let d = Directory::make(alloc, 2, call(rt, "M17-TST"), 8, modules);
     let mut d = d.ok().expect(rt, "memory");
     let mut post = Post::make(alloc).ok().expect(rt, "memory");
-    let mut dice = Dice { n: seed * 7_919 };
+    let mut dice = Dice {
+        n: seed.wrapping_mul(7_919),
+    };
     let mut lines = [NOTHING; LINES];
     let mut at = 0;
     for n in 0..LINES {

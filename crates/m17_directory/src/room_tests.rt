@@ -1,4 +1,4 @@
-ghost use Rattle.std.specs.Prelude.{◌≡◌, ◌<◌, [], None, IsSome};
+ghost use Rattle.std.specs.Prelude.{◌≡◌, [], None, IsSome};
 
 use crate::tests::{call, conn, letter, member};
 use crate::{Act, Directory, Dispatch, LinkVerdict, Post};
@@ -83,12 +83,12 @@ fn asks(rt: &impl Abort, d: &mut Directory, post: &mut Post, index: u64, from: &
 fn joins(rt: &impl Abort, d: &mut Directory, post: &mut Post, m: Member)
     requires asked { IsSome d.old.asked }
     requires places { d.old.setup.places ≡ 256 }
-    requires place { m.place < 256 }
     ensures nothing_asked { d.new.asked ≡ None }
     ensures places { d.new.setup.places ≡ 256 }
 {
     assert!(rt; !d.waits());
     assert!(rt; post.is_empty());
+    assert!(rt; m.place < 256);
     let joined = LinkVerdict::Routed {
         module: letter(rt, b'A'),
         act: Act::Join,
