@@ -440,7 +440,7 @@ fn run_list(rt: &impl Abort, alloc: Global, seed: u64, counts: &mut Counts) {
 #[test]
 fn every_entry_comes_to_what_the_definitions_say(rt: HostRuntime) -> Result<(), Fail> {
     let mut counts = Counts::default();
-    for seed in 0..60 {
+    for seed in 0..20 {
         run_list(&rt, rt.alloc(), seed, &mut counts);
     }
     let c = &counts;
