@@ -22,7 +22,7 @@ use Rattle.m17_directory.proofs.LawCounts.{count, count_is, count_append, count_
 use Rattle.m17_directory.proofs.LawWho.{AsksFor, still, asks_one, heard_count, others_are, others_none, known_next, claim_count}
 use Rattle.m17_directory.proofs.LawLeaves.{none_settled, settled_some, no_more, step_sum, none_sum, all_sum, plus_zero}
 
-seat_heard : (test : Departed → Bool) (x : Peer) (m : ℕ) (k : Known) → test (departed_of (heard_now x m k)) ≡ test (departed_of k)
+pub seat_heard : (test : Departed → Bool) (x : Peer) (m : ℕ) (k : Known) → test (departed_of (heard_now x m k)) ≡ test (departed_of k)
 seat_heard test x m k = elim (is_peer x k.peer) as (λ b. test (departed_of (cond b (record k { heard_at = m }) k)) ≡ test (departed_of k)) [ true ↦ refl | false ↦ refl ]
 
 joined_none : (notice : Notice) → joined_by notice None ≡ []

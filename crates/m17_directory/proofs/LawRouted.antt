@@ -12,7 +12,7 @@ use Rattle.m17_directory.specs.Entries.{Notice, Claim, Entry, Setup, notice_at, 
 use Rattle.m17_directory.specs.Known.{Past, now, request_in, known_at}
 use Rattle.m17_directory.specs.Outcome.{Here, Outcome}
 use Rattle.m17_directory.specs.Routed.{here_of, heard_at, others_than, others_at, settled_by, settled_at, asks_at, both, comes_to, past_at, posts_at, posted, event_for, routed}
-use Rattle.m17_directory.specs.Laws.{EventsCarryTheirIndex, RouteCarriesLink, OnlyServedAreRouted}
+use Rattle.m17_directory.specs.Laws.{EventsCarryTheirIndex, RouteCarriesLink, OnlyServedAreRouted, is_door_reply}
 use Rattle.m17_directory.specs.StandsFor.{faults_before}
 use Rattle.m17_directory.proofs.Faults.{ends_is}
 use Rattle.m17_directory.proofs.Same.{length_asked, heard_is}
@@ -87,20 +87,20 @@ carry_index setup entries n letter =
     (λ to event s. s.1 ∙ length_asked setup entries n) (posts_sent setup entries n)
 
 -- all that is posted, over all positions
-abbrev Goes : Setup → Dispatch → Type 0
+abbrev pub Goes : Setup → Dispatch → Type 0
 Goes setup (ToModule letter event) = (event.tag.link ≡ setup.link) × (serves setup.modules letter ≡ true)
-Goes setup (ToDoor direct) = Unit {0}
+Goes setup (ToDoor direct) = (direct.link ≡ setup.link) × (is_door_reply direct.control ≡ true)
 
 goes : (here : Here) (stops : Bool) (posts : List Dispatch) → AllSent here stops posts → AllByRecursion (Goes here.setup) posts
 goes at stops [] h = tt
 goes at stops (ToModule letter event ∷ posts) h = ((h.0.0, h.0.2), goes at stops posts h.1)
-goes at stops (ToDoor direct ∷ posts) h = (tt, goes at stops posts h.1)
+goes at stops (ToDoor direct ∷ posts) h = (h.0, goes at stops posts h.1)
 
 pub all_flat : {A : Type 0} (P : A → Type 0) (f : ℕ → List A) (from n : ℕ) → ((i : ℕ) → i < from + n → AllByRecursion P (f i)) → AllByRecursion P (flat_map f (range_with_len from n))
 all_flat P f from zero h = tt
 all_flat P f from (suc n) h = all_append P (f from) (flat_map f (range_with_len (from + 1) n)) (h from (omega arith)) (all_flat P f (from + 1) n (λ i l. h i (omega arith)))
 
-all_go : (setup : Setup) (entries : List Entry) → AllByRecursion (Goes setup) (posted setup entries)
+pub all_go : (setup : Setup) (entries : List Entry) → AllByRecursion (Goes setup) (posted setup entries)
 unfolding posted
 all_go setup entries =
     all_flat (Goes setup) (posts_at setup entries) 0 (length entries)

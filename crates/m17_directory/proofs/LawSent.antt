@@ -22,7 +22,7 @@ use Rattle.m17_directory.specs.Entries.{Notice, Claim, Entry, Setup, notice_at, 
 use Rattle.m17_directory.specs.Known.{Past, now, request_of, request_in, row_at, known_at}
 use Rattle.m17_directory.specs.Outcome.{Here, Outcome, only, to_module, to_each_module, to_door, leave, posting, leaving, is_what, has_place, known_asks, other_asks, of_packet, of_end, settled}
 use Rattle.m17_directory.specs.Routed.{tick_ms, here_of, is_silent, row_for, is_asks, asks_at, asked_before, past_at}
-use Rattle.m17_directory.specs.Laws.{is_stop}
+use Rattle.m17_directory.specs.Laws.{is_stop, is_door_reply}
 use Rattle.m17_directory.specs.Steps.{silent_by, still_by, ticks_by, said_by, heard_by}
 use Rattle.m17_directory.proofs.Same.{length_asked, heard_is}
 use Rattle.m17_directory.proofs.Later.{has_row}
@@ -53,7 +53,7 @@ found_step : {B : Type 0} (P : B → Type 0) (rest : List B) (o : Option B) → 
 found_step P rest None h k = k
 found_step P rest (Some y) h k = (h y refl, k)
 
-all_found : {A B : Type 0} (P : B → Type 0) (f : A → Option B) (xs : List A) → ((x : A) (y : B) → f x ≡ Some y → P y) → AllByRecursion P (filter_map f xs)
+pub all_found : {A B : Type 0} (P : B → Type 0) (f : A → Option B) (xs : List A) → ((x : A) (y : B) → f x ≡ Some y → P y) → AllByRecursion P (filter_map f xs)
 all_found P f [] h = tt
 all_found P f (x ∷ xs) h = found_step P (filter_map f xs) (f x) (h x) (all_found P f xs h)
 
@@ -75,12 +75,13 @@ served_row here x [] h = tt
 served_row here x (k ∷ rows) h =
     elim (is_peer x k.peer) as (λ b. IsServed here (cond b (Some k) (row_for x rows))) [ true ↦ h.0 | false ↦ served_row here x rows h.1 ]
 
--- what goes to a module goes to a served one, and carries the tag of the entry; it is a Stop only where there may be one
+-- what goes to a module goes to a served one, and carries the tag of the entry; it is a Stop only where there may be one;
+-- and what goes past the modules carries the link
 abbrev pub IsSent : Here → Bool → Dispatch → Type 0
 IsSent here stops (ToModule letter event) =
     (event.tag.link ≡ here.setup.link) × (event.tag.index ≡ here.index) × (serves here.setup.modules letter ≡ true)
     × (is_stop event.body ≡ true → stops ≡ true)
-IsSent here stops (ToDoor direct) = Unit {0}
+IsSent here stops (ToDoor direct) = (direct.link ≡ here.setup.link) × (is_door_reply direct.control ≡ true)
 
 abbrev pub AllSent : Here → Bool → List Dispatch → Type 0
 AllSent here stops posts = AllByRecursion (IsSent here stops) posts
@@ -102,7 +103,7 @@ module _ (here : Here) (stops : Bool) where
       let door : Outcome = posting (NotServed request.letter) (to_door here k.peer control.Nack) in
       let again : Outcome = posting (Routed k.letter act.Again) (to_module here k.letter (body.Reply k.member control.Ackn)) in
       let moved : Outcome = leaving here Asks Moved k in
-      let a : AllSent here stops door.posts = (tt, tt) in
+      let a : AllSent here stops door.posts = ((refl, refl), tt) in
       let b : AllSent here stops again.posts = ((refl, refl, s, no_stop stops), tt) in
       let c : AllSent here stops moved.posts = ((refl, refl, s, no_stop stops), tt) in
       either (λ o. AllSent here stops o.posts) (not (serves here.setup.modules request.letter)) door (cond (is_what request k) again moved) a
@@ -111,7 +112,7 @@ module _ (here : Here) (stops : Bool) where
   sent_other_asks : (x : Peer) (request : Request) → AllSent here stops (other_asks here x request).posts
   sent_other_asks x request =
       let door : Outcome = posting (NotServed request.letter) (to_door here x control.Nack) in
-      let a : AllSent here stops door.posts = (tt, tt) in
+      let a : AllSent here stops door.posts = ((refl, refl), tt) in
       either (λ o. AllSent here stops o.posts) (not (serves here.setup.modules request.letter)) door (only Asks) a tt
 
   sent_packet : (x : Peer) (o : Option Known) (p : Packet) → IsServed here o → AllSent here stops (of_packet here x o p).posts
@@ -129,12 +130,12 @@ module _ (here : Here) (stops : Bool) where
   sent_packet x None (packets.Control (control.Ping from)) s = tt
   sent_packet x None (packets.Control (control.Pong from)) s = tt
   sent_packet x None (packets.Control (control.Disc None)) s = tt
-  sent_packet x None (packets.Control (control.Disc (Some from))) s = (tt, tt)
+  sent_packet x None (packets.Control (control.Disc (Some from))) s = ((refl, refl), tt)
   sent_packet x None (packets.Control control.Ackn) s = tt
   sent_packet x None (packets.Control control.Nack) s = tt
 
   pub sent_settled : (others : List Known) (x : Peer) (request : Request) (claim : Option Claim) → Served here others → serves here.setup.modules request.letter ≡ true → AllSent here stops (settled here others x request claim).posts
-  sent_settled others x request None h s = (tt, tt)
+  sent_settled others x request None h s = ((refl, refl), tt)
   sent_settled others x request (Some claim) h s =
       all_append (IsSent here stops) (map (leave here Replaced) (filter (has_place claim.member.place) others)) _
       (sent_leaves Replaced (filter (has_place claim.member.place) others) (all_filter _ (has_place claim.member.place) others h))

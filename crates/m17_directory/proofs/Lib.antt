@@ -6,11 +6,14 @@ pub mod Kept
 pub mod Later
 pub mod LawAll
 pub mod LawAskers
+pub mod LawClaims
 pub mod LawCounts
+pub mod LawDoor
 pub mod LawEnds
 pub mod LawJoins
 pub mod LawLeaves
 pub mod LawMore
+pub mod LawNames
 pub mod LawPeers
 pub mod LawPosts
 pub mod LawRouted

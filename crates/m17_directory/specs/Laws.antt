@@ -1,5 +1,5 @@
 -- What follows from the definitions for all that a link may hear. This profile.
-use Rattle.std.specs.Prelude.{◌≡◌, ◌==◌, ◌&&◌, not, ℕ, suc, ◌+◌, ◌<◌, Bool, true, false, List, [], ◌∷◌, ◌++◌, ◌≤◌, length, map, filter, count_by, sum_by, take, is_some, Option, None, Some, if◌then◌else◌}
+use Rattle.std.specs.Prelude.{◌≡◌, ◌==◌, ◌&&◌, not, ℕ, suc, ◌+◌, ◌<◌, Bool, true, false, List, [], ◌∷◌, ◌++◌, ◌≤◌, length, map, filter, count_by, sum_by, take, is_some, Option, None, Some, option_map, if◌then◌else◌}
 use Rattle.std.specs.List.{filter_map, flat_map, range_with_len, AllByRecursion}
 use Rattle.m17_values.specs.declared.heard.Heard.{Heard}
 use Rattle.m17_values.specs.declared.heard.Heard.TheVariants as heard
@@ -7,8 +7,11 @@ use Rattle.m17_values.specs.declared.member.Member.{Member}
 use Rattle.m17_values.specs.declared.peer.Peer.{Peer}
 use Rattle.m17_fields.specs.Fields.{IsBytes}
 use Rattle.m17_control.specs.declared.event.Body.{Body}
-use Rattle.m17_control.specs.declared.event.Body.TheVariants.{Join, Leave, Packet, Stop}
+use Rattle.m17_control.specs.declared.event.Body.TheVariants.{Join, Leave, Packet, Reply, Stop}
 use Rattle.m17_control.specs.declared.event.Event.{Event}
+use Rattle.m17_control.specs.declared.item.Direct.{Direct}
+use Rattle.m17_control.specs.declared.packet.Control.{Control}
+use Rattle.m17_control.specs.declared.packet.Control.TheVariants.{Nack, Disc}
 use Rattle.m17_control.specs.Modules.{serves, letters_of}
 use Rattle.m17_directory.specs.declared.dispatch.Dispatch.{Dispatch}
 use Rattle.m17_directory.specs.declared.dispatch.Dispatch.TheVariants.{ToModule, ToDoor}
@@ -21,7 +24,7 @@ use Rattle.m17_directory.specs.declared.verdict.LinkVerdict.TheVariants.{Routed,
 use Rattle.m17_directory.specs.Entries.{Notice, Says, Claim, Entry, Setup, notice_at, claim_at, is_peer, is_from, ends_at}
 use Rattle.m17_directory.specs.Known.{Past, request_in, known_at}
 use Rattle.m17_directory.specs.Outcome.{Here}
-use Rattle.m17_directory.specs.Routed.{here_of, heard_at, others_at, settled_at, asks_at, past_at, outcome_at, link_verdict, posts_at, posted, event_for, reply_for, routed, direct_replies}
+use Rattle.m17_directory.specs.Routed.{here_of, heard_at, others_at, settled_at, asks_at, both, past_at, outcome_at, link_verdict, posts_at, posted, event_for, reply_for, routed, direct_replies}
 use Rattle.m17_directory.specs.StandsFor.{departed_of}
 
 -- What comes later changes nothing of what an entry comes to. This profile.
@@ -318,3 +321,89 @@ pub record PeersComeAndGo : Type 0 where
       count_by (is_of_peer x test) (joined_before setup entries n)
       ≡ count_by (is_of_peer x test)
       (left_before setup entries n ++ map departed_of (heard_at (past_at setup entries n)).left)
+
+-- A reply past all modules, if this is one; and all that a link answers so, in order. This profile.
+abbrev pub direct_of : Dispatch → Option Direct
+direct_of (ToModule letter event) = None
+direct_of (ToDoor direct) = Some direct
+
+unfoldable pub door_replies : Setup → List Entry → List Direct
+door_replies setup entries = filter_map direct_of (posted setup entries)
+
+-- what it answers this peer, if it is for it
+abbrev pub told_to : Peer → Direct → Option Control
+told_to x direct = if is_peer x direct.peer then Some direct.control else None
+
+-- it is a NACK, or a DISC of 4 bytes
+abbrev pub is_door_reply : Control → Bool
+is_door_reply Nack = true
+is_door_reply (Disc None) = true
+is_door_reply _ = false
+
+-- The replies past all modules carry the link, each is a NACK or a DISC of 4 bytes, those for a
+-- peer are its direct replies, and one entry more answers behind all before. This profile.
+pub record DoorCarriesReplies : Type 0 where
+  pub link : (setup : Setup) (entries : List Entry) →
+      AllByRecursion (λ direct. direct.link ≡ setup.link) (door_replies setup entries)
+  pub kinds : (setup : Setup) (entries : List Entry) →
+      AllByRecursion (λ direct. is_door_reply direct.control ≡ true) (door_replies setup entries)
+  pub to_peer : (setup : Setup) (entries : List Entry) (x : Peer) →
+      filter_map (told_to x) (door_replies setup entries) ≡ direct_replies setup entries x
+  pub more : (setup : Setup) (entries : List Entry) (entry : Entry) →
+      door_replies setup (entries ++ entry ∷ []) ≡ door_replies setup entries
+      ++ filter_map direct_of (posts_at setup (entries ++ entry ∷ []) (length entries))
+
+-- Peers that their order finds equal are one, and each is equal to itself. This profile.
+pub record PeersAreToldApart : Type 0 where
+  pub same : (a b : Peer) → is_peer a b ≡ true → a ≡ b
+  pub itself : (x : Peer) → is_peer x x ≡ true
+
+-- An entry that asks for a place comes to what it comes to before its claim, and then to what its
+-- request comes to by the claim; any other entry to the former alone. This profile.
+pub record ClaimsCompleteAskers : Type 0 where
+  pub asking : (setup : Setup) (entries : List Entry) (n : ℕ) →
+      asks_at (past_at setup entries n) ≡ true → outcome_at setup entries n
+      ≡ both (heard_at (past_at setup entries n))
+      (settled_at (past_at setup entries n) (claim_at entries n))
+  pub other : (setup : Setup) (entries : List Entry) (n : ℕ) →
+      asks_at (past_at setup entries n) ≡ false →
+      outcome_at setup entries n ≡ heard_at (past_at setup entries n)
+
+-- The member that an event is of, if it is of one. This profile.
+abbrev pub member_of : Body → Option Member
+member_of (Join k x callsign listen after) = Some k
+member_of (Leave k why) = Some k
+member_of (Packet k p) = Some k
+member_of (Reply k control) = Some k
+member_of _ = None
+
+-- Each member that an event of a route is of was given by a claim: what is true of the members of
+-- all claims is true of it. This profile.
+abbrev pub RouteIsOfClaimed : Type 0
+RouteIsOfClaimed =
+    (setup : Setup) (entries : List Entry) (letter : ℕ) (test : Member → Bool) →
+    ((n : ℕ) (claim : Claim) → claim_at entries n ≡ Some claim → test claim.member ≡ true) →
+    AllByRecursion (λ k. test k ≡ true)
+    (filter_map (λ (event : Event). member_of event.body) (routed setup entries letter))
+
+-- The members of the claims, in order; where claims stand at asking entries alone, they are those
+-- that join, in order. This profile.
+abbrev pub claimed_members : List Entry → List Member
+claimed_members entries = filter_map
+    (λ (entry : Entry). option_map (λ (claim : Claim). claim.member) entry.claim) entries
+
+pub record EachClaimJoins : Type 0 where
+  pub joins : (setup : Setup) (entries : List Entry) → ClaimsAreAsked setup entries →
+      filter_map (λ (event : Event). joiner_of event.body) (all_joins setup entries)
+      ≡ claimed_members entries
+  pub joined : (setup : Setup) (entries : List Entry) → ClaimsAreAsked setup entries →
+      map (λ (d : Departed). d.member) (joined_before setup entries (length entries))
+      ≡ claimed_members entries
+
+-- Whoever leaves by an entry was known before it: of no kind do more leave than were known. This
+-- profile.
+abbrev pub LeaversWereKnown : Type 0
+LeaversWereKnown =
+    (setup : Setup) (entries : List Entry) (n : ℕ) (test : Departed → Bool) →
+    count_by (λ (k : Known). test (departed_of k)) (outcome_at setup entries n).left
+    ≤ count_by (λ (k : Known). test (departed_of k)) (known_at (past_at setup entries n))

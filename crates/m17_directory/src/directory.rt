@@ -121,6 +121,7 @@ impl Directory {
         requires nothing_posted { post.old ≡ [] }
         requires nothing_asked { self.old.asked ≡ None }
         requires open { self.old.ended ≡ false }
+        ensures says { (notice : Notice) × Says h.now notice }
         ensures heard { (notice : Notice) → Says h.now notice → (entries : List Entry) →
             StandsFor self.old entries → index ≡ length entries → IsHeard self.old self.new entries
             notice (record { verdict = result; posts = post.new }) }

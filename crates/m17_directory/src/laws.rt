@@ -102,3 +102,35 @@ pub fn who_joins_leaves()
 pub fn peers_come_and_go()
     ensures { law.PeersComeAndGo }
 {}
+
+/// What a link answers past all modules carries its number, and is a NACK or a DISC of 4 bytes; what is answered to a peer
+/// is its part of it, and one entry more answers behind all before.
+pub fn door_carries_replies()
+    ensures { law.DoorCarriesReplies }
+{}
+
+/// Two peers that their order finds equal are one.
+pub fn peers_are_told_apart()
+    ensures { law.PeersAreToldApart }
+{}
+
+/// An entry that asks for a place comes to what it comes to before its claim, and then to what the claim makes of it; any
+/// other entry to the former alone.
+pub fn claims_complete_askers()
+    ensures { law.ClaimsCompleteAskers }
+{}
+
+/// Each member that an event of a route is of was given by a claim.
+pub fn route_is_of_claimed()
+    ensures { law.RouteIsOfClaimed }
+{}
+
+/// Where claims stand at asking entries alone, their members are those that join, in order.
+pub fn each_claim_joins()
+    ensures { law.EachClaimJoins }
+{}
+
+/// Whoever leaves by an entry was known before it.
+pub fn leavers_were_known()
+    ensures { law.LeaversWereKnown }
+{}

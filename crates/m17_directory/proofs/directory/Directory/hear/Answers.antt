@@ -52,6 +52,9 @@ invariant_of-self c =
       faults = λ goes. below_most (is_end says.0) c.faults_with-faults.result (sym (c.ends_by-ends.ensures says.0 says.1) ∙ goes);
     }
 
+pub returns-clause-says : goal.returns-clause-says
+returns-clause-says c = c.hear.ensures.says
+
 pub returns-clause-heard : goal.returns-clause-heard
 returns-clause-heard c = λ notice says.
     subst (λ (k : Kept). (entries : List Entry) → StandsFor k entries → c.args.index ≡ length entries → IsHeard k (new_of c) entries notice (record { verdict = c.hear.result; posts = c.hear.new.post })) c.self.view_is
