@@ -8,6 +8,7 @@ use Rattle.m17_book.specs.Book.{TellsFlaw, BookHeaderFlaw, book_header, book_mag
 use Rattle.m17_book.specs.Flaws.{kind_of, RecordFlaw}
 use Rattle.m17_book.specs.Parsed.{BeginsWith}
 use Rattle.m17_book.specs.Steps.{tell, IsNext, PassesHeader}
+use Rattle.m17_book.specs.Walk.{coming}
 use Rattle.m17_book.specs.declared.refusal.Flaw.{Flaw}
 use Rattle.m17_book.specs.declared.refusal.Flaw.TheVariants as flaws
 use Rattle.m17_book.proofs.Window.{IsWindow, record_flaw, known_kind, short_below, header_flaw, cut_header}
@@ -29,7 +30,7 @@ record_told b ahead (flaws.Field k) place fits w h = (k, record_flaw b ahead (fl
 -- a value was taken from the front
 pub taken : {Value : Type 0} (Spells : Value → List ℕ → Type 0) (Flawed : List ℕ → Flaw → Type 0) (value : Value) (b held ahead : List ℕ) (size place after : ℕ)
     (left : Option (List ℕ)) → IsAhead b left ahead → BeginsWith Spells b value size → held ≡ drop size b → after ≡ told (place + size)
-    → IsNext Spells Flawed (Ok (Some value)) ahead place held left after
+    → IsNext Spells Flawed (Ok (Some value)) (coming place ahead) (record { held = held; left = left; place = after })
 taken Spells Flawed value b held ahead size place after left is begins same told_after =
     let split : b ≡ take size b ++ drop size b = sym (take-append-drop size b) in (
       take size b,
@@ -60,7 +61,7 @@ header_told b ahead (flaws.Field k) place fits w h = (k, header_flaw b ahead (fl
 -- the header was passed
 pub passed : {T : Type 0} (value : T) (b held ahead : List ℕ) (place after : ℕ) (left : Option (List ℕ)) → IsAhead b left ahead → 9 ≤ length b
     → IsModule (get_or b 8 0) → take 8 b ≡ book_magic → held ≡ drop 9 b → after ≡ told (place + 9)
-    → PassesHeader (Ok value) ahead place held left after
+    → PassesHeader (Ok value) (coming place ahead) (record { held = held; left = left; place = after })
 passed value b held ahead place after left is long good magic same told_after =
     let nine : take 9 b ≡ book_header (get_or b 8 0) = take_one b 8 (omega arith) ∙ ap (λ xs. xs ++ get_or b 8 0 ∷ []) magic in
     let split : b ≡ book_header (get_or b 8 0) ++ drop 9 b = sym (take-append-drop 9 b) ∙ ap (λ xs. xs ++ drop 9 b) nine in (

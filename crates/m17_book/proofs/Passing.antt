@@ -5,7 +5,7 @@ use Rattle.m17_book.specs.Limits.{told, most_bytes, SpellsEach}
 use Rattle.m17_book.specs.Ahead.{IsAhead}
 use Rattle.m17_book.specs.Parsed.{BeginsWith}
 use Rattle.m17_book.specs.Steps.{IsNext}
-use Rattle.m17_book.specs.Walk.{Spot, IsAt, HasPassed, AddsOne, AddsAll}
+use Rattle.m17_book.specs.Walk.{coming, Spot, IsAt, HasPassed, AddsOne, AddsAll}
 use Rattle.m17_book.specs.declared.refusal.FormRefusal.{FormRefusal}
 use Rattle.m17_book.specs.declared.refusal.Flaw.{Flaw}
 use Rattle.m17_book.proofs.NextStep.{taken}
@@ -13,7 +13,7 @@ use Rattle.m17_book.proofs.Within.{spells_more}
 
 -- one value was passed
 pub next_passed : {Value : Type 0} (Spells : Value → List ℕ → Type 0) (Flawed : List ℕ → Flaw → Type 0) (value : Value) (ahead held : List ℕ)
-    (left : Option (List ℕ)) (place after : ℕ) → IsNext Spells Flawed (Ok (Some value)) ahead place held left after
+    (left : Option (List ℕ)) (place after : ℕ) → IsNext Spells Flawed (Ok (Some value)) (coming place ahead) (record { held = held; left = left; place = after })
     → HasPassed Spells place ahead (value ∷ []) (record { held = held; left = left; place = after })
 next_passed Spells Flawed value ahead held left place after h =
     record {
@@ -27,16 +27,16 @@ next_passed Spells Flawed value ahead held left place after h =
 
 -- the same, where the value stands in an option
 pub some_passed : {Value : Type 0} (Spells : Value → List ℕ → Type 0) (Flawed : List ℕ → Flaw → Type 0) (next : Option Value) (value : Value) (ahead held : List ℕ)
-    (left : Option (List ℕ)) (place after : ℕ) → next ≡ Some value → IsNext Spells Flawed (Ok next) ahead place held left after
+    (left : Option (List ℕ)) (place after : ℕ) → next ≡ Some value → IsNext Spells Flawed (Ok next) (coming place ahead) (record { held = held; left = left; place = after })
     → HasPassed Spells place ahead (value ∷ []) (record { held = held; left = left; place = after })
 some_passed {Value = Value} Spells Flawed next value ahead held left place after e h =
-    next_passed Spells Flawed value ahead held left place after (subst (λ (n : Option Value). IsNext Spells Flawed (Ok n) ahead place held left after) e h)
+    next_passed Spells Flawed value ahead held left place after (subst (λ (n : Option Value). IsNext Spells Flawed (Ok n) (coming place ahead) (record { held = held; left = left; place = after })) e h)
 
 pub none_next : {Value : Type 0} (Spells : Value → List ℕ → Type 0) (Flawed : List ℕ → Flaw → Type 0) (next : Option Value) (ahead held : List ℕ)
-    (left : Option (List ℕ)) (place after : ℕ) → next ≡ None → IsNext Spells Flawed (Ok next) ahead place held left after
+    (left : Option (List ℕ)) (place after : ℕ) → next ≡ None → IsNext Spells Flawed (Ok next) (coming place ahead) (record { held = held; left = left; place = after })
     → (ahead ≡ []) × IsAhead held left [] × (after ≡ place)
 none_next {Value = Value} Spells Flawed next ahead held left place after e h =
-    subst (λ (n : Option Value). IsNext Spells Flawed (Ok n) ahead place held left after) e h
+    subst (λ (n : Option Value). IsNext Spells Flawed (Ok n) (coming place ahead) (record { held = held; left = left; place = after })) e h
 
 pub one_passed : {Value : Type 0} (Spells : Value → List ℕ → Type 0) (Flawed : List ℕ → Flaw → Type 0) (value : Value) (b held ahead : List ℕ)
     (size place after : ℕ) (left : Option (List ℕ)) → IsAhead b left ahead → BeginsWith Spells b value size → held ≡ drop size b
@@ -96,16 +96,16 @@ empty_back (x ∷ xs) ys e = cc
 module _ {Value : Type 0} (Spells : Value → List ℕ → Type 0) (Wrong : ℕ → List ℕ → ℕ → FormRefusal → Type 0) (place : ℕ) (ahead : List ℕ)
     (old new : List Value) (a b : Spot) (h : HasPassed Spells place ahead old a) where
   -- one value more
-  pub added : (more : Bool) → more ≡ true → AddsOne Spells Wrong (Ok more) a.place h.rest old new b → HasPassed Spells place ahead new b
+  pub added : (more : Bool) → more ≡ true → AddsOne Spells Wrong (Ok more) (coming a.place h.rest) old new b → HasPassed Spells place ahead new b
   added more e there =
-      let one = subst (λ (m : Bool). AddsOne Spells Wrong (Ok m) a.place h.rest old new b) e there in
+      let one = subst (λ (m : Bool). AddsOne Spells Wrong (Ok m) (coming a.place h.rest) old new b) e there in
       subst (λ (vs : List Value). HasPassed Spells place ahead vs b) (sym one.1) (more_passed Spells place ahead old one.0 a b h one.2)
 
   -- nothing is left
   pub ended : (T : Type 0) (value : T) (more : Bool) → more ≡ false → a.place ≤ most_bytes
-      → AddsOne Spells Wrong (Ok more) a.place h.rest old new b → AddsAll Spells Wrong (Ok value) place ahead new b
+      → AddsOne Spells Wrong (Ok more) (coming a.place h.rest) old new b → AddsAll Spells Wrong (Ok value) (coming place ahead) new b
   ended T value more e low there =
-      let one = subst (λ (m : Bool). AddsOne Spells Wrong (Ok m) a.place h.rest old new b) e there in
+      let one = subst (λ (m : Bool). AddsOne Spells Wrong (Ok m) (coming a.place h.rest) old new b) e there in
       let none : one.2.0 ≡ [] = empty_back b.held one.2.0 (sym one.2.2) in (
         record {
           front = h.front;
@@ -121,8 +121,8 @@ module _ {Value : Type 0} (Spells : Value → List ℕ → Type 0) (Wrong : ℕ 
       )
 
   -- what is wrong with what is to come
-  pub stopped : (T : Type 0) (refusal : FormRefusal) → a.place ≤ most_bytes → AddsOne Spells Wrong (Err refusal) a.place h.rest old new b
-      → AddsAll Spells Wrong {T = T} (Err refusal) place ahead new b
+  pub stopped : (T : Type 0) (refusal : FormRefusal) → a.place ≤ most_bytes → AddsOne Spells Wrong (Err refusal) (coming a.place h.rest) old new b
+      → AddsAll Spells Wrong {T = T} (Err refusal) (coming place ahead) new b
   stopped T refusal low (inl outside) = inl outside
   stopped T refusal low (inr one) =
       inr (

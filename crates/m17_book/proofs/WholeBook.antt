@@ -11,7 +11,7 @@ use Rattle.m17_book.specs.Laws.{Kept, BooksAreExact}
 use Rattle.m17_book.specs.Limits.{told, most_bytes}
 use Rattle.m17_book.specs.Records.{SpellsRecord}
 use Rattle.m17_book.specs.Steps.{PassesHeader}
-use Rattle.m17_book.specs.Walk.{Spot, IsAt, HasPassed, Stops, AddsAll, WrongRecord, ReadsBook, IsCutAt, IsSettled}
+use Rattle.m17_book.specs.Walk.{coming, Spot, IsAt, HasPassed, Stops, AddsAll, WrongRecord, ReadsBook, IsCutAt, IsSettled}
 use Rattle.m17_book.specs.declared.record.Record.{Record}
 use Rattle.m17_book.specs.declared.refusal.FormRefusal.{FormRefusal}
 use Rattle.m17_book.specs.declared.refusal.FormRefusal.TheVariants.{Large, ReadFault}
@@ -46,7 +46,7 @@ long letter bytes front rest spot p =
 
 -- the records of a whole book
 pub all_read : {T : Type 0} (value : T) (letter : ℕ) (bytes ahead : List ℕ) (values : List Record) (place : ℕ) (spot : Spot) → IsModule letter
-    → bytes ≡ book_header letter ++ ahead → place ≡ told 9 → AddsAll SpellsRecord WrongRecord (Ok value) place ahead values spot
+    → bytes ≡ book_header letter ++ ahead → place ≡ told 9 → AddsAll SpellsRecord WrongRecord (Ok value) (coming place ahead) values spot
     → ReadsBook (Ok value) bytes values spot
 all_read value letter bytes ahead values place spot good split nine h =
     let p = passed letter bytes ahead values spot place split nine h.0 in
@@ -84,7 +84,7 @@ stops T letter refusal bytes ahead values records place spot good split nine (h,
     )
 
 all_stops : (T : Type 0) (letter : ℕ) (refusal : FormRefusal) (bytes ahead : List ℕ) (records : List Record) (place : ℕ) (spot : Spot)
-    → IsModule letter → bytes ≡ book_header letter ++ ahead → place ≡ told 9 → AddsAll SpellsRecord WrongRecord {T = T} (Err refusal) place ahead records spot
+    → IsModule letter → bytes ≡ book_header letter ++ ahead → place ≡ told 9 → AddsAll SpellsRecord WrongRecord {T = T} (Err refusal) (coming place ahead) records spot
     → ReadsBook {T = T} (Err refusal) bytes records spot
 all_stops T letter refusal bytes ahead records place spot good split nine (inl h) = inl h
 all_stops T letter refusal bytes ahead records place spot good split nine (inr h) =
@@ -92,8 +92,8 @@ all_stops T letter refusal bytes ahead records place spot good split nine (inr h
 
 -- what was read behind the header
 pub behind_header : {T U : Type 0} (result : Result T FormRefusal) (value : U) (bytes : List ℕ) (records : List Record) (held : List ℕ) (left : Option (List ℕ))
-    (place after : ℕ) (spot : Spot) → place ≡ 0 → (h : PassesHeader (Ok value) bytes place held left after)
-    → AddsAll SpellsRecord WrongRecord result after h.1 records spot → ReadsBook result bytes records spot
+    (place after : ℕ) (spot : Spot) → place ≡ 0 → (h : PassesHeader (Ok value) (coming place bytes) (record { held = held; left = left; place = after }))
+    → AddsAll SpellsRecord WrongRecord result (coming after h.1) records spot → ReadsBook result bytes records spot
 behind_header (Ok v) value bytes records held left place after spot zero h adds =
     all_read v h.0 bytes h.1 records after spot h.2 h.3 (h.5 ∙ ap (λ n. told (n + 9)) zero) adds
 behind_header {T = T} (Err refusal) value bytes records held left place after spot zero h adds =

@@ -10,7 +10,7 @@ use Rattle.m17_book.specs.Book.{TellsFlaw, MagicFlaw, trace_magic, IsTrace, HasT
 use Rattle.m17_book.specs.Entries.{SpellsEntry}
 use Rattle.m17_book.specs.Flaws.{EntryFlaw}
 use Rattle.m17_book.specs.Limits.{told, most_bytes, most_entries}
-use Rattle.m17_book.specs.Walk.{Spot, IsAt, HasPassed, Stops, AddsAll, PassesMagic, WrongEntry, ReadsTrace, IsCutAt, IsSettled}
+use Rattle.m17_book.specs.Walk.{coming, Spot, IsAt, HasPassed, Stops, AddsAll, PassesMagic, WrongEntry, ReadsTrace, IsCutAt, IsSettled}
 use Rattle.m17_book.specs.declared.refusal.Flaw.{Flaw}
 use Rattle.m17_book.specs.declared.refusal.FormRefusal.{FormRefusal}
 use Rattle.m17_book.specs.declared.refusal.FormRefusal.TheVariants.{Cut, Kind, Field, Large, ReadFault, NoMemory}
@@ -63,7 +63,7 @@ long bytes front rest spot p =
 
 -- the entries of a whole trace
 pub all_read : {T : Type 0} (value : T) (bytes ahead : List ℕ) (values heard : List Heard) (place : ℕ) (spot : Spot) → bytes ≡ trace_magic ++ ahead
-    → place ≡ told 8 → AddsAll SpellsEntry WrongEntry (Ok value) place ahead values spot → length values ≤ most_entries → heard ≡ values ++ End ∷ []
+    → place ≡ told 8 → AddsAll SpellsEntry WrongEntry (Ok value) (coming place ahead) values spot → length values ≤ most_entries → heard ≡ values ++ End ∷ []
     → IsTrace bytes heard × (spot.left ≡ Some [])
 all_read value bytes ahead values heard place spot split eight h few is =
     let p = passed bytes ahead values spot place split eight h.0 in
@@ -112,7 +112,7 @@ stops T refusal bytes ahead values heard place spot split eight (h, inr wrong) =
     )
 
 pub all_stops : (T U : Type 0) (refusal : FormRefusal) (bytes ahead : List ℕ) (values heard : List Heard) (place : ℕ) (spot : Spot) → bytes ≡ trace_magic ++ ahead
-    → place ≡ told 8 → AddsAll SpellsEntry WrongEntry {T = T} (Err refusal) place ahead values spot → ReadsTrace {T = U} (Err refusal) bytes heard spot
+    → place ≡ told 8 → AddsAll SpellsEntry WrongEntry {T = T} (Err refusal) (coming place ahead) values spot → ReadsTrace {T = U} (Err refusal) bytes heard spot
 all_stops T U refusal bytes ahead values heard place spot split eight (inl h) = inl h
 all_stops T U refusal bytes ahead values heard place spot split eight (inr h) = stops U refusal bytes ahead h.0 heard place spot split eight h.1
 
@@ -133,7 +133,7 @@ settled_in bytes found refusal (inr why) (inr (inr h)) =
 
 -- the end was added to the entries, or memory lacked
 pub trace_ended : {T U : Type 0} (result : Result T FormRefusal) (value : U) (bytes ahead : List ℕ) (values heard : List Heard) (place : ℕ) (spot : Spot)
-    → bytes ≡ trace_magic ++ ahead → place ≡ told 8 → AddsAll SpellsEntry WrongEntry (Ok value) place ahead values spot → length values ≤ most_entries
+    → bytes ≡ trace_magic ++ ahead → place ≡ told 8 → AddsAll SpellsEntry WrongEntry (Ok value) (coming place ahead) values spot → length values ≤ most_entries
     → OnOk result (heard ≡ values ++ End ∷ []) → IfErr result (λ refusal. refusal ≡ NoMemory) → ReadsTrace result bytes heard spot
 trace_ended (Ok v) value bytes ahead values heard place spot split eight h few is lacks = all_read value bytes ahead values heard place spot split eight h few is
 trace_ended {T = T} (Err refusal) value bytes ahead values heard place spot split eight h few is lacks = no_memory T refusal bytes heard spot lacks

@@ -11,6 +11,7 @@ use Rattle.m17_book.specs.Progress.{Progress}
 use Rattle.m17_book.specs.Reading.{HasRead, AnswersNext}
 use Rattle.m17_book.specs.Records.{SpellsRecord}
 use Rattle.m17_book.specs.Steps.{IsNext, PassesHeader}
+use Rattle.m17_book.specs.Walk.{coming}
 use Rattle.m17_book.specs.declared.record.Record.{Record}
 use Rattle.m17_book.specs.declared.refusal.Flaw.{Flaw}
 use Rattle.m17_book.specs.declared.refusal.FormRefusal.{FormRefusal}
@@ -83,7 +84,7 @@ empty_book letter good = (good, [], refl, sym (append-nil (book_header letter)))
 
 -- the header of a fresh reader was passed
 pub past_header : {T : Type 0} (value : T) (bytes held : List ℕ) (place after : ℕ) (left : Option (List ℕ)) (records : List Record)
-    → PassesHeader (Ok value) bytes place held left after → place ≡ 0 → records ≡ [] → IsWithin held left after bytes records
+    → PassesHeader (Ok value) (coming place bytes) (record { held = held; left = left; place = after }) → place ≡ 0 → records ≡ [] → IsWithin held left after bytes records
 past_header value bytes held place after left records h start none =
     record {
       letter = h.0;
@@ -105,7 +106,7 @@ bad_header refusal bytes place (inr h) start records none =
 -- what is next after the records that were read
 pub answers : (result : Result (Option Record) FormRefusal) (reader : Progress) (old : List ℕ) (left left' : Option (List ℕ)) (place : ℕ)
     (bytes : List ℕ) (records : List Record) → reader.begun ≡ true → (w : IsWithin old left place bytes records)
-    → IsNext SpellsRecord RecordFlaw result w.rest place reader.unread left' reader.place
+    → IsNext SpellsRecord RecordFlaw result (coming place w.rest) (record { held = reader.unread; left = left'; place = reader.place })
     → AnswersNext result reader left' bytes records
 answers (Ok (Some value)) reader old left left' place bytes records begun w h =
     has_read reader left' bytes (records ++ value ∷ []) begun (record {

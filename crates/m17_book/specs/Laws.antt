@@ -39,9 +39,12 @@ abbrev pub TracesAreExact : Type 0
 TracesAreExact = IsExactForm IsTrace RefusesTrace
 
 abbrev pub BooksAreExact : Type 0
-BooksAreExact = IsExactForm {Value = Kept} (λ bytes kept. IsBook bytes kept.letter kept.records) RefusesBook
+BooksAreExact =
+    IsExactForm {Value = Kept} (λ bytes kept. IsBook bytes kept.letter kept.records)
+    RefusesBook
 
 -- the same of books of whatever size, as a reader has them that gives one record after another
 abbrev pub BookFormsAreExact : Type 0
 BookFormsAreExact =
-    IsExactForm {Value = Kept} (λ bytes kept. HasBookForm bytes kept.letter kept.records) LacksBookForm
+    IsExactForm {Value = Kept} (λ bytes kept. HasBookForm bytes kept.letter kept.records)
+    LacksBookForm

@@ -2,9 +2,9 @@
 -- a function cites this module.
 use Rattle.std.specs.Prelude.{◌≡◌, ◌⊎◌, ℕ, ◌+◌, List, [], ◌++◌, length, Option, None, Some, Result, Ok, Err}
 use Rattle.m17_book.specs.Limits.{told}
-use Rattle.m17_book.specs.Ahead.{IsAhead}
 use Rattle.m17_control.specs.Forms.{IsModule}
 use Rattle.m17_book.specs.Book.{TellsFlaw, BookHeaderFlaw, book_header}
+use Rattle.m17_book.specs.Walk.{Coming, Spot, IsAt}
 use Rattle.m17_book.specs.declared.refusal.Flaw.{Flaw}
 use Rattle.m17_book.specs.declared.refusal.Flaw.TheVariants as flaws
 use Rattle.m17_book.specs.declared.refusal.FormRefusal.{FormRefusal}
@@ -16,22 +16,21 @@ tell flaws.Cut place len = Cut (told (place + len))
 tell (flaws.Kind byte) place len = Kind place byte
 tell (flaws.Field k) place len = Field (told (place + k))
 
--- What the next answer says of what is to come, and what is to come after it.
+-- What the next answer says of what is to come, and where the cursor is after it.
 abbrev pub IsNext : {Value : Type 0} → (Value → List ℕ → Type 0) → (List ℕ → Flaw → Type 0)
-    → Result (Option Value) FormRefusal → List ℕ → ℕ → List ℕ → Option (List ℕ) → ℕ → Type 0
-IsNext Spells Flawed (Ok (Some value)) ahead place held left after =
-    (front : List ℕ) × (rest : List ℕ)
-    × (ahead ≡ front ++ rest) × Spells value front × IsAhead held left rest
-    × (after ≡ told (place + length front))
-IsNext Spells Flawed (Ok None) ahead place held left after =
-    (ahead ≡ []) × IsAhead held left [] × (after ≡ place)
-IsNext Spells Flawed (Err refusal) ahead place held left after =
-    (refusal ≡ ReadFault) ⊎ TellsFlaw Flawed ahead place refusal
+    → Result (Option Value) FormRefusal → Coming → Spot → Type 0
+IsNext Spells Flawed (Ok (Some value)) next spot = (front : List ℕ) × (rest : List ℕ)
+    × (next.ahead ≡ front ++ rest) × Spells value front × IsAt spot rest
+    × (spot.place ≡ told (next.place + length front))
+IsNext Spells Flawed (Ok None) next spot =
+    (next.ahead ≡ []) × IsAt spot [] × (spot.place ≡ next.place)
+IsNext Spells Flawed (Err refusal) next spot =
+    (refusal ≡ ReadFault) ⊎ TellsFlaw Flawed next.ahead next.place refusal
 
 -- The header was passed, or what is wrong with it is told.
-abbrev pub PassesHeader : {T : Type 0} → Result T FormRefusal → List ℕ → ℕ → List ℕ
-    → Option (List ℕ) → ℕ → Type 0
-PassesHeader (Ok _) ahead place held left after = (letter : ℕ) × (rest : List ℕ) × IsModule letter
-    × (ahead ≡ book_header letter ++ rest) × IsAhead held left rest × (after ≡ told (place + 9))
-PassesHeader (Err refusal) ahead place held left after =
-    (refusal ≡ ReadFault) ⊎ TellsFlaw BookHeaderFlaw ahead place refusal
+abbrev pub PassesHeader : {T : Type 0} → Result T FormRefusal → Coming → Spot → Type 0
+PassesHeader (Ok _) next spot = (letter : ℕ) × (rest : List ℕ) × IsModule letter
+    × (next.ahead ≡ book_header letter ++ rest) × IsAt spot rest
+    × (spot.place ≡ told (next.place + 9))
+PassesHeader (Err refusal) next spot =
+    (refusal ≡ ReadFault) ⊎ TellsFlaw BookHeaderFlaw next.ahead next.place refusal

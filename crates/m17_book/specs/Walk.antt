@@ -22,13 +22,22 @@ pub record Spot : Type 0 where
 abbrev pub spot : Cursor → Option (List ℕ) → Spot
 spot cursor left = record { held = held cursor; left = left; place = cursor.place }
 
+-- what is to come of the input, and its place there
+pub record Coming : Type 0 where
+  pub place : ℕ
+  pub ahead : List ℕ
+
+abbrev pub coming : ℕ → List ℕ → Coming
+coming place ahead = record { place = place; ahead = ahead }
+
 -- this is to come of the input
 abbrev pub IsAt : Spot → List ℕ → Type 0
 IsAt spot ahead = IsAhead spot.held spot.left ahead
 
 -- what is said after so many entries, where they end and more is to come: there are too many, or what is wrong
 abbrev pub WrongEntry : ℕ → List ℕ → ℕ → FormRefusal → Type 0
-WrongEntry count rest place refusal = ((count ≡ most_entries) × (0 < length rest) × (refusal ≡ Large place))
+WrongEntry count rest place refusal =
+    ((count ≡ most_entries) × (0 < length rest) × (refusal ≡ Large place))
     ⊎ ((count < most_entries) × TellsFlaw EntryFlaw rest place refusal)
 
 -- the same of records, of which there may be any number
@@ -37,7 +46,8 @@ WrongRecord count rest place refusal = TellsFlaw RecordFlaw rest place refusal
 
 module _ {Value : Type 0} (Spells : Value → List ℕ → Type 0) where
   -- the values were passed: what was to come is their bytes, and then what is to come now
-  pub record HasPassed (place : ℕ) (ahead : List ℕ) (values : List Value) (spot : Spot) : Type 0 where
+  pub record HasPassed (place : ℕ) (ahead : List ℕ) (values : List Value)
+      (spot : Spot) : Type 0 where
     pub front : List ℕ
     pub rest : List ℕ
     pub split : ahead ≡ front ++ rest
@@ -54,21 +64,21 @@ module _ {Value : Type 0} (Spells : Value → List ℕ → Type 0)
       ⊎ ((spot.place ≤ most_bytes) × Wrong (length values) passed.rest spot.place refusal))
 
   -- one value more was read, or nothing was left, or it stopped, and passed nothing
-  abbrev pub AddsOne : Result Bool FormRefusal → ℕ → List ℕ → List Value → List Value → Spot → Type 0
-  AddsOne (Ok true) place ahead old new spot = (value : Value) × (new ≡ old ++ value ∷ [])
-      × HasPassed Spells place ahead (value ∷ []) spot
-  AddsOne (Ok false) place ahead old new spot = (new ≡ old) × (ahead ≡ [])
-      × IsAt spot [] × (spot.place ≡ place)
-  AddsOne (Err refusal) place ahead old new spot = IsOutside refusal
-      ⊎ ((new ≡ old) × IsAt spot ahead × (spot.place ≡ place)
-      × Wrong (length old) ahead place refusal)
+  abbrev pub AddsOne : Result Bool FormRefusal → Coming → List Value → List Value → Spot → Type 0
+  AddsOne (Ok true) next old new spot = (value : Value) × (new ≡ old ++ value ∷ [])
+      × HasPassed Spells next.place next.ahead (value ∷ []) spot
+  AddsOne (Ok false) next old new spot = (new ≡ old) × (next.ahead ≡ [])
+      × IsAt spot [] × (spot.place ≡ next.place)
+  AddsOne (Err refusal) next old new spot = IsOutside refusal
+      ⊎ ((new ≡ old) × IsAt spot next.ahead × (spot.place ≡ next.place)
+      × Wrong (length old) next.ahead next.place refusal)
 
   -- all was read, within the limit of bytes; or it stopped
-  abbrev pub AddsAll : {T : Type 0} → Result T FormRefusal → ℕ → List ℕ → List Value → Spot → Type 0
-  AddsAll (Ok _) place ahead new spot = (passed : HasPassed Spells place ahead new spot)
+  abbrev pub AddsAll : {T : Type 0} → Result T FormRefusal → Coming → List Value → Spot → Type 0
+  AddsAll (Ok _) next new spot = (passed : HasPassed Spells next.place next.ahead new spot)
       × (passed.rest ≡ []) × (spot.left ≡ Some []) × (spot.place ≤ most_bytes)
-  AddsAll (Err refusal) place ahead new spot = IsOutside refusal
-      ⊎ ((values : List Value) × Stops place ahead values spot refusal)
+  AddsAll (Err refusal) next new spot = IsOutside refusal
+      ⊎ ((values : List Value) × Stops next.place next.ahead values spot refusal)
 
 -- a cut is told at this length of the input
 abbrev pub IsCutAt : ℕ → FormRefusal → Type 0

@@ -5,7 +5,7 @@ ghost use Rattle.m17_book.specs.Book.{RefusesBook};
 ghost use Rattle.m17_book.specs.Limits.{told};
 ghost use Rattle.m17_book.specs.Records.{SpellsRecord};
 ghost use Rattle.m17_book.specs.Reading.{HasReadCause};
-ghost use Rattle.m17_book.specs.Walk.{spot, IsAt, AddsOne, AddsAll, ReadsBook, WrongRecord};
+ghost use Rattle.m17_book.specs.Walk.{coming, spot, IsAt, AddsOne, AddsAll, ReadsBook, WrongRecord};
 ghost use Rattle.m17_book.specs.declared.record.Record.{Record};
 ghost use Rattle.m17_book.specs.declared.refusal.FormRefusal.{FormRefusal};
 
@@ -98,8 +98,8 @@ fn add_records<S: Input<K>, K: Sink>(
     requires quiet { K.held_back out.now ≡ 0 }
     requires fits { records.old.items ≡ [] }
     ensures read { (ahead : List ℕ) → IsAt (spot cursor.old (S.left source.old)) ahead
-        → AddsAll SpellsRecord WrongRecord result cursor.old.place ahead records.new.items
-        (spot cursor.new (S.left source.new)) }
+        → AddsAll SpellsRecord WrongRecord result (coming cursor.old.place ahead)
+        records.new.items (spot cursor.new (S.left source.new)) }
     ensures cause { HasReadCause (S.faults source.old) (S.faults source.new) result }
 {
     'records: loop {
@@ -123,7 +123,7 @@ fn add_record<S: Input<K>, K: Sink>(
 ) -> Result<bool, FormRefusal>
     requires quiet { K.held_back out.now ≡ 0 }
     ensures read { (ahead : List ℕ) → IsAt (spot cursor.old (S.left source.old)) ahead
-        → AddsOne SpellsRecord WrongRecord result cursor.old.place ahead
+        → AddsOne SpellsRecord WrongRecord result (coming cursor.old.place ahead)
         records.old.items records.new.items (spot cursor.new (S.left source.new)) }
     ensures goes_on { IfOk result (λ more. IsTrue more
         → told (cursor.old.place + 1) ≤ cursor.new.place) }

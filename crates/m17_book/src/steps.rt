@@ -6,7 +6,7 @@ ghost use Rattle.m17_book.specs.Limits.{told};
 ghost use Rattle.m17_book.specs.Reading.{HasReadCause, IsReadersRefusal};
 ghost use Rattle.m17_book.specs.Records.{SpellsRecord};
 ghost use Rattle.m17_book.specs.Steps.{tell, IsNext, PassesHeader};
-ghost use Rattle.m17_book.specs.Walk.{spot, IsAt, PassesMagic, TakesEntry};
+ghost use Rattle.m17_book.specs.Walk.{coming, spot, IsAt, PassesMagic, TakesEntry};
 
 use crate::cursor::Cursor;
 use crate::form::{HEADER_BYTES, MAGIC_BYTES, TRACE_MAGIC};
@@ -42,8 +42,8 @@ pub(crate) fn pass_header<S: Input<K>, K: Sink>(
 ) -> Result<(), FormRefusal>
     requires quiet { K.held_back out.now ≡ 0 }
     ensures header { (ahead : List ℕ) → IsAhead (held cursor.old) (S.left source.old) ahead
-        → PassesHeader result ahead cursor.old.place
-        (held cursor.new) (S.left source.new) cursor.new.place }
+        → PassesHeader result (coming cursor.old.place ahead)
+        (spot cursor.new (S.left source.new)) }
     ensures kept { OnErr result ((ahead : List ℕ)
         → IsAhead (held cursor.old) (S.left source.old) ahead
         → IsAhead (held cursor.new) (S.left source.new) ahead) }
@@ -72,8 +72,8 @@ pub(crate) fn next_record<S: Input<K>, K: Sink>(
 ) -> Result<Option<Record>, FormRefusal>
     requires quiet { K.held_back out.now ≡ 0 }
     ensures next { (ahead : List ℕ) → IsAhead (held cursor.old) (S.left source.old) ahead
-        → IsNext SpellsRecord RecordFlaw result ahead cursor.old.place
-        (held cursor.new) (S.left source.new) cursor.new.place }
+        → IsNext SpellsRecord RecordFlaw result (coming cursor.old.place ahead)
+        (spot cursor.new (S.left source.new)) }
     ensures kept { OnErr result ((ahead : List ℕ)
         → IsAhead (held cursor.old) (S.left source.old) ahead
         → IsAhead (held cursor.new) (S.left source.new) ahead) }

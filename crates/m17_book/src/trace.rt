@@ -6,7 +6,7 @@ ghost use Rattle.m17_book.specs.Answers.{HasEnd, IsOutside};
 ghost use Rattle.m17_book.specs.Book.{IsTrace, RefusesTrace};
 ghost use Rattle.m17_book.specs.Entries.{SpellsEntry};
 ghost use Rattle.m17_book.specs.Reading.{HasReadCause};
-ghost use Rattle.m17_book.specs.Walk.{spot, IsAt, AddsOne, AddsAll, PassesMagic, ReadsTrace, WrongEntry};
+ghost use Rattle.m17_book.specs.Walk.{coming, spot, IsAt, AddsOne, AddsAll, PassesMagic, ReadsTrace, WrongEntry};
 ghost use Rattle.m17_book.specs.declared.refusal.FormRefusal.{FormRefusal};
 
 use crate::FormRefusal;
@@ -106,8 +106,8 @@ fn add_entries<S: Input<K>, K: Sink>(
     requires quiet { K.held_back out.now ≡ 0 }
     requires fits { heard.old.items ≡ [] }
     ensures read { (ahead : List ℕ) → IsAt (spot cursor.old (S.left source.old)) ahead
-        → AddsAll SpellsEntry WrongEntry result cursor.old.place ahead heard.new.items
-        (spot cursor.new (S.left source.new)) }
+        → AddsAll SpellsEntry WrongEntry result (coming cursor.old.place ahead)
+        heard.new.items (spot cursor.new (S.left source.new)) }
     ensures few { IfOk result (λ _. length heard.new.items ≤ 1000000) }
     ensures cause { HasReadCause (S.faults source.old) (S.faults source.new) result }
 {
@@ -133,7 +133,7 @@ fn add_entry<S: Input<K>, K: Sink>(
     requires quiet { K.held_back out.now ≡ 0 }
     requires fits { length heard.old.items ≤ 1000000 }
     ensures read { (ahead : List ℕ) → IsAt (spot cursor.old (S.left source.old)) ahead
-        → AddsOne SpellsEntry WrongEntry result cursor.old.place ahead
+        → AddsOne SpellsEntry WrongEntry result (coming cursor.old.place ahead)
         heard.old.items heard.new.items (spot cursor.new (S.left source.new)) }
     ensures few { length heard.new.items ≤ 1000000 }
     ensures more { IfOk result (λ more. IsTrue more

@@ -17,3 +17,5 @@ pub mod OneMore
 pub mod Played
 pub mod EndEnds
 pub mod OneReplay
+pub mod FaultsEnd
+pub mod OneAnswer

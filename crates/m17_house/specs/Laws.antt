@@ -1,19 +1,58 @@
 -- What follows from the definitions for all that a link may hear. This profile.
-use Rattle.std.specs.Prelude.{◌≡◌, List, ◌∷◌, ◌++◌}
+use Rattle.std.specs.Prelude.{◌≡◌, ◌+◌, List, ◌∷◌, ◌++◌, length, replicate, Bool, true, Option, Some}
 use Rattle.std.specs.List.{AllByRecursion}
 use Rattle.m17_values.specs.declared.heard.Heard.{Heard}
 use Rattle.m17_values.specs.declared.heard.Heard.TheVariants as heard
-use Rattle.m17_directory.specs.Entries.{Entry}
+use Rattle.m17_values.specs.declared.peer.Peer.{Peer}
+use Rattle.m17_floor.specs.declared.verdict.Verdict.{Verdict}
+use Rattle.m17_ports.specs.declared.tally.Tally.{Tally}
+use Rattle.m17_port_memory.specs.Kept.{TalliesKept}
+use Rattle.m17_port_memory.specs.Peers.{tally_at}
+use Rattle.m17_directory.specs.declared.verdict.LinkVerdict.{LinkVerdict}
+use Rattle.m17_directory.specs.Entries.{Entry, most_faults, ends_at}
 use Rattle.m17_directory.specs.Laws.{HasBytes}
 use Rattle.m17_house.specs.declared.plan.Plan.{Plan}
-use Rattle.m17_house.specs.Replay.{EndsSomewhere, IsReplayOf}
+use Rattle.m17_house.specs.Replay.{SaysEach, EndsSomewhere, IsReplayOf, IsReplayed}
 
 -- What was heard ends the link, where it has an End. This profile.
 abbrev pub EndEndsIt : Type 0
 EndEndsIt = (front rest : List Heard) → EndsSomewhere (front ++ heard.End ∷ rest)
+
+-- 16 faults in a row.
+abbrev pub sixteen_faults : List Heard
+sixteen_faults = replicate most_faults heard.Fault
+
+-- What was heard ends the link, where it has 16 faults in a row: at the last of these, if not before. This profile.
+pub record FaultsEndIt : Type 0 where
+  pub somewhere : (front rest : List Heard) → EndsSomewhere (front ++ sixteen_faults ++ rest)
+  pub at_the_last : (front rest : List Heard) (entries : List Entry) →
+      SaysEach (front ++ sixteen_faults ++ rest) entries →
+      ends_at entries (length front + 15) ≡ true
 
 -- A plan and what was heard have one replay at most. This profile.
 abbrev pub OneReplay : Type 0
 OneReplay =
     (plan : Plan) (heard : List Heard) (one other : List Entry) → AllByRecursion HasBytes heard →
     IsReplayOf plan heard one → IsReplayOf plan heard other → one ≡ other
+
+-- The answers of a replay: what it says of the entries and of their packets, and the mouth that said what it says.
+pub record Answers : Type 0 where
+  pub verdicts : List LinkVerdict
+  pub packets : List (Option Verdict)
+  pub mouth : TalliesKept
+
+abbrev pub AreAnswers : Plan → List Heard → Answers → Type 0
+AreAnswers plan heard a = IsReplayed plan heard a.verdicts a.packets a.mouth
+
+-- They say the same of all entries, and of each peer that both mouths name.
+pub record SayTheSame (a b : Answers) : Type 0 where
+  pub verdicts : a.verdicts ≡ b.verdicts
+  pub packets : a.packets ≡ b.packets
+  pub tallies : (x : Peer) (one other : Tally) → tally_at a.mouth.entries x ≡ Some one →
+      tally_at b.mouth.entries x ≡ Some other → one ≡ other
+
+-- So it is answered in one way. This profile.
+abbrev pub OneAnswer : Type 0
+OneAnswer =
+    (plan : Plan) (heard : List Heard) (a b : Answers) → AllByRecursion HasBytes heard →
+    AreAnswers plan heard a → AreAnswers plan heard b → SayTheSame a b

@@ -9,6 +9,11 @@ pub fn an_end_ends_it()
     ensures { law.EndEndsIt }
 {}
 
+/// What was heard ends the link where 16 faults come in a row.
+pub fn sixteen_faults_end_it()
+    ensures { law.FaultsEndIt }
+{}
+
 /// A plan and what was heard, in bytes, have at most one replay.
 pub fn one_replay()
     ensures { law.OneReplay }
@@ -16,4 +21,11 @@ pub fn one_replay()
     directory_laws::each_entry_says_one_thing();
     directory_laws::entries_before_decide();
     directory_laws::ended_where_it_ends();
+}
+
+/// So its verdicts are the only ones, and so is what is said to each peer.
+pub fn one_answer()
+    ensures { law.OneAnswer }
+{
+    one_replay();
 }

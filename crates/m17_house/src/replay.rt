@@ -1,4 +1,4 @@
-ghost use Rattle.std.specs.Prelude.{◌≡◌, ◌^◌, ◌<◌, ◌≤◌, [], false, length, IfOk, vec_capacity};
+ghost use Rattle.std.specs.Prelude.{◌≡◌, ◌^◌, ◌<◌, ◌≤◌, [], false, length, IfOk, OnErr, vec_capacity};
 ghost use Rattle.m17_directory.specs.Entries.{Entry};
 ghost use Rattle.m17_house.specs.Replay.{IsPlan, EndsSomewhere, IsReplayed, HasNoTallies};
 ghost use Rattle.m17_house.specs.SoFar.{IsSoFar};
@@ -62,8 +62,8 @@ fn play(
 /// the next member of that place, and is greeted at once; where none is free it is turned away. What the modules give
 /// and what is answered past them is said on the mouth, which keeps its tallies. Answers of each entry heard the link's
 /// verdict, and the floor rule's verdict on its packet, if it was routed to a module as one. `NoMemory` where there is
-/// none for the modules or the verdicts; nothing is said of the mouth then. Nothing allocates once the first entry is
-/// heard. This profile.
+/// none for the modules or the verdicts; the mouth is as it was then. Nothing allocates once the first entry is heard.
+/// This profile.
 pub fn replay_plain(
     alloc: Global,
     plan: &Plan,
@@ -78,6 +78,7 @@ pub fn replay_plain(
     ensures same_peers { IfOk result
         (λ _. named_in mouth.new.entries ≡ named_in mouth.old.entries) }
     ensures same_mouth { IfOk result (λ _. mouth.new.number ≡ mouth.old.number) }
+    ensures untouched { OnErr result (mouth.new ≡ mouth.old) }
 {
     let mut run = Run::make(alloc, plan)?;
     let mut verdicts = match Vec::with_capacity(alloc, heard.len()) {
