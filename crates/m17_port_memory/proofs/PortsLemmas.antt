@@ -1,18 +1,33 @@
--- What was asked of ports, by whether its text fits.
-use Rattle.std.proofs.Common.{◌≡◌, Bool, true, false, List, Option, None, refl, sym, subst}
+-- What is told of questions, by whether their texts fit.
+use Rattle.std.proofs.Common.{◌≡◌, Bool, true, false, ◌&&◌, List, [], ◌∷◌, ◌++◌, length, nat_lt, nat_le, Option, None, Some, if◌then◌else◌, refl, ap, ◌∙◌}
 use Rattle.m17_ports.specs.declared.question.Question.{Question}
 use Rattle.m17_ports.specs.Ports.{IsAsked}
+use Rattle.m17_port_memory.specs.Handed.{told_with, asked_then, text_of}
 
--- a question whose text fits is noted as it is, and any other ends the telling
-pub asked-kept : (fits : Bool) (old new : Option (List Question)) (kept question : Question)
-    → (fits ≡ true → kept ≡ question) → (fits ≡ true → IsAsked old kept new)
-    → (fits ≡ false → new ≡ None) → IsAsked old question new
-asked-kept true old new kept question same told untold =
-    subst (λ (q : Question). IsAsked old q new) (same refl) (told refl)
-asked-kept false old new kept question same told untold = λ all e. let none = untold refl in absurd (cc)
+-- what is told of a question that does not fit as a whole does not depend on it
+pub told-kept : (fits : Bool) (told : Option (List Question)) (kept question : Question)
+    → (fits ≡ true → kept ≡ question) → told_with fits told kept ≡ told_with fits told question
+told-kept fits None kept question same = refl
+told-kept true (Some all) kept question same = rw (same refl) refl
+told-kept false (Some all) kept question same = refl
 
--- the same of what is told after more was done
-pub asked-after : (old new later : Option (List Question)) (question : Question)
-    → later ≡ new → IsAsked old question new → IsAsked old question later
-asked-after old new later question same asked =
-    subst (λ (told : Option (List Question)). IsAsked old question told) (sym same) asked
+-- a question whose text is told as far as it fits is told as the question is
+pub told-fits : (fits : Bool) (told : Option (List Question)) (kept question : Question)
+    → fits ≡ nat_le (length (text_of question)) 64 → (fits ≡ true → kept ≡ question)
+    → told_with fits told kept ≡ asked_then told question
+told-fits fits told kept question is same =
+    told-kept fits told kept question same ∙ ap (λ (b : Bool). told_with b told question) is
+
+-- where more is told, it is what was told and the question
+told_more : (b : Bool) (before all : List Question) (question : Question)
+    → (if b then Some (before ++ question ∷ []) else None) ≡ Some all
+    → Some (before ++ question ∷ []) ≡ Some all
+told_more true before all question e = e
+told_more false before all question e = absurd (cc)
+
+-- what is told after one question more is that question behind those before
+pub asked-told : (told : Option (List Question)) (question : Question)
+    → IsAsked told question (asked_then told question)
+asked-told None question = λ all e. e
+asked-told (Some before) question = λ all e.
+    told_more (nat_le (length (text_of question)) 64 && nat_lt (length before) 64) before all question e

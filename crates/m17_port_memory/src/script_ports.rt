@@ -1,4 +1,4 @@
-ghost use Rattle.std.specs.Prelude.{◌≡◌, ℕ, ◌-◌, ◌^◌, ◌≤◌, min, true, false, None, Some, IfOk, OnOk, OnErr};
+ghost use Rattle.std.specs.Prelude.{◌≡◌, ℕ, ◌-◌, ◌^◌, ◌≤◌, ◌↔◌, ◌⊎◌, min, length, nat_le, true, [], Contains, None, Some, IsErr, IfOk, OnErr};
 ghost use Rattle.m17_io.specs.Faults.{HasCause};
 
 use crate::{ListBook, ListMouth, ScriptEar};
@@ -65,7 +65,8 @@ impl Model for ScriptPorts {
 
 impl ScriptPorts {
     ghost use Rattle.m17_port_memory.specs.Kept.{PortsKept, new_ports};
-    ghost use Rattle.m17_ports.specs.Ports.{IsAsked, next_number};
+    ghost use Rattle.m17_port_memory.specs.Handed.{told_with, asks, faulted};
+    ghost use Rattle.m17_ports.specs.Ports.{next_number};
 
     /// Ports with these links and books to hand out. `fails` lists the numbers of calls, from 0, that are to fail; a
     /// call for which none is left fails too. This profile.
@@ -96,10 +97,8 @@ impl ScriptPorts {
         ensures number { result ≡ self.old.calls }
         ensures noted { self.new ≡ record self.old {
           calls = next_number self.old.calls;
-          asked = self.new.asked;
+          asked = told_with fits self.old.asked question;
         } }
-        ensures asked { fits ≡ true → IsAsked self.old.asked question self.new.asked }
-        ensures untold { fits ≡ false → self.new.asked ≡ None }
     {
         let call = self.calls;
         self.calls = self.calls.saturating_add(1);
@@ -114,11 +113,7 @@ impl ScriptPorts {
     // Notes that a link was asked for, and answers the call's number.
     fn note_link(&mut self, bind: &str, until: Option<u64>) -> u64
         ensures number { result ≡ self.old.calls }
-        ensures noted { self.new ≡ record self.old {
-          calls = next_number self.old.calls;
-          asked = self.new.asked;
-        } }
-        ensures asked { IsAsked self.old.asked (Question.Link bind.now until) self.new.asked }
+        ensures noted { self.new ≡ asks self.old (Question.Link bind.now until) }
     {
         let (text, fits) = text_of(bind);
         self.note(Question::Link { bind: text, until }, fits)
@@ -127,11 +122,7 @@ impl ScriptPorts {
     // Notes that a book was asked for, and answers the call's number.
     fn note_book(&mut self, name: &str) -> u64
         ensures number { result ≡ self.old.calls }
-        ensures noted { self.new ≡ record self.old {
-          calls = next_number self.old.calls;
-          asked = self.new.asked;
-        } }
-        ensures asked { IsAsked self.old.asked (Question.Book name.now) self.new.asked }
+        ensures noted { self.new ≡ asks self.old (Question.Book name.now) }
     {
         let (text, fits) = text_of(name);
         self.note(Question::Book { name: text }, fits)
@@ -139,7 +130,7 @@ impl ScriptPorts {
 
     // Counts a fault.
     fn fault(&mut self) -> Failed
-        ensures counted { self.new ≡ record self.old { faults = next_number self.old.faults } }
+        ensures counted { self.new ≡ faulted self.old }
     {
         self.faults = self.faults.saturating_add(1);
         Failed
@@ -148,6 +139,11 @@ impl ScriptPorts {
 
 impl Ports for ScriptPorts {
     ghost use Rattle.std.proofs.Math.Nat.{min-le_right};
+    ghost use Rattle.m17_ports.specs.Told.{StartsEmpty};
+    ghost use Rattle.m17_ports.specs.Mouth.{HasSaidNothing};
+    ghost use Rattle.m17_ports.specs.Ports.{IsAsked, next_number};
+    ghost use Rattle.m17_port_memory.specs.Script.{faults_of, heard_of};
+    ghost use Rattle.m17_port_memory.specs.Handed.{asked_then, asks, faulted, HandsLink, HandsBook};
 
     type Ear = ScriptEar;
 
@@ -163,7 +159,29 @@ impl Ports for ScriptPorts {
 
     ghost faults_fit = { λ p. min-le_right p.faults (2 ^ 64 - 1) };
 
-    fn link(&mut self, bind: &str, until: Option<u64>) -> Result<(ScriptEar, ListMouth), Failed> {
+    fn link(&mut self, bind: &str, until: Option<u64>) -> Result<(ScriptEar, ListMouth), Failed>
+        ensures cause { HasCause (min self.old.faults (2 ^ 64 - 1))
+            (min self.new.faults (2 ^ 64 - 1)) result }
+        ensures counted { self.new.calls ≡ next_number self.old.calls }
+        ensures asked { IsAsked self.old.asked (Question.Link bind.now until) self.new.asked }
+        ensures ear { IfOk result (λ link. (faults_of link.0 ≡ 0)
+            × StartsEmpty (Some (heard_of link.0.script link.0.calls))) }
+        ensures mouth { IfOk result (λ link. (min link.1.faults (2 ^ 64 - 1) ≡ 0)
+            × HasSaidNothing (Some link.1.said) (λ _. None)) }
+        ensures numbered { IfOk result (λ link. (link.0.number ≡ self.old.calls)
+            × (link.1.number ≡ self.old.calls)) }
+
+        // It fails exactly at the calls that were listed, and where no link is left.
+        ensures told_to_fail { IsErr result ↔ (Contains self.old.fails self.old.calls
+            ⊎ (self.old.links ≡ [])) }
+
+        // The question is noted, the next link is handed out, and a failure is counted; the rest stays.
+        ensures handed { IfOk result (λ link.
+            HandsLink self.old (Question.Link bind.now until) link self.new) }
+        ensures failed { OnErr result
+            (self.new ≡ faulted (asks self.old (Question.Link bind.now until))) }
+        ensures told { self.new.asked ≡ asked_then self.old.asked (Question.Link bind.now until) }
+    {
         let call = self.note_link(bind, until);
         if self.fails.contains(&call) {
             return Err(self.fault());
@@ -174,7 +192,26 @@ impl Ports for ScriptPorts {
         }
     }
 
-    fn book(&mut self, name: &str) -> Result<ListBook, Failed> {
+    fn book(&mut self, name: &str) -> Result<ListBook, Failed>
+        ensures cause { HasCause (min self.old.faults (2 ^ 64 - 1))
+            (min self.new.faults (2 ^ 64 - 1)) result }
+        ensures counted { self.new.calls ≡ next_number self.old.calls }
+        ensures asked { IsAsked self.old.asked (Question.Book name.now) self.new.asked }
+        ensures book { IfOk result (λ book. (min book.faults (2 ^ 64 - 1) ≡ 0)
+            × StartsEmpty (Some book.written)) }
+        ensures numbered { IfOk result (λ book. book.number ≡ self.old.calls) }
+
+        // It fails exactly at the calls that were listed, and where no book is left.
+        ensures told_to_fail { IsErr result ↔ (Contains self.old.fails self.old.calls
+            ⊎ (self.old.books ≡ [])) }
+
+        // The question is noted, the next book is handed out, and a failure is counted; the rest stays.
+        ensures handed { IfOk result (λ book.
+            HandsBook self.old (Question.Book name.now) book self.new) }
+        ensures failed { OnErr result
+            (self.new ≡ faulted (asks self.old (Question.Book name.now))) }
+        ensures told { self.new.asked ≡ asked_then self.old.asked (Question.Book name.now) }
+    {
         let call = self.note_book(name);
         if self.fails.contains(&call) {
             return Err(self.fault());
@@ -188,7 +225,8 @@ impl Ports for ScriptPorts {
 
 // As much of a text as is told, and whether that is all.
 fn text_of(text: &str) -> (Gram, bool)
-    ensures { result.1 ≡ true → result.0 ≡ text.now }
+    ensures fits { result.1 ≡ nat_le (length text.now) 64 }
+    ensures whole { result.1 ≡ true → result.0 ≡ text.now }
 {
     (Gram::of(text.as_bytes()), text.len() <= TEXT_BYTES)
 }
