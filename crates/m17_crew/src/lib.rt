@@ -8,17 +8,17 @@
 #![tactic(auto)]
 
 mod crew;
-
+mod many;
 mod order;
 mod refusing_crew;
 mod running;
 mod std_crew;
-
-
+#[cfg(test)]
+mod tests;
 mod work;
 
 pub use crew::Crew;
-
+pub use many::{join_all, start_all};
 pub use order::Order;
 pub use refusing_crew::RefusingCrew;
 pub use running::Running;

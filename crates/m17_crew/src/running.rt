@@ -36,7 +36,7 @@ impl<W: Work> Model for Running<W> {
 
     ghost invariant = { λ r. W.ready r.job.value
         × MatchResult r.place (λ thread. thread.promise.0.value ≡ r.job.value)
-            (λ done. W.does r.job.value done) };
+        (λ done. W.does r.job.value done) };
 }
 
 impl<W: Work> Running<W> {
@@ -118,11 +118,7 @@ pub(crate) fn begin<W: Work, R: Threads + Wait + Copy + Send + 'static>(
 }
 
 // Does the job, or gives it back where it was recalled.
-fn done_unless<W: Work, R: Wait>(
-    rt: &R,
-    recalled: Arc<AtomicBool, Global>,
-    job: W,
-) -> Result<W, W>
+fn done_unless<W: Work, R: Wait>(rt: &R, recalled: Arc<AtomicBool, Global>, job: W) -> Result<W, W>
     requires ready { W.ready job }
     ensures done { MatchResult result (λ done. W.does job done) (λ back. back ≡ job) }
 {
