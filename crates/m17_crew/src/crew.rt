@@ -6,7 +6,7 @@ use crate::running::begin;
 use crate::{Running, Work};
 use std::alloc::Global;
 use std::sync::Wait;
-use std::thread::Threads;
+use std::thread::{Builder, Threads};
 
 /// What starts jobs, each in a thread of its own. This profile.
 pub trait Crew {
@@ -56,7 +56,7 @@ pub trait Crew {
             self.count_refusal();
             return Err(job);
         }
-        match begin(rt, alloc, job) {
+        match begin(rt, alloc, Builder::new(), job) {
             Ok(running) => Ok(running),
             Err(back) => {
                 self.count_refusal();

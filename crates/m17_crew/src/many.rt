@@ -24,6 +24,8 @@ pub fn start_all<W: Work, C: Crew, R: Threads + Wait + Copy + Send + 'static>(
     requires room { vec_len running.old + vec_len jobs.old ≤ vec_capacity running.old }
     ensures jobs { jobs.old.items ++ reverse running.old.items
         ≡ jobs.new.items ++ reverse running.new.items }
+    ensures number { vec_len jobs.new + vec_len running.new
+        ≡ vec_len jobs.old + vec_len running.old }
     ensures all { MatchResult result (λ _. jobs.new.items ≡ []) (λ _. 0 < vec_len jobs.new) }
     ensures cause { HasCause (C.refusals crew.old) (C.refusals crew.new) result }
     ensures once { OnErr result (C.refusals crew.new ≡ next_number (C.refusals crew.old)) }

@@ -6,8 +6,7 @@ use std::marker::Model;
 use std::snapshot::Snapshot;
 use std::sync::atomic::{AtomicBool, Ordering};
 use std::sync::{Arc, Wait};
-use std::thread;
-use std::thread::{Promise, PromisedHandle, Threads};
+use std::thread::{Builder, Promise, PromisedHandle, Threads};
 
 // What a thread promises of the job that it was given: done, or as it was where it was recalled.
 #[derive(Drop)]
@@ -65,15 +64,17 @@ fn done_here<W: Work, R: Wait>(rt: &R, job: W) -> W
     job
 }
 
-// Starts a thread for the job. The job comes back where there is none, or no memory for it.
+// Starts a thread of this kind for the job. The job comes back where there is none, or no memory for it.
 //
-// The system hands back only the closure that was to run, and the job with it. So the closure can be called with a
-// flag that recalls it: it then gives the job back, and does nothing. Nobody but this function sets the flag, and only
-// where there is no thread, so a thread always does its job and a recalled closure never does; but a proof knows
-// nothing of a flag, so both answers are handled in both places.
+// The system hands back only the closure that was to run, and the job within it. So the closure looks at a flag: where
+// the job was recalled it gives the job back and does nothing. Nobody but this function sets the flag, and only where
+// there is no thread. So a thread always does its job, and a recalled closure never does. But no proof knows what a flag
+// holds, so both answers are handled in both places: `Running` may hold a job that is done, and `join` does one that
+// came back undone. The test `a_job_for_which_there_is_no_thread_is_not_done` shows that the flag does its work.
 pub(crate) fn begin<W: Work, R: Threads + Wait + Copy + Send + 'static>(
     rt: &R,
     alloc: Global,
+    kind: Builder,
     job: W,
 ) -> Result<Running<W>, W>
     requires ready { W.ready job }
@@ -88,7 +89,7 @@ pub(crate) fn begin<W: Work, R: Threads + Wait + Copy + Send + 'static>(
     let was = Snapshot::of(&job);
     let promise = Did(Snapshot::of(&job));
     let runtime = *rt;
-    let started = thread::spawn_with(
+    let started = kind.spawn_with(
         rt,
         promise,
         move || -> Result<W, W>

@@ -1,14 +1,18 @@
 //! What no clause says: that a start succeeds where there is memory, that a job is done once, in a thread of its own and
 //! beside the caller's, and that a refused one is not done at all.
-ghost use Rattle.std.specs.Prelude.{◌≡◌, ◌*◌, ◌+◌, ◌<◌, ◌≤◌, ◌^◌, [], All, IfOk, length, vec_len, vec_capacity};
+ghost use Rattle.std.specs.Prelude.{◌≡◌, ◌*◌, ◌+◌, ◌<◌, ◌≤◌, ◌^◌, [], All, IfOk, OnOk, vec_len, vec_capacity};
+ghost use Rattle.std.specs.List.{AllZip};
+ghost use Rattle.m17_io.specs.Faults.{HasCause};
+ghost use Rattle.m17_crew.specs.Lists.{Ran};
 
 use super::*;
+use crate::running::begin;
 use m17_values::Failed;
 use std::alloc::{AllocError, Global};
 use std::sync::atomic::{AtomicU64, Ordering};
 use std::sync::{Arc, Wait};
 use std::test::Fail;
-use std::thread::{Threads, yield_now};
+use std::thread::{Builder, Threads, yield_now};
 
 // Doubles its number, and counts how often that was done.
 #[derive(Drop)]
@@ -69,6 +73,27 @@ fn one_job_is_started_and_joined(rt: HostRuntime) -> Result<(), Fail> {
     Ok(())
 }
 
+// Starts all jobs and joins them. Its clauses show what those of the two calls say together.
+fn do_all<W: Work, C: Crew, R: Threads + Wait + Copy + Send + 'static>(
+    rt: &R,
+    alloc: Global,
+    crew: &mut C,
+    jobs: &mut Vec<W>,
+    running: &mut Vec<Running<W>>,
+) -> Result<(), Failed>
+    requires ready { All W.ready jobs.old.items }
+    requires room { vec_len jobs.old ≤ vec_capacity running.old }
+    requires none { running.old.items ≡ [] }
+    ensures back { AllZip (Ran W.does) jobs.old.items jobs.new.items }
+    ensures done { OnOk result (AllZip W.does jobs.old.items jobs.new.items) }
+    ensures cause { HasCause (C.refusals crew.old) (C.refusals crew.new) result }
+    ensures none_left { running.new.items ≡ [] }
+{
+    let answer = start_all(rt, alloc, crew, jobs, running);
+    join_all(rt, running, jobs);
+    answer
+}
+
 #[test]
 fn seven_jobs_come_back_done_in_their_order(rt: HostRuntime) -> Result<(), Fail> {
     let alloc = rt.alloc();
@@ -100,10 +125,9 @@ fn seven_by_a_refusing_crew<R: Threads + Wait + Copy + Send + 'static>(
     let mut jobs = make_jobs(alloc, 7, &runs)?;
     let mut running = Vec::with_capacity(alloc, 7)?;
     let mut crew = RefusingCrew::new(Vec::from_array(alloc, [refused])?);
-    if start_all(rt, alloc, &mut crew, &mut jobs, &mut running).is_ok() {
+    if do_all(rt, alloc, &mut crew, &mut jobs, &mut running).is_ok() {
         return Err("nothing was refused".into());
     }
-    join_all(rt, &mut running, &mut jobs);
     Ok((jobs, runs.load(Ordering::SeqCst)))
 }
 
@@ -181,5 +205,18 @@ fn a_job_runs_beside_the_thread_that_started_it(rt: HostRuntime) -> Result<(), F
     let running = crew.start(&rt, alloc, job).ok().ok_or("refused")?;
     flag.store(1, Ordering::SeqCst);
     assert!(rt; running.join(&rt).met);
+    Ok(())
+}
+
+#[test]
+fn a_job_for_which_there_is_no_thread_is_not_done(rt: HostRuntime) -> Result<(), Fail> {
+    let alloc = rt.alloc();
+    let runs = Arc::new(alloc, AtomicU64::new(0))?;
+    let too_large = Builder::new().stack_size(usize::MAX);
+    match begin(&rt, alloc, too_large, make_job(5, &runs)?) {
+        Ok(_) => return Err("there was a thread".into()),
+        Err(back) => assert_eq!(rt; back.number, 5),
+    }
+    assert_eq!(rt; runs.load(Ordering::SeqCst), 0);
     Ok(())
 }
