@@ -12,6 +12,7 @@ use Rattle.m17_directory.specs.declared.known.Departed.{Departed}
 use Rattle.m17_directory.specs.declared.known.Known.{Known}
 use Rattle.m17_directory.specs.StandsFor.{with_left, departed_of}
 use Rattle.m17_directory.specs.Steps.{Lists, with_row}
+use Rattle.m17_directory.proofs.Positions.{range_more}
 
 pub filter_le : {X : Type 0} (p : X → Bool) (xs : List X) → length (filter p xs) ≤ length xs
 filter_le p [] = omega arith
@@ -46,12 +47,6 @@ departing_less p rows i old new room l left few =
     omega (arith, ap length left, length-append old (map departed_of (filter p (take i rows))), map_length departed_of (filter p (take i rows)), take_le p i rows)
 
 -- the letters so far
-range_more : (a n : ℕ) → range_with_len a (suc n) ≡ range_with_len a n ++ (a + n) ∷ []
-range_more a zero = let e : a ≡ a + 0 = omega arith in ap (λ i. i ∷ []) e
-range_more a (suc n) =
-    let e : a + 1 + n ≡ a + suc n = omega arith in
-    ap (λ xs. a ∷ xs) (range_more (a + 1) n ∙ ap (λ i. range_with_len (a + 1) n ++ i ∷ []) e)
-
 filter_end : {X : Type 0} (p : X → Bool) (xs : List X) (y : X) → filter p (xs ++ y ∷ []) ≡ filter p xs ++ cond (p y) (y ∷ []) []
 filter_end p [] y = refl
 filter_end p (x ∷ xs) y = elim (p x) as (λ b. cond b (x ∷ filter p (xs ++ y ∷ [])) (filter p (xs ++ y ∷ [])) ≡ cond b (x ∷ filter p xs) (filter p xs) ++ cond (p y) (y ∷ []) []) [ true ↦ ap (λ zs. x ∷ zs) (filter_end p xs y) | false ↦ filter_end p xs y ]

@@ -41,7 +41,7 @@ says_datagram from at bytes read h e same (inr x) =
     (Notice.Garbled from at x.0, subst (λ (g : Heard). Says g (Notice.Garbled from at x.0)) (sym e) (inr (x.0, subst (λ (bs : List ℕ). Refuses bs x.0) same x.1, refl)))
 
 -- a packet that asks has a request
-asks_request : (here : Here) (x : Peer) (o : Option Known) (p : Packet) → is_asks (of_packet here x o p).verdict ≡ true → (r : Request) × (request_of p ≡ Some r)
+pub asks_request : (here : Here) (x : Peer) (o : Option Known) (p : Packet) → is_asks (of_packet here x o p).verdict ≡ true → (r : Request) × (request_of p ≡ Some r)
 asks_request here x o (packets.Control (Conn from letter)) e = (record { letter = letter; callsign = from; listen = false }, refl)
 asks_request here x o (packets.Control (Lstn from letter)) e = (record { letter = letter; callsign = from; listen = true }, refl)
 asks_request here x None (packets.Control Ackn) e = absurd (false≢true e)
