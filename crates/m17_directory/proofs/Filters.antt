@@ -1,12 +1,11 @@
 -- Filtered rows so far, in a loop: how many there are, and what is posted of them.
-use Rattle.std.proofs.Common.{◌≡◌, ℕ, zero, suc, ◌+◌, ◌<◌, ◌≤◌, Bool, true, false, not, cond, List, [], ◌∷◌, ◌++◌, length, map, filter, ◌-◌, get_or, take, refl, ap, sym, ◌∙◌, subst, arith, length-append, append_assoc, append-nil, Option, None, Some, IfSome, Ordering, Less, Equal, Greater}
+use Rattle.std.proofs.Common.{◌≡◌, ℕ, zero, suc, ◌+◌, ◌<◌, ◌≤◌, Bool, true, false, not, cond, List, [], ◌∷◌, ◌++◌, length, map, filter, ◌-◌, get_or, take, refl, ap, sym, ◌∙◌, arith, length-append, append_assoc, append-nil, Option, None, Some, IfSome, Ordering, Less, Equal, Greater}
 use Rattle.std.specs.List.{range_with_len}
 use Rattle.std.specs.Ordering.{match_ordering}
 use Rattle.std.proofs.lemmas.List.Filters.{length-filter_both}
 use Rattle.m17_directory.specs.Entries.{peer_cmp}
 use Rattle.std.proofs.lemmas.Bool.{cond-true}
 use Rattle.std.proofs.lemmas.Option.{same_Some, none-some}
-use Rattle.std.proofs.lemmas.List.Elements.{filter_more}
 use Rattle.m17_directory.specs.declared.dispatch.Dispatch.{Dispatch}
 use Rattle.m17_directory.specs.declared.known.Departed.{Departed}
 use Rattle.m17_directory.specs.declared.known.Known.{Known}

@@ -1,19 +1,19 @@
 -- Who is known one entry later: each peer's row, by what the entry says and by its claim.
-use Rattle.std.proofs.Common.{◌≡◌, ℕ, zero, suc, ◌-◌, ◌<◌, ◌≤◌, Bool, true, false, cond, not, ◌&&◌, ◌||◌, leb, eqb, List, [], ◌∷◌, ◌++◌, length, slice_get, unwrap_or, filter_map, Option, None, Some, option_map, option_and_then, refl, ap, sym, ◌∙◌, subst, inl, inr, arith}
+use Rattle.std.proofs.Common.{◌≡◌, ℕ, zero, suc, ◌-◌, ◌<◌, Bool, true, false, cond, not, ◌&&◌, ◌||◌, leb, eqb, List, [], ◌∷◌, ◌++◌, length, slice_get, unwrap_or, Option, None, Some, option_map, option_and_then, refl, ap, sym, ◌∙◌, inl, inr, arith}
 use Rattle.std.specs.Option.{option_map_or}
-use Rattle.std.proofs.lemmas.Bool.{cases_Bool, cond-true, cond-false, eqb-true, eq-eqb, ne_eqb, and_parts, cases_eq, false≢true}
-use Rattle.std.proofs.lemmas.Option.{same_Some, none-some, cond_some, option_and_then_some}
+use Rattle.std.proofs.lemmas.Bool.{cond-true, cond-false, eq-eqb, ne_eqb, and_parts, cases_eq, false≢true}
+use Rattle.std.proofs.lemmas.Option.{same_Some, none-some, option_and_then_some}
 use Rattle.m17_values.specs.declared.peer.Peer.{Peer}
 use Rattle.m17_directory.specs.declared.known.Known.{Known}
 use Rattle.m17_directory.specs.declared.known.Request.{Request}
-use Rattle.m17_directory.specs.Entries.{Notice, Claim, Entry, Setup, notice_at, claim_at, moment_at, passes_time, is_peer, is_from, says_disc, last_heard, silence_ms, is_silent_at, ends_at}
+use Rattle.m17_directory.specs.Entries.{Claim, Entry, Setup, notice_at, claim_at, moment_at, passes_time, is_from, says_disc, last_heard, silence_ms, is_silent_at, ends_at}
 use Rattle.m17_directory.specs.Known.{Past, now, asks_for, turns, is_of_place, last_given, is_position, request_in, row_of, row_by, row_at}
 use Rattle.m17_directory.specs.Routed.{is_silent}
 use Rattle.m17_directory.proofs.Positions.{get_before, get_end}
 use Rattle.m17_directory.proofs.Rows.{if_passes}
 use Rattle.m17_directory.proofs.Same.{past_of, turns_same, length_more}
 use Rattle.m17_lookup.specs.Lookup.{last_below}
-use Rattle.m17_lookup.proofs.LastBelow.{last_below_same, last_below_suc, last_below_lt, last_below_true, and_then_same}
+use Rattle.m17_lookup.proofs.LastBelow.{last_below_same, last_below_suc, last_below_lt}
 
 -- the row of a peer that was heard at this moment, if the entry is from it; and the row that keeps its place
 abbrev pub hearing : Bool → ℕ → Known → Known

@@ -1,15 +1,13 @@
 -- Who has joined a module has left it or is known in it.
-use Rattle.std.proofs.Common.{◌≡◌, ℕ, zero, suc, ◌+◌, ◌<◌, ◌≤◌, Bool, true, false, cond, not, List, [], ◌∷◌, ◌++◌, length, take, filter, slice_get, option_and_then, Option, None, Some, refl, ap, sym, ◌∙◌, subst, arith}
+use Rattle.std.proofs.Common.{◌≡◌, ℕ, zero, suc, ◌+◌, ◌<◌, ◌≤◌, Bool, true, false, cond, not, List, [], ◌∷◌, ◌++◌, length, take, filter, slice_get, option_and_then, None, Some, refl, ap, sym, ◌∙◌, subst, arith}
 use Rattle.std.proofs.lemmas.Bool.{false≢true}
 use Rattle.m17_values.specs.declared.peer.Peer.{Peer}
-use Rattle.m17_control.specs.declared.packet.Control.TheVariants as control
 use Rattle.m17_control.specs.declared.packet.Packet as packet
-use Rattle.m17_control.specs.declared.packet.Packet.TheVariants as packets
 use Rattle.m17_directory.specs.declared.known.Known.{Known}
 use Rattle.m17_directory.specs.declared.known.Request.{Request}
 use Rattle.m17_directory.specs.Entries.{Notice, Claim, Entry, Setup, notice_of, notice_at, claim_at, moment_at, ends_at}
 use Rattle.m17_directory.specs.Known.{Past, now, request_of, known_at}
-use Rattle.m17_directory.specs.Outcome.{Here, Outcome, has_place, of_packet}
+use Rattle.m17_directory.specs.Outcome.{Here, Outcome, has_place}
 use Rattle.m17_directory.specs.Routed.{here_of, row_for, heard_at, others_than, others_at, is_asks, asks_at, asked_before, past_at}
 use Rattle.m17_directory.specs.StandsFor.{unclaimed}
 use Rattle.m17_directory.specs.Steps.{heard_now, is_other, with_row, silent_by, still_by, said_by, known_by}
