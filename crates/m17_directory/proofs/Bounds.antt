@@ -1,13 +1,12 @@
 -- The places of those that are known: each is one, and each is another; and how many are known and departing.
-use Rattle.std.proofs.Common.{◌≡◌, ℕ, zero, suc, ◌+◌, ◌<◌, ◌≤◌, Bool, true, false, cond, not, ◌&&◌, ◌||◌, eqb, nat_eq, List, [], ◌∷◌, ◌++◌, length, map, filter, Option, None, Some, Ordering, Less, Equal, Greater, refl, ap, sym, ◌∙◌, subst, inl, inr, arith, length-append}
+use Rattle.std.proofs.Common.{◌≡◌, ℕ, suc, ◌<◌, ◌≤◌, Bool, true, false, cond, not, eqb, nat_eq, List, [], ◌∷◌, length, map, filter, Ordering, Less, Equal, Greater, refl, ap, sym, ◌∙◌, subst, inl, inr, arith}
 use Rattle.std.specs.List.{AllByRecursion, IsDistinct, list_any}
 use Rattle.std.specs.Ordering.{match_ordering}
-use Rattle.std.proofs.lemmas.Bool.{cases_Bool, or_cases, eqb-true, not-true, true≢false, false≢true}
+use Rattle.std.proofs.lemmas.Bool.{or_cases, eqb-true, false≢true}
 use Rattle.std.proofs.lemmas.Map.Steps.{length-le_from_distinct_below}
 use Rattle.m17_values.specs.declared.peer.Peer.{Peer}
-use Rattle.m17_directory.specs.declared.known.Departed.{Departed}
 use Rattle.m17_directory.specs.declared.known.Known.{Known}
-use Rattle.m17_directory.specs.Entries.{Notice, peer_cmp, is_peer, passes_time}
+use Rattle.m17_directory.specs.Entries.{Notice, peer_cmp, is_peer}
 use Rattle.m17_directory.specs.Outcome.{Here, has_place, of_packet}
 use Rattle.m17_directory.specs.Routed.{is_silent, row_for}
 use Rattle.m17_directory.specs.Steps.{heard_now, is_other, with_row, rows_by, still_by, known_by}

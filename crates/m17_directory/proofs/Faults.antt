@@ -1,8 +1,8 @@
 -- The faults that come last in a row, and the 16th of them.
-use Rattle.std.proofs.Common.{◌≡◌, ℕ, zero, suc, ◌+◌, ◌-◌, ◌<◌, ◌≤◌, Bool, true, false, cond, ◌&&◌, ◌||◌, nat_le, leb, List, refl, ap, sym, ◌∙◌, subst, inl, inr, arith, add-zero, zero-le}
+use Rattle.std.proofs.Common.{◌≡◌, ℕ, zero, suc, ◌+◌, ◌-◌, Bool, true, false, cond, ◌&&◌, ◌||◌, leb, List, refl, ap, sym, ◌∙◌, inl, inr, arith}
 use Rattle.std.specs.List.{list_all, range_with_len}
-use Rattle.std.proofs.lemmas.Bool.{cases_Bool, cases_lt, le-leb, lt-leb, and_left}
-use Rattle.m17_directory.specs.Entries.{Entry, notice_at, is_fault, is_end, ends_at, most_faults}
+use Rattle.std.proofs.lemmas.Bool.{cases_lt, le-leb, lt-leb, and_left}
+use Rattle.m17_directory.specs.Entries.{Entry, notice_at, is_fault, is_end, ends_at}
 use Rattle.m17_directory.specs.StandsFor.{faults_before}
 
 and_assoc : (x y z : Bool) → (x && (y && z)) ≡ ((x && y) && z)

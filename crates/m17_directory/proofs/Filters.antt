@@ -1,17 +1,17 @@
 -- Filtered rows so far, in a loop: how many there are, and what is posted of them.
-use Rattle.std.proofs.Common.{◌≡◌, ℕ, zero, suc, ◌+◌, ◌<◌, ◌≤◌, Bool, true, false, not, cond, List, [], ◌∷◌, ◌++◌, length, map, filter, ◌-◌, get_or, take, refl, ap, sym, ◌∙◌, subst, arith, length-append, append_assoc, append-nil, Option, None, Some, IfSome, Ordering, Less, Equal, Greater}
+use Rattle.std.proofs.Common.{◌≡◌, ℕ, zero, suc, ◌+◌, ◌<◌, ◌≤◌, Bool, true, false, not, cond, List, [], ◌∷◌, ◌++◌, length, map, filter, ◌-◌, get_or, take, refl, ap, sym, ◌∙◌, arith, length-append, append_assoc, append-nil, Option, None, Some, IfSome, Ordering, Less, Equal, Greater}
 use Rattle.std.specs.List.{range_with_len}
 use Rattle.std.specs.Ordering.{match_ordering}
 use Rattle.std.proofs.lemmas.List.Filters.{length-filter_both}
 use Rattle.m17_directory.specs.Entries.{peer_cmp}
 use Rattle.std.proofs.lemmas.Bool.{cond-true}
 use Rattle.std.proofs.lemmas.Option.{same_Some, none-some}
-use Rattle.std.proofs.lemmas.List.Elements.{filter_more}
 use Rattle.m17_directory.specs.declared.dispatch.Dispatch.{Dispatch}
 use Rattle.m17_directory.specs.declared.known.Departed.{Departed}
 use Rattle.m17_directory.specs.declared.known.Known.{Known}
 use Rattle.m17_directory.specs.StandsFor.{with_left, departed_of}
 use Rattle.m17_directory.specs.Steps.{Lists, with_row}
+use Rattle.m17_directory.proofs.Positions.{range_more}
 
 pub filter_le : {X : Type 0} (p : X → Bool) (xs : List X) → length (filter p xs) ≤ length xs
 filter_le p [] = omega arith
@@ -46,12 +46,6 @@ departing_less p rows i old new room l left few =
     omega (arith, ap length left, length-append old (map departed_of (filter p (take i rows))), map_length departed_of (filter p (take i rows)), take_le p i rows)
 
 -- the letters so far
-range_more : (a n : ℕ) → range_with_len a (suc n) ≡ range_with_len a n ++ (a + n) ∷ []
-range_more a zero = let e : a ≡ a + 0 = omega arith in ap (λ i. i ∷ []) e
-range_more a (suc n) =
-    let e : a + 1 + n ≡ a + suc n = omega arith in
-    ap (λ xs. a ∷ xs) (range_more (a + 1) n ∙ ap (λ i. range_with_len (a + 1) n ++ i ∷ []) e)
-
 filter_end : {X : Type 0} (p : X → Bool) (xs : List X) (y : X) → filter p (xs ++ y ∷ []) ≡ filter p xs ++ cond (p y) (y ∷ []) []
 filter_end p [] y = refl
 filter_end p (x ∷ xs) y = elim (p x) as (λ b. cond b (x ∷ filter p (xs ++ y ∷ [])) (filter p (xs ++ y ∷ [])) ≡ cond b (x ∷ filter p xs) (filter p xs) ++ cond (p y) (y ∷ []) []) [ true ↦ ap (λ zs. x ∷ zs) (filter_end p xs y) | false ↦ filter_end p xs y ]

@@ -1,7 +1,7 @@
 -- Where an entry is taken in as the code does, the directory stands for the list with it.
-use Rattle.std.proofs.Common.{◌≡◌, ℕ, zero, suc, ◌+◌, ◌<◌, ◌≤◌, Bool, true, false, cond, not, ◌&&◌, ◌||◌, leb, List, [], ◌∷◌, ◌++◌, length, map, filter, max, slice_get, Option, None, Some, option_map, refl, ap, sym, ◌∙◌, subst, inl, inr, arith, append-nil}
+use Rattle.std.proofs.Common.{◌≡◌, ℕ, suc, ◌+◌, Bool, true, false, cond, not, ◌||◌, leb, List, [], ◌∷◌, ◌++◌, length, filter, max, Option, None, Some, refl, ap, sym, ◌∙◌, arith, append-nil}
 use Rattle.std.specs.Option.{option_and_then}
-use Rattle.std.proofs.lemmas.Bool.{cases_Bool, cond-true, cond-false, false≢true, true≢false, lt-leb}
+use Rattle.std.proofs.lemmas.Bool.{false≢true, lt-leb}
 use Rattle.std.proofs.lemmas.Option.{same_Some, none-some}
 use Rattle.m17_values.specs.declared.peer.Peer.{Peer}
 use Rattle.m17_control.specs.declared.packet.Packet.{Packet}
@@ -11,28 +11,20 @@ use Rattle.m17_directory.specs.declared.known.Known.{Known}
 use Rattle.m17_directory.specs.declared.known.Request.{Request}
 use Rattle.m17_directory.specs.declared.verdict.LinkVerdict.{LinkVerdict}
 use Rattle.m17_directory.specs.declared.verdict.LinkVerdict.TheVariants.{Asks, NotServed}
-use Rattle.m17_directory.specs.Entries.{Notice, Claim, Entry, Setup, notice_of, notice_at, claim_at, moment_of, moment_at, moment_before, passes_time, is_peer, is_from, is_disc, says_disc, is_fault, is_end, ends_at}
+use Rattle.m17_directory.specs.Entries.{Notice, Entry, Setup, notice_of, notice_at, claim_at, moment_of, moment_at, moment_before, is_disc, is_fault, is_end, ends_at}
 use Rattle.m17_directory.specs.Known.{Past, now, request_of, known_at}
 use Rattle.m17_control.specs.declared.packet.Packet.TheVariants as packets
 use Rattle.m17_control.specs.declared.packet.Control.TheVariants.{Conn, Lstn, Ackn, Nack, Ping, Pong, Disc}
 use Rattle.m17_control.specs.Modules.{serves}
 use Rattle.m17_directory.specs.Outcome.{Here, Outcome, only, posting, to_door, of_other, of_packet}
-use Rattle.m17_directory.specs.Routed.{here_of, is_silent, row_for, heard_at, still_at, is_asks, asks_at, asked_before, past_at, others_than, others_at}
-use Rattle.m17_directory.specs.StandsFor.{Kept, StandsFor, IsAsked, IsHeard, HasOutcome, Answer, faults_before, unclaimed, with_left}
-use Rattle.m17_directory.specs.Steps.{Lists, IsComeTo, IsTaken, heard_now, is_other, rows_by, still_by, said_by, heard_by, known_by, asked_as, asked_by, asks_by}
+use Rattle.m17_directory.specs.Routed.{here_of, row_for, heard_at, is_asks, asks_at, asked_before, past_at, others_than, others_at}
+use Rattle.m17_directory.specs.StandsFor.{Kept, StandsFor, IsAsked, IsHeard, faults_before, unclaimed, with_left}
+use Rattle.m17_directory.specs.Steps.{Lists, IsComeTo, IsTaken, is_other, rows_by, still_by, said_by, heard_by, known_by, asked_as, asked_by, asks_by}
+use Rattle.m17_directory.proofs.Positions.{get_before, get_end}
 use Rattle.m17_directory.proofs.Faults.{ends_is}
 use Rattle.m17_directory.proofs.Same.{past_of, moment_more, moment_same, faults_same, known_at_same, heard_is, length_more, length_asked}
 use Rattle.m17_directory.proofs.Same as same
 use Rattle.m17_directory.proofs.Taken.{is_left, known_left, known_quiet, known_fault, known_packet, no_row_heard, no_row_other}
-
-get_before : {A : Type 0} (xs ys : List A) (i : ℕ) → i < length xs → slice_get (xs ++ ys) i ≡ slice_get xs i
-get_before [] ys i h = absurd (omega arith)
-get_before (x ∷ xs) ys zero h = refl
-get_before (x ∷ xs) ys (suc i) h = get_before xs ys i (omega arith)
-
-get_end : {A : Type 0} (xs : List A) (y : A) → slice_get (xs ++ y ∷ []) (length xs) ≡ Some y
-get_end [] y = refl
-get_end (x ∷ xs) y = get_end xs y
 
 pub says_before : (entries more : List Entry) → same.Says (entries ++ more) entries (length entries)
 says_before entries more = λ i l. ap notice_of (get_before entries more i l)

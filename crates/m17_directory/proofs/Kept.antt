@@ -1,18 +1,18 @@
 -- What is true of every directory, by who is known and departing.
-use Rattle.std.proofs.Common.{◌≡◌, ℕ, ◌+◌, ◌<◌, ◌≤◌, Bool, true, false, not, ◌||◌, leb, List, [], length, map, filter, Option, None, Some, IfSome, option_map, refl, ap, sym, ◌∙◌, subst, arith, length-append}
+use Rattle.std.proofs.Common.{◌≡◌, ℕ, ◌+◌, ◌<◌, ◌≤◌, Bool, true, false, not, ◌||◌, leb, List, [], length, filter, Option, None, Some, IfSome, option_map, ap, sym, ◌∙◌, subst, arith, length-append}
 use Rattle.std.proofs.lemmas.Bool.{true≢false, leb-false}
 use Rattle.std.proofs.lemmas.Option.{none-some}
 use Rattle.m17_values.specs.declared.member.Member.{Member}
 use Rattle.m17_directory.specs.declared.asked.Asked.{Asked}
 use Rattle.m17_directory.specs.declared.known.Departed.{Departed}
 use Rattle.m17_directory.specs.declared.known.Known.{Known}
-use Rattle.m17_directory.specs.Entries.{Claim, Entry, moment_before, peers_named}
+use Rattle.m17_directory.specs.Entries.{Claim, peers_named}
 use Rattle.m17_directory.specs.Outcome.{Here, has_place, settled}
 use Rattle.m17_directory.specs.Steps.{Lists, row_given, known_after}
 use Rattle.m17_directory.proofs.Filters.{with_row_length, left_together}
 use Rattle.m17_directory.specs.Known.{known_at}
-use Rattle.m17_directory.specs.Routed.{asked_before, past_at}
-use Rattle.m17_directory.specs.StandsFor.{Kept, StandsFor, IsBounded, faults_before, with_left}
+use Rattle.m17_directory.specs.Routed.{asked_before}
+use Rattle.m17_directory.specs.StandsFor.{Kept, StandsFor, IsBounded, with_left}
 use Rattle.m17_directory.proofs.Bounds.{IsSeated, seated_length, seated_none, seated_filter, seated_put, freed, fewer_than_places}
 
 pub bounded_by : (kept : Kept) → IsSeated kept.setup.places kept.known → length kept.known + length kept.departing ≤ 512 → IsBounded kept

@@ -1,27 +1,19 @@
 -- Who is known one entry later: each peer's row, by what the entry says and by its claim.
-use Rattle.std.proofs.Common.{◌≡◌, ℕ, zero, suc, ◌-◌, ◌<◌, ◌≤◌, Bool, true, false, cond, not, ◌&&◌, ◌||◌, leb, eqb, List, [], ◌∷◌, ◌++◌, length, slice_get, unwrap_or, filter_map, Option, None, Some, option_map, option_and_then, refl, ap, sym, ◌∙◌, subst, inl, inr, arith}
+use Rattle.std.proofs.Common.{◌≡◌, ℕ, zero, suc, ◌-◌, ◌<◌, Bool, true, false, cond, not, ◌&&◌, ◌||◌, leb, eqb, List, [], ◌∷◌, ◌++◌, length, slice_get, unwrap_or, Option, None, Some, option_map, option_and_then, refl, ap, sym, ◌∙◌, inl, inr, arith}
 use Rattle.std.specs.Option.{option_map_or}
-use Rattle.std.proofs.lemmas.Bool.{cases_Bool, cond-true, cond-false, eqb-true, eq-eqb, ne_eqb, and_parts, cases_eq, false≢true}
-use Rattle.std.proofs.lemmas.Option.{same_Some, none-some, cond_some, option_and_then_some}
+use Rattle.std.proofs.lemmas.Bool.{cond-true, cond-false, eq-eqb, ne_eqb, and_parts, cases_eq, false≢true}
+use Rattle.std.proofs.lemmas.Option.{same_Some, none-some, option_and_then_some}
 use Rattle.m17_values.specs.declared.peer.Peer.{Peer}
 use Rattle.m17_directory.specs.declared.known.Known.{Known}
 use Rattle.m17_directory.specs.declared.known.Request.{Request}
-use Rattle.m17_directory.specs.Entries.{Notice, Claim, Entry, Setup, notice_at, claim_at, moment_at, passes_time, is_peer, is_from, says_disc, last_heard, silence_ms, is_silent_at, ends_at}
+use Rattle.m17_directory.specs.Entries.{Claim, Entry, Setup, notice_at, claim_at, moment_at, passes_time, is_from, says_disc, last_heard, silence_ms, is_silent_at, ends_at}
 use Rattle.m17_directory.specs.Known.{Past, now, asks_for, turns, is_of_place, last_given, is_position, request_in, row_of, row_by, row_at}
 use Rattle.m17_directory.specs.Routed.{is_silent}
+use Rattle.m17_directory.proofs.Positions.{get_before, get_end}
 use Rattle.m17_directory.proofs.Rows.{if_passes}
 use Rattle.m17_directory.proofs.Same.{past_of, turns_same, length_more}
 use Rattle.m17_lookup.specs.Lookup.{last_below}
-use Rattle.m17_lookup.proofs.LastBelow.{last_below_same, last_below_suc, last_below_lt, last_below_true, and_then_same}
-
-get_before : {A : Type 0} (xs : List A) (y : A) (i : ℕ) → i < length xs → slice_get (xs ++ y ∷ []) i ≡ slice_get xs i
-get_before [] y i h = absurd (omega arith)
-get_before (x ∷ xs) y zero h = refl
-get_before (x ∷ xs) y (suc i) h = get_before xs y i (omega arith)
-
-get_end : {A : Type 0} (xs : List A) (y : A) → slice_get (xs ++ y ∷ []) (length xs) ≡ Some y
-get_end [] y = refl
-get_end (x ∷ xs) y = get_end xs y
+use Rattle.m17_lookup.proofs.LastBelow.{last_below_same, last_below_suc, last_below_lt}
 
 -- the row of a peer that was heard at this moment, if the entry is from it; and the row that keeps its place
 abbrev pub hearing : Bool → ℕ → Known → Known
@@ -178,13 +170,13 @@ module _ (setup : Setup) (entries : List Entry) (l : List Bool) (v : Bool) where
   now_after = length_more l v
 
   asks_before : (x : Peer) (i : ℕ) → i < n → asks_for after x i ≡ asks_for before x i
-  asks_before x i k = ap (λ o. unwrap_or o false && is_from x (notice_at entries i)) (get_before l v i k)
+  asks_before x i k = ap (λ o. unwrap_or o false && is_from x (notice_at entries i)) (get_before l (v ∷ []) i k)
 
   pub asks_now : (x : Peer) → asks_for after x n ≡ (v && is_from x (notice_at entries n))
   asks_now x = ap (λ o. unwrap_or o false && is_from x (notice_at entries n)) (get_end l v)
 
   turned_before : (x : Peer) → last_below (turns after x) n ≡ last_below (turns before x) n
-  turned_before x = last_below_same (turns after x) (turns before x) n (λ i k. turns_same setup entries entries (l ++ v ∷ []) l x i (λ j m. refl) (get_before l v i k))
+  turned_before x = last_below_same (turns after x) (turns before x) n (λ i k. turns_same setup entries entries (l ++ v ∷ []) l x i (λ j m. refl) (get_before l (v ∷ []) i k))
 
   given_after : (place : ℕ) → last_given after place ≡ cond (is_of_place place (claim_at entries n)) (Some n) (last_given before place)
   given_after place =

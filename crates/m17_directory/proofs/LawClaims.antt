@@ -1,5 +1,5 @@
 -- The members of the claims are those that join, and whoever leaves was known.
-use Rattle.std.proofs.Common.{◌≡◌, ℕ, zero, suc, ◌+◌, ◌<◌, ◌≤◌, Bool, true, false, cond, List, [], ◌∷◌, ◌++◌, length, map, filter, filter_map, count_by, slice_get, option_and_then, option_map, Option, None, Some, refl, ap, sym, ◌∙◌, subst, arith, length-append}
+use Rattle.std.proofs.Common.{◌≡◌, ℕ, zero, suc, ◌+◌, ◌<◌, ◌≤◌, Bool, true, false, cond, List, [], ◌∷◌, ◌++◌, length, map, filter, filter_map, slice_get, option_and_then, option_map, Option, None, Some, refl, ap, sym, ◌∙◌, subst, arith, length-append}
 use Rattle.std.specs.List.{cons_option, flat_map, range_with_len}
 use Rattle.std.proofs.lemmas.List.{map-append}
 use Rattle.std.proofs.lemmas.List.Elements.{filter_map-append}
@@ -9,7 +9,7 @@ use Rattle.m17_directory.specs.declared.known.Departed.{Departed}
 use Rattle.m17_directory.specs.declared.known.Known.{Known}
 use Rattle.m17_directory.specs.Entries.{Notice, Claim, Entry, Setup, notice_at, claim_at}
 use Rattle.m17_directory.specs.Known.{Past, now, request_in, known_at}
-use Rattle.m17_directory.specs.Outcome.{Here, Outcome, has_place}
+use Rattle.m17_directory.specs.Outcome.{Here, has_place}
 use Rattle.m17_directory.specs.Routed.{here_of, heard_at, others_at, settled_at, asks_at, both, past_at, outcome_at}
 use Rattle.m17_directory.specs.StandsFor.{departed_of}
 use Rattle.m17_directory.specs.Laws.{ClaimsAreAsked, joiner_of, join_by, all_joins, joined_by, joined_before, claimed_members, EachClaimJoins, LeaversWereKnown}

@@ -1,5 +1,5 @@
 -- What a link answers past all modules, and how an entry that asks is completed by its claim.
-use Rattle.std.proofs.Common.{◌≡◌, ℕ, Bool, true, false, cond, List, [], ◌∷◌, ◌++◌, length, filter_map, Option, None, Some, refl, ap, ◌∙◌}
+use Rattle.std.proofs.Common.{◌≡◌, ℕ, Bool, true, false, cond, List, [], ◌∷◌, ◌++◌, length, filter_map, refl, ap, ◌∙◌}
 use Rattle.std.specs.List.{AllByRecursion, cons_option}
 use Rattle.std.proofs.lemmas.List.Elements.{filter_map-append}
 use Rattle.m17_values.specs.declared.peer.Peer.{Peer}
@@ -8,8 +8,7 @@ use Rattle.m17_directory.specs.declared.dispatch.Dispatch.{Dispatch}
 use Rattle.m17_directory.specs.declared.dispatch.Dispatch.TheVariants.{ToModule, ToDoor}
 use Rattle.m17_directory.specs.Entries.{Entry, Setup, claim_at}
 use Rattle.m17_directory.specs.Known.{Past, now}
-use Rattle.m17_directory.specs.Outcome.{Outcome}
-use Rattle.m17_directory.specs.Routed.{heard_at, settled_at, asks_at, both, past_at, outcome_at, posts_at, posted, reply_for, direct_replies}
+use Rattle.m17_directory.specs.Routed.{heard_at, settled_at, asks_at, both, past_at, posts_at, posted, reply_for, direct_replies}
 use Rattle.m17_directory.specs.Laws.{direct_of, door_replies, told_to, is_door_reply, DoorCarriesReplies, PeersAreToldApart, ClaimsCompleteAskers}
 use Rattle.m17_directory.proofs.Peers.{is_peer_same, is_peer_self}
 use Rattle.m17_directory.proofs.Same.{length_asked}

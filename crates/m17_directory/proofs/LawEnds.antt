@@ -11,7 +11,7 @@ use Rattle.m17_directory.specs.Routed.{heard_at, is_asks, asks_at, asked_before,
 use Rattle.m17_directory.specs.Laws.{is_ended, NobodyIsKnownBehindTheEnd}
 use Rattle.m17_directory.proofs.Same.{past_of, length_asked}
 use Rattle.m17_directory.proofs.Later.{goes}
-use Rattle.m17_directory.proofs.LawSent.{get_last}
+use Rattle.m17_directory.proofs.Positions.{get_end}
 use Rattle.m17_directory.proofs.LawPosts.{ended_where}
 
 ended_asks : (v : LinkVerdict) → is_ended v ≡ true → is_asks v ≡ false
@@ -30,7 +30,7 @@ row_gone : (setup : Setup) (entries : List Entry) (l : List Bool) (v : Bool) →
 row_gone setup entries l v ends asks x =
     goes setup entries l v x
     (turns_if_ends _ (ends_at entries (length l)) ends)
-    (ap (λ o. unwrap_or o false && is_from x (notice_at entries (length l))) (get_last l v) ∙ ap (λ b. b && is_from x (notice_at entries (length l))) asks)
+    (ap (λ o. unwrap_or o false && is_from x (notice_at entries (length l))) (get_end l v) ∙ ap (λ b. b && is_from x (notice_at entries (length l))) asks)
 
 known_gone : (setup : Setup) (entries : List Entry) (l : List Bool) (v : Bool) → ends_at entries (length l) ≡ true → v ≡ false → known_at (past_of setup entries (l ++ v ∷ [])) ≡ []
 unfolding known_at

@@ -15,6 +15,7 @@ use Rattle.m17_directory.specs.Outcome.{Here, Outcome, settled}
 use Rattle.m17_directory.specs.Routed.{here_of, heard_at, others_than, others_at, settled_by, settled_at, is_asks, both, comes_to, asked_before, past_at, outcome_at, posts_at, posted, event_for, reply_for, routed, direct_replies}
 use Rattle.m17_directory.specs.Laws.{LaterEntriesChangeNothing, OneEntryMore, EntriesBeforeDecide}
 use Rattle.m17_directory.specs.Steps.{still_by}
+use Rattle.m17_directory.proofs.Positions.{get_before, range_more}
 use Rattle.m17_directory.proofs.Same.{Says, Claims, past_of, says_less, claims_less, moment_same, known_same, heard_same, heard_at_same, length_more, length_asked, asked_same}
 
 -- the same setup, index and moment
@@ -77,28 +78,17 @@ outcome_same setup a b n says claims =
     comes_same setup a b l (says_less a b (suc n) (suc (length l)) (omega arith) says) (claims_less a b (suc n) (suc (length l)) (omega arith) claims)
     ∙ ap (λ m. comes_to (past_of setup b m)) (asked_same setup a b n (says_less a b (suc n) n (omega arith) says) (claims_less a b (suc n) n (omega arith) claims))
 
-pub get_first : {A : Type 0} (xs ys : List A) (i : ℕ) → i < length xs → slice_get (xs ++ ys) i ≡ slice_get xs i
-get_first [] ys i h = absurd (omega arith)
-get_first (x ∷ xs) ys zero h = refl
-get_first (x ∷ xs) ys (suc i) h = get_first xs ys i (omega arith)
-
 pub later_nothing : LaterEntriesChangeNothing
 later_nothing setup entries more n l =
     outcome_same setup (entries ++ more) entries n
-    (λ i k. ap notice_of (get_first entries more i (omega arith)))
-    (λ i k. ap (option_and_then (λ (entry : Entry). entry.claim)) (get_first entries more i (omega arith)))
+    (λ i k. ap notice_of (get_before entries more i (omega arith)))
+    (λ i k. ap (option_and_then (λ (entry : Entry). entry.claim)) (get_before entries more i (omega arith)))
 
 flat_map_same : {X : Type 0} (f g : ℕ → List X) (from n : ℕ) → ((i : ℕ) → i < from + n → f i ≡ g i) → flat_map f (range_with_len from n) ≡ flat_map g (range_with_len from n)
 flat_map_same f g from zero h = refl
 flat_map_same f g from (suc n) h =
     ap (λ xs. xs ++ flat_map f (range_with_len (from + 1) n)) (h from (omega arith))
     ∙ ap (λ xs. g from ++ xs) (flat_map_same f g (from + 1) n (λ i l. h i (omega arith)))
-
-pub range_more : (from n : ℕ) → range_with_len from (suc n) ≡ range_with_len from n ++ (from + n) ∷ []
-range_more from zero = let e : from ≡ from + 0 = omega arith in ap (λ m. m ∷ []) e
-range_more from (suc n) =
-    let e : from + 1 + n ≡ from + suc n = omega arith in
-    ap (λ xs. from ∷ xs) (range_more (from + 1) n ∙ ap (λ m. range_with_len (from + 1) n ++ m ∷ []) e)
 
 posts_later : (setup : Setup) (entries more : List Entry) (n : ℕ) → n < length entries → posts_at setup (entries ++ more) n ≡ posts_at setup entries n
 unfolding posts_at

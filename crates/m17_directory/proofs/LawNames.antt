@@ -21,7 +21,7 @@ use Rattle.m17_directory.specs.declared.verdict.Act.TheVariants as act
 use Rattle.m17_directory.specs.Entries.{Notice, Claim, Entry, Setup, notice_at, claim_at, passes_time, is_peer, moment_before, ends_at}
 use Rattle.m17_directory.specs.Known.{Past, now, request_in, row_at, known_at}
 use Rattle.m17_directory.specs.Outcome.{Here, Outcome, only, to_module, to_each_module, to_door, leave, posting, leaving, is_what, has_place, known_asks, other_asks, of_packet, of_end, settled}
-use Rattle.m17_directory.specs.Routed.{tick_ms, here_of, is_silent, row_for, heard_at, others_than, others_at, settled_by, settled_at, asks_at, both, comes_to, past_at, posts_at, posted, event_for, routed}
+use Rattle.m17_directory.specs.Routed.{tick_ms, here_of, is_silent, row_for, heard_at, others_than, others_at, settled_by, settled_at, asks_at, both, past_at, posts_at, posted, event_for, routed}
 use Rattle.m17_directory.specs.Laws.{member_of, RouteIsOfClaimed}
 use Rattle.m17_directory.specs.Steps.{silent_by, still_by, ticks_by, said_by, heard_by}
 use Rattle.m17_directory.proofs.Same.{heard_is}

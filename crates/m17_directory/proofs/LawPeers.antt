@@ -17,7 +17,8 @@ use Rattle.m17_directory.specs.Laws.{ClaimsAreAsked, joined_by, joined_before, l
 use Rattle.m17_directory.specs.Steps.{heard_now, is_other}
 use Rattle.m17_directory.proofs.Peers.{is_peer_same}
 use Rattle.m17_directory.proofs.Same.{length_asked}
-use Rattle.m17_directory.proofs.LawMore.{range_more, others_is}
+use Rattle.m17_directory.proofs.Positions.{range_more}
+use Rattle.m17_directory.proofs.LawMore.{others_is}
 use Rattle.m17_directory.proofs.LawCounts.{count, count_is, count_append, count_map, NoneOf}
 use Rattle.m17_directory.proofs.LawWho.{AsksFor, still, asks_one, heard_count, others_are, others_none, known_next, claim_count}
 use Rattle.m17_directory.proofs.LawLeaves.{none_settled, settled_some, no_more, step_sum, none_sum, all_sum, plus_zero}

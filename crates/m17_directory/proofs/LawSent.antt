@@ -26,7 +26,7 @@ use Rattle.m17_directory.specs.Laws.{is_stop, is_door_reply}
 use Rattle.m17_directory.specs.Steps.{silent_by, still_by, ticks_by, said_by, heard_by}
 use Rattle.m17_directory.proofs.Same.{length_asked, heard_is}
 use Rattle.m17_directory.proofs.Later.{has_row}
-use Rattle.m17_directory.proofs.LawMore.{get_first}
+use Rattle.m17_directory.proofs.Positions.{get_before, get_end}
 
 pub all_append : {A : Type 0} (P : A → Type 0) (xs ys : List A) → AllByRecursion P xs → AllByRecursion P ys → AllByRecursion P (xs ++ ys)
 all_append P [] ys h k = k
@@ -206,10 +206,6 @@ asks_served past request e w =
     asks_said (here_of past) (ends_at past.entries (now past)) (known_at past) (still_by (here_of past) (known_at past) (notice_at past.entries (now past))) (notice_at past.entries (now past)) request
     (ap (λ (o : Outcome). is_asks o.verdict) (sym (heard_is past)) ∙ e) w
 
-pub get_last : {A : Type 0} (xs : List A) (y : A) → slice_get (xs ++ y ∷ []) (length xs) ≡ Some y
-get_last [] y = refl
-get_last (x ∷ xs) y = get_last xs y
-
 -- of each position before, whether its entry asks for a place
 pub asked_get : (setup : Setup) (entries : List Entry) (n i : ℕ) → i < n → slice_get (asked_before setup entries n) i ≡ Some (asks_at (past_at setup entries i))
 unfolding asked_before
@@ -219,8 +215,8 @@ asked_get setup entries (suc n) i l =
     let v : Bool = asks_at (past_at setup entries n) in
     let len : length before ≡ n = length_asked setup entries n in
     elim (cases_eq i n) [
-      | inl same ↦ ap (slice_get (before ++ v ∷ [])) (same ∙ sym len) ∙ get_last before v ∙ ap (λ m. Some (asks_at (past_at setup entries m))) (sym same)
-      | inr other ↦ get_first before (v ∷ []) i (omega arith) ∙ asked_get setup entries n i (omega arith)
+      | inl same ↦ ap (slice_get (before ++ v ∷ [])) (same ∙ sym len) ∙ get_end before v ∙ ap (λ m. Some (asks_at (past_at setup entries m))) (sym same)
+      | inr other ↦ get_before before (v ∷ []) i (omega arith) ∙ asked_get setup entries n i (omega arith)
     ]
 
 row_served : (setup : Setup) (entries : List Entry) (n : ℕ) (x : Peer) (k : Known) → row_at (past_at setup entries n) x ≡ Some k → serves setup.modules k.letter ≡ true

@@ -1,15 +1,13 @@
 -- Who has joined a module has left it or is known in it.
-use Rattle.std.proofs.Common.{◌≡◌, ℕ, zero, suc, ◌+◌, ◌<◌, ◌≤◌, Bool, true, false, cond, not, List, [], ◌∷◌, ◌++◌, length, take, filter, slice_get, option_and_then, Option, None, Some, refl, ap, sym, ◌∙◌, subst, arith}
+use Rattle.std.proofs.Common.{◌≡◌, ℕ, zero, suc, ◌+◌, ◌<◌, ◌≤◌, Bool, true, false, cond, not, List, [], ◌∷◌, ◌++◌, length, take, filter, slice_get, option_and_then, None, Some, refl, ap, sym, ◌∙◌, subst, arith}
 use Rattle.std.proofs.lemmas.Bool.{false≢true}
 use Rattle.m17_values.specs.declared.peer.Peer.{Peer}
-use Rattle.m17_control.specs.declared.packet.Control.TheVariants as control
 use Rattle.m17_control.specs.declared.packet.Packet as packet
-use Rattle.m17_control.specs.declared.packet.Packet.TheVariants as packets
 use Rattle.m17_directory.specs.declared.known.Known.{Known}
 use Rattle.m17_directory.specs.declared.known.Request.{Request}
 use Rattle.m17_directory.specs.Entries.{Notice, Claim, Entry, Setup, notice_of, notice_at, claim_at, moment_at, ends_at}
 use Rattle.m17_directory.specs.Known.{Past, now, request_of, known_at}
-use Rattle.m17_directory.specs.Outcome.{Here, Outcome, has_place, of_packet}
+use Rattle.m17_directory.specs.Outcome.{Here, Outcome, has_place}
 use Rattle.m17_directory.specs.Routed.{here_of, row_for, heard_at, others_than, others_at, is_asks, asks_at, asked_before, past_at}
 use Rattle.m17_directory.specs.StandsFor.{unclaimed}
 use Rattle.m17_directory.specs.Steps.{heard_now, is_other, with_row, silent_by, still_by, said_by, known_by}
@@ -17,8 +15,10 @@ use Rattle.m17_directory.proofs.Same.{Says, Claims, past_of, says_less, claims_l
 use Rattle.m17_directory.proofs.Named.{known_order}
 use Rattle.m17_directory.proofs.Heard.{known_last, others_by}
 use Rattle.m17_directory.proofs.Settled.{known_claimed}
-use Rattle.m17_directory.proofs.LawMore.{get_first, get_taken, says_alike, others_is, others_at_same}
-use Rattle.m17_directory.proofs.LawSent.{all_filter, all_passed, get_last}
+use Rattle.m17_directory.proofs.Told.{asks_request}
+use Rattle.m17_directory.proofs.Positions.{get_before, get_end}
+use Rattle.m17_directory.proofs.LawMore.{get_taken, says_alike, others_is, others_at_same}
+use Rattle.m17_directory.proofs.LawSent.{all_filter, all_passed}
 use Rattle.m17_directory.proofs.LawCounts.{count, count_append, count_parts, known_count, NoneOf, put_count}
 
 -- an entry that asks is a packet that requests something
@@ -29,23 +29,6 @@ pub record AsksFor (notice : Notice) : Type 0 where
   pub request : Request
   pub says : notice ≡ Notice.Sent from at packet
   pub wants : request_of packet ≡ Some request
-
-asks_request : (here : Here) (x : Peer) (o : Option Known) (p : packet.Packet) → is_asks (of_packet here x o p).verdict ≡ true → (r : Request) × (request_of p ≡ Some r)
-asks_request at x o (packets.Control (control.Conn from letter)) e = (record { letter = letter; callsign = from; listen = false }, refl)
-asks_request at x o (packets.Control (control.Lstn from letter)) e = (record { letter = letter; callsign = from; listen = true }, refl)
-asks_request at x (Some k) (packets.Stream p) e = absurd (false≢true e)
-asks_request at x (Some k) (packets.Control (control.Ping from)) e = absurd (false≢true e)
-asks_request at x (Some k) (packets.Control (control.Pong from)) e = absurd (false≢true e)
-asks_request at x (Some k) (packets.Control (control.Disc from)) e = absurd (false≢true e)
-asks_request at x (Some k) (packets.Control control.Ackn) e = absurd (false≢true e)
-asks_request at x (Some k) (packets.Control control.Nack) e = absurd (false≢true e)
-asks_request at x None (packets.Stream p) e = absurd (false≢true e)
-asks_request at x None (packets.Control (control.Ping from)) e = absurd (false≢true e)
-asks_request at x None (packets.Control (control.Pong from)) e = absurd (false≢true e)
-asks_request at x None (packets.Control (control.Disc None)) e = absurd (false≢true e)
-asks_request at x None (packets.Control (control.Disc (Some from))) e = absurd (false≢true e)
-asks_request at x None (packets.Control control.Ackn) e = absurd (false≢true e)
-asks_request at x None (packets.Control control.Nack) e = absurd (false≢true e)
 
 asks_for_one : (here : Here) (ends : Bool) (rows still : List Known) (notice : Notice) → is_asks (said_by here ends rows still notice).verdict ≡ true → AsksFor notice
 asks_for_one here ends rows still (Notice.Sent from at p) e =
@@ -118,10 +101,10 @@ module _ (setup : Setup) (entries : List Entry) (n : ℕ) (within : n < length e
   taken = take_full entries n (omega arith)
 
   plain_get : (i : ℕ) → i < n → slice_get entries i ≡ slice_get plain i
-  plain_get i l = sym (get_first (take n entries) (unclaimed (notice_at entries n) ∷ []) i (omega (arith, taken)) ∙ get_taken entries n i l)
+  plain_get i l = sym (get_before (take n entries) (unclaimed (notice_at entries n) ∷ []) i (omega (arith, taken)) ∙ get_taken entries n i l)
 
   plain_end : slice_get plain n ≡ Some (unclaimed (notice_at entries n))
-  plain_end = ap (slice_get plain) (sym taken) ∙ get_last (take n entries) (unclaimed (notice_at entries n))
+  plain_end = ap (slice_get plain) (sym taken) ∙ get_end (take n entries) (unclaimed (notice_at entries n))
 
   plain_says : Says entries plain (suc n)
   plain_says = says_alike entries plain n (λ i l. ap notice_of (plain_get i l)) (sym (ap notice_of plain_end))

@@ -23,6 +23,7 @@ pub mod LawStops
 pub mod LawWho
 pub mod Named
 pub mod Peers
+pub mod Positions
 pub mod Rows
 pub mod Same
 pub mod Settled

@@ -1,16 +1,15 @@
 -- All that are known stand in order of peers, and each is looked up as its row.
-use Rattle.std.proofs.Common.{◌≡◌, ℕ, zero, suc, ◌<◌, ◌≤◌, Bool, true, false, cond, ◌&&◌, List, [], ◌∷◌, length, unwrap_or, slice_get, filter_map, Option, None, Some, Ordering, Less, Equal, Greater, refl, ap, sym, ◌∙◌, subst, inl, inr, arith}
+use Rattle.std.proofs.Common.{◌≡◌, ℕ, zero, suc, ◌<◌, Bool, true, false, cond, List, [], ◌∷◌, unwrap_or, slice_get, filter_map, Option, None, Some, Ordering, Less, Equal, Greater, refl, ap, sym, ◌∙◌, inl, inr, arith}
 use Rattle.std.specs.List.{cons_option}
 use Rattle.std.specs.Ordering.{match_ordering}
-use Rattle.std.proofs.lemmas.Bool.{cases_Bool, cond-true, cond-false, and_parts, cases_eq, false≢true}
-use Rattle.std.proofs.lemmas.Option.{same_Some, none-some}
+use Rattle.std.proofs.lemmas.Bool.{cond-true, cond-false, and_parts, cases_eq, false≢true}
 use Rattle.m17_values.specs.declared.peer.Peer.{Peer}
 use Rattle.m17_directory.specs.declared.known.Known.{Known}
 use Rattle.m17_directory.specs.Entries.{Notice, Entry, notice_at, peer_cmp, is_peer, is_from, with_peer, with_sender, peers_named}
 use Rattle.m17_directory.specs.Known.{Past, now, row_at, known_at}
 use Rattle.m17_directory.specs.Routed.{row_for}
 use Rattle.m17_directory.specs.Steps.{IsAllAfter, IsInOrder}
-use Rattle.m17_directory.proofs.Peers.{peer_same, is_peer_same, is_peer_self, peer_flip, peer_trans, other_if_less, other_if_greater, is_peer_from}
+use Rattle.m17_directory.proofs.Peers.{peer_same, is_peer_same, is_peer_self, peer_flip, peer_trans, is_peer_from}
 use Rattle.m17_directory.proofs.Rows.{after_none, after_same}
 use Rattle.m17_directory.proofs.Later.{has_row, row_at_peer}
 

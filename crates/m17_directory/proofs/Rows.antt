@@ -1,6 +1,6 @@
 -- Rows in order of peers: what is looked up in them, and that look-ups tell them apart.
-use Rattle.std.proofs.Common.{◌≡◌, Bool, true, false, cond, not, List, [], ◌∷◌, map, filter, find, Option, None, Some, Ordering, Less, Equal, Greater, option_map, refl, ap, sym, ◌∙◌, subst, inl, inr, arith}
-use Rattle.std.proofs.lemmas.Bool.{cases_Bool, cond-true, cond-false, true≢false, false≢true}
+use Rattle.std.proofs.Common.{◌≡◌, Bool, true, false, cond, List, [], ◌∷◌, map, filter, Option, None, Some, Ordering, Less, Equal, Greater, option_map, refl, ap, sym, ◌∙◌, subst}
+use Rattle.std.proofs.lemmas.Bool.{cond-true, cond-false}
 use Rattle.std.proofs.lemmas.Option.{same_Some, none-some}
 use Rattle.std.specs.Ordering.{match_ordering}
 use Rattle.m17_values.specs.declared.peer.Peer.{Peer}
@@ -8,7 +8,7 @@ use Rattle.m17_directory.specs.declared.known.Known.{Known}
 use Rattle.m17_directory.specs.Entries.{peer_cmp, is_peer}
 use Rattle.m17_directory.specs.Routed.{row_for}
 use Rattle.m17_directory.specs.Steps.{IsAllAfter, IsInOrder, with_row}
-use Rattle.m17_directory.proofs.Peers.{peer_same, is_peer_same, peer_self, is_peer_self, is_peer_from, peer_flip, peer_trans, other_if_less, other_if_greater}
+use Rattle.m17_directory.proofs.Peers.{peer_same, is_peer_same, is_peer_self, peer_flip, peer_trans, other_if_less, other_if_greater}
 
 pub after_trans : (x y : Peer) (rows : List Known) → peer_cmp x y ≡ Less → IsAllAfter y rows → IsAllAfter x rows
 after_trans x y [] l h = tt

@@ -1,10 +1,10 @@
 -- What is looked up before a position depends on what came before it alone.
-use Rattle.std.proofs.Common.{◌≡◌, ℕ, zero, suc, ◌-◌, ◌<◌, ◌≤◌, Bool, true, false, cond, ◌&&◌, ◌||◌, leb, max, fold, map, take, List, [], ◌∷◌, ◌++◌, length, slice_get, unwrap_or, filter_map, Option, None, Some, option_map, option_and_then, refl, ap, sym, ◌∙◌, subst, arith}
+use Rattle.std.proofs.Common.{◌≡◌, ℕ, zero, suc, ◌-◌, ◌<◌, ◌≤◌, Bool, false, cond, ◌&&◌, ◌||◌, leb, max, fold, map, take, List, [], ◌∷◌, ◌++◌, length, slice_get, unwrap_or, filter_map, Option, None, Some, option_map, option_and_then, refl, ap, sym, ◌∙◌, arith}
 use Rattle.std.specs.List.{cons_option}
 use Rattle.std.specs.Option.{option_map_or}
 use Rattle.m17_values.specs.declared.peer.Peer.{Peer}
 use Rattle.m17_directory.specs.declared.known.Known.{Known}
-use Rattle.m17_directory.specs.Entries.{Notice, Claim, Entry, Setup, notice_of, notice_at, claim_at, moment_of, moment_before, moment_at, passes_time, is_from, is_fault, is_end, says_disc, last_heard, silence_ms, is_silent_at, ends_at, with_sender, peers_named}
+use Rattle.m17_directory.specs.Entries.{Claim, Entry, Setup, notice_at, claim_at, moment_of, moment_before, moment_at, passes_time, is_from, is_fault, is_end, says_disc, last_heard, silence_ms, is_silent_at, ends_at, with_sender, peers_named}
 use Rattle.m17_directory.specs.Known.{Past, now, asks_for, turns, is_of_place, last_given, is_position, request_in, row_of, row_by, row_at, known_at}
 use Rattle.m17_directory.specs.Outcome.{Here}
 use Rattle.m17_directory.specs.Routed.{here_of, heard_at, is_asks, asks_at, asked_before, past_at}

@@ -1,7 +1,7 @@
 -- Where a request is settled as the code does, the directory stands for the list in which its entry has the claim.
-use Rattle.std.proofs.Common.{◌≡◌, ℕ, zero, suc, ◌+◌, ◌<◌, ◌≤◌, Bool, true, false, cond, not, ◌&&◌, ◌||◌, leb, eqb, List, [], ◌∷◌, ◌++◌, length, map, filter, max, Option, None, Some, option_map, refl, ap, sym, ◌∙◌, subst, inl, inr, arith}
-use Rattle.std.proofs.lemmas.Bool.{cases_Bool, cases_eq, cond-true, cond-false, false≢true, eq-eqb, ne_eqb, lt-leb}
-use Rattle.std.proofs.lemmas.Option.{same_Some, none-some}
+use Rattle.std.proofs.Common.{◌≡◌, ℕ, suc, Bool, true, false, cond, not, ◌&&◌, eqb, List, [], ◌∷◌, ◌++◌, length, filter, Option, None, Some, option_map, refl, ap, sym, ◌∙◌, inl, inr, arith}
+use Rattle.std.proofs.lemmas.Bool.{cases_eq, eq-eqb, ne_eqb}
+use Rattle.std.proofs.lemmas.Option.{none-some}
 use Rattle.m17_values.specs.declared.peer.Peer.{Peer}
 use Rattle.m17_control.specs.declared.packet.Packet.{Packet}
 use Rattle.m17_directory.specs.declared.asked.Asked.{Asked}
@@ -9,20 +9,18 @@ use Rattle.m17_directory.specs.declared.dispatch.Dispatch.{Dispatch}
 use Rattle.m17_directory.specs.declared.known.Known.{Known}
 use Rattle.m17_directory.specs.declared.known.Request.{Request}
 use Rattle.m17_directory.specs.declared.verdict.LinkVerdict.{LinkVerdict}
-use Rattle.m17_directory.specs.Entries.{Notice, Claim, Entry, Setup, notice_at, claim_at, moment_at, moment_before, is_peer, is_from, is_end, is_fault, ends_at}
-use Rattle.m17_directory.specs.Known.{Past, now, asks_for, turns, is_of_place, request_of, request_in, row_at, known_at}
+use Rattle.m17_directory.specs.Entries.{Notice, Claim, Entry, Setup, notice_at, claim_at, moment_at, moment_before, is_peer, is_from, ends_at}
+use Rattle.m17_directory.specs.Known.{Past, asks_for, turns, request_of, request_in, row_at, known_at}
 use Rattle.m17_directory.specs.Outcome.{Here, Outcome, has_place, settled}
-use Rattle.m17_directory.specs.Routed.{here_of, row_for, heard_at, is_asks, asks_at, asked_before, past_at, others_than, others_at, request_at, settled_by, settled_at}
+use Rattle.m17_directory.specs.Routed.{here_of, is_asks, asks_at, asked_before, past_at, others_than, others_at, settled_by, settled_at}
 use Rattle.m17_directory.specs.StandsFor.{Kept, StandsFor, IsAsked, IsSettled, faults_before, unclaimed, claimed, with_left}
 use Rattle.m17_directory.specs.Steps.{IsInOrder, IsGiven, row_given, known_after, with_row, still_by, said_by, known_by}
-use Rattle.m17_directory.proofs.Faults.{ends_is}
 use Rattle.m17_directory.proofs.Peers.{is_peer_same}
 use Rattle.m17_directory.proofs.Rows.{if_passes, order_filter, order_put, row_for-filter, row_for-put, same_rows}
 use Rattle.m17_directory.proofs.Same.{past_of, moment_same, faults_same, turns_same, row_same, known_at_same, heard_at_same, heard_is, length_more, length_asked, asked_same, says_less}
 use Rattle.m17_directory.proofs.Same as same
-use Rattle.m17_directory.proofs.Later.{hearing, keeps, before, after, asks_now, stays, goes, comes}
+use Rattle.m17_directory.proofs.Later.{hearing, keeps, after, asks_now, stays, goes, comes}
 use Rattle.m17_directory.proofs.Named.{known_order, known_look}
-use Rattle.m17_directory.proofs.Taken.{is_peer_swap}
 use Rattle.m17_directory.proofs.Heard.{says_before, claims_before, notice_end, claim_end, lists_of, known_last, others_by}
 
 -- a row that keeps its place twice, first where no place is given

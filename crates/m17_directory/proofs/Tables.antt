@@ -1,6 +1,6 @@
 -- The rows of a table: which index a peer's row has, what each edit leaves, and when nobody is silent.
-use Rattle.std.proofs.Common.{◌≡◌, ℕ, zero, suc, ◌+◌, ◌-◌, ◌<◌, ◌≤◌, Bool, true, false, cond, not, leb, List, [], ◌∷◌, ◌++◌, length, map, filter, get_or, set, take, drop, insert, Option, None, Some, Result, Ok, Err, MatchResult, Ordering, Less, Equal, Greater, is_lt, refl, ap, sym, ◌∙◌, subst, inl, inr, arith, add-one}
-use Rattle.std.specs.List.{AllWithin, HoldsAt}
+use Rattle.std.proofs.Common.{◌≡◌, ℕ, zero, suc, ◌+◌, ◌-◌, ◌<◌, ◌≤◌, false, leb, List, [], ◌∷◌, ◌++◌, length, map, filter, get_or, set, take, drop, insert, None, Some, Result, Ok, Err, MatchResult, Ordering, Less, Equal, Greater, is_lt, refl, ap, sym, ◌∙◌, subst, arith, add-one}
+use Rattle.std.specs.List.{HoldsAt}
 use Rattle.std.specs.Ordering.{match_ordering, ordering_index}
 use Rattle.std.specs.List.Sorted.{IsSortedBy, IsNonDecreasingBy, IsPartitionPoint, IsSearchInRange, IsBinarySearchResult}
 use Rattle.std.proofs.lemmas.Bool.{cond-true, cond-false, lt-leb, leb-false}
@@ -11,7 +11,7 @@ use Rattle.m17_directory.specs.declared.known.Known.{Known}
 use Rattle.m17_directory.specs.Entries.{peer_cmp, is_peer, silence_ms}
 use Rattle.m17_directory.specs.Routed.{row_for, is_silent}
 use Rattle.m17_directory.specs.Steps.{IsAllAfter, IsInOrder, IsEarliest, IsRowOf, IsRow, IsGapFor, heard_now, with_row}
-use Rattle.m17_directory.proofs.Peers.{peer_order, peer_same, peer_self, is_peer_self, is_peer_from, peer_flip, peer_flip_less, other_if_less, other_if_greater}
+use Rattle.m17_directory.proofs.Peers.{peer_order, peer_same, peer_self, is_peer_from, peer_flip, peer_flip_less, other_if_less, other_if_greater}
 use Rattle.m17_directory.proofs.Rows.{after_none, after_same, row_here}
 use Rattle.m17_directory.proofs.Later.{hearing}
 use Rattle.m17_directory.proofs.Taken.{no_row_heard, is_peer_swap}

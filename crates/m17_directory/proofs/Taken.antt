@@ -1,7 +1,7 @@
 -- Who is known after an entry, by who was known before it: the rows that the code keeps are those that are looked up.
-use Rattle.std.proofs.Common.{◌≡◌, ℕ, zero, suc, ◌-◌, ◌<◌, ◌≤◌, Bool, true, false, cond, not, ◌&&◌, ◌||◌, leb, List, [], ◌∷◌, ◌++◌, length, map, filter, max, Option, None, Some, option_map, refl, ap, sym, ◌∙◌, subst, inl, inr, arith}
-use Rattle.std.proofs.lemmas.Bool.{cases_Bool, cond-true, cond-false, false≢true, true≢false, lt-leb}
-use Rattle.std.proofs.lemmas.Option.{same_Some, none-some}
+use Rattle.std.proofs.Common.{◌≡◌, ℕ, suc, Bool, true, false, cond, not, ◌&&◌, ◌||◌, leb, List, [], ◌∷◌, length, map, filter, Option, None, Some, option_map, refl, ap, sym, ◌∙◌, subst, arith}
+use Rattle.std.proofs.lemmas.Bool.{false≢true, true≢false, lt-leb}
+use Rattle.std.proofs.lemmas.Option.{none-some}
 use Rattle.m17_values.specs.declared.peer.Peer.{Peer}
 use Rattle.m17_control.specs.declared.packet.Packet.{Packet}
 use Rattle.m17_control.specs.declared.packet.Packet.TheVariants as packets
@@ -9,22 +9,22 @@ use Rattle.m17_control.specs.declared.packet.Control.TheVariants.{Conn, Lstn, Ac
 use Rattle.m17_control.specs.Modules.{serves}
 use Rattle.m17_directory.specs.declared.known.Known.{Known}
 use Rattle.m17_directory.specs.declared.known.Request.{Request}
-use Rattle.m17_directory.specs.Entries.{Notice, Claim, Entry, Setup, notice_at, claim_at, moment_at, moment_before, passes_time, is_peer, is_from, is_disc, says_disc, is_fault, is_end, is_silent_at, ends_at}
-use Rattle.m17_directory.specs.Known.{Past, now, asks_for, turns, row_at, known_at}
+use Rattle.m17_directory.specs.Entries.{Notice, Entry, Setup, notice_at, claim_at, moment_at, passes_time, is_peer, is_from, is_disc, says_disc, is_fault, is_end, is_silent_at, ends_at}
+use Rattle.m17_directory.specs.Known.{Past, turns, row_at, known_at}
 use Rattle.m17_control.specs.declared.event.Body.TheVariants as body
 use Rattle.m17_control.specs.declared.event.Why.TheVariants.{Moved}
 use Rattle.m17_directory.specs.declared.verdict.LinkVerdict.TheVariants.{Routed, Asks, NotServed}
 use Rattle.m17_directory.specs.declared.verdict.Act.TheVariants as act
-use Rattle.m17_directory.specs.Outcome.{Here, Outcome, to_module, to_door, posting, leaving, is_what, known_asks, other_asks, of_known, of_other, of_packet}
-use Rattle.m17_directory.specs.Routed.{here_of, is_silent, row_for, heard_at, is_asks, asks_at}
+use Rattle.m17_directory.specs.Outcome.{Here, Outcome, to_module, to_door, posting, leaving, is_what, known_asks, of_known, of_packet}
+use Rattle.m17_directory.specs.Routed.{here_of, is_silent, row_for, is_asks, asks_at}
 use Rattle.m17_directory.specs.StandsFor.{faults_before}
-use Rattle.m17_directory.specs.Steps.{IsInOrder, heard_now, is_other, rows_by, still_by, said_by, known_by}
+use Rattle.m17_directory.specs.Steps.{IsInOrder, heard_now, is_other, rows_by, still_by, said_by}
 use Rattle.m17_directory.proofs.Faults.{ends_is}
 use Rattle.std.proofs.lemmas.Cmp.{eq_by_cmp_equiv}
 use Rattle.m17_directory.proofs.Peers.{peer_order, is_peer_same}
-use Rattle.m17_directory.proofs.Rows.{if_passes, row_peer, order_filter, order_map, row_for-filter, row_for-map, same_rows}
+use Rattle.m17_directory.proofs.Rows.{if_passes, order_filter, order_map, row_for-filter, row_for-map, same_rows}
 use Rattle.m17_directory.proofs.Same.{past_of, heard_is}
-use Rattle.m17_directory.proofs.Later.{hearing, keeps, before, after, asks_now, stays, goes_unclaimed, row_silent, row_at_peer}
+use Rattle.m17_directory.proofs.Later.{hearing, keeps, after, asks_now, stays, goes_unclaimed, row_silent, row_at_peer}
 use Rattle.m17_directory.proofs.Named.{known_order, known_look}
 
 -- whether somebody leaves by it

@@ -1,6 +1,6 @@
 -- What is true of every entry that is taken in, whatever was heard before.
-use Rattle.std.proofs.Common.{◌≡◌, ◌↔◌, ◌⊎◌, ℕ, zero, suc, ◌+◌, ◌<◌, ◌≤◌, Bool, true, false, cond, not, ◌&&◌, ◌||◌, leb, List, [], ◌∷◌, ◌++◌, length, map, filter, Option, None, Some, IsSome, IfSome, option_map, refl, ap, sym, ◌∙◌, subst, inl, inr, arith, length-append}
-use Rattle.std.proofs.lemmas.Bool.{cases_Bool, cond-true, cond-false, true≢false, false≢true, lt-leb}
+use Rattle.std.proofs.Common.{◌≡◌, ◌↔◌, ◌⊎◌, ℕ, ◌+◌, Bool, true, false, cond, not, ◌||◌, leb, List, [], ◌∷◌, ◌++◌, length, map, filter, Option, None, Some, IsSome, IfSome, refl, ap, sym, ◌∙◌, subst, inl, inr, arith, length-append}
+use Rattle.std.proofs.lemmas.Bool.{false≢true, lt-leb}
 use Rattle.std.proofs.lemmas.List.Filters.{length-filter_both}
 use Rattle.std.proofs.lemmas.Option.{same_Some, none-some}
 use Rattle.m17_values.specs.declared.heard.Heard.{Heard}
@@ -16,17 +16,16 @@ use Rattle.m17_control.specs.Forms.{Spells, Refuses}
 use Rattle.m17_control.specs.Modules.{serves}
 use Rattle.m17_directory.specs.declared.asked.Asked.{Asked}
 use Rattle.m17_directory.specs.declared.dispatch.Dispatch.{Dispatch}
-use Rattle.m17_directory.specs.declared.known.Departed.{Departed}
 use Rattle.m17_directory.specs.declared.known.Known.{Known}
 use Rattle.m17_directory.specs.declared.known.Request.{Request}
 use Rattle.m17_directory.specs.declared.verdict.Act.TheVariants as act
 use Rattle.m17_directory.specs.declared.verdict.LinkVerdict.{LinkVerdict}
 use Rattle.m17_directory.specs.declared.verdict.LinkVerdict.TheVariants as link
-use Rattle.m17_directory.specs.Entries.{Notice, Says, passes_time, is_peer, is_fault, is_end}
+use Rattle.m17_directory.specs.Entries.{Notice, Says, is_peer, is_fault, is_end}
 use Rattle.m17_directory.specs.Known.{request_of}
-use Rattle.m17_directory.specs.Outcome.{Here, Outcome, only, posting, leaving, to_door, to_module, is_what, known_asks, other_asks, of_known, of_other, of_packet, of_end}
+use Rattle.m17_directory.specs.Outcome.{Here, Outcome, only, posting, leaving, to_door, to_module, is_what, known_asks, other_asks, of_known, of_packet, of_end}
 use Rattle.m17_directory.specs.Routed.{is_silent, row_for, is_asks}
-use Rattle.m17_directory.specs.StandsFor.{HasGrown, departed_of, with_left}
+use Rattle.m17_directory.specs.StandsFor.{HasGrown, departed_of}
 use Rattle.m17_directory.specs.Steps.{Lists, IsInOrder, IsTaken, is_other, heard_now, rows_by, silent_by, still_by, said_by, heard_by, known_by, asked_as, asked_by, asks_by}
 use Rattle.m17_directory.proofs.Filters.{map_length}
 use Rattle.m17_directory.proofs.Heard.{other_left}
@@ -41,7 +40,7 @@ says_datagram from at bytes read h e same (inr x) =
     (Notice.Garbled from at x.0, subst (λ (g : Heard). Says g (Notice.Garbled from at x.0)) (sym e) (inr (x.0, subst (λ (bs : List ℕ). Refuses bs x.0) same x.1, refl)))
 
 -- a packet that asks has a request
-asks_request : (here : Here) (x : Peer) (o : Option Known) (p : Packet) → is_asks (of_packet here x o p).verdict ≡ true → (r : Request) × (request_of p ≡ Some r)
+pub asks_request : (here : Here) (x : Peer) (o : Option Known) (p : Packet) → is_asks (of_packet here x o p).verdict ≡ true → (r : Request) × (request_of p ≡ Some r)
 asks_request here x o (packets.Control (Conn from letter)) e = (record { letter = letter; callsign = from; listen = false }, refl)
 asks_request here x o (packets.Control (Lstn from letter)) e = (record { letter = letter; callsign = from; listen = true }, refl)
 asks_request here x None (packets.Control Ackn) e = absurd (false≢true e)

@@ -46,8 +46,8 @@ pub record OneEntryMore : Type 0 where
       direct_replies setup (entries ++ entry ∷ []) x ≡ direct_replies setup entries x
       ++ filter_map (reply_for x) (posts_at setup (entries ++ entry ∷ []) (length entries))
 
--- What an entry comes to before its claim, and who the others are there, follows from the entries before it and from
--- what it says itself, whatever its claim. This profile.
+-- What an entry comes to before its claim, and who the others are there, follows from the entries
+-- before it and from what it says itself, whatever its claim. This profile.
 pub record EntriesBeforeDecide : Type 0 where
   pub heard : (setup : Setup) (a b : List Entry) (n : ℕ) → take n a ≡ take n b →
       notice_at a n ≡ notice_at b n →
@@ -143,7 +143,8 @@ OnlyServedAreRouted =
     (setup : Setup) (entries : List Entry) (letter : ℕ) → serves setup.modules letter ≡ false →
     routed setup entries letter ≡ []
 
--- What a link hears, if it is a datagram, is bytes; and then it says exactly one thing. This profile.
+-- What a link hears, if it is a datagram, is bytes; and then it says exactly one thing. This
+-- profile.
 abbrev pub HasBytes : Heard → Type 0
 HasBytes (heard.Datagram from at bytes) = IsBytes bytes
 HasBytes _ = Unit {0}
@@ -153,7 +154,8 @@ EachEntrySaysOneThing =
     (h : Heard) → HasBytes h →
     (notice : Notice) × Says h notice × ((other : Notice) → Says h other → other ≡ notice)
 
--- The index of the entry, if the event is a packet; and the verdict is a packet for this module. This profile.
+-- The index of the entry, if the event is a packet; and the verdict is a packet for this module.
+-- This profile.
 abbrev pub packet_index : Event → Option ℕ
 packet_index event = if is_packet event.body then Some event.tag.index else None
 
@@ -161,7 +163,8 @@ abbrev pub is_packet_for : ℕ → LinkVerdict → Bool
 is_packet_for letter (Routed to act.Packet) = to == letter
 is_packet_for letter _ = false
 
--- The packets for a module are those of the entries whose verdicts say so, in order, each entry once. This profile.
+-- The packets for a module are those of the entries whose verdicts say so, in order, each entry
+-- once. This profile.
 abbrev pub PacketsAreOfEntries : Type 0
 PacketsAreOfEntries =
     (setup : Setup) (entries : List Entry) (letter : ℕ) →
@@ -169,7 +172,8 @@ PacketsAreOfEntries =
     ≡ filter (λ n. is_packet_for letter (link_verdict setup entries n))
     (range_with_len 0 (length entries))
 
--- The Join of an entry that asked for this module and has a claim: with its link, index and moment. This profile.
+-- The Join of an entry that asked for this module and has a claim: with its link, index and moment.
+-- This profile.
 abbrev pub join_event : Here → Peer → Request → Claim → Event
 join_event here x request claim = record {
   tag = record { link = here.setup.link; index = here.index };
@@ -188,8 +192,8 @@ joins_at setup entries letter n =
     then joins_by (here_of (past_at setup entries n)) letter (notice_at entries n)
     (request_in (notice_at entries n)) (claim_at entries n) else []
 
--- An entry is Full exactly where it asks for a place and has no claim, and a Join exactly where it asks and has one.
--- This profile.
+-- An entry is Full exactly where it asks for a place and has no claim, and a Join exactly where it
+-- asks and has one. This profile.
 abbrev pub is_full : LinkVerdict → Bool
 is_full Full = true
 is_full _ = false
@@ -218,8 +222,8 @@ abbrev pub is_join : Body → Bool
 is_join (Join k x callsign listen after) = true
 is_join _ = false
 
--- The Joins for a module are those of the entries that asked for it and have a claim, in order, each entry once. This
--- profile.
+-- The Joins for a module are those of the entries that asked for it and have a claim, in order,
+-- each entry once. This profile.
 abbrev pub JoinsAreTheClaims : Type 0
 JoinsAreTheClaims =
     (setup : Setup) (entries : List Entry) (letter : ℕ) →
@@ -274,8 +278,8 @@ abbrev pub left_count : Setup → List Entry → ℕ → (Member → Bool) → �
 left_count setup entries letter test =
     count_by test (filter_map (λ event. leaver_of event.body) (routed setup entries letter))
 
--- Who has joined a module, as often, has left it or is known in it; so with the end of a link each has left. This
--- profile.
+-- Who has joined a module, as often, has left it or is known in it; so with the end of a link each
+-- has left. This profile.
 pub record WhoJoinsLeaves : Type 0 where
   pub so_far : (setup : Setup) (entries : List Entry) (letter : ℕ) (test : Member → Bool) →
       ClaimsAreAsked setup entries →
@@ -287,8 +291,8 @@ pub record WhoJoinsLeaves : Type 0 where
       ClaimsAreAsked setup entries → EndsOnce entries →
       joined_count setup entries letter test ≡ left_count setup entries letter test
 
--- The members that joined by the entries before a position, and those that left by them, each with its peer. This
--- profile.
+-- The members that joined by the entries before a position, and those that left by them, each with
+-- its peer. This profile.
 abbrev pub joined_by : Notice → Option Claim → List Departed
 joined_by (Notice.Sent from at p) (Some claim) =
     record { member = claim.member; peer = from } ∷ []
@@ -307,8 +311,8 @@ left_before setup entries n =
 abbrev pub is_of_peer : Peer → (Member → Bool) → Departed → Bool
 is_of_peer x test d = is_peer x d.peer && test d.member
 
--- Who has joined has left, as often, or is known; and where a peer asks for a place, each member that it was has left,
--- the last of them by this entry at the latest. This profile.
+-- Who has joined has left, as often, or is known; and where a peer asks for a place, each member
+-- that it was has left, the last of them by this entry at the latest. This profile.
 pub record PeersComeAndGo : Type 0 where
   pub so_far : (setup : Setup) (entries : List Entry) (n : ℕ) (test : Departed → Bool) →
       ClaimsAreAsked setup entries → n ≤ length entries →

@@ -17,7 +17,7 @@ use Rattle.m17_directory.specs.declared.known.Request.{Request}
 use Rattle.m17_directory.specs.declared.verdict.LinkVerdict.{LinkVerdict}
 use Rattle.m17_directory.specs.declared.verdict.LinkVerdict.TheVariants.{Routed, Alive, Asks, NotConnected, NotServed, Full, Stray, Ended}
 use Rattle.m17_directory.specs.declared.verdict.Act.TheVariants as act
-use Rattle.m17_directory.specs.Entries.{Setup, Claim, is_peer}
+use Rattle.m17_directory.specs.Entries.{Setup, Claim}
 
 -- The entry: its link's setup, its index, and the link's moment at it. This profile.
 pub record Here : Type 0 where

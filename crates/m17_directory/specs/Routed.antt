@@ -1,6 +1,6 @@
 -- What each entry of a link comes to, and what all of them route to each module and answer each
 -- peer. This profile.
-use Rattle.std.specs.Prelude.{◌==◌, ◌&&◌, ◌/◌, ℕ, zero, suc, ◌-◌, Bool, true, false, not, List, [], ◌∷◌, ◌++◌, length, map, filter, find, nat_lt, nat_le, Option, None, Some, if◌then◌else◌}
+use Rattle.std.specs.Prelude.{◌==◌, ◌/◌, ℕ, zero, suc, ◌-◌, Bool, true, false, not, List, [], ◌∷◌, ◌++◌, length, map, filter, find, nat_lt, nat_le, Option, None, Some, if◌then◌else◌}
 use Rattle.std.specs.List.{filter_map, flat_map, range_with_len}
 use Rattle.m17_values.specs.declared.peer.Peer.{Peer}
 use Rattle.m17_control.specs.declared.event.Body.TheVariants as body

@@ -1,13 +1,11 @@
 -- For proofs alone: what an entry comes to and whom it leaves known, by what is kept before it.
 use Rattle.std.specs.Prelude.{◌≡◌, ◌==◌, ◌||◌, ℕ, ◌+◌, ◌<◌, ◌≤◌, ◌/◌, Bool, true, false, not, List, [], ◌∷◌, ◌++◌, length, map, filter, insert, slice_set, slice_index_or, nat_lt, Option, None, Some, option_map, if◌then◌else◌}
-use Rattle.std.specs.List.{AllByRecursion, IsDistinct}
 use Rattle.std.specs.Option.{option_map_or}
 use Rattle.std.specs.Ordering.{match_ordering}
 use Rattle.std.specs.declared.cmp.Ordering.TheVariants.{Less}
 use Rattle.m17_values.specs.declared.peer.Peer.{Peer}
 use Rattle.m17_control.specs.declared.event.Body.TheVariants as body
 use Rattle.m17_control.specs.declared.event.Why.TheVariants.{Silent}
-use Rattle.m17_control.specs.declared.packet.Packet.{Packet}
 use Rattle.m17_directory.specs.declared.asked.Asked.{Asked}
 use Rattle.m17_directory.specs.declared.dispatch.Dispatch.{Dispatch}
 use Rattle.m17_directory.specs.declared.known.Departed.{Departed}
@@ -18,7 +16,7 @@ use Rattle.m17_directory.specs.declared.verdict.LinkVerdict.TheVariants.{Refused
 use Rattle.m17_directory.specs.declared.whom.Whom.{Whom}
 use Rattle.m17_directory.specs.declared.whom.Whom.TheVariants as whom
 use Rattle.m17_directory.specs.Entries.{Notice, Claim, passes_time, peer_cmp, is_peer}
-use Rattle.m17_directory.specs.Known.{request_of, request_in}
+use Rattle.m17_directory.specs.Known.{request_of}
 use Rattle.m17_directory.specs.Outcome.{Here, Outcome, only, to_each_module, leave, has_place, of_packet, of_end, settled}
 use Rattle.m17_directory.specs.Routed.{tick_ms, is_silent, row_for, is_asks}
 use Rattle.m17_directory.specs.StandsFor.{with_left, has_departing, most_members}

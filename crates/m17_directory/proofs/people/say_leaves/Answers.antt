@@ -1,4 +1,4 @@
-use Rattle.std.proofs.Common.{length, ap, arith, sym, ◌∙◌}
+use Rattle.std.proofs.Common.{sym, ◌∙◌}
 use Rattle.m17_directory.specs.Outcome.{leave}
 use Rattle.m17_directory.specs.Steps.{is_among}
 use Rattle.m17_directory.proofs.Filters.{posted_less, departing_less}

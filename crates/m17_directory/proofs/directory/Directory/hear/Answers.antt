@@ -1,11 +1,10 @@
-use Rattle.std.proofs.Common.{◌≡◌, ℕ, ◌+◌, ◌||◌, Bool, leb, max, cond, List, length, refl, ap, sym, ◌∙◌, subst, arith}
-use Rattle.m17_directory.specs.declared.known.Departed.{Departed}
+use Rattle.std.proofs.Common.{◌≡◌, ℕ, ◌+◌, ◌||◌, Bool, leb, max, List, length, refl, ap, sym, ◌∙◌, subst, arith}
 use Rattle.m17_directory.specs.declared.known.Known.{Known}
-use Rattle.m17_directory.specs.Entries.{Notice, Entry, Says, moment_of, is_end, is_fault}
+use Rattle.m17_directory.specs.Entries.{Notice, Entry, Says, moment_of, is_end}
 use Rattle.m17_directory.specs.Outcome.{Here}
 use Rattle.m17_directory.specs.Sound.{kept_of}
 use Rattle.m17_directory.specs.StandsFor.{Kept, StandsFor, IsHeard, IsBounded, HasGrown}
-use Rattle.m17_directory.specs.Steps.{IsTaken, Lists, still_by, known_by}
+use Rattle.m17_directory.specs.Steps.{IsTaken}
 use Rattle.m17_directory.proofs.Bounds.{IsSeated, seated_known}
 use Rattle.m17_directory.proofs.Heard.{hear_stands}
 use Rattle.m17_directory.proofs.Kept.{bounded_by, seated_of, below_most}

@@ -1,4 +1,4 @@
-use Rattle.std.proofs.Common.{◌≡◌, ◌≤◌, ◌+◌, length, not, ap, sym, subst, arith}
+use Rattle.std.proofs.Common.{not, sym, subst, arith}
 use Rattle.m17_directory.specs.StandsFor.{IsBounded, is_member}
 use Rattle.m17_directory.specs.Sound.{kept_of}
 use Rattle.m17_directory.specs.Steps.{Lists}

@@ -1,11 +1,10 @@
-use Rattle.std.proofs.Common.{◌≡◌, ◌+◌, ◌≤◌, ◌<◌, ℕ, List, [], ◌∷◌, ◌++◌, length, Option, Some, IfSome, refl, ap, sym, ◌∙◌, subst, arith}
-use Rattle.m17_values.specs.declared.member.Member.{Member}
+use Rattle.std.proofs.Common.{◌≡◌, ◌+◌, ◌<◌, List, [], ◌∷◌, ◌++◌, length, Some, IfSome, refl, ap, sym, ◌∙◌, subst, arith}
 use Rattle.m17_directory.specs.declared.known.Known.{Known}
 use Rattle.m17_directory.specs.Entries.{Notice, Entry}
 use Rattle.m17_directory.specs.Outcome.{Here}
 use Rattle.m17_directory.specs.Sound.{kept_of}
 use Rattle.m17_directory.specs.StandsFor.{Kept, StandsFor, IsSettled, IsBounded, unclaimed, claimed}
-use Rattle.m17_directory.specs.Steps.{IsGiven, Lists}
+use Rattle.m17_directory.specs.Steps.{IsGiven}
 use Rattle.m17_directory.proofs.Bounds.{IsSeated}
 use Rattle.m17_directory.proofs.Kept.{bounded_by, seated_of, free_if, claim_of, seated_after, together_after}
 use Rattle.m17_directory.proofs.Settled.{settle_stands}

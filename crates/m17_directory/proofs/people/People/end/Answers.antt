@@ -1,7 +1,6 @@
-use Rattle.std.proofs.Common.{◌≡◌, Bool, true, not, List, [], ◌++◌, ◌≤◌, length, map, filter, ap, sym, ◌∙◌, arith}
+use Rattle.std.proofs.Common.{true, List, [], ◌++◌, ◌≤◌, length, map, filter, ap, ◌∙◌, arith}
 use Rattle.m17_control.specs.declared.event.Body.TheVariants as body
 use Rattle.m17_control.specs.declared.event.Why.TheVariants.{Stopped}
-use Rattle.m17_directory.specs.declared.dispatch.Dispatch.{Dispatch}
 use Rattle.m17_directory.specs.declared.known.Known.{Known}
 use Rattle.m17_directory.specs.Outcome.{leave, to_each_module}
 use Rattle.m17_directory.specs.StandsFor.{with_left}

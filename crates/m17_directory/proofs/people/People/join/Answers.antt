@@ -1,7 +1,6 @@
-use Rattle.std.proofs.Common.{◌≡◌, ◌≤◌, ◌<◌, ◌+◌, List, length, map, filter, not, ap, sym, ◌∙◌, arith}
+use Rattle.std.proofs.Common.{◌≤◌, length, ap, arith}
 use Rattle.m17_control.specs.declared.event.Why.TheVariants.{Replaced}
 use Rattle.m17_directory.specs.Outcome.{leave, has_place}
-use Rattle.m17_directory.specs.StandsFor.{with_left}
 use Rattle.m17_directory.specs.Steps.{Lists}
 use Rattle.m17_directory.proofs.Filters.{room_for, few_told, with_row_length, left_together}
 use Rattle.m17_directory.proofs.people.People.join.Goals as goal

@@ -1,6 +1,5 @@
-use Rattle.std.proofs.Common.{◌≡◌, List, length, map, filter, not, ap, refl, arith, length-append}
+use Rattle.std.proofs.Common.{◌≡◌, length, map, filter, not, ap, refl, arith, length-append}
 use Rattle.std.proofs.lemmas.List.Filters.{length-filter_both}
-use Rattle.m17_directory.specs.declared.known.Departed.{Departed}
 use Rattle.m17_directory.specs.StandsFor.{departed_of}
 use Rattle.m17_directory.specs.Steps.{is_among}
 use Rattle.m17_directory.proofs.Filters.{filter_le, map_length}

@@ -1,11 +1,7 @@
-use Rattle.std.proofs.Common.{◌≡◌, List, [], ◌++◌, map, Option, None, ap, sym, ◌∙◌, append-nil}
-use Rattle.m17_directory.specs.declared.known.Known.{Known}
-use Rattle.m17_directory.specs.Routed.{is_asks, row_for}
-use Rattle.m17_directory.specs.Outcome.{of_packet}
-use Rattle.m17_directory.specs.Known.{request_of}
-use Rattle.m17_directory.specs.StandsFor.{with_left}
-use Rattle.m17_directory.specs.Steps.{IsComeTo, IsGapFor, Lists, rows_by, asked_by}
-use Rattle.m17_directory.proofs.Heard.{other_left, come_to_other}
+use Rattle.std.proofs.Common.{◌≡◌, None, ap, sym, ◌∙◌}
+use Rattle.m17_directory.specs.Routed.{row_for}
+use Rattle.m17_directory.specs.Steps.{Lists}
+use Rattle.m17_directory.proofs.Heard.{come_to_other}
 use Rattle.m17_directory.proofs.people.People.packet.Goals as goal
 
 pub returns-in-Err : goal.returns-in-Err

@@ -1,11 +1,9 @@
-use Rattle.std.proofs.Common.{◌≡◌, ◌≤◌, List, [], length, map, filter, not, ap, sym, ◌∙◌, subst, refl, arith}
+use Rattle.std.proofs.Common.{◌≡◌, ◌≤◌, [], length, filter, ap, sym, ◌∙◌, arith}
 use Rattle.m17_control.specs.declared.event.Why.TheVariants.{Silent}
-use Rattle.m17_directory.specs.declared.known.Known.{Known}
 use Rattle.m17_directory.specs.Outcome.{leave}
 use Rattle.m17_directory.specs.Routed.{is_silent}
-use Rattle.m17_directory.specs.StandsFor.{with_left}
-use Rattle.m17_directory.specs.Steps.{Lists, is_among}
-use Rattle.m17_directory.proofs.Filters.{keep_all, room_for, few_told, left_none}
+use Rattle.m17_directory.specs.Steps.{Lists}
+use Rattle.m17_directory.proofs.Filters.{room_for, few_told, left_none}
 use Rattle.m17_directory.proofs.people.People.silence.Goals as goal
 
 pub leave-requires : goal.leave-requires

@@ -1,4 +1,4 @@
-use Rattle.std.proofs.Common.{◌≡◌, ◌≤◌, List, length, filter, not, ap, sym, ◌∙◌, subst, arith, rules, of_calls}
+use Rattle.std.proofs.Common.{◌≡◌, List, length, filter, not, ap, sym, ◌∙◌, subst, arith, rules, of_calls}
 use Rattle.std.proofs.lemmas.Fn.{filter_same}
 use Rattle.m17_directory.specs.declared.known.Known.{Known}
 use Rattle.m17_directory.specs.Steps.{IsInOrder, IsEarliest, is_among}
