@@ -14,7 +14,7 @@ use Rattle.m17_directory.specs.Entries.{Entry, peers_named}
 use Rattle.m17_house.specs.declared.plan.Plan.{Plan}
 use Rattle.m17_report.specs.Summary.{counts_text, peer_line, peers_text}
 use Rattle.m17_replay.specs.declared.judging.Replayed.{Replayed}
-use Rattle.m17_replay.specs.Replay.{failed_device, heard_count, line_of, lines_text, outcome_of, replay_text, summary_text, tally_at, ComesToReplay, IsReplayText}
+use Rattle.m17_replay.specs.Replay.{failed_device, heard_count, line_of, lines_text, outcome_of, replay_text, streams, summary_text, tally_at, ComesToReplay, EndsBeforeText, IsReplayText}
 use Rattle.m17_replay.specs.Run.{judged_ending, AreVerdicts, IsJudged, Writes}
 use Rattle.m17_replay.proofs.Writing.{writes_part, writes_same, writes_then}
 
@@ -54,7 +54,7 @@ module _ (plan : Plan) (summary : Bool) (bytes : List ℕ) (heard : List Heard) 
   -- how it ends
   pub ended : (result : Result (Unit {0}) Failed) (lost : Bool) (left first before_it written : Option (List ℕ)) → left ≡ Some [] → replayed.lost ≡ lost → before_it ≡ first
       → Writes result (replay_text plan summary is.entries) before_it written
-      → ComesToReplay plan summary (judged_ending result lost) bytes left first written
+      → ComesToReplay plan summary (judged_ending result lost) (streams bytes left first written)
   ended (Ok v) true left first before_it written none e same writes =
       let text = is_text true e in
       record {
@@ -102,6 +102,12 @@ ended_causes a b c d e (Err failed) lost first then = record {
   no_read_fault = λ _. first.no_read_fault (λ is. cc);
   no_write_fault = λ is. absurd (is refl);
 }
+
+-- where a text was to be written, the input was not refused and the source did not fail
+pub text_was_due : {T E : Type 0} (result : Result T E) (lost : Bool) → EndsBeforeText (judged_ending result lost) → ⊥
+text_was_due (Ok v) true before = before
+text_was_due (Ok v) false before = before
+text_was_due (Err failed) lost before = before
 
 -- what an answer says of one of its cases
 pub in_ok : {T E : Type 0} (result : Result T E) (P : T → Type 0) (Q : E → Type 0) (value : T) → result ≡ Ok value → MatchResult result P Q → P value

@@ -3,3 +3,5 @@ mod Steps
 mod HeardLemmas
 mod Judged
 mod Ends
+mod OneText
+mod Lost

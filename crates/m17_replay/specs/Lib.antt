@@ -1,4 +1,6 @@
--- What callers speak of: what `replay` prints, and how it ends. `Run`, which no public clause cites, is for the code.
+-- What callers speak of: what `replay` prints, how it ends, and its laws. `Run`, which no public clause cites, is for
+-- the code.
 pub mod Reasons
 pub mod Replay
+pub mod Laws
 pub mod Run

@@ -87,6 +87,14 @@ PrintsReplay plan summary WriteFailed input text = (text ≡ [])
     ⊎ ((lost : Bool) × (whole after : List ℕ) × IsReplayText plan summary lost input whole
     × (whole ≡ text ++ after))
 
+-- The ending comes before any text: the input is refused, or the source failed. This profile.
+abbrev pub EndsBeforeText : ReplayEnding → Type 0
+EndsBeforeText Finished = ⊥
+EndsBeforeText LinkLost = ⊥
+EndsBeforeText (Refused place reason) = Unit {0}
+EndsBeforeText ReadFailed = Unit {0}
+EndsBeforeText WriteFailed = ⊥
+
 -- the device that failed, where `replay` ended so
 abbrev pub failed_device : ReplayEnding → Option Fault
 failed_device Finished = None
@@ -95,11 +103,22 @@ failed_device (Refused place reason) = None
 failed_device ReadFailed = Some Read
 failed_device WriteFailed = Some Write
 
+-- What the devices tell of a run: the input, what is left of it, and what was written before the run and after it.
+pub record Streams : Type 0 where
+  pub input : List ℕ
+  pub left : Option (List ℕ)
+  pub first : Option (List ℕ)
+  pub written : Option (List ℕ)
+
+abbrev pub streams : List ℕ → Option (List ℕ) → Option (List ℕ) → Option (List ℕ) → Streams
+streams input left first written =
+    record { input = input; left = left; first = first; written = written }
+
 -- `replay` came to this ending: what it says of the input and of what is left of it holds, and what it prints was
 -- appended to what was written before. This profile.
-pub record ComesToReplay (plan : Plan) (summary : Bool) (ending : ReplayEnding) (input : List ℕ)
-    (left first written : Option (List ℕ)) : Type 0 where
-  pub said : SaysReplay plan summary ending input left
-  pub printed : (before : List ℕ) → first ≡ Some before
-      → (text : List ℕ) × (written ≡ Some (before ++ text))
-      × PrintsReplay plan summary ending input text
+pub record ComesToReplay (plan : Plan) (summary : Bool) (ending : ReplayEnding)
+    (tell : Streams) : Type 0 where
+  pub said : SaysReplay plan summary ending tell.input tell.left
+  pub printed : (before : List ℕ) → tell.first ≡ Some before
+      → (text : List ℕ) × (tell.written ≡ Some (before ++ text))
+      × PrintsReplay plan summary ending tell.input text

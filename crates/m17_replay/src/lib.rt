@@ -6,6 +6,7 @@
 
 mod ending;
 mod judging;
+pub mod laws;
 mod lines;
 mod peers;
 mod reading;

@@ -4,7 +4,7 @@ ghost use Rattle.m17_book.specs.Answers.{HasEnd};
 ghost use Rattle.m17_book.specs.Book.{IsTrace};
 ghost use Rattle.m17_house.specs.declared.plan.Plan.{Plan};
 ghost use Rattle.m17_replay.specs.declared.ending.ReplayEnding.TheVariants.{Refused};
-ghost use Rattle.m17_replay.specs.Replay.{ComesToReplay};
+ghost use Rattle.m17_replay.specs.Replay.{streams, ComesToReplay};
 ghost use Rattle.m17_replay.specs.Run.{stopped_by};
 
 use crate::{ReplayEnding, TraceReason};
@@ -24,8 +24,8 @@ pub(crate) fn read_heard<S: Input<K>, K: Sink>(
     ensures ends { IfOk result (λ read. IfOk read (λ heard. HasEnd heard.items)) }
     ensures read { IfOk result (λ read. (bytes : List ℕ) → S.left input.old ≡ Some bytes →
         MatchResult read (λ heard. IsTrace bytes heard.items × (S.left input.new ≡ Some []))
-        (λ ending. (plan : Plan) → (summary : Bool) → ComesToReplay plan summary ending bytes
-        (S.left input.new) (K.written out.old) (K.written out.new))) }
+        (λ ending. (plan : Plan) → (summary : Bool) → ComesToReplay plan summary ending
+        (streams bytes (S.left input.new) (K.written out.old) (K.written out.new)))) }
     ensures nothing_written { K.written out.new ≡ K.written out.old }
     ensures no_fault { OnErr result ((S.faults input.new ≡ S.faults input.old)
         × (K.faults out.new ≡ K.faults out.old)) }

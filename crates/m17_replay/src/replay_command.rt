@@ -4,7 +4,7 @@ ghost use Rattle.m17_print.specs.Endings.{Grows};
 ghost use Rattle.m17_house.specs.Replay.{IsPlan};
 ghost use Rattle.m17_directory.specs.Entries.{Entry};
 ghost use Rattle.m17_house.specs.declared.plan.Plan.{Plan};
-ghost use Rattle.m17_replay.specs.Replay.{failed_device, replay_text, summary_text, ComesToReplay};
+ghost use Rattle.m17_replay.specs.Replay.{failed_device, replay_text, streams, summary_text, ComesToReplay, EndsBeforeText};
 ghost use Rattle.m17_replay.specs.Run.{judged_ending, CanPrint, StandsFor, Writes};
 
 use crate::ReplayEnding;
@@ -34,9 +34,12 @@ pub fn replay<S: Input<K>, K: Sink>(
         (S.faults input.new, K.faults out.new) (failed_device ending)) }
     // What the ending says of the input holds, and what it prints stands written.
     ensures ended { IfOk result (λ ending. (bytes : List ℕ) → S.left input.old ≡ Some bytes →
-        ComesToReplay plan.now summary ending bytes (S.left input.new)
-        (K.written out.old) (K.written out.new)) }
+        ComesToReplay plan.now summary ending
+        (streams bytes (S.left input.new) (K.written out.old) (K.written out.new))) }
     ensures appended { Grows (K.written out.old) (K.written out.new) }
+    // Nothing was written of an input that is refused, or where the source failed, whatever the source tells.
+    ensures unwritten { IfOk result (λ ending. EndsBeforeText ending →
+        K.written out.new ≡ K.written out.old) }
     // Want of memory comes before anything is written, and no device has failed then.
     ensures untouched { OnErr result (K.written out.new ≡ K.written out.old) }
     ensures no_fault { OnErr result ((S.faults input.new ≡ S.faults input.old)

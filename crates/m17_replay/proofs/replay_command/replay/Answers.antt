@@ -4,9 +4,9 @@ use Rattle.m17_values.specs.declared.heard.Heard.{Heard}
 use Rattle.m17_book.specs.Book.{IsTrace}
 use Rattle.m17_print.proofs.Grown.{grows_none, grows_then}
 use Rattle.m17_replay.specs.declared.ending.ReplayEnding.{ReplayEnding}
-use Rattle.m17_replay.specs.Replay.{failed_device, ComesToReplay}
+use Rattle.m17_replay.specs.Replay.{failed_device, streams, ComesToReplay, EndsBeforeText}
 use Rattle.m17_replay.specs.Run.{stopped_by}
-use Rattle.m17_replay.proofs.Ends.{ended, ended_causes, in_err, in_ok}
+use Rattle.m17_replay.proofs.Ends.{ended, ended_causes, in_err, in_ok, text_was_due}
 use Rattle.m17_replay.proofs.Writing.{writes_grow}
 use Rattle.m17_replay.proofs.replay_command.replay.Goals as goal
 
@@ -19,7 +19,7 @@ pub returns-clause-ended : goal.returns-clause-ended
 returns-clause-ended g c = λ bytes told.
     let read = in_ok c.in-Ok-Ok.field-0 _ _ c.in-Ok-Ok.heard c.in-Ok-Ok.field-0-is (c.in-Ok-Ok.ensures.read bytes told) in
     let judged = c.in-Ok.ensures.judged in
-    subst (λ (ending : ReplayEnding). ComesToReplay c.args.plan.now c.args.summary ending bytes (g.S.Input.left c.read_heard.new.input) (g.K.Sink.written c.args.out.now) (g.K.Sink.written c.print_replayed-printed.new.out))
+    subst (λ (ending : ReplayEnding). ComesToReplay c.args.plan.now c.args.summary ending (streams bytes (g.S.Input.left c.read_heard.new.input) (g.K.Sink.written c.args.out.now) (g.K.Sink.written c.print_replayed-printed.new.out)))
     (sym c.ending_of.ensures)
     (ended c.args.plan.now c.args.summary bytes c.deref.result.now c.in-Ok.replayed (subst (λ (heard : List Heard). IsTrace bytes heard) (sym c.deref.ensures.value) read.0) judged
     c.print_replayed-printed.result c.in-Ok.replayed.lost _ _ _ _ read.1 refl c.in-Ok-Ok.ensures.nothing_written
@@ -33,6 +33,10 @@ returns-clause-causes g c =
     subst (λ (ending : ReplayEnding). HasCauses (ins c.args.input.now, outs c.args.out.now) (ins c.read_heard.new.input, outs c.print_replayed-printed.new.out) (failed_device ending))
     (sym c.ending_of.ensures)
     (ended_causes _ _ _ _ _ c.print_replayed-printed.result c.in-Ok.replayed.lost read c.print_replayed-printed.ensures.cause)
+
+pub returns-clause-unwritten : goal.returns-clause-unwritten
+returns-clause-unwritten g c = λ before.
+    absurd (text_was_due c.print_replayed-printed.result c.in-Ok.replayed.lost (subst (λ (ending : ReplayEnding). EndsBeforeText ending) c.ending_of.ensures before))
 
 pub returns-clause-appended : goal.returns-clause-appended
 returns-clause-appended g c =
