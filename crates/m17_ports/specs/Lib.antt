@@ -5,3 +5,4 @@ pub mod Tallies
 pub mod Mouth
 pub mod Shelf
 pub mod Ports
+pub mod Laws

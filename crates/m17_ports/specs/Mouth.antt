@@ -1,5 +1,5 @@
 -- What a mouth has said. This profile.
-use Rattle.std.specs.Prelude.{◌≡◌, ℕ, List, [], Option, None, Some}
+use Rattle.std.specs.Prelude.{◌≡◌, ℕ, List, Option, Some}
 use Rattle.m17_values.specs.declared.peer.Peer.{Peer}
 use Rattle.m17_ports.specs.Told.{StartsEmpty}
 use Rattle.m17_ports.specs.Tallies.{no_tally}

@@ -1,6 +1,6 @@
 -- How many datagrams of each kind were said to a peer. A kind is told by the first four bytes. M17 Protocol
 -- Specification, IP networking; the control packets' forms are this profile's.
-use Rattle.std.specs.Prelude.{◌≡◌, ◌≢◌, ℕ, Bool, ◌+◌, ◌-◌, ◌^◌, List, codes, min, nat_eq, if◌then◌else◌, Option}
+use Rattle.std.specs.Prelude.{◌≡◌, ◌≢◌, ℕ, ◌+◌, ◌-◌, ◌^◌, List, codes, min, nat_eq, if◌then◌else◌, Option}
 use Rattle.std.specs.Option.{option_map}
 use Rattle.std.specs.List.{starts_with}
 use Rattle.m17_values.specs.declared.peer.Peer.{Peer}

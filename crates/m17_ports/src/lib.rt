@@ -7,6 +7,7 @@
 
 mod book;
 mod ear;
+pub mod laws;
 mod mouth;
 mod ports;
 mod question;

@@ -1,12 +1,12 @@
 -- The seats that `make` hands out.
-use Rattle.std.proofs.Common.{◌≡◌, ℕ, zero, suc, ◌+◌, ◌-◌, ◌<◌, List, [], ◌∷◌, ◌++◌, get_or, replicate, sym, refl, ap, ◌∙◌, subst, arith}
+use Rattle.std.proofs.Common.{◌≡◌, ℕ, zero, suc, ◌+◌, ◌<◌, List, [], ◌∷◌, ◌++◌, get_or, replicate, sym, refl, ap, ◌∙◌, subst, arith}
 use Rattle.std.specs.Arc.{arc_value}
 use Rattle.std.proofs.lemmas.List.{replicate-append-replicate}
 use Rattle.atomic_table.specs.Table.{Me}
 use Rattle.m17_roll.specs.declared.rule.Notes.{Notes}
 use Rattle.m17_roll.specs.declared.seat.RollSeat.TheInside.{Inside}
 use Rattle.m17_roll.specs.Seat.{RollView, new_seat}
-use Rattle.m17_roll.specs.Notes.{newcomer, rest_of}
+use Rattle.m17_roll.specs.Notes.{newcomer}
 use Rattle.m17_roll.specs.SeatModel.{seat_view, IsSeated}
 use Rattle.m17_roll.proofs.Seated.{view_at}
 

@@ -1,11 +1,10 @@
 -- `close` goes through the seats from the last to the first.
-use Rattle.std.proofs.Common.{◌≡◌, ℕ, List, [], ◌∷◌, ◌++◌, length, get_or, sym, refl, ap, ◌∙◌, subst, arith, append-nil, append_assoc, length-append}
+use Rattle.std.proofs.Common.{◌≡◌, ℕ, List, [], ◌∷◌, ◌++◌, length, get_or, sym, refl, ap, ◌∙◌, subst, arith, append-nil, length-append}
 use Rattle.std.proofs.Math.Seq.{get_or-append_seam}
 use Rattle.atomic_table.specs.Seated.{TableId}
-use Rattle.m17_values.specs.declared.member.Member.{Member}
 use Rattle.m17_roll.specs.Seat.{RollView, IsSeatOf}
 use Rattle.m17_roll.specs.Closing.{AreAll}
-use Rattle.m17_roll.specs.Joined.{GatheredView, first_gathered, with_seat, IsGathered}
+use Rattle.m17_roll.specs.Joined.{GatheredView, first_gathered, IsGathered}
 
 -- of all seats the rest is still to come, and the others were joined
 pub record Gathers (all rest : List RollView) (g : GatheredView) : Type 0 where

@@ -10,3 +10,4 @@ mod Running
 mod Ending
 mod Gathers
 mod Twice
+mod Given

@@ -27,7 +27,7 @@ further : (m : Member) (ms : List Member) (q g : ℕ) → Contains ms (member q 
 further m ms q g t = (suc t.0, (let lt = t.1 in omega arith), t.2)
 
 -- what has weight stands among the members
-stands : (q g : ℕ) (ms : List Member) → 0 < weigh (mark q g) ms → Contains ms (member q g)
+pub stands : (q g : ℕ) (ms : List Member) → 0 < weigh (mark q g) ms → Contains ms (member q g)
 stands q g [] h = absurd (omega arith)
 stands q g (m ∷ ms) h = dite (ℕ_discrete m.place q)
     (λ p. dite (ℕ_discrete m.generation g)

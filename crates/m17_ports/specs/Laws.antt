@@ -1,0 +1,25 @@
+-- What follows from the meaning of the devices, for callers to cite by name. This profile.
+use Rattle.std.specs.Prelude.{◌≡◌, ◌≢◌, List, [], ◌++◌, Option}
+use Rattle.std.specs.List.{All}
+use Rattle.m17_values.specs.declared.heard.Heard.{Heard}
+use Rattle.m17_values.specs.declared.heard.Heard.TheVariants.{End}
+use Rattle.m17_ports.specs.Told.{told_then, StartsEmpty}
+use Rattle.m17_ports.specs.Ear.{EndsPastCount}
+
+-- An ear of which nothing was heard has not heard too many Ends. This profile.
+abbrev pub NewEarsTell : Type 0
+NewEarsTell = (told : Option (List Heard)) → StartsEmpty told → EndsPastCount told → ⊥
+
+-- An ear that has not heard too many Ends has not after more without an End. This profile.
+abbrev pub EarsTellOn : Type 0
+EarsTellOn = (told : Option (List Heard)) (more : List Heard) → (EndsPastCount told → ⊥)
+    → All (λ entry. entry ≢ End) more → EndsPastCount (told_then told more) → ⊥
+
+-- This profile.
+abbrev pub ToldInTurn : (T : Type 0) → Type 0
+ToldInTurn T = (told : Option (List T)) (first second : List T)
+    → told_then (told_then told first) second ≡ told_then told (first ++ second)
+
+-- This profile.
+abbrev pub NothingMoreIsTold : (T : Type 0) → Type 0
+NothingMoreIsTold T = (told : Option (List T)) → told_then told [] ≡ told

@@ -1,0 +1,16 @@
+//! What follows from the meaning of the devices, for callers to cite by name. Each function has no body: its clause is
+//! the law. This profile.
+ghost use Rattle.m17_ports.specs.Laws as law;
+
+/// An ear counts its Ends to 2^64 - 1, and tells what it hears up to there: so all that a new ear hears up to its first
+/// End, and an ear that tells goes on to tell while no End is heard.
+pub fn ears_tell_up_to_the_end()
+    ensures new { law.NewEarsTell }
+    ensures on { law.EarsTellOn }
+{}
+
+/// What is told after one part and then another is what is told after both, and nothing more changes nothing.
+pub fn told_in_turn<T>()
+    ensures parts { law.ToldInTurn T }
+    ensures nothing { law.NothingMoreIsTold T }
+{}
