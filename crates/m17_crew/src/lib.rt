@@ -8,6 +8,7 @@
 #![tactic(auto)]
 
 mod crew;
+pub mod laws;
 mod many;
 mod order;
 mod refusing_crew;

@@ -3,7 +3,7 @@
 ghost use Rattle.std.specs.Prelude.{◌≡◌, ◌*◌, ◌+◌, ◌<◌, ◌≤◌, ◌^◌, [], All, IfOk, OnOk, vec_len, vec_capacity};
 ghost use Rattle.std.specs.List.{AllZip};
 ghost use Rattle.m17_io.specs.Faults.{HasCause};
-ghost use Rattle.m17_crew.specs.Lists.{Ran};
+ghost use Rattle.m17_crew.specs.Laws.{Ran};
 
 use super::*;
 use crate::running::begin;
@@ -91,6 +91,8 @@ fn do_all<W: Work, C: Crew, R: Threads + Wait + Copy + Send + 'static>(
 {
     let answer = start_all(rt, alloc, crew, jobs, running);
     join_all(rt, running, jobs);
+    laws::jobs_come_back_in_order::<W>();
+    laws::all_jobs_come_back_done::<W>();
     answer
 }
 
