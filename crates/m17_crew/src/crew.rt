@@ -8,6 +8,11 @@ use std::alloc::Global;
 use std::sync::Wait;
 use std::thread::{Builder, Threads};
 
+/// What `Crew::start` alone has, and shows to the crew. No other crate can make one, so a crew is told of a start, and that
+/// one was refused, by nobody else. This profile.
+#[derive(Drop)]
+pub struct Starter(());
+
 /// What starts jobs, each in a thread of its own. This profile.
 pub trait Crew {
     /// How many starts were refused.
@@ -19,15 +24,15 @@ pub trait Crew {
     /// The numbers of the starts that it refuses of itself, whatever the system would do.
     ghost refuses: { Self → List ℕ };
 
-    /// Counts a start, and says whether it is one that is refused untried. For `start`.
-    fn withholds_next(&mut self) -> bool
+    /// Counts a start, and says whether it is one that is refused untried.
+    fn withholds_next(&mut self, starter: &Starter) -> bool
         ensures withheld { IsTrue result ↔ Contains (refuses self.old) (starts self.old) }
         ensures counted { starts self.new ≡ next_number (starts self.old) }
         ensures others { (refusals self.new ≡ refusals self.old)
             × (refuses self.new ≡ refuses self.old) };
 
-    /// Counts a refusal. For `start`.
-    fn count_refusal(&mut self)
+    /// Counts a refusal.
+    fn count_refusal(&mut self, starter: &Starter)
         ensures counted { refusals self.new ≡ next_number (refusals self.old) }
         ensures others { (starts self.new ≡ starts self.old)
             × (refuses self.new ≡ refuses self.old) };
@@ -52,14 +57,15 @@ pub trait Crew {
         ensures counted { starts self.new ≡ next_number (starts self.old) }
         ensures same_refuses { refuses self.new ≡ refuses self.old }
     {
-        if self.withholds_next() {
-            self.count_refusal();
+        let starter = Starter(());
+        if self.withholds_next(&starter) {
+            self.count_refusal(&starter);
             return Err(job);
         }
         match begin(rt, alloc, Builder::new(), job) {
             Ok(running) => Ok(running),
             Err(back) => {
-                self.count_refusal();
+                self.count_refusal(&starter);
                 Err(back)
             }
         }

@@ -8,6 +8,7 @@
 #![tactic(auto)]
 
 mod crew;
+pub mod laws;
 mod many;
 mod order;
 mod refusing_crew;
@@ -17,7 +18,7 @@ mod std_crew;
 mod tests;
 mod work;
 
-pub use crew::Crew;
+pub use crew::{Crew, Starter};
 pub use many::{join_all, start_all};
 pub use order::Order;
 pub use refusing_crew::RefusingCrew;

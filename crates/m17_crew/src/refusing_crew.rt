@@ -1,7 +1,7 @@
 ghost use Rattle.std.specs.Prelude.{◌≡◌, ◌↔◌, min, ◌-◌, ◌^◌, Contains, IsTrue};
 ghost use Rattle.m17_ports.specs.Ports.{next_number};
 
-use crate::Crew;
+use crate::{Crew, Starter};
 use std::marker::Model;
 
 /// A crew that can be told to refuse, for tests. It starts the other jobs as `StdCrew` does. This profile.
@@ -13,7 +13,7 @@ pub struct RefusingCrew {
 }
 
 impl Model for RefusingCrew {
-    ghost use Rattle.m17_crew.specs.Kept.{CrewKept};
+    ghost use Rattle.m17_crew.specs.Crew.{CrewKept};
 
     ghost Value = { CrewKept };
 
@@ -25,7 +25,7 @@ impl Model for RefusingCrew {
 }
 
 impl RefusingCrew {
-    ghost use Rattle.m17_crew.specs.Kept.{new_crew};
+    ghost use Rattle.m17_crew.specs.Crew.{new_crew};
 
     /// A crew that has started nothing, and refuses the starts with these numbers, counted from 0. This profile.
     pub fn new(refuses: Vec<u64>) -> RefusingCrew
@@ -50,13 +50,13 @@ impl Crew for RefusingCrew {
 
     ghost refusals_fit = { λ c. min-le_right c.refusals (2 ^ 64 - 1) };
 
-    fn withholds_next(&mut self) -> bool {
+    fn withholds_next(&mut self, _starter: &Starter) -> bool {
         let start = self.starts;
         self.starts = self.starts.saturating_add(1);
         self.refuses.contains(&start)
     }
 
-    fn count_refusal(&mut self) {
+    fn count_refusal(&mut self, _starter: &Starter) {
         self.refusals = self.refusals.saturating_add(1);
     }
 }

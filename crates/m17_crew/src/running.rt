@@ -66,11 +66,11 @@ fn done_here<W: Work, R: Wait>(rt: &R, job: W) -> W
 
 // Starts a thread of this kind for the job. The job comes back where there is none, or no memory for it.
 //
-// The system hands back only the closure that was to run, and the job within it. So the closure looks at a flag: where
-// the job was recalled it gives the job back and does nothing. Nobody but this function sets the flag, and only where
-// there is no thread. So a thread always does its job, and a recalled closure never does. But no proof knows what a flag
-// holds, so both answers are handled in both places: `Running` may hold a job that is done, and `join` does one that
-// came back undone. The test `a_job_for_which_there_is_no_thread_is_not_done` shows that the flag does its work.
+// The system hands back only the closure that was to run, with the job inside it. So the closure looks at a flag: where
+// it is set, it gives the job back and does nothing. Nobody but this function sets it, and only where there is no
+// thread, so a thread always does its job and a recalled closure never does. But no proof knows what a flag holds, so
+// both answers are handled in both places: `Running` may hold a job that is done, and `join` does one that came back
+// undone. The test `a_job_for_which_there_is_no_thread_is_not_done` shows that the flag does its work.
 pub(crate) fn begin<W: Work, R: Threads + Wait + Copy + Send + 'static>(
     rt: &R,
     alloc: Global,
@@ -80,10 +80,7 @@ pub(crate) fn begin<W: Work, R: Threads + Wait + Copy + Send + 'static>(
     requires ready { W.ready job }
     ensures job { MatchResult result (λ running. running ≡ job) (λ back. back ≡ job) }
 {
-    let Ok(recalled) = Arc::new(alloc, AtomicBool::new(false)) else {
-        return Err(job);
-    };
-    let Ok(watched) = Arc::try_clone(&recalled) else {
+    let Some((recalled, watched)) = make_flag(alloc) else {
         return Err(job);
     };
     let was = Snapshot::of(&job);
@@ -100,22 +97,21 @@ pub(crate) fn begin<W: Work, R: Threads + Wait + Copy + Send + 'static>(
             done_unless(&runtime, watched, job)
         },
     );
-    match started {
-        Ok(thread) => Ok(Running {
-            job: was,
-            place: Ok(thread),
-        }),
+    let place = match started {
+        Ok(thread) => Ok(thread),
         Err(refused) => {
             recalled.store(true, Ordering::SeqCst);
-            match (refused.value)() {
-                Ok(done) => Ok(Running {
-                    job: was,
-                    place: Err(done),
-                }),
-                Err(back) => Err(back),
-            }
+            Err((refused.value)()?)
         }
-    }
+    };
+    Ok(Running { job: was, place })
+}
+
+// A flag that isn't set: for the one who may set it, and for the one who looks at it.
+fn make_flag(alloc: Global) -> Option<(Arc<AtomicBool, Global>, Arc<AtomicBool, Global>)> {
+    let flag = Arc::new(alloc, AtomicBool::new(false)).ok()?;
+    let same = Arc::try_clone(&flag).ok()?;
+    Some((flag, same))
 }
 
 // Does the job, or gives it back where it was recalled.

@@ -1,7 +1,7 @@
 ghost use Rattle.std.specs.Prelude.{◌≡◌, ◌↔◌, [], min, ◌-◌, ◌^◌, Contains, IsTrue};
 ghost use Rattle.m17_ports.specs.Ports.{next_number};
 
-use crate::Crew;
+use crate::{Crew, Starter};
 use std::marker::Model;
 
 /// The crew of the system: each job gets a thread. It refuses a start only where the system gives no thread or no
@@ -14,7 +14,7 @@ pub struct StdCrew {
 
 impl Model for StdCrew {
     ghost use Rattle.std.specs.Prelude.{[]};
-    ghost use Rattle.m17_crew.specs.Kept.{CrewKept};
+    ghost use Rattle.m17_crew.specs.Crew.{CrewKept};
 
     ghost Value = { CrewKept };
 
@@ -22,7 +22,7 @@ impl Model for StdCrew {
 }
 
 impl StdCrew {
-    ghost use Rattle.m17_crew.specs.Kept.{new_crew};
+    ghost use Rattle.m17_crew.specs.Crew.{new_crew};
 
     /// A crew that has started nothing. This profile.
     pub fn new() -> StdCrew
@@ -46,12 +46,12 @@ impl Crew for StdCrew {
 
     ghost refusals_fit = { λ c. min-le_right c.refusals (2 ^ 64 - 1) };
 
-    fn withholds_next(&mut self) -> bool {
+    fn withholds_next(&mut self, _starter: &Starter) -> bool {
         self.starts = self.starts.saturating_add(1);
         false
     }
 
-    fn count_refusal(&mut self) {
+    fn count_refusal(&mut self, _starter: &Starter) {
         self.refusals = self.refusals.saturating_add(1);
     }
 }

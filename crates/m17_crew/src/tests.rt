@@ -1,9 +1,9 @@
-//! What no clause says: that a start succeeds where there is memory, that a job is done once, in a thread of its own and
+//! What no clause says: that a start succeeds where there is memory, that a job is done once, by a thread of its own
 //! beside the caller's, and that a refused one is not done at all.
 ghost use Rattle.std.specs.Prelude.{◌≡◌, ◌*◌, ◌+◌, ◌<◌, ◌≤◌, ◌^◌, [], All, IfOk, OnOk, vec_len, vec_capacity};
 ghost use Rattle.std.specs.List.{AllZip};
 ghost use Rattle.m17_io.specs.Faults.{HasCause};
-ghost use Rattle.m17_crew.specs.Lists.{Ran};
+ghost use Rattle.m17_crew.specs.Laws.{Ran};
 
 use super::*;
 use crate::running::begin;
@@ -91,6 +91,8 @@ fn do_all<W: Work, C: Crew, R: Threads + Wait + Copy + Send + 'static>(
 {
     let answer = start_all(rt, alloc, crew, jobs, running);
     join_all(rt, running, jobs);
+    laws::jobs_come_back_in_order::<W>();
+    laws::all_jobs_come_back_done::<W>();
     answer
 }
 
@@ -114,8 +116,8 @@ fn seven_jobs_come_back_done_in_their_order(rt: HostRuntime) -> Result<(), Fail>
     Ok(())
 }
 
-// Starts seven jobs by a crew that refuses the start with this number, and joins those that run: the jobs, and how often
-// one was done.
+// Starts seven jobs by a crew that refuses the start with this number, and joins those that run: the jobs, and how
+// often one was done.
 fn seven_by_a_refusing_crew<R: Threads + Wait + Copy + Send + 'static>(
     rt: &R,
     alloc: Global,

@@ -1,8 +1,8 @@
 -- What contracts see of a crew. This profile.
 use Rattle.std.specs.Prelude.{ℕ, List}
 
--- A crew: the numbers of the starts that it refuses of itself, how many starts there were, and how many were refused.
--- This profile.
+-- A crew: the numbers of the starts that it refuses of itself, how many starts there were, and how
+-- many were refused. This profile.
 pub record CrewKept : Type 0 where
   pub refuses : List ℕ
   pub starts : ℕ

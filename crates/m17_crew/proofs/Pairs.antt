@@ -1,13 +1,9 @@
--- What callers with many jobs need of lists: what one relation says of two lists, place by place (`AllZip`).
--- This profile.
-use Rattle.std.specs.Prelude.{◌≡◌, ◌⊎◌, List, [], ◌∷◌, ◌++◌, reverse, refl}
+-- What one relation says of two lists, place by place (`AllZip`), beyond std's lemmas; and the two laws.
+use Rattle.std.specs.Prelude.{◌≡◌, List, [], ◌∷◌, ◌++◌, reverse, refl}
 use Rattle.std.specs.List.{AllZip, AllByRecursion}
+use Rattle.m17_crew.specs.Laws.{Ran, AreBack}
 use Rattle.std.proofs.Common.{ap, sym, subst, ◌∙◌, inl, inr}
 use Rattle.std.proofs.lemmas.List.{reverse-append, append-nil}
-
--- The job is as it was, or it was done. This profile.
-abbrev pub Ran : {A : Type 0} → (A → A → Type 0) → A → A → Type 0
-Ran does j k = (k ≡ j) ⊎ does j k
 
 module _ {A B : Type 0} (R : A → B → Type 0) where
   -- two pairs of lists, one behind the other
@@ -59,25 +55,17 @@ module _ {A : Type 0} where
   zip_same R same [] = tt
   zip_same R same (x ∷ xs) = (same x, zip_same R same xs)
 
-module _ {A : Type 0} (R : A → A → Type 0) where
-  -- Of jobs that `start_all` started, or not all, and `join_all` joined, each is as it was or done, in their order. Nothing
-  -- ran before. This profile.
-  pub back_in_order : (jobs before left started ended back : List A) → before ≡ []
-      → jobs ++ reverse before ≡ left ++ reverse started → back ≡ left ++ ended
-      → AllZip R (reverse started) ended → AllZip (Ran R) jobs back
-  back_in_order jobs before left started ended back none is joined pairs =
-      let same : jobs ≡ left ++ reverse started = sym (append-nil jobs)
-      ∙ subst (λ (ran : List A). jobs ++ reverse ran ≡ left ++ reverse started) none is in
-      rw (same, joined) (zip_append (Ran R) left left (reverse started) ended (zip_same (Ran R) (λ x. inl refl) left)
+module _ {A : Type 0} (R : A → A → Type 0) (jobs before left started back : List A)
+    (are : AreBack R jobs before left started back) where
+  -- nothing ran before, so the list of what ran before says nothing
+  whole : jobs ≡ left ++ reverse started
+  whole = sym (append-nil jobs)
+      ∙ subst (λ (ran : List A). jobs ++ reverse ran ≡ left ++ reverse started) are.none_before are.started_in_order
+
+  pub in_order : AllZip (Ran R) jobs back
+  in_order = let (ended, joined, pairs) = are.joined in
+      rw (whole, joined) (zip_append (Ran R) left left (reverse started) ended (zip_same (Ran R) (λ x. inl refl) left)
       (zip_weaker R (Ran R) (λ x y done. inr done) (reverse started) ended pairs))
 
-  -- Jobs that `start_all` started, all of them, and `join_all` joined are done, in their order. Nothing ran before.
-  -- This profile.
-  pub all_done : (jobs before left started ended back : List A) → before ≡ []
-      → jobs ++ reverse before ≡ left ++ reverse started → left ≡ [] → back ≡ left ++ ended
-      → AllZip R (reverse started) ended → AllZip R jobs back
-  all_done jobs before left started ended back none is all joined pairs =
-      let same : jobs ≡ reverse started = sym (append-nil jobs)
-      ∙ subst (λ (ran : List A). jobs ++ reverse ran ≡ reverse started) none
-      (subst (λ (rest : List A). jobs ++ reverse before ≡ rest ++ reverse started) all is) in
-      rw (same, joined, all) pairs
+  pub all_done : left ≡ [] → AllZip R jobs back
+  all_done none_left = let (ended, joined, pairs) = are.joined in rw (whole, joined, none_left) pairs
