@@ -8,10 +8,15 @@
 #![tactic(auto)]
 
 mod client;
+mod log;
+mod progress;
+mod run;
 mod state;
+mod talking;
 
 pub use client::{Client, MOST_ACTIONS};
 pub use state::{Action, Ending, Input, LastKept, SAID_BYTES, State};
+pub use talking::{TalkEnd, talk};
 
 #[cfg(test)]
 mod tests;
