@@ -5,3 +5,5 @@ pub mod Client
 pub mod Steps
 pub mod Talk
 pub mod TalkDevices
+-- For proofs alone: how far a run has come.
+pub mod TalkSoFar

@@ -11,6 +11,7 @@ mod client;
 mod log;
 mod progress;
 mod run;
+mod session;
 mod state;
 mod talking;
 

@@ -1,5 +1,15 @@
 //! How far a client has come with its script.
 
+ghost use Rattle.std.specs.Prelude.{◌≡◌, ◌↔◌, ℕ, ◌+◌, ◌<◌, ◌^◌, List, [], ◌∷◌, length, Some, IsTrue, IsSome, MatchOption};
+ghost use Rattle.std.specs.Option.{option_or};
+ghost use Rattle.m17_stream.specs.declared.packet.StreamPacket.{StreamPacket};
+ghost use Rattle.m17_client.specs.declared.state.Input.{Input};
+ghost use Rattle.m17_client.specs.declared.state.State.{State};
+ghost use Rattle.m17_client.specs.Client.{IsClientStep};
+ghost use Rattle.m17_client.specs.Steps.{is_connected, ms_since};
+ghost use Rattle.m17_client.specs.Talk.{IsInOrder};
+ghost use Rattle.m17_client.specs.TalkSoFar.{IsAfter, IsTimeNow, due_now, moment_in};
+
 use crate::{Action, Client, Input, MOST_ACTIONS, State};
 use arrayvec::ArrayVec;
 use m17_stream::StreamPacket;
@@ -16,7 +26,10 @@ pub(crate) struct Progress {
 
 impl Progress {
     /// A client that has made no step.
-    pub(crate) fn new(client: Client) -> Progress {
+    pub(crate) fn new(client: Client) -> Progress
+        requires { client.state ≡ State.Idle }
+        ensures { IsAfter client [] result }
+    {
         Progress {
             client,
             sent: 0,
@@ -26,22 +39,42 @@ impl Progress {
     }
 
     /// Steps on an input that is no packet of the user.
-    pub(crate) fn step(&mut self, input: &Input, out: &mut ArrayVec<Action, MOST_ACTIONS>) {
+    pub(crate) fn step(&mut self, input: &Input, out: &mut ArrayVec<Action, MOST_ACTIONS>)
+        requires { out.old.items ≡ [] }
+        ensures step { IsClientStep self.old.client input.now out.new.items self.new.client }
+        ensures connected { self.new.connected_at
+            ≡ option_or self.old.connected_at (moment_in self.new.client) }
+        ensures sent { self.new.sent ≡ self.old.sent }
+        ensures sent_at { self.new.sent_at ≡ self.old.sent_at }
+    {
         self.client.step(input, out);
-        if self.connected_at.is_none() && self.is_connected() {
-            self.connected_at = Some(self.client.moment());
-        }
+        let connected_at = self.moment_in();
+        self.connected_at = self.connected_at.or(connected_at);
     }
 
-    /// Steps on a packet of the script, the next one that was not sent yet.
-    pub(crate) fn send(&mut self, input: &Input, out: &mut ArrayVec<Action, MOST_ACTIONS>) {
-        self.step(input, out);
+    /// Sends the next packet of the script, while the client is connected.
+    pub(crate) fn send(&mut self, packet: StreamPacket, out: &mut ArrayVec<Action, MOST_ACTIONS>)
+        requires out { out.old.items ≡ [] }
+        requires room { self.old.sent < 2 ^ 60 }
+        ensures step { IsClientStep self.old.client (Input.Send packet) out.new.items
+            self.new.client }
+        ensures connected { self.new.connected_at ≡ self.old.connected_at }
+        ensures sent { self.new.sent ≡ self.old.sent + 1 }
+        ensures sent_at { self.new.sent_at ≡ Some self.new.client.moment }
+    {
+        self.client.step(&Input::Send { packet }, out);
         self.sent += 1;
         self.sent_at = Some(self.client.moment());
     }
 
     /// The next packet of the script that is due, if one is.
-    pub(crate) fn next_due(&self, script: &[(u64, StreamPacket)]) -> Option<StreamPacket> {
+    pub(crate) fn next_due(&self, script: &[(u64, StreamPacket)]) -> Option<StreamPacket>
+        requires { IsInOrder script.now }
+        ensures due { MatchOption result (due_now self.now script.now ≡ [])
+            (λ packet. (moment : ℕ) × (rest : List (ℕ × StreamPacket))
+            × (due_now self.now script.now ≡ (moment, packet) ∷ rest)) }
+        ensures within { IsSome result → self.now.sent < length script.now }
+    {
         if !self.is_connected() || self.sent >= script.len() {
             return None;
         }
@@ -54,19 +87,36 @@ impl Progress {
     }
 
     /// Whether it is time to leave, with a script of so many packets.
-    pub(crate) fn is_time_to_leave(&self, packets: usize, stay: u64) -> bool {
+    pub(crate) fn is_time_to_leave(&self, packets: usize, stay: u64) -> bool
+        ensures { IsTrue result ↔ IsTimeNow self.now packets stay }
+    {
         self.is_connected()
             && self.sent == packets
             && stay <= self.ms_since(self.sent_at.or(self.connected_at))
     }
 
     // Whether the client is connected.
-    fn is_connected(&self) -> bool {
+    fn is_connected(&self) -> bool
+        ensures { result ≡ is_connected self.now.client.state }
+    {
         matches!(self.client.state(), State::Connected { .. })
     }
 
+    // The client's moment, where it is connected.
+    fn moment_in(&self) -> Option<u64>
+        ensures { result ≡ moment_in self.now.client }
+    {
+        if self.is_connected() {
+            Some(self.client.moment())
+        } else {
+            None
+        }
+    }
+
     // How many milliseconds have gone by since this moment.
-    fn ms_since(&self, moment: Option<u64>) -> u64 {
+    fn ms_since(&self, moment: Option<u64>) -> u64
+        ensures { result ≡ ms_since moment self.now.client }
+    {
         self.client.moment().saturating_sub(moment.unwrap_or(0))
     }
 }

@@ -1,10 +1,18 @@
-//! A run of `talk`, turn by turn.
+//! A run of `talk`, entry by entry.
 
-use crate::log::Log;
-use crate::progress::Progress;
+ghost use Rattle.std.specs.Prelude.{◌≡◌, ◌↔◌, ◌⊎◌, ℕ, ◌+◌, ◌<◌, ◌≤◌, List, [], ◌∷◌, ◌++◌, IsTrue, true, false, MatchOption, if◌then◌else◌};
+ghost use Rattle.m17_values.specs.declared.heard.Heard.{Heard};
+ghost use Rattle.m17_client.specs.declared.state.Input.{Input};
+ghost use Rattle.m17_client.specs.declared.state.State.{State};
+ghost use Rattle.m17_client.specs.declared.state.Ending.{Ending};
+ghost use Rattle.m17_client.specs.declared.talking.TalkEnd.{TalkEnd};
+ghost use Rattle.m17_client.specs.Steps.{ClientStep, is_send};
+ghost use Rattle.m17_client.specs.Talk.{IsHeardAs, IsInOrder, IsTurn, Turn, is_fault};
+ghost use Rattle.m17_client.specs.TalkSoFar.{IsPlan, IsSoFar, IsStepless, Origin};
+
+use crate::session::Session;
 use crate::talking::TalkEnd;
-use crate::{Action, Client, Input, MOST_ACTIONS, State};
-use arrayvec::ArrayVec;
+use crate::{Client, Input, State};
 use m17_ports::{Book, Mouth};
 use m17_stream::StreamPacket;
 use m17_values::{Heard, Peer};
@@ -12,22 +20,23 @@ use m17_values::{Heard, Peer};
 /// So many Faults in a row end a run.
 const MOST_FAULTS: u32 = 16;
 
-// Where a run stands: the client with its script, its log, how many Faults stand last in a row, and whether the ear
-// said End.
+// Where a run stands: its client, how many Faults stand last in a row, and whether the ear said End.
 #[derive(Debug, Drop)]
 pub(crate) struct Run {
-    progress: Progress,
-    log: Log,
-    faults: u32,
-    ended: bool,
+    pub(crate) session: Session,
+    pub(crate) faults: u32,
+    pub(crate) ended: bool,
 }
 
 impl Run {
     /// A run in which nothing was heard yet.
-    pub(crate) fn new(client: Client) -> Run {
+    pub(crate) fn new(client: Client) -> Run
+        requires { client.state ≡ State.Idle }
+        ensures { (origin : Origin) → origin.plan.client ≡ client
+            → IsSoFar origin [] result origin.mouth origin.book }
+    {
         Run {
-            progress: Progress::new(client),
-            log: Log::new(),
+            session: Session::new(client),
             faults: 0,
             ended: false,
         }
@@ -42,117 +51,82 @@ impl Run {
         stay: u64,
         mouth: &mut M,
         book: &mut B,
-    ) {
+    )
+        requires in_order { IsInOrder script.now }
+        requires faults { self.old.faults < 16 }
+        ensures taken { (origin : Origin) (turns : List Turn)
+            → IsPlan origin.plan to.now script.now stay
+            → IsSoFar origin turns self.old
+                (M.said mouth.old, M.tallies mouth.old, M.faults mouth.old)
+                (B.written book.old, B.faults book.old)
+            → (steps : List ClientStep)
+            × IsSoFar origin (turns ++ record { heard = entry; steps = steps } ∷ []) self.new
+                (M.said mouth.new, M.tallies mouth.new, M.faults mouth.new)
+                (B.written book.new, B.faults book.new) }
+        ensures same_mouth { (M.mark mouth.new ≡ M.mark mouth.old)
+            × (M.label mouth.new ≡ M.label mouth.old) }
+        ensures same_book { (B.mark book.new ≡ B.mark book.old)
+            × (B.label book.new ≡ B.label book.old) }
+    {
         self.ended = matches!(&entry, Heard::End);
         self.count_fault(matches!(&entry, Heard::Fault));
         if let Some(input) = input_of(entry, to) {
-            self.turn(&input, to, script, stay, mouth, book);
+            self.session.turn(&input, to, script, stay, mouth, book);
         }
     }
 
     /// Whether the run is over.
-    pub(crate) fn is_over(&self) -> bool {
+    pub(crate) fn is_over(&self) -> bool
+        ensures { IsTrue result ↔ ((self.now.ended ≡ true) ⊎ ((16 ≤ self.now.faults)
+            ⊎ ((why : Ending) × (self.now.session.progress.client.state ≡ State.Closed why)))) }
+    {
         self.ended || self.faults >= MOST_FAULTS || self.is_closed()
     }
 
     /// What the run came to.
-    pub(crate) fn end(&self) -> TalkEnd {
+    pub(crate) fn end(&self) -> TalkEnd
+        ensures state { result.state ≡ self.now.session.progress.client.state }
+        ensures kept { result.kept ≡ self.now.session.log.kept }
+        ensures ended { result.ended ≡ self.now.ended }
+        ensures lost { IsTrue result.lost ↔ (16 ≤ self.now.faults) }
+        ensures book_failed { result.book_failed ≡ self.now.session.log.failed }
+    {
         TalkEnd {
-            state: self.progress.client.state(),
-            kept: self.log.kept,
+            state: self.session.progress.client.state(),
+            kept: self.session.log.kept,
             ended: self.ended,
             lost: self.faults >= MOST_FAULTS,
-            book_failed: self.log.failed,
+            book_failed: self.session.log.failed,
         }
     }
 
     // Whether the client is closed.
-    fn is_closed(&self) -> bool {
-        matches!(self.progress.client.state(), State::Closed(_))
+    fn is_closed(&self) -> bool
+        ensures { IsTrue result
+            ↔ ((why : Ending) × (self.now.session.progress.client.state ≡ State.Closed why)) }
+    {
+        matches!(self.session.progress.client.state(), State::Closed(_))
     }
 
     // Counts a Fault, or begins anew.
-    fn count_fault(&mut self, fault: bool) {
+    fn count_fault(&mut self, fault: bool)
+        requires { self.old.faults < 16 }
+        ensures { self.new ≡ record self.old {
+            faults = (if fault then self.old.faults + 1 else 0) } }
+    {
         if fault {
             self.faults += 1;
         } else {
             self.faults = 0;
         }
     }
-
-    // The turn of an entry that the client steps on: this input, then all that is due, and then Leave, where it is
-    // time to.
-    fn turn<M: Mouth, B: Book>(
-        &mut self,
-        input: &Input,
-        to: &Peer,
-        script: &[(u64, StreamPacket)],
-        stay: u64,
-        mouth: &mut M,
-        book: &mut B,
-    ) {
-        self.step(input, to, mouth, book);
-        self.send_due(to, script, mouth, book);
-        if self.progress.is_time_to_leave(script.len(), stay) {
-            self.step(&Input::Leave, to, mouth, book);
-        }
-    }
-
-    // Sends all packets of the script that are due, in order.
-    fn send_due<M: Mouth, B: Book>(
-        &mut self,
-        to: &Peer,
-        script: &[(u64, StreamPacket)],
-        mouth: &mut M,
-        book: &mut B,
-    ) {
-        while let Some(packet) = self.progress.next_due(script) {
-            self.send(packet, to, mouth, book);
-        }
-    }
-
-    // Steps on an input that is no packet of the user, and does what comes of it.
-    fn step<M: Mouth, B: Book>(&mut self, input: &Input, to: &Peer, mouth: &mut M, book: &mut B) {
-        let mut out = ArrayVec::new();
-        self.progress.step(input, &mut out);
-        self.carry_out(out.as_slice(), to, mouth, book);
-    }
-
-    // Sends a packet of the script.
-    fn send<M: Mouth, B: Book>(
-        &mut self,
-        packet: StreamPacket,
-        to: &Peer,
-        mouth: &mut M,
-        book: &mut B,
-    ) {
-        let mut out = ArrayVec::new();
-        self.progress.send(&Input::Send { packet }, &mut out);
-        self.carry_out(out.as_slice(), to, mouth, book);
-    }
-
-    // Does what a step asked for, in order.
-    fn carry_out<M: Mouth, B: Book>(
-        &mut self,
-        actions: &[Action],
-        to: &Peer,
-        mouth: &mut M,
-        book: &mut B,
-    ) {
-        let moment = self.progress.client.moment();
-        for action in actions {
-            match action {
-                Action::Say(bytes) => {
-                    let _ = mouth.say(to, bytes.as_slice());
-                }
-                Action::Keep(packet) => self.log.keep(moment, packet, book),
-            }
-        }
-    }
 }
 
 // What an entry is to the client, if it is anything: a datagram of the reflector, or a moment that went by.
-fn input_of(entry: Heard, to: &Peer) -> Option<Input> {
+fn input_of(entry: Heard, to: &Peer) -> Option<Input>
+    ensures input { MatchOption result (IsStepless entry)
+        (λ input. IsHeardAs to.now entry input × (is_send input ≡ false)) }
+{
     match entry {
         Heard::Datagram { from, at, bytes } => {
             if from == *to {

@@ -1,7 +1,7 @@
 ghost use Rattle.std.specs.Prelude.{◌≡◌, ◌-◌, ◌^◌, ◌≤◌, List, IsTrue};
 ghost use Rattle.m17_io.specs.Faults.{HasRisen};
 ghost use Rattle.m17_client.specs.declared.state.State.{State};
-ghost use Rattle.m17_client.specs.Talk.{IsInOrder, IsTalkRun, Turn, entries_of, steps_of};
+ghost use Rattle.m17_client.specs.Talk.{IsInOrder, IsTalkRun, TalkPlan, Turn, entries_of, steps_of};
 ghost use Rattle.m17_client.specs.TalkDevices.{HasHeard, HasSaid, HasWritten, IsTalkEnd, records_of, says_of};
 
 use crate::run::Run;
@@ -45,7 +45,7 @@ pub fn talk<R: Wait, E: Ear, M: Mouth, B: Book>(
 ) -> TalkEnd
     requires idle { client.state ≡ State.Idle }
     requires in_order { IsInOrder script.now }
-    ensures talked { let plan =
+    ensures talked { let plan : TalkPlan =
         record { to = to.now; client = client; script = script.now; stay = stay } in
         (turns : List Turn) × IsTalkRun plan turns × IsTalkEnd plan turns result
         × HasHeard (E.heard ear.old, E.faults ear.old) (entries_of turns)
