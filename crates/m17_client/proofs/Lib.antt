@@ -1,0 +1,5 @@
+mod Said
+mod Logged
+mod OneStep
+mod Due
+mod OneTurn
