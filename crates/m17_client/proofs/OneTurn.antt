@@ -1,14 +1,17 @@
 -- One more step of a session: what its client did, and its devices.
-use Rattle.std.proofs.Common.{◌≡◌, ◌↔◌, ℕ, Bool, true, false, ◌+◌, ◌≤◌, List, [], ◌∷◌, ◌++◌, length, refl, sym, ap, ◌∙◌, subst, arith, Option, IsTrue, option_map, None}
+use Rattle.std.proofs.Common.{◌≡◌, ◌↔◌, ℕ, Bool, true, false, ◌+◌, ◌≤◌, List, [], ◌∷◌, ◌++◌, length, map, drop, refl, sym, ap, ◌∙◌, subst, arith, Option, IsTrue, option_map, None}
 use Rattle.std.specs.List.{flat_map, last_or}
 use Rattle.std.specs.Option.{option_or}
-use Rattle.std.proofs.lemmas.List.{append-nil}
+use Rattle.std.proofs.lemmas.List.{append-nil, append_assoc, map-append}
 use Rattle.std.proofs.lemmas.Grind.{flat_map-append}
 use Rattle.m17_client.specs.declared.progress.Progress.{Progress}
 use Rattle.m17_client.specs.declared.session.Session.{Session}
+use Rattle.m17_stream.specs.declared.packet.StreamPacket.{StreamPacket}
+use Rattle.m17_client.specs.declared.state.Input.{Input}
+use Rattle.m17_client.specs.declared.state.Input.TheVariants.{Send}
 use Rattle.m17_client.specs.Standing.{Standing}
 use Rattle.m17_client.specs.Client.{IsClientStep}
-use Rattle.m17_client.specs.Steps.{ClientStep, connected_at, is_connected, ms_since, paused_at, sends_of, standing_after}
+use Rattle.m17_client.specs.Steps.{ClientStep, connected_at, inputs_of, is_connected, ms_since, paused_at, sends_of, standing_after}
 use Rattle.m17_client.specs.Talk.{IsTimeToLeave, TalkPlan}
 use Rattle.m17_client.specs.TalkDevices.{BookTells, HasSaid, MouthTells, kept_by, records_of, said_by, says_of}
 use Rattle.m17_client.specs.TalkSoFar.{IsAfter, IsAt, IsLogged, IsTimeNow, Origin}
@@ -64,3 +67,20 @@ time_to_leave plan steps p packets stay h all long =
         stayed = omega (arith, t.stayed, gone, long);
       },
     )
+
+-- the inputs of what was sent, and of what is still due, after one more packet
+pub sent_more : (sends : List ClientStep) (step : ClientStep) (moment : ℕ) (packet : StreamPacket)
+    (before after rest : List (ℕ × StreamPacket)) (all : List Input) → step.input ≡ Send packet
+    → before ≡ (moment, packet) ∷ rest → after ≡ drop 1 before
+    → inputs_of sends ++ map (λ due. Send due.1) before ≡ all
+    → inputs_of (sends ++ step ∷ []) ++ map (λ due. Send due.1) after ≡ all
+sent_more sends step moment packet before after rest all is before_is after_is h =
+    let front : step.input ∷ map (λ (due : ℕ × StreamPacket). Send due.1) after
+        ≡ map (λ (due : ℕ × StreamPacket). Send due.1) before =
+    ap (λ i. i ∷ map (λ (due : ℕ × StreamPacket). Send due.1) after) is
+    ∙ ap (λ l. Send packet ∷ map (λ (due : ℕ × StreamPacket). Send due.1) l) (after_is ∙ ap (drop 1) before_is)
+    ∙ sym (ap (map (λ (due : ℕ × StreamPacket). Send due.1)) before_is) in
+    ap (λ l. l ++ map (λ (due : ℕ × StreamPacket). Send due.1) after)
+    (map-append (λ (s : ClientStep). s.input) sends (step ∷ []))
+    ∙ append_assoc (inputs_of sends) (step.input ∷ []) (map (λ (due : ℕ × StreamPacket). Send due.1) after)
+    ∙ ap (λ l. inputs_of sends ++ l) front ∙ h
