@@ -3,3 +3,6 @@ mod Logged
 mod OneStep
 mod Due
 mod OneTurn
+mod Turns
+mod Ears
+mod Ended
