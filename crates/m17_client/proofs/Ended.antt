@@ -7,6 +7,7 @@ use Rattle.m17_values.specs.declared.heard.Heard.{Heard}
 use Rattle.m17_values.specs.declared.heard.Heard.TheVariants.{Datagram, Quiet, Fault, End}
 use Rattle.m17_client.specs.declared.run.Run.{Run}
 use Rattle.m17_client.specs.declared.talking.TalkEnd.{TalkEnd}
+use Rattle.m17_client.specs.declared.state.State.TheVariants.{Idle}
 use Rattle.m17_client.specs.Standing.{Standing}
 use Rattle.m17_client.specs.Steps.{ClientStep, standing_after}
 use Rattle.m17_client.specs.Talk.{IsClosed, IsEnded, IsLost, IsOver, IsTalkRun, IsTurn, TalkPlan, Turn, entries_of, is_fault, steps_of}
@@ -15,9 +16,20 @@ use Rattle.m17_client.specs.TalkSoFar.{GoesOn, IsSoFar, IsStepless, Origin}
 use Rattle.m17_client.proofs.OneStep.{last_push}
 use Rattle.m17_client.proofs.Turns.{entries_more, faults_more, steps_more}
 
--- nothing was heard, and the client is not closed
-pub begins : (plan : TalkPlan) → (IsOver plan [] → ⊥) → GoesOn plan []
-begins plan none n within over = none (subst (λ l. IsOver plan l) (take_all n [] (omega arith)) over)
+not_yet : (plan : TalkPlan) → plan.client.state ≡ Idle → IsOver plan [] → ⊥
+not_yet plan idle (inl e) = absurd (cc)
+not_yet plan idle (inr (inl f)) = absurd (omega arith)
+not_yet plan idle (inr (inr c)) = let closed = c.1 in absurd (cc)
+
+-- nothing was heard, and the client is idle
+pub begins : (plan : TalkPlan) → plan.client.state ≡ Idle → GoesOn plan []
+begins plan idle n within over =
+    not_yet plan idle (subst (λ l. IsOver plan l) (take_all n [] (omega arith)) over)
+
+-- a run that goes on is not over
+pub not_over : (plan : TalkPlan) (turns : List Turn) → GoesOn plan turns → IsOver plan turns → ⊥
+not_over plan turns before over = before (length turns) (omega arith)
+    (subst (λ l. IsOver plan l) (sym (take_all (length turns) turns (omega arith))) over)
 
 -- a run goes on after one more turn, where it is not over
 pub goes_on_more : (plan : TalkPlan) (turns : List Turn) (turn : Turn) → GoesOn plan turns
@@ -67,16 +79,19 @@ ends_in_fault (Quiet at) n many = absurd (omega arith)
 ends_in_fault Fault n many = refl
 ends_in_fault End n many = absurd (omega arith)
 
+pub lost_by_fault : (turns : List Turn) (turn : Turn) → IsLost (turns ++ turn ∷ []) → turn.heard ≡ Fault
+lost_by_fault turns turn lost =
+    ends_in_fault turn.heard (suffix_len is_fault (entries_of turns) + 1)
+    (subst (λ n. 16 ≤ n) (ap (suffix_len is_fault) (entries_more turns turn)
+    ∙ faults_more (entries_of turns) turn.heard) lost)
+
 stepless : (turns : List Turn) (turn : Turn)
     → IsEnded (turns ++ turn ∷ []) ⊎ IsLost (turns ++ turn ∷ []) → IsStepless turn.heard
 stepless turns turn (inl ended) =
     let last : last_or None (entries_of (turns ++ turn ∷ [])) ≡ Some turn.heard =
     ap (last_or None) (entries_more turns turn) ∙ last_push None (entries_of turns) turn.heard in
     inr (let same : turn.heard ≡ End = cc in same)
-stepless turns turn (inr lost) =
-    inl (ends_in_fault turn.heard (suffix_len is_fault (entries_of turns) + 1)
-    (subst (λ n. 16 ≤ n) (ap (suffix_len is_fault) (entries_more turns turn)
-    ∙ faults_more (entries_of turns) turn.heard) lost))
+stepless turns turn (inr lost) = inl (lost_by_fault turns turn lost)
 
 -- a run that an entry ended is not closed
 not_closed : (origin : Origin) (turns : List Turn) (turn : Turn) (run : Run) (m : MouthTells) (b : BookTells)

@@ -37,7 +37,7 @@ each_more P (x ∷ xs) turn each last (suc n) t at =
     each_more (λ l y. P (x ∷ l) y) xs turn (λ k y here. each (suc k) y here) last n t at
 
 -- the Faults that stand last, after one more entry
-faults_more : (entries : List Heard) (entry : Heard) → suffix_len is_fault (entries ++ entry ∷ [])
+pub faults_more : (entries : List Heard) (entry : Heard) → suffix_len is_fault (entries ++ entry ∷ [])
     ≡ cond (is_fault entry) (suffix_len is_fault entries + 1) 0
 faults_more entries entry =
     ap (prefix_len is_fault) (reverse-append entries (entry ∷ []))
