@@ -11,13 +11,18 @@ mod client;
 mod log;
 mod progress;
 mod run;
+mod script;
 mod session;
 mod state;
 mod talking;
 
 pub use client::{Client, MOST_ACTIONS};
+pub use script::is_in_order;
 pub use state::{Action, Ending, Input, LastKept, SAID_BYTES, State};
 pub use talking::{TalkEnd, talk};
 
 #[cfg(test)]
 mod tests;
+
+#[cfg(test)]
+mod talking_tests;
