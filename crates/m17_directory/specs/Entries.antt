@@ -48,6 +48,13 @@ pub record Entry : Type 0 where
   pub notice : Notice
   pub claim : Option Claim
 
+-- Each of what was heard says what the entry beside it is. This profile.
+abbrev pub SaysEach : List Heard → List Entry → Type 0
+SaysEach [] [] = Unit {0}
+SaysEach [] (entry ∷ entries) = ⊥
+SaysEach (h ∷ heard) [] = ⊥
+SaysEach (h ∷ heard) (entry ∷ entries) = Says h entry.notice × SaysEach heard entries
+
 -- The number of a link, the reflector's address, how many places there are, and the modules that
 -- are served: what its directory is made with. This profile.
 pub record Setup : Type 0 where

@@ -181,7 +181,8 @@ impl Directory {
         self.people.settle(&asked, claimed, after, &stamp, post)
     }
 
-    /// The member's leaving was reported: it isn't departing any more. Another member is passed over. This profile.
+    /// The member's leaving was reported: it isn't departing any more. Another member is passed over. The directory may
+    /// have come from what it may have come from before. This profile.
     pub fn noted(&mut self, m: Member)
         ensures noted { self.new ≡ record {
           setup = self.old.setup;
@@ -192,6 +193,8 @@ impl Directory {
           faults = self.old.faults;
           ended = self.old.ended;
         } }
+        ensures stands { (entries : List Entry) → StandsFor self.old entries →
+            StandsFor self.new entries }
         ensures bounds { IsBounded self.new }
     {
         self.people.noted(m);

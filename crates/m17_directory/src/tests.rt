@@ -4,6 +4,7 @@ use super::*;
 use m17_callsign::{CallAddress, encode};
 use m17_control::{Body, Control, Event, ModuleLetter, Modules, Why, write};
 use m17_samples::frame;
+use m17_stream::StreamPacket;
 use m17_values::{Gram, Heard, Member, Peer};
 use std::alloc::Global;
 use std::process::Abort;
@@ -82,10 +83,14 @@ fn lstn(rt: &impl Abort, from: &Peer, at: u64, module: u8) -> Heard {
 }
 
 fn voice(from: &Peer, at: u64, sid: u16, number: u16) -> Heard {
+    sent(from, at, &frame(sid, number & 0x7fff, false))
+}
+
+fn sent(from: &Peer, at: u64, packet: &StreamPacket) -> Heard {
     Heard::Datagram {
         from: *from,
         at,
-        bytes: Gram::of(&m17_stream::write(&frame(sid, number & 0x7fff, false))),
+        bytes: Gram::of(&m17_stream::write(packet)),
     }
 }
 
@@ -156,6 +161,7 @@ fn for_good(d: &mut Directory)
 // Hears an entry, and settles what it asks with this member.
 fn hears(
     rt: &impl Abort,
+    places: u32,
     d: &mut Directory,
     post: &mut Post,
     index: u64,
@@ -164,10 +170,10 @@ fn hears(
 ) -> (LinkVerdict, Seen)
     requires nothing_posted { post.old ≡ [] }
     requires nothing_asked { d.old.asked ≡ None }
-    requires places { d.old.setup.places ≡ 64 }
+    requires places { d.old.setup.places ≡ places }
     ensures nothing_posted { post.new ≡ [] }
     ensures nothing_asked { d.new.asked ≡ None }
-    ensures places { d.new.setup.places ≡ 64 }
+    ensures places { d.new.setup.places ≡ places }
 {
     assert!(rt; !d.has_ended());
     match d.hear(index, h, post) {
@@ -176,7 +182,7 @@ fn hears(
             for_good(d);
             assert!(rt; !d.waits());
             if let Some(member) = claimed {
-                assert!(rt; member.place < 64);
+                assert!(rt; member.place < places);
             }
             let verdict = d.settle(claimed, 0, post);
             (verdict, both(&asked, &drain(post)))
@@ -185,13 +191,14 @@ fn hears(
     }
 }
 
-fn start(rt: &impl Abort, alloc: Global) -> (Directory, Post)
+fn start(rt: &impl Abort, alloc: Global, places: u32) -> (Directory, Post)
+    requires some { (0 < places) × (places ≤ 256) }
     ensures asked { result.0.asked ≡ None }
-    ensures places { result.0.setup.places ≡ 64 }
+    ensures places { result.0.setup.places ≡ places }
     ensures posted { result.1 ≡ [] }
 {
     let modules = Modules::read("ABC").ok().expect(rt, "modules");
-    let d = Directory::make(alloc, 0, call(rt, "M17-TST"), 64, modules);
+    let d = Directory::make(alloc, 0, call(rt, "M17-TST"), places, modules);
     let d = d.ok().expect(rt, "memory");
     let post = Post::make(alloc).ok().expect(rt, "memory");
     (d, post)
@@ -216,32 +223,32 @@ fn becomes(heard: Heard, claimed: Option<Member>, verdict: &LinkVerdict, seen: S
 }
 
 // Hears the lines, from index 0 on.
-fn hear_lines(rt: &impl Abort, d: &mut Directory, post: &mut Post, lines: &[Line])
+fn hear_lines(rt: &impl Abort, places: u32, d: &mut Directory, post: &mut Post, lines: &[Line])
     requires nothing_posted { post.old ≡ [] }
     requires nothing_asked { d.old.asked ≡ None }
-    requires places { d.old.setup.places ≡ 64 }
+    requires places { d.old.setup.places ≡ places }
     ensures nothing_posted { post.new ≡ [] }
     ensures nothing_asked { d.new.asked ≡ None }
-    ensures places { d.new.setup.places ≡ 64 }
+    ensures places { d.new.setup.places ≡ places }
 {
     for (index, line) in lines.iter().enumerate() {
-        let (verdict, seen) = hears(rt, d, post, index as u64, &line.heard, line.claimed);
+        let (verdict, seen) = hears(rt, places, d, post, index as u64, &line.heard, line.claimed);
         assert_eq!(rt; verdict, line.verdict);
         assert_eq!(rt; seen, line.seen);
     }
 }
 
 // Hears so many failures in a row, which do not end the link.
-fn hear_faults(rt: &impl Abort, d: &mut Directory, post: &mut Post, count: u64)
+fn hear_faults(rt: &impl Abort, places: u32, d: &mut Directory, post: &mut Post, count: u64)
     requires nothing_posted { post.old ≡ [] }
     requires nothing_asked { d.old.asked ≡ None }
-    requires places { d.old.setup.places ≡ 64 }
+    requires places { d.old.setup.places ≡ places }
     ensures nothing_posted { post.new ≡ [] }
     ensures nothing_asked { d.new.asked ≡ None }
-    ensures places { d.new.setup.places ≡ 64 }
+    ensures places { d.new.setup.places ≡ places }
 {
     for index in 0..count {
-        let (verdict, _seen) = hears(rt, d, post, index, &Heard::Fault, None);
+        let (verdict, _seen) = hears(rt, places, d, post, index, &Heard::Fault, None);
         assert_eq!(rt; verdict, LinkVerdict::Faulted);
     }
 }
@@ -275,7 +282,7 @@ fn quiet(at: u64, seen: Seen) -> Line {
 
 #[test]
 fn an_evening_of_two_peers(rt: HostRuntime) -> Result<(), Fail> {
-    let (mut d, mut post) = start(&rt, rt.alloc());
+    let (mut d, mut post) = start(&rt, rt.alloc(), 64);
     let (p1, p2) = (peer(1), peer(2));
     let frame = routed(&rt, b'A', Act::Packet);
     let disc = Control::Disc {
@@ -303,7 +310,12 @@ fn an_evening_of_two_peers(rt: HostRuntime) -> Result<(), Fail> {
             &routed(&rt, b'A', Act::Leave),
             LEAVE,
         ),
-        becomes(voice(&p1, 160, 0x1234, 3), None, &frame, framed),
+        becomes(
+            sent(&p1, 160, &m17_samples::frame(0x1234, 3, true)),
+            None,
+            &frame,
+            framed,
+        ),
         becomes(
             Heard::End,
             None,
@@ -311,7 +323,7 @@ fn an_evening_of_two_peers(rt: HostRuntime) -> Result<(), Fail> {
             Seen { stops: 3, ..LEAVE },
         ),
     ];
-    hear_lines(&rt, &mut d, &mut post, &lines);
+    hear_lines(&rt, 64, &mut d, &mut post, &lines);
     assert!(&rt; d.has_ended());
     assert_eq!(&rt; d.known(), 0);
     Ok(())
@@ -319,7 +331,7 @@ fn an_evening_of_two_peers(rt: HostRuntime) -> Result<(), Fail> {
 
 #[test]
 fn strangers_and_unserved_modules(rt: HostRuntime) -> Result<(), Fail> {
-    let (mut d, mut post) = start(&rt, rt.alloc());
+    let (mut d, mut post) = start(&rt, rt.alloc(), 64);
     let (p2, p3) = (peer(2), peer(3));
     let unserved = LinkVerdict::NotServed {
         module: letter(&rt, b'D'),
@@ -361,48 +373,27 @@ fn strangers_and_unserved_modules(rt: HostRuntime) -> Result<(), Fail> {
             LEAVE,
         ),
     ];
-    hear_lines(&rt, &mut d, &mut post, &lines);
+    hear_lines(&rt, 64, &mut d, &mut post, &lines);
     Ok(())
 }
 
 #[test]
-fn a_place_is_given_again(rt: HostRuntime) -> Result<(), Fail> {
-    let (mut d, mut post) = start(&rt, rt.alloc());
+fn a_third_peer_gets_the_place_that_was_left(rt: HostRuntime) -> Result<(), Fail> {
+    let (mut d, mut post) = start(&rt, rt.alloc(), 2);
     let p3 = peer(3);
-    let disc = Control::Disc { from: None };
-    let moved = Seen { leaves: 1, ..JOIN };
-    let again = Some(member(0, 1));
+    let disc = Control::Disc {
+        from: Some(call(&rt, "AB1CD")),
+    };
+    let left = routed(&rt, b'A', Act::Leave);
     let join = routed(&rt, b'A', Act::Join);
-    let join_b = routed(&rt, b'B', Act::Join);
     let lines = [
         joins(&rt, 1, 0),
         joins(&rt, 2, 1),
         becomes(conn(&rt, &p3, 0, b'A'), None, &LinkVerdict::Full, NACK),
-        becomes(
-            said(&peer(1), 0, &disc),
-            None,
-            &routed(&rt, b'A', Act::Leave),
-            LEAVE,
-        ),
-        becomes(conn(&rt, &p3, 0, b'A'), again, &join, JOIN),
-        becomes(conn(&rt, &p3, 10, b'B'), Some(member(0, 2)), &join_b, moved),
-        becomes(
-            conn(&rt, &p3, 15, b'B'),
-            None,
-            &routed(&rt, b'B', Act::Again),
-            Seen {
-                replies: 1,
-                ..QUIET
-            },
-        ),
-        becomes(
-            conn(&rt, &peer(1), 15, b'A'),
-            Some(member(1, 1)),
-            &join,
-            moved,
-        ),
+        becomes(said(&peer(1), 0, &disc), None, &left, LEAVE),
+        becomes(conn(&rt, &p3, 0, b'A'), Some(member(0, 1)), &join, JOIN),
     ];
-    hear_lines(&rt, &mut d, &mut post, &lines);
+    hear_lines(&rt, 2, &mut d, &mut post, &lines);
     assert_eq!(&rt; d.known(), 2);
     assert!(&rt; d.has_place(0));
     assert!(&rt; d.has_place(1));
@@ -411,8 +402,50 @@ fn a_place_is_given_again(rt: HostRuntime) -> Result<(), Fail> {
 }
 
 #[test]
+fn a_peer_moves_and_then_asks_again(rt: HostRuntime) -> Result<(), Fail> {
+    let (mut d, mut post) = start(&rt, rt.alloc(), 64);
+    let p1 = peer(1);
+    let moved = Seen { leaves: 1, ..JOIN };
+    let answered = Seen {
+        replies: 1,
+        ..TICKS
+    };
+    let join = routed(&rt, b'B', Act::Join);
+    let again = routed(&rt, b'B', Act::Again);
+    let lines = [
+        joins(&rt, 1, 0),
+        becomes(conn(&rt, &p1, 10, b'B'), Some(member(0, 1)), &join, moved),
+        becomes(conn(&rt, &p1, 20, b'B'), None, &again, answered),
+    ];
+    hear_lines(&rt, 64, &mut d, &mut post, &lines);
+    assert_eq!(&rt; d.known(), 1);
+    assert!(&rt; d.has_place(0));
+    Ok(())
+}
+
+#[test]
+fn a_claim_of_a_held_place_replaces_its_peer(rt: HostRuntime) -> Result<(), Fail> {
+    let (mut d, mut post) = start(&rt, rt.alloc(), 64);
+    let replaces = Seen { leaves: 1, ..JOIN };
+    let join = routed(&rt, b'A', Act::Join);
+    let lines = [
+        joins(&rt, 1, 0),
+        joins(&rt, 2, 1),
+        becomes(
+            conn(&rt, &peer(3), 15, b'A'),
+            Some(member(1, 1)),
+            &join,
+            replaces,
+        ),
+    ];
+    hear_lines(&rt, 64, &mut d, &mut post, &lines);
+    assert_eq!(&rt; d.known(), 2);
+    Ok(())
+}
+
+#[test]
 fn three_silent_peers_leave_at_once(rt: HostRuntime) -> Result<(), Fail> {
-    let (mut d, mut post) = start(&rt, rt.alloc());
+    let (mut d, mut post) = start(&rt, rt.alloc(), 64);
     let garbled = Heard::Datagram {
         from: peer(1),
         at: 20_000,
@@ -429,19 +462,27 @@ fn three_silent_peers_leave_at_once(rt: HostRuntime) -> Result<(), Fail> {
         quiet(100, QUIET),
         quiet(30_000, Seen { leaves: 3, ..TICKS }),
     ];
-    hear_lines(&rt, &mut d, &mut post, &lines);
+    hear_lines(&rt, 64, &mut d, &mut post, &lines);
     assert_eq!(&rt; d.known(), 0);
     Ok(())
 }
 
 #[test]
 fn the_sixteenth_failure_in_a_row_ends_the_link(rt: HostRuntime) -> Result<(), Fail> {
-    let (mut d, mut post) = start(&rt, rt.alloc());
-    hear_faults(&rt, &mut d, &mut post, 15);
-    let (verdict, _seen) = hears(&rt, &mut d, &mut post, 15, &Heard::Quiet { at: 0 }, None);
+    let (mut d, mut post) = start(&rt, rt.alloc(), 64);
+    hear_faults(&rt, 64, &mut d, &mut post, 15);
+    let (verdict, _seen) = hears(
+        &rt,
+        64,
+        &mut d,
+        &mut post,
+        15,
+        &Heard::Quiet { at: 0 },
+        None,
+    );
     assert_eq!(&rt; verdict, LinkVerdict::Timed);
-    hear_faults(&rt, &mut d, &mut post, 15);
-    let (verdict, seen) = hears(&rt, &mut d, &mut post, 31, &Heard::Fault, None);
+    hear_faults(&rt, 64, &mut d, &mut post, 15);
+    let (verdict, seen) = hears(&rt, 64, &mut d, &mut post, 31, &Heard::Fault, None);
     assert_eq!(&rt; verdict, LinkVerdict::Ended);
     assert_eq!(&rt; seen, Seen { stops: 3, ..QUIET });
     Ok(())
@@ -466,7 +507,7 @@ fn next_leaves(rt: &impl Abort, post: &mut Post, k: Member, because: Why) {
 
 #[test]
 fn peers_leave_in_order_of_families(rt: HostRuntime) -> Result<(), Fail> {
-    let (mut d, mut post) = start(&rt, rt.alloc());
+    let (mut d, mut post) = start(&rt, rt.alloc(), 64);
     let mut far = peer(1);
     far.six = true;
     let join = routed(&rt, b'A', Act::Join);
@@ -475,7 +516,7 @@ fn peers_leave_in_order_of_families(rt: HostRuntime) -> Result<(), Fail> {
         joins(&rt, 9, 1),
         joins(&rt, 4, 2),
     ];
-    hear_lines(&rt, &mut d, &mut post, &lines);
+    hear_lines(&rt, 64, &mut d, &mut post, &lines);
     assert!(&rt; !d.has_ended());
     assert_eq!(&rt; d.hear(3, &Heard::End, &mut post), LinkVerdict::Ended);
     for place in [2, 1, 0] {

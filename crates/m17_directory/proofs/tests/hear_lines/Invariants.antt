@@ -2,4 +2,4 @@ use Rattle.std.proofs.Common.{◌≡◌, [], None}
 use Rattle.m17_directory.proofs.tests.hear_lines.Given as goal
 
 abbrev pub invariant-loop-index : goal.invariant-loop-index
-invariant-loop-index g l = (l.post ≡ []) × (l.d.asked ≡ None) × (l.d.setup.places ≡ 64)
+invariant-loop-index g l = (l.post ≡ []) × (l.d.asked ≡ None) × (l.d.setup.places ≡ l.places)

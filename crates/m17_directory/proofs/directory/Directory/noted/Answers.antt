@@ -1,5 +1,5 @@
 use Rattle.std.proofs.Common.{not, sym, subst, arith}
-use Rattle.m17_directory.specs.StandsFor.{IsBounded, is_member}
+use Rattle.m17_directory.specs.StandsFor.{StandsFor, IsBounded, is_member}
 use Rattle.m17_directory.specs.Sound.{kept_of}
 use Rattle.m17_directory.specs.Steps.{Lists}
 use Rattle.m17_directory.proofs.Filters.{filter_le}
@@ -20,3 +20,8 @@ invariant_of-self c = record { bounded = bounded c; places = c.self.invariant.pl
 
 pub returns-clause-bounds : goal.returns-clause-bounds
 returns-clause-bounds c = bounded c
+
+pub returns-clause-stands : goal.returns-clause-stands
+returns-clause-stands c entries stands =
+    subst (λ (p : Lists). StandsFor (kept_of (record c.self.inside { people = p })) entries) (sym c.noted.ensures)
+    (record { moment = stands.moment; known = stands.known; asked = stands.asked; faults = stands.faults })
