@@ -150,7 +150,7 @@ rooms_after plan done letter event rooms new before its others l served =
 
 -- An event was carried out.
 pub carried_event : OneEventMoreGives → (plan : Plan) (done : List Dispatch) (letter : ℕ) (event : Event) (rooms new : List (Option Kept)) (mouth said : TalliesKept) (items : List Item) (answer : Option Verdict) → serves plan.modules letter ≡ true → HasCarried plan done rooms mouth →
-    IsRoomStep plan letter (events_of letter done) event new answer →
+    IsRoomStep plan letter (events_of letter done) event (new, answer) →
     items ≡ items_at (module_setup plan letter) (events_of letter done ++ event ∷ []) (length (events_of letter done)) →
     ((other : ℕ) (events : List Event) → 65 ≤ other → other ≢ letter → RoomStands plan other events rooms → RoomStands plan other events new) →
     HasSaidMore (λ x. filter_map (packet_to x plan.name) items) mouth said →

@@ -77,7 +77,7 @@ partway_more posted name old rooms mouth d rest post mid new rooms1 rooms2 mouth
 pub partway_all : (posted : List Dispatch) (name : ℕ) (old : Kept) (rooms : List (Option modules.Kept)) (mouth : TalliesKept) (post : List Dispatch) (new : Kept) (rooms2 : List (Option modules.Kept)) (mouth2 : TalliesKept) (answer : Option Verdict) →
     IsPartway posted name old rooms mouth post new rooms2 mouth2 answer → post ≡ [] →
     (new ≡ noting (filter_map left_member posted) old) × IsSameMouth mouth mouth2
-    × ((plan : Plan) (before : List Dispatch) → name ≡ plan.name → AllByRecursion (IsServed plan) posted → length before + length posted < 2 ^ 64 - 1 → HasCarried plan before rooms mouth → IsCarriedOut plan before posted rooms2 mouth2 answer)
+    × ((plan : Plan) (before : List Dispatch) → name ≡ plan.name → AllByRecursion (IsServed plan) posted → length before + length posted < 2 ^ 64 - 1 → HasCarried plan before rooms mouth → IsCarriedOut plan before posted (rooms2, mouth2) answer)
 partway_all posted name old rooms mouth post new rooms2 mouth2 answer part none =
     let all : posted ≡ part.done = part.posts ∙ ap (λ xs. part.done ++ xs) none ∙ append-nil part.done in (
       part.noted ∙ ap (λ xs. noting (filter_map left_member xs) old) (sym all),

@@ -21,7 +21,7 @@ use Rattle.m17_house.specs.declared.plan.Plan.{Plan}
 use Rattle.m17_house.specs.declared.run.Run.{Run}
 use Rattle.m17_house.specs.Replay.{setup_of}
 use Rattle.m17_house.specs.Carried.{HasCarried, IsServed}
-use Rattle.m17_house.specs.SoFar.{IsCarriedOut, IsChoice, IsGiven, IsSoFar, IsTakenIn, AreCounts, claim_of, noting, past_with, without_members}
+use Rattle.m17_house.specs.SoFar.{change, scene, IsCarriedOut, IsChoice, IsGiven, IsSoFar, IsTakenIn, AreCounts, claim_of, noting, past_with, without_members}
 use Rattle.m17_house.proofs.Few.{few_heard, few_settled}
 use Rattle.m17_house.proofs.Notes.{all_noted, noting_stands}
 use Rattle.m17_house.proofs.Posts.{heard_same, claim_end, asked_posts, posts_begin, served_part}
@@ -80,8 +80,8 @@ pub taken_in : EachWhoLeavesIsPosted → EndedWhereItEnds → OneEntryMore → O
     mid.setup ≡ old.directory.setup → (mid.ended ≡ true) ↔ (verdict ≡ link.Ended) → length mid.known ≤ mid.setup.places →
     length mid.known + length mid.departing ≡ length old.directory.known + length old.directory.departing →
     run.directory ≡ noting (filter_map left_member posts) mid → run.stage.name ≡ old.stage.name → run.given ≡ old.given →
-    ((before : List Dispatch) → old.stage.name ≡ plan.name → AllByRecursion (IsServed plan) posts → length before + length posts < 2 ^ 64 - 1 → HasCarried plan before old.stage.rooms mouth → IsCarriedOut plan before posts run.stage.rooms mouth' answer) →
-    IsTakenIn plan entries notice run mouth' verdict answer
+    ((before : List Dispatch) → old.stage.name ≡ plan.name → AllByRecursion (IsServed plan) posts → length before + length posts < 2 ^ 64 - 1 → HasCarried plan before old.stage.rooms mouth → IsCarriedOut plan before posts (run.stage.rooms, mouth') answer) →
+    IsTakenIn plan entries notice (scene run mouth') (verdict, answer)
 taken_in leaves ends more only plan entries notice old run mouth mouth' mid verdict posts answer few so_far heard setup ended bounded together noted name given carry =
     let entry : Entry = unclaimed notice in
     let longer : List Entry = entries ++ entry ∷ [] in
@@ -94,7 +94,7 @@ taken_in leaves ends more only plan entries notice old run mouth mouth' mid verd
     more.posts (setup_of plan) entries entry ∙ ap (λ ds. posted (setup_of plan) entries ++ ds) (begin.1 ∙ ap (λ ds. ds ++ begin.0) (sym has.are_posts)) ∙ sym (append_assoc (posted (setup_of plan) entries) posts begin.0) in
     let served : AllByRecursion (IsServed plan) posts = served_part only plan longer (posted (setup_of plan) entries) posts begin.0 all in
     let fits : length (posted (setup_of plan) entries) + length posts < 18446744073709551615 = omega (arith, so_far.few, count, few) in
-    let carried : IsCarriedOut plan (posted (setup_of plan) entries) posts run.stage.rooms mouth' answer = carry (posted (setup_of plan) entries) so_far.idle.name served fits so_far.carried in
+    let carried : IsCarriedOut plan (posted (setup_of plan) entries) posts (run.stage.rooms, mouth') answer = carry (posted (setup_of plan) entries) so_far.idle.name served fits so_far.carried in
     let is_known : run.directory.known ≡ mid.known = ap (λ (k : Kept). k.known) noted in
     let all_setup : run.directory.setup ≡ setup_of plan = ap (λ (k : Kept). k.setup) noted ∙ setup ∙ so_far.idle.setup in
     let places : mid.setup.places ≡ plan.places = ap (λ (s : Setup). s.places) (setup ∙ so_far.idle.setup) in
@@ -108,7 +108,7 @@ taken_in leaves ends more only plan entries notice old run mouth mouth' mid verd
         known = omega (arith, ap length is_known, bounded, places);
       };
       stands = subst (λ (k : Kept). StandsFor k longer) (sym noted) (noting_stands (filter_map left_member posts) mid longer has.stands);
-      carried = subst (λ (ds : List Dispatch). IsCarriedOut plan (posted (setup_of plan) entries) ds run.stage.rooms mouth' answer) has.are_posts carried;
+      carried = subst (λ (ds : List Dispatch). IsCarriedOut plan (posted (setup_of plan) entries) ds (run.stage.rooms, mouth') answer) has.are_posts carried;
       is_verdict = has.is_verdict;
       others = λ asks. is_known ∙ has.others asks;
       ends = ap (λ (k : Kept). k.ended) noted ∙ ended_by verdict mid.ended (is_ended verdict) refl ended ∙ ap is_ended has.is_verdict ∙ ends (setup_of plan) longer (length entries);
@@ -151,14 +151,14 @@ has_settled plan entries entry old mid verdict posts setup nobody settled =
 
 -- A request was settled.
 pub given_place : EachWhoLeavesIsPosted → EntriesBeforeDecide → OneEntryMore → OnlyServedAreRouted → (plan : Plan) (entries : List Entry) (notice : Notice) (old run : Run) (mouth mouth' : TalliesKept) (mid : Kept) (member : Option Member) (verdict : LinkVerdict) (posts : List Dispatch) (found answer : Option Verdict) →
-    length entries < 2 ^ 58 → IsTakenIn plan entries notice old mouth link.Asks found →
+    length entries < 2 ^ 58 → IsTakenIn plan entries notice (scene old mouth) (link.Asks, found) →
     IsChoice old.directory.known plan.places old.given member run.given →
     IsSettled old.directory mid entries (claimed notice (claim_of member)) (record { verdict = verdict; posts = posts }) →
     mid.setup ≡ old.directory.setup → mid.ended ≡ old.directory.ended → mid.asked ≡ None → length mid.known ≤ mid.setup.places →
     length mid.known + length mid.departing ≤ length old.directory.known + length old.directory.departing + 1 →
     run.directory ≡ noting (filter_map left_member posts) mid → run.stage.name ≡ old.stage.name →
-    ((before : List Dispatch) → old.stage.name ≡ plan.name → AllByRecursion (IsServed plan) posts → length before + length posts < 2 ^ 64 - 1 → HasCarried plan before old.stage.rooms mouth → IsCarriedOut plan before posts run.stage.rooms mouth' answer) →
-    IsGiven plan entries notice old run mouth' verdict
+    ((before : List Dispatch) → old.stage.name ≡ plan.name → AllByRecursion (IsServed plan) posts → length before + length posts < 2 ^ 64 - 1 → HasCarried plan before old.stage.rooms mouth → IsCarriedOut plan before posts (run.stage.rooms, mouth') answer) →
+    IsGiven plan entries notice (change old run mouth') verdict
 given_place leaves law more only plan entries notice old run mouth mouth' mid member verdict posts found answer few taken choice settled setup ended asked bounded together noted name carry =
     let entry : Entry = claimed notice (claim_of member) in
     let longer : List Entry = entries ++ entry ∷ [] in
@@ -173,7 +173,7 @@ given_place leaves law more only plan entries notice old run mouth mouth' mid me
     ∙ sym (append_assoc (posted (setup_of plan) entries) heard posts) ∙ sym (append-nil (before ++ posts)) in
     let served : AllByRecursion (IsServed plan) posts = served_part only plan longer before posts [] all in
     let fits : length before + length posts < 18446744073709551615 = omega (arith, taken.few, count, few, length-append (posted (setup_of plan) entries) heard) in
-    let carried : IsCarriedOut plan before posts run.stage.rooms mouth' answer = carry before taken.idle.name served fits taken.carried.carried in
+    let carried : IsCarriedOut plan before posts (run.stage.rooms, mouth') answer = carry before taken.idle.name served fits taken.carried.carried in
     let is_known : run.directory.known ≡ mid.known = ap (λ (k : Kept). k.known) noted in
     let places : mid.setup.places ≡ plan.places = ap (λ (s : Setup). s.places) (setup ∙ taken.idle.setup) in
     record {

@@ -19,7 +19,7 @@ use Rattle.m17_house.specs.declared.plan.Plan.{Plan}
 use Rattle.m17_house.specs.declared.run.Run.{Run}
 use Rattle.m17_house.specs.Replay.{IsPlan, setup_of}
 use Rattle.m17_house.specs.Carried.{HasCarried}
-use Rattle.m17_house.specs.SoFar.{IsGiven, IsOneMore, IsSoFar, IsTakenIn, claim_of, past_with}
+use Rattle.m17_house.specs.SoFar.{change, scene, IsGiven, IsOneMore, IsSoFar, IsTakenIn, claim_of, past_with}
 use Rattle.m17_house.proofs.Lists.{length_more}
 use Rattle.m17_house.proofs.Posts.{heard_same, others_same, claim_end, unasked_posts, unasked_verdict, asked_verdict}
 use Rattle.m17_house.proofs.Found.{found_none}
@@ -29,7 +29,7 @@ use Rattle.m17_house.proofs.HeardMore.{asked_all, asks_still, not_asks}
 
 -- An entry that did not ask.
 pub more_unasked : EntriesBeforeDecide → OneEntryMore → PacketsAreRouted → EventsCarryTheirIndex → LaterActsChangeNoVerdict → OnlyPacketsHaveVerdicts → (plan : Plan) (entries : List Entry) (notice : Notice) (h : Heard) (run : Run) (mouth : TalliesKept) (verdict : LinkVerdict) (answer : Option Verdict) →
-    Says h notice → IsTakenIn plan entries notice run mouth verdict answer → (verdict ≡ link.Asks → ⊥) → run.directory.asked ≡ None → IsOneMore plan entries h run mouth verdict answer
+    Says h notice → IsTakenIn plan entries notice (scene run mouth) (verdict, answer) → (verdict ≡ link.Asks → ⊥) → run.directory.asked ≡ None → IsOneMore plan entries h (scene run mouth) (verdict, answer)
 more_unasked law more routes carry later only plan entries notice h run mouth verdict answer says taken apart asked =
     let entry : Entry = unclaimed notice in
     let longer : List Entry = entries ++ entry ∷ [] in
@@ -72,7 +72,7 @@ no_packet_settled past claim = settled_routes past claim (notice_at past.entries
 
 -- An entry that asked.
 pub more_asked : EntriesBeforeDecide → EndedWhereItEnds → OneEntryMore → PacketsAreRouted → EventsCarryTheirIndex → LaterActsChangeNoVerdict → OnlyPacketsHaveVerdicts → (plan : Plan) (entries : List Entry) (notice : Notice) (h : Heard) (old run : Run) (mouth mouth' : TalliesKept) (found : Option Verdict) (verdict : LinkVerdict) →
-    Says h notice → IsTakenIn plan entries notice old mouth link.Asks found → IsGiven plan entries notice old run mouth' verdict → IsOneMore plan entries h run mouth' verdict None
+    Says h notice → IsTakenIn plan entries notice (scene old mouth) (link.Asks, found) → IsGiven plan entries notice (change old run mouth') verdict → IsOneMore plan entries h (scene run mouth') (verdict, None)
 more_asked law ends more routes carry later only plan entries notice h old run mouth mouth' found verdict says taken given =
     let entry : Entry = claimed notice (claim_of given.member) in
     let longer : List Entry = entries ++ entry ∷ [] in

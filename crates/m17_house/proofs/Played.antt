@@ -19,7 +19,7 @@ use Rattle.m17_house.specs.declared.run.Run.{Run}
 use Rattle.m17_house.specs.Replay.{SaysEach, EndsSomewhere, setup_of, verdicts_of, packet_verdict, packet_verdicts_of, said_to, IsReplayed}
 use Rattle.m17_house.specs.Tallied.{AreTalliesOf}
 use Rattle.m17_house.specs.Carried.{said_after}
-use Rattle.m17_house.specs.SoFar.{AreCounts, IsOneMore, IsSoFar}
+use Rattle.m17_house.specs.SoFar.{scene, AreCounts, IsOneMore, IsSoFar}
 use Rattle.m17_house.proofs.Lists.{length_more}
 use Rattle.m17_house.proofs.Among.{link_before, packet_before}
 use Rattle.m17_house.proofs.Chosen.{notice_before, range_more}
@@ -94,7 +94,7 @@ module _ (law : EntriesBeforeDecide) (ends : EndedWhereItEnds) (nothing : LaterE
 
   -- One more was heard, which does not end the link.
   pub played_more : (plan : Plan) (heard : List Heard) (index : ℕ) (h : Heard) (old run : Run) (mouth mouth' : TalliesKept) (verdicts verdicts' : List LinkVerdict) (packets packets' : List (Option Verdict)) (verdict : LinkVerdict) (packet : Option Verdict) →
-      index < length heard → h ≡ get_or heard index h → (played : IsPlayed plan heard index old mouth verdicts packets) → IsOneMore plan played.entries h run mouth' verdict packet →
+      index < length heard → h ≡ get_or heard index h → (played : IsPlayed plan heard index old mouth verdicts packets) → IsOneMore plan played.entries h (scene run mouth') (verdict, packet) →
       verdicts' ≡ verdicts ++ verdict ∷ [] → packets' ≡ packets ++ packet ∷ [] → run.directory.ended ≡ false → IsPlayed plan heard (index + 1) run mouth' verdicts' packets'
   played_more plan heard index h old run mouth mouth' verdicts verdicts' packets packets' verdict packet below item played one vs ps going =
       let entries : List Entry = played.entries in
@@ -123,7 +123,7 @@ module _ (law : EntriesBeforeDecide) (ends : EndedWhereItEnds) (nothing : LaterE
 
   -- The one that ends it was heard.
   pub played_all : (plan : Plan) (heard : List Heard) (index : ℕ) (h : Heard) (old run : Run) (mouth mouth' : TalliesKept) (verdicts verdicts' : List LinkVerdict) (packets packets' : List (Option Verdict)) (verdict : LinkVerdict) (packet : Option Verdict) →
-      index < length heard → h ≡ get_or heard index h → (played : IsPlayed plan heard index old mouth verdicts packets) → IsOneMore plan played.entries h run mouth' verdict packet →
+      index < length heard → h ≡ get_or heard index h → (played : IsPlayed plan heard index old mouth verdicts packets) → IsOneMore plan played.entries h (scene run mouth') (verdict, packet) →
       verdicts' ≡ verdicts ++ verdict ∷ [] → packets' ≡ packets ++ packet ∷ [] → run.directory.ended ≡ true → IsReplayed plan heard verdicts' packets' mouth'
   played_all plan heard index h old run mouth mouth' verdicts verdicts' packets packets' verdict packet below item played one vs ps over =
       let entries : List Entry = played.entries in

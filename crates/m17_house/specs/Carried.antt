@@ -49,11 +49,11 @@ pub record RoomStands (plan : Plan) (letter : ℕ) (events : List Event) (rooms 
   pub setup : kept.setup ≡ module_setup plan letter
   pub stands : StandsFor kept events
 
--- the step of a module by one event more: where it then stands, what it gave, and the verdict on it
+-- the step of a module by one event more: where it then stands, and the verdict on it
 pub record IsRoomStep (plan : Plan) (letter : ℕ) (events : List Event) (event : Event)
-    (rooms : List (Option Kept)) (answer : Option Verdict) : Type 0 where
-  pub stands : RoomStands plan letter (events ++ event ∷ []) rooms
-  pub verdict : answer ≡ verdict_at plan.places (acts_of (events ++ event ∷ [])) (length events)
+    (after : List (Option Kept) × Option Verdict) : Type 0 where
+  pub stands : RoomStands plan letter (events ++ event ∷ []) after.0
+  pub verdict : after.1 ≡ verdict_at plan.places (acts_of (events ++ event ∷ [])) (length events)
 
 -- The modules stand for what these dispatches have for them, and the tallies are of what is said by then. This profile.
 pub record HasCarried (plan : Plan) (done : List Dispatch) (rooms : List (Option Kept))

@@ -43,11 +43,12 @@ found_from plan before found [] = found
 found_from plan before found (d ∷ more) =
     found_from plan (before ++ d ∷ []) (option_or (answer_to plan before d) found) more
 
--- The dispatches were carried out after others, with this verdict on the last packet among them. This profile.
+-- The dispatches were carried out after others, with this verdict on the last packet among them: so the modules and
+-- the mouth are after that. This profile.
 pub record IsCarriedOut (plan : Plan) (before posts : List Dispatch)
-    (rooms : List (Option modules.Kept)) (mouth : TalliesKept) (answer : Option Verdict)
+    (after : List (Option modules.Kept) × TalliesKept) (answer : Option Verdict)
     : Type 0 where
-  pub carried : HasCarried plan (before ++ posts) rooms mouth
+  pub carried : HasCarried plan (before ++ posts) after.0 after.1
   pub found : answer ≡ found_from plan before None posts
 
 -- The choice of a member for a peer that asks, beside those that are known: of the least place that nobody has, counted
@@ -100,21 +101,31 @@ pub record IsSoFar (plan : Plan) (entries : List Entry) (run : Run) (mouth : Tal
   pub given : AreCounts run.given entries
   pub chosen : AreChosen plan entries
 
--- The run has come through these entries, and has heard one more that says this, but for its claim. This profile.
-pub record IsTakenIn (plan : Plan) (entries : List Entry) (notice : Notice) (run : Run)
-    (mouth : TalliesKept) (verdict : LinkVerdict) (answer : Option Verdict) : Type 0 where
-  pub idle : IsIdle plan run
-  pub stands : StandsFor run.directory (entries ++ unclaimed notice ∷ [])
+-- a run, and what its mouth has counted
+pub record Scene : Type 0 where
+  pub run : Run
+  pub mouth : TalliesKept
+
+abbrev pub scene : Run → TalliesKept → Scene
+scene run mouth = record { run = run; mouth = mouth }
+
+-- The run has come through these entries, and has heard one more that says this, but for its claim: it answered the
+-- link's verdict, and the floor rule's on a packet. This profile.
+pub record IsTakenIn (plan : Plan) (entries : List Entry) (notice : Notice) (s : Scene)
+    (answer : LinkVerdict × Option Verdict) : Type 0 where
+  pub idle : IsIdle plan s.run
+  pub stands : StandsFor s.run.directory (entries ++ unclaimed notice ∷ [])
   pub carried : IsCarriedOut plan (posted (setup_of plan) entries)
-      (heard_at (past_with plan entries (unclaimed notice))).posts run.stage.rooms mouth answer
-  pub is_verdict : verdict ≡ (heard_at (past_with plan entries (unclaimed notice))).verdict
-  pub others : verdict ≡ Asks →
-      run.directory.known ≡ others_at (past_with plan entries (unclaimed notice))
-  pub ends : run.directory.ended ≡ ends_at (entries ++ unclaimed notice ∷ []) (length entries)
+      (heard_at (past_with plan entries (unclaimed notice))).posts
+      (s.run.stage.rooms, s.mouth) answer.1
+  pub is_verdict : answer.0 ≡ (heard_at (past_with plan entries (unclaimed notice))).verdict
+  pub others : answer.0 ≡ Asks →
+      s.run.directory.known ≡ others_at (past_with plan entries (unclaimed notice))
+  pub ends : s.run.directory.ended ≡ ends_at (entries ++ unclaimed notice ∷ []) (length entries)
   pub few : length (posted (setup_of plan) entries)
       + length (heard_at (past_with plan entries (unclaimed notice))).posts
-      + length run.directory.known ≤ 54 * length entries + 52
-  pub given : AreCounts run.given entries
+      + length s.run.directory.known ≤ 54 * length entries + 52
+  pub given : AreCounts s.run.given entries
   pub chosen : AreChosen plan entries
 
 -- what such an entry posts before its claim
@@ -130,29 +141,38 @@ abbrev pub given_to : Plan → List Entry → Notice → Option Member → Outco
 given_to plan entries notice given =
     settled_at (past_with plan entries (claimed notice (claim_of given))) (claim_of given)
 
+-- a run before a claim, and how it is after that
+pub record Change : Type 0 where
+  pub old : Run
+  pub after : Scene
+
+abbrev pub change : Run → Run → TalliesKept → Change
+change old run mouth = record { old = old; after = scene run mouth }
+
 -- The same with its claim, where it asked. This profile.
-pub record IsGiven (plan : Plan) (entries : List Entry) (notice : Notice) (old run : Run)
-    (mouth : TalliesKept) (verdict : LinkVerdict) : Type 0 where
+pub record IsGiven (plan : Plan) (entries : List Entry) (notice : Notice) (c : Change)
+    (verdict : LinkVerdict) : Type 0 where
   pub member : Option Member
-  pub idle : IsIdle plan run
-  pub asked : run.directory.asked ≡ None
-  pub stands : StandsFor run.directory (entries ++ claimed notice (claim_of member) ∷ [])
+  pub idle : IsIdle plan c.after.run
+  pub asked : c.after.run.directory.asked ≡ None
+  pub stands : StandsFor c.after.run.directory (entries ++ claimed notice (claim_of member) ∷ [])
   pub carried : HasCarried plan (posted (setup_of plan) entries ++ first_posts plan entries notice
-      ++ (given_to plan entries notice member).posts) run.stage.rooms mouth
+      ++ (given_to plan entries notice member).posts) c.after.run.stage.rooms c.after.mouth
   pub is_verdict : verdict ≡ (given_to plan entries notice member).verdict
-  pub ends : run.directory.ended ≡ ends_at (entries ++ unclaimed notice ∷ []) (length entries)
+  pub ends : c.after.run.directory.ended
+      ≡ ends_at (entries ++ unclaimed notice ∷ []) (length entries)
   pub few : length (posted (setup_of plan) entries)
       + length (first_posts plan entries notice)
       + length (given_to plan entries notice member).posts
-      + length run.directory.known ≤ 54 * length entries + 54
-  pub choice : IsChoice old.directory.known plan.places old.given member run.given
+      + length c.after.run.directory.known ≤ 54 * length entries + 54
+  pub choice : IsChoice c.old.directory.known plan.places c.old.given member c.after.run.given
 
 -- One entry more was heard, and what became of it is in all that the run stands for. This profile.
-pub record IsOneMore (plan : Plan) (entries : List Entry) (h : Heard) (run : Run)
-    (mouth : TalliesKept) (verdict : LinkVerdict) (packet : Option Verdict) : Type 0 where
+pub record IsOneMore (plan : Plan) (entries : List Entry) (h : Heard) (s : Scene)
+    (answer : LinkVerdict × Option Verdict) : Type 0 where
   pub entry : Entry
   pub says : Says h entry.notice
-  pub so_far : IsSoFar plan (entries ++ entry ∷ []) run mouth
-  pub is_verdict : verdict ≡ link_verdict (setup_of plan) (entries ++ entry ∷ []) (length entries)
-  pub is_packet : packet ≡ packet_verdict plan (entries ++ entry ∷ []) (length entries)
-  pub ends : run.directory.ended ≡ ends_at (entries ++ entry ∷ []) (length entries)
+  pub so_far : IsSoFar plan (entries ++ entry ∷ []) s.run s.mouth
+  pub is_verdict : answer.0 ≡ link_verdict (setup_of plan) (entries ++ entry ∷ []) (length entries)
+  pub is_packet : answer.1 ≡ packet_verdict plan (entries ++ entry ∷ []) (length entries)
+  pub ends : s.run.directory.ended ≡ ends_at (entries ++ entry ∷ []) (length entries)

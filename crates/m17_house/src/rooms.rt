@@ -74,7 +74,7 @@ impl Rooms {
         requires { out.old ≡ [] }
         ensures by_rule { (plan : Plan) (events : List Event) →
             RoomStands plan letter events self.old → length events < 2 ^ 64 - 1 →
-            IsRoomStep plan letter events event.now self.new result
+            IsRoomStep plan letter events event.now (self.new, result)
             × (out.new ≡ items_at (module_setup plan letter)
             (events ++ event.now ∷ []) (length events)) }
         ensures others { (plan : Plan) (other : ℕ) (events : List Event) →

@@ -15,7 +15,7 @@ ghost use Rattle.m17_house.specs.declared.plan.Plan.{Plan};
 ghost use Rattle.m17_house.specs.Replay.{IsPlan, IsLeastFree};
 ghost use Rattle.m17_house.specs.Tallied.{AreTalliesOf, IsSameMouth};
 ghost use Rattle.m17_house.specs.Carried.{HasCarried, IsServed};
-ghost use Rattle.m17_house.specs.SoFar.{IsCarriedOut, IsChoice, IsGiven, IsIdle, IsOneMore, IsSoFar, IsTakenIn, noting};
+ghost use Rattle.m17_house.specs.SoFar.{change, scene, IsCarriedOut, IsChoice, IsGiven, IsIdle, IsOneMore, IsSoFar, IsTakenIn, noting};
 
 use crate::Plan;
 use crate::choice::choose;
@@ -131,7 +131,7 @@ impl Run {
             self.old.stage.name ≡ plan.name → AllByRecursion (IsServed plan) self.old.post →
             length before + length self.old.post < 2 ^ 64 - 1 →
             HasCarried plan before self.old.stage.rooms mouth.old →
-            IsCarriedOut plan before self.old.post self.new.stage.rooms mouth.new result }
+            IsCarriedOut plan before self.old.post (self.new.stage.rooms, mouth.new) result }
     {
         let mut verdict = None;
         while let Some(dispatch) = self.post.take() {
@@ -159,7 +159,7 @@ impl Run {
         ensures taken { (plan : Plan) (entries : List Entry) (notice : Notice) →
             Says h.now notice → index ≡ length entries → length entries < 2 ^ 58 →
             IsSoFar plan entries self.old mouth.old →
-            IsTakenIn plan entries notice self.new mouth.new result.0 result.1 }
+            IsTakenIn plan entries notice (scene self.new mouth.new) result }
     {
         directory_laws::each_who_leaves_is_posted();
         directory_laws::ended_where_it_ends();
@@ -182,8 +182,8 @@ impl Run {
         ensures mouth { IsSameMouth mouth.old mouth.new }
         ensures given { (entries : List Entry) (notice : Notice) (answer : Option Verdict) →
             length entries < 2 ^ 58 →
-            IsTakenIn plan.now entries notice self.old mouth.old link.Asks answer →
-            IsGiven plan.now entries notice self.old self.new mouth.new result }
+            IsTakenIn plan.now entries notice (scene self.old mouth.old) (link.Asks, answer) →
+            IsGiven plan.now entries notice (change self.old self.new mouth.new) result }
     {
         directory_laws::each_who_leaves_is_posted();
         directory_laws::entries_before_decide();
@@ -213,7 +213,7 @@ impl Run {
         ensures mouth { IsSameMouth mouth.old mouth.new }
         ensures heard { (entries : List Entry) → index ≡ length entries → length entries < 2 ^ 58 →
             IsSoFar plan.now entries self.old mouth.old →
-            IsOneMore plan.now entries h.now self.new mouth.new result.0 result.1 }
+            IsOneMore plan.now entries h.now (scene self.new mouth.new) result }
     {
         directory_laws::entries_before_decide();
         directory_laws::ended_where_it_ends();

@@ -1,11 +1,11 @@
 use Rattle.std.proofs.Common.{◌≡◌, ◌<◌, true, false, length, sym, ◌∙◌, arith}
-use Rattle.m17_house.specs.SoFar.{IsOneMore}
+use Rattle.m17_house.specs.SoFar.{scene, IsOneMore}
 use Rattle.m17_house.proofs.Played.{IsPlayed, played_more, played_all}
 use Rattle.m17_house.proofs.replay.play.Goals as goal
 use Rattle.m17_house.proofs.replay.play.Goals.{After-has_ended}
 
 -- the entry of this turn
-heard_one : (c : After-has_ended) → IsOneMore c.args.plan.now c.loop-index.invariant.3.entries c.index-heard-index.result c.hear-verdict.new.self c.hear-verdict.new.mouth c.hear-verdict.result.0 c.hear-verdict.result.1
+heard_one : (c : After-has_ended) → IsOneMore c.args.plan.now c.loop-index.invariant.3.entries c.index-heard-index.result (scene c.hear-verdict.new.self c.hear-verdict.new.mouth) c.hear-verdict.result
 heard_one c =
     let played : IsPlayed c.args.plan.now c.args.heard.now c.loop-index.index c.loop-index.run c.loop-index.mouth c.loop-index.verdicts.items c.loop-index.packets.items = c.loop-index.invariant.3 in
     let few : length played.entries < 288230376151711744 = omega (arith, played.count, c.count-few.ensures.few, c.loop-index-test.true) in

@@ -1,7 +1,7 @@
 use Rattle.std.proofs.Common.{subst}
 use Rattle.m17_directory.specs.declared.verdict.LinkVerdict.{LinkVerdict}
 use Rattle.m17_directory.specs.declared.verdict.LinkVerdict.TheVariants as link
-use Rattle.m17_house.specs.SoFar.{IsTakenIn}
+use Rattle.m17_house.specs.SoFar.{scene, IsTakenIn}
 use Rattle.m17_house.proofs.HeardMore.{nothing_asked}
 use Rattle.m17_house.proofs.OneMore.{more_unasked, more_asked}
 use Rattle.m17_house.proofs.Played.{room_of}
@@ -24,8 +24,8 @@ pub returns-in-Asks-clause-heard : goal.returns-in-Asks-clause-heard
 returns-in-Asks-clause-heard c = λ entries index few so_far.
     let heard = c.says_something.ensures in
     let taken = c.take_in-verdict.ensures.taken c.args.plan.now entries heard.0 heard.1 index few so_far in
-    let asks : IsTakenIn c.args.plan.now entries heard.0 c.take_in-verdict.new.self c.take_in-verdict.new.mouth link.Asks c.take_in-verdict.result.1 =
-    subst (λ (v : LinkVerdict). IsTakenIn c.args.plan.now entries heard.0 c.take_in-verdict.new.self c.take_in-verdict.new.mouth v c.take_in-verdict.result.1) c.in-Asks.is taken in
+    let asks : IsTakenIn c.args.plan.now entries heard.0 (scene c.take_in-verdict.new.self c.take_in-verdict.new.mouth) (link.Asks, c.take_in-verdict.result.1) =
+    subst (λ (v : LinkVerdict). IsTakenIn c.args.plan.now entries heard.0 (scene c.take_in-verdict.new.self c.take_in-verdict.new.mouth) (v, c.take_in-verdict.result.1)) c.in-Asks.is taken in
     more_asked c.entries_before_decide.ensures c.ended_where_it_ends.ensures c.one_entry_more.ensures c.packets_are_routed.ensures c.events_carry_their_index.ensures c.later_acts_change_no_verdict.ensures c.only_speakers_are_heard.ensures.packets
     c.args.plan.now entries heard.0 c.args.h.now c.take_in-verdict.new.self c.give.new.self c.take_in-verdict.new.mouth c.give.new.mouth c.take_in-verdict.result.1 c.give.result
     heard.1 asks (c.give.ensures.given entries heard.0 c.take_in-verdict.result.1 few asks)
