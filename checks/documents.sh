@@ -22,6 +22,7 @@ examples_of() { # DOCUMENT
     done
 }
 check "the examples of README.md print what it says" examples_of README.md
+check "the examples of docs/operating.md print what it says" examples_of docs/operating.md
 
 help_has_each_command() {
     "$top/m17" help >help || return 1
