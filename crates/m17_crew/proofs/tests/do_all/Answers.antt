@@ -1,4 +1,3 @@
-use Rattle.m17_crew.specs.Laws.{AreBack}
 use Rattle.m17_crew.proofs.tests.do_all.Goals as goal
 
 pub returns-clause-back : goal.returns-clause-back
