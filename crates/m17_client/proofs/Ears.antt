@@ -42,8 +42,12 @@ still_counted (Some all) told entries is not_past no_end past =
     sym (last-append None all entries) ∙ ap (last_or None) same
     ∙ ends_in_end past.0 past.1 (omega (arith, past.2)) in
     elim (own_last (last_or None all) entries End last) [
-      | inl none ↦ not_past (past.0, past.1, past.2,
-          ap (λ l. Some l) (sym (append-nil all) ∙ ap (λ l. all ++ l) (sym none) ∙ same))
+      | inl none ↦ not_past (
+        past.0,
+        past.1,
+        past.2,
+        ap (λ l. Some l) (sym (append-nil all) ∙ ap (λ l. all ++ l) (sym none) ∙ same),
+      )
       | inr its ↦ no_end its
     ]
 

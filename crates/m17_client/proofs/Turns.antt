@@ -42,7 +42,7 @@ pub faults_more : (entries : List Heard) (entry : Heard) → suffix_len is_fault
 faults_more entries entry =
     ap (prefix_len is_fault) (reverse-append entries (entry ∷ []))
     ∙ ap (λ n. cond (is_fault entry) n 0) (let one : 1 + prefix_len is_fault (reverse entries)
-        ≡ suffix_len is_fault entries + 1 = omega arith in one)
+    ≡ suffix_len is_fault entries + 1 = omega arith in one)
 
 -- a run after one more turn
 pub so_far_more : (origin : Origin) (turns : List Turn) (turn : Turn) (old new : Run)

@@ -36,7 +36,7 @@ pub record IsAfter (first : Standing) (steps : List ClientStep) (p : Progress) :
 abbrev pub due_now : Progress → List (ℕ × StreamPacket) → List (ℕ × StreamPacket)
 due_now p script = if is_connected p.client.state
     then drop p.sent
-      (filter (λ due. nat_le due.0 (ms_since p.connected_at p.client)) script)
+    (filter (λ due. nat_le due.0 (ms_since p.connected_at p.client)) script)
     else []
 
 -- It is time to leave, with a script of so many packets. This profile.

@@ -23,7 +23,6 @@ pub use state::{Action, Ending, Input, LastKept, SAID_BYTES, State};
 pub use talking::{TalkEnd, talk};
 
 #[cfg(test)]
-mod tests;
-
-#[cfg(test)]
 mod talking_tests;
+#[cfg(test)]
+mod tests;
