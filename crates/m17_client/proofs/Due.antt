@@ -1,5 +1,5 @@
 -- The records of a script that are due: those from the next one on whose moment has come.
-use Rattle.std.proofs.Common.{◌≡◌, ℕ, Bool, true, false, cond, suc, zero, ◌+◌, ◌<◌, ◌≤◌, List, [], ◌∷◌, ◌++◌, length, filter, drop, nat_le, count_by, refl, sym, ap, ◌∙◌, inl, inr, arith, Option, None, Some}
+use Rattle.std.proofs.Common.{◌≡◌, ℕ, Bool, true, false, cond, suc, zero, ◌+◌, ◌<◌, ◌≤◌, List, [], ◌∷◌, length, filter, drop, nat_le, refl, sym, ap, ◌∙◌, inl, inr, arith, Option, Some}
 use Rattle.std.specs.List.{slice_get}
 use Rattle.std.proofs.lemmas.Bool.{le-leb}
 use Rattle.std.proofs.lemmas.Bool.Decides.{leb_tells}
@@ -8,7 +8,7 @@ use Rattle.std.proofs.lemmas.List.Sums.{length-filter, count_by-le-length}
 use Rattle.m17_stream.specs.declared.packet.StreamPacket.{StreamPacket}
 use Rattle.m17_client.specs.declared.progress.Progress.{Progress}
 use Rattle.m17_client.specs.Standing.{Standing}
-use Rattle.m17_client.specs.Steps.{ClientStep, connected_at, is_connected, ms_since, sends_of, standing_after}
+use Rattle.m17_client.specs.Steps.{ClientStep, connected_at, is_connected, ms_since, sends_of}
 use Rattle.m17_client.specs.Talk.{IsInOrder, TalkPlan, due_records}
 use Rattle.m17_client.specs.TalkSoFar.{IsAfter, due_now}
 

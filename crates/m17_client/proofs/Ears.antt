@@ -1,7 +1,7 @@
 -- One more entry of an ear.
-use Rattle.std.proofs.Common.{◌≡◌, ◌≢◌, ◌⊎◌, ℕ, suc, zero, ◌+◌, ◌-◌, ◌^◌, ◌≤◌, min, List, [], ◌∷◌, ◌++◌, length, replicate, Contains, refl, sym, ap, ◌∙◌, subst, inl, inr, arith, Option, None, Some}
+use Rattle.std.proofs.Common.{◌≡◌, ◌≢◌, ◌⊎◌, ℕ, suc, zero, ◌≤◌, List, [], ◌∷◌, ◌++◌, replicate, Contains, refl, sym, ap, ◌∙◌, subst, inl, inr, arith, Option, None, Some}
 use Rattle.std.specs.List.{last_or}
-use Rattle.std.proofs.lemmas.List.{append-nil, replicate_more}
+use Rattle.std.proofs.lemmas.List.{append-nil}
 use Rattle.std.proofs.lemmas.List.Elements.{Contains-append_left, Contains-push, Contains-push_cases}
 use Rattle.m17_values.specs.declared.heard.Heard.{Heard}
 use Rattle.m17_values.specs.declared.heard.Heard.TheVariants.{Fault, End}

@@ -1,5 +1,5 @@
 -- One more step of a session: what its client did, and its devices.
-use Rattle.std.proofs.Common.{◌≡◌, ◌↔◌, ℕ, Bool, true, false, ◌+◌, ◌≤◌, List, [], ◌∷◌, ◌++◌, length, map, drop, refl, sym, ap, ◌∙◌, subst, arith, Option, IsTrue, option_map, None}
+use Rattle.std.proofs.Common.{◌≡◌, ◌↔◌, ℕ, true, List, [], ◌∷◌, ◌++◌, length, map, drop, sym, ap, ◌∙◌, subst, arith, IsTrue, option_map, None}
 use Rattle.std.specs.List.{flat_map, last_or}
 use Rattle.std.specs.Option.{option_or}
 use Rattle.std.proofs.lemmas.List.{append-nil, append_assoc, map-append}
@@ -11,7 +11,7 @@ use Rattle.m17_client.specs.declared.state.Input.{Input}
 use Rattle.m17_client.specs.declared.state.Input.TheVariants.{Send}
 use Rattle.m17_client.specs.Standing.{Standing}
 use Rattle.m17_client.specs.Client.{IsClientStep}
-use Rattle.m17_client.specs.Steps.{ClientStep, connected_at, inputs_of, is_connected, ms_since, paused_at, sends_of, standing_after}
+use Rattle.m17_client.specs.Steps.{ClientStep, inputs_of, is_connected, ms_since, paused_at, sends_of, standing_after}
 use Rattle.m17_client.specs.Talk.{IsTimeToLeave, TalkPlan}
 use Rattle.m17_client.specs.TalkDevices.{BookTells, HasSaid, MouthTells, kept_by, records_of, said_by, says_of}
 use Rattle.m17_client.specs.TalkSoFar.{IsAfter, IsAt, IsLogged, IsTimeNow, Origin}

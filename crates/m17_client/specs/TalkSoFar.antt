@@ -1,5 +1,5 @@
 -- How far a run of `talk` has come. No public clause cites this module.
-use Rattle.std.specs.Prelude.{◌≡◌, ◌↔◌, ◌⊎◌, ℕ, Bool, true, false, IsTrue, IsSome, ◌<◌, ◌≤◌, ◌-◌, ◌^◌, min, List, [], ◌∷◌, ◌++◌, length, map, filter, take, drop, nat_le, Option, None, Some, option_map, if◌then◌else◌}
+use Rattle.std.specs.Prelude.{◌≡◌, ◌↔◌, ◌⊎◌, ℕ, true, IsTrue, IsSome, ◌≤◌, ◌-◌, ◌^◌, min, List, [], length, filter, take, drop, nat_le, Option, None, Some, option_map, if◌then◌else◌}
 use Rattle.std.specs.List.{last_or, slice_get, suffix_len}
 use Rattle.std.specs.Option.{option_or}
 use Rattle.m17_values.specs.declared.heard.Heard.{Heard}
@@ -10,13 +10,9 @@ use Rattle.m17_client.specs.declared.log.Log.{Log}
 use Rattle.m17_client.specs.declared.progress.Progress.{Progress}
 use Rattle.m17_client.specs.declared.session.Session.{Session}
 use Rattle.m17_client.specs.declared.run.Run.{Run}
-use Rattle.m17_client.specs.declared.state.State.TheVariants.{Closed}
-use Rattle.m17_client.specs.declared.state.Ending.{Ending}
-use Rattle.m17_client.specs.declared.state.Input.{Input}
-use Rattle.m17_client.specs.declared.state.Input.TheVariants.{Send, Leave}
 use Rattle.m17_client.specs.Standing.{Standing}
-use Rattle.m17_client.specs.Steps.{ClientStep, IsClientRun, connected_at, inputs_of, is_connected, ms_since, sends_of, standing_after}
-use Rattle.m17_client.specs.Talk.{TalkPlan, Turn, IsEnded, IsOver, IsTurn, TakesTurn, due_records, entries_of, is_fault, steps_of}
+use Rattle.m17_client.specs.Steps.{ClientStep, IsClientRun, connected_at, is_connected, ms_since, sends_of, standing_after}
+use Rattle.m17_client.specs.Talk.{TalkPlan, Turn, IsEnded, IsOver, IsTurn, entries_of, is_fault, steps_of}
 use Rattle.m17_client.specs.TalkDevices.{BookTells, HasSaid, HasWritten, MouthTells, records_of, says_of}
 
 -- a client's moment, where it is connected

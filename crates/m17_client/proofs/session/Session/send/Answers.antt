@@ -1,4 +1,4 @@
-use Rattle.std.proofs.Common.{◌≡◌, refl}
+use Rattle.std.proofs.Common.{refl}
 use Rattle.m17_client.specs.declared.state.Input.TheVariants.{Send}
 use Rattle.m17_client.specs.Steps.{ClientStep}
 use Rattle.m17_client.specs.TalkDevices.{records_of, says_of}
