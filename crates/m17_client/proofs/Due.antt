@@ -1,5 +1,5 @@
 -- The records of a script that are due: those from the next one on whose moment has come.
-use Rattle.std.proofs.Common.{◌≡◌, ℕ, Bool, true, false, cond, suc, zero, ◌+◌, ◌<◌, ◌≤◌, List, [], ◌∷◌, ◌++◌, length, filter, drop, nat_le, count_by, refl, sym, ap, ◌∙◌, inl, inr, arith, Option, None, Some}
+use Rattle.std.proofs.Common.{◌≡◌, ℕ, Bool, true, false, cond, suc, zero, ◌+◌, ◌<◌, ◌≤◌, List, [], ◌∷◌, length, filter, drop, nat_le, refl, sym, ap, ◌∙◌, inl, inr, arith, Option, Some}
 use Rattle.std.specs.List.{slice_get}
 use Rattle.std.proofs.lemmas.Bool.{le-leb}
 use Rattle.std.proofs.lemmas.Bool.Decides.{leb_tells}
@@ -8,7 +8,7 @@ use Rattle.std.proofs.lemmas.List.Sums.{length-filter, count_by-le-length}
 use Rattle.m17_stream.specs.declared.packet.StreamPacket.{StreamPacket}
 use Rattle.m17_client.specs.declared.progress.Progress.{Progress}
 use Rattle.m17_client.specs.Standing.{Standing}
-use Rattle.m17_client.specs.Steps.{ClientStep, connected_at, is_connected, ms_since, sends_of, standing_after}
+use Rattle.m17_client.specs.Steps.{ClientStep, connected_at, is_connected, ms_since, sends_of}
 use Rattle.m17_client.specs.Talk.{IsInOrder, TalkPlan, due_records}
 use Rattle.m17_client.specs.TalkSoFar.{IsAfter, due_now}
 
@@ -56,9 +56,11 @@ come_here : (limit : ℕ) (xs : List Record) → IsInOrder xs → (n : ℕ) (r :
 come_here limit [] o n r at early = absurd (cc)
 come_here limit (x ∷ xs) o zero r at early =
     let same : x ≡ r = cc in
-    let here : x.0 ≤ limit = rw same early in
-    (come limit xs, ap (λ b. cond b (x ∷ come limit xs) (come limit xs)) (le-leb x.0 limit here)
-    ∙ ap (λ y. y ∷ come limit xs) same)
+    let here : x.0 ≤ limit = rw same early in (
+      come limit xs,
+      ap (λ b. cond b (x ∷ come limit xs) (come limit xs)) (le-leb x.0 limit here)
+          ∙ ap (λ y. y ∷ come limit xs) same,
+    )
 come_here limit (x ∷ xs) o (suc k) r at early =
     let least : x.0 ≤ r.0 = first_least x xs o k r at in
     let here : x.0 ≤ limit = omega arith in
@@ -96,9 +98,12 @@ either_way false xs e = refl
 pub all_sent : (p : Progress) (script : List Record) → length script ≤ p.sent → due_now p script ≡ []
 all_sent p script long =
     let limit = ms_since p.connected_at p.client in
-    let few : length (come limit script) ≤ p.sent = omega (arith, long,
-    length-filter (λ (r : Record). nat_le r.0 limit) script,
-    count_by-le-length (λ (r : Record). nat_le r.0 limit) script) in
+    let few : length (come limit script) ≤ p.sent = omega (
+      arith,
+      long,
+      length-filter (λ (r : Record). nat_le r.0 limit) script,
+      count_by-le-length (λ (r : Record). nat_le r.0 limit) script,
+    ) in
     either_way (is_connected p.client.state) (drop p.sent (come limit script))
     (drop_all p.sent (come limit script) few)
 

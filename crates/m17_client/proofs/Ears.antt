@@ -1,7 +1,7 @@
 -- One more entry of an ear.
-use Rattle.std.proofs.Common.{◌≡◌, ◌≢◌, ◌⊎◌, ℕ, suc, zero, ◌+◌, ◌-◌, ◌^◌, ◌≤◌, min, List, [], ◌∷◌, ◌++◌, length, replicate, Contains, refl, sym, ap, ◌∙◌, subst, inl, inr, arith, Option, None, Some}
+use Rattle.std.proofs.Common.{◌≡◌, ◌≢◌, ◌⊎◌, ℕ, suc, zero, ◌≤◌, List, [], ◌∷◌, ◌++◌, replicate, Contains, refl, sym, ap, ◌∙◌, subst, inl, inr, arith, Option, None, Some}
 use Rattle.std.specs.List.{last_or}
-use Rattle.std.proofs.lemmas.List.{append-nil, replicate_more}
+use Rattle.std.proofs.lemmas.List.{append-nil}
 use Rattle.std.proofs.lemmas.List.Elements.{Contains-append_left, Contains-push, Contains-push_cases}
 use Rattle.m17_values.specs.declared.heard.Heard.{Heard}
 use Rattle.m17_values.specs.declared.heard.Heard.TheVariants.{Fault, End}
@@ -42,8 +42,12 @@ still_counted (Some all) told entries is not_past no_end past =
     sym (last-append None all entries) ∙ ap (last_or None) same
     ∙ ends_in_end past.0 past.1 (omega (arith, past.2)) in
     elim (own_last (last_or None all) entries End last) [
-      | inl none ↦ not_past (past.0, past.1, past.2,
-          ap (λ l. Some l) (sym (append-nil all) ∙ ap (λ l. all ++ l) (sym none) ∙ same))
+      | inl none ↦ not_past (
+        past.0,
+        past.1,
+        past.2,
+        ap (λ l. Some l) (sym (append-nil all) ∙ ap (λ l. all ++ l) (sym none) ∙ same),
+      )
       | inr its ↦ no_end its
     ]
 

@@ -1,5 +1,5 @@
 -- A run that is over, and what is answered of it.
-use Rattle.std.proofs.Common.{◌≡◌, ◌↔◌, ◌⊎◌, ℕ, Bool, true, false, cond, ◌+◌, ◌<◌, ◌≤◌, List, [], ◌∷◌, ◌++◌, length, take, refl, sym, ap, ◌∙◌, subst, inl, inr, arith, Option, None, Some, IsTrue}
+use Rattle.std.proofs.Common.{◌≡◌, ◌↔◌, ◌⊎◌, ℕ, Bool, true, false, cond, ◌+◌, ◌≤◌, List, [], ◌∷◌, ◌++◌, length, take, refl, sym, ap, ◌∙◌, subst, inl, inr, arith, None, Some, IsTrue}
 use Rattle.std.specs.List.{last_or, slice_get, suffix_len}
 use Rattle.std.proofs.lemmas.Bool.Decides.{leb_tells}
 use Rattle.std.proofs.lemmas.List.{append-nil, length_push, take_all, take_at, take-append-le}
@@ -104,8 +104,10 @@ not_closed origin turns turn run m b before h by_entry closed =
     let same : steps_of (turns ++ turn ∷ []) ≡ steps_of (take (length turns) turns) =
     steps_more turns turn ∙ ap (λ l. steps_of turns ++ l) none ∙ append-nil (steps_of turns)
     ∙ ap (steps_of) (sym (take_all (length turns) turns (omega arith))) in
-    before (length turns) (omega arith) (inr (inr (closed.0,
-    sym (ap (λ l. (standing_after origin.plan.client l).state) same) ∙ closed.1)))
+    before (length turns) (omega arith) (inr (inr (
+      closed.0,
+      sym (ap (λ l. (standing_after origin.plan.client l).state) same) ∙ closed.1,
+    )))
 
 not_true : (b : Bool) → (b ≡ true → ⊥) → b ≡ false
 not_true true h = absurd (h refl)

@@ -1,10 +1,10 @@
 -- One more record that a book was to take.
-use Rattle.std.proofs.Common.{◌≡◌, ℕ, Bool, true, false, ◌+◌, ◌-◌, ◌^◌, ◌≤◌, min, List, [], ◌∷◌, ◌++◌, length, take, refl, sym, ap, ◌∙◌, arith, Option, None, Some, Result, Ok, Err, OnOk, OnErr, is_err}
+use Rattle.std.proofs.Common.{◌≡◌, ℕ, true, false, ◌+◌, ◌-◌, ◌^◌, ◌≤◌, min, List, [], ◌∷◌, ◌++◌, length, take, refl, sym, ap, ◌∙◌, arith, Result, Ok, Err, OnOk, OnErr, is_err}
 use Rattle.std.specs.List.{concat}
 use Rattle.std.proofs.lemmas.List.{append-nil, append_assoc, length_push, take_all}
 use Rattle.m17_io.specs.Faults.{HasCause, HasRisen}
 use Rattle.m17_ports.specs.Told.{told_then}
-use Rattle.m17_client.specs.TalkDevices.{BookTells, HasWritten, StopsWithin}
+use Rattle.m17_client.specs.TalkDevices.{BookTells, HasWritten}
 use Rattle.m17_client.specs.declared.log.Log.{Log}
 use Rattle.m17_client.specs.TalkSoFar.{IsLogged}
 use Rattle.m17_client.proofs.Said.{told_then-append, told_then-nil}

@@ -1,20 +1,19 @@
 -- One more step of a client, and what is looked up in the steps then.
-use Rattle.std.proofs.Common.{◌≡◌, ℕ, Bool, true, false, cond, ◌+◌, List, [], ◌∷◌, ◌++◌, length, map, filter, refl, sym, ap, ◌∙◌, subst, arith, Option, None, Some, option_map, IsSome, IsTrue}
+use Rattle.std.proofs.Common.{◌≡◌, ℕ, Bool, true, false, cond, ◌+◌, List, [], ◌∷◌, ◌++◌, length, refl, sym, ap, ◌∙◌, subst, Option, None, Some, option_map, IsSome}
 use Rattle.std.specs.List.{find, last_or}
 use Rattle.std.specs.Option.{option_or}
-use Rattle.std.proofs.lemmas.List.{append-nil, length_push, map-append}
+use Rattle.std.proofs.lemmas.List.{append-nil, length_push}
 use Rattle.std.proofs.lemmas.List.Elements.{filter-append}
 use Rattle.std.proofs.lemmas.List.Folds.{find-append}
 use Rattle.m17_stream.specs.declared.packet.StreamPacket.{StreamPacket}
 use Rattle.m17_client.specs.declared.progress.Progress.{Progress}
 use Rattle.m17_client.specs.declared.state.Action.{Action}
-use Rattle.m17_client.specs.declared.state.Input.{Input}
 use Rattle.m17_client.specs.declared.state.Input.TheVariants.{Send}
 use Rattle.m17_client.specs.declared.state.State.{State}
 use Rattle.m17_client.specs.declared.state.State.TheVariants.{Idle, Connecting, Connected, Leaving, Closed}
 use Rattle.m17_client.specs.Standing.{Standing}
 use Rattle.m17_client.specs.Client.{BySend, IsClientStep}
-use Rattle.m17_client.specs.Steps.{ClientStep, IsClientRun, connected_at, inputs_of, is_connected, is_send, ms_since, sends_of, standing_after}
+use Rattle.m17_client.specs.Steps.{ClientStep, IsClientRun, connected_at, is_connected, is_send, sends_of, standing_after}
 use Rattle.m17_client.specs.TalkSoFar.{IsAfter, moment_in}
 
 -- where a client stands after one list of steps and another

@@ -1,5 +1,5 @@
 -- One more step of a session: what its client did, and its devices.
-use Rattle.std.proofs.Common.{◌≡◌, ◌↔◌, ℕ, Bool, true, false, ◌+◌, ◌≤◌, List, [], ◌∷◌, ◌++◌, length, map, drop, refl, sym, ap, ◌∙◌, subst, arith, Option, IsTrue, option_map, None}
+use Rattle.std.proofs.Common.{◌≡◌, ◌↔◌, ℕ, true, List, [], ◌∷◌, ◌++◌, length, map, drop, sym, ap, ◌∙◌, subst, arith, IsTrue, option_map, None}
 use Rattle.std.specs.List.{flat_map, last_or}
 use Rattle.std.specs.Option.{option_or}
 use Rattle.std.proofs.lemmas.List.{append-nil, append_assoc, map-append}
@@ -11,7 +11,7 @@ use Rattle.m17_client.specs.declared.state.Input.{Input}
 use Rattle.m17_client.specs.declared.state.Input.TheVariants.{Send}
 use Rattle.m17_client.specs.Standing.{Standing}
 use Rattle.m17_client.specs.Client.{IsClientStep}
-use Rattle.m17_client.specs.Steps.{ClientStep, connected_at, inputs_of, is_connected, ms_since, paused_at, sends_of, standing_after}
+use Rattle.m17_client.specs.Steps.{ClientStep, inputs_of, is_connected, ms_since, paused_at, sends_of, standing_after}
 use Rattle.m17_client.specs.Talk.{IsTimeToLeave, TalkPlan}
 use Rattle.m17_client.specs.TalkDevices.{BookTells, HasSaid, MouthTells, kept_by, records_of, said_by, says_of}
 use Rattle.m17_client.specs.TalkSoFar.{IsAfter, IsAt, IsLogged, IsTimeNow, Origin}
@@ -54,7 +54,7 @@ time_to_leave plan steps p packets stay h all long =
     ap (λ o. option_or o p.connected_at) h.sent_at
     ∙ ap (option_or (option_map (λ (s : ClientStep). s.after.moment) (last_or None (sends_of steps)))) h.connected in
     let gone : ms_since (option_or p.sent_at p.connected_at) p.client
-        ≡ ms_since (paused_at steps) (standing_after plan.client steps) =
+    ≡ ms_since (paused_at steps) (standing_after plan.client steps) =
     ap (λ o. ms_since o p.client) paused ∙ ap (ms_since (paused_at steps)) h.client in (
       λ t. record {
         connected = subst (λ (c : Standing). IsTrue (is_connected c.state)) h.client t.connected;
@@ -76,7 +76,7 @@ pub sent_more : (sends : List ClientStep) (step : ClientStep) (moment : ℕ) (pa
     → inputs_of (sends ++ step ∷ []) ++ map (λ due. Send due.1) after ≡ all
 sent_more sends step moment packet before after rest all is before_is after_is h =
     let front : step.input ∷ map (λ (due : ℕ × StreamPacket). Send due.1) after
-        ≡ map (λ (due : ℕ × StreamPacket). Send due.1) before =
+    ≡ map (λ (due : ℕ × StreamPacket). Send due.1) before =
     ap (λ i. i ∷ map (λ (due : ℕ × StreamPacket). Send due.1) after) is
     ∙ ap (λ l. Send packet ∷ map (λ (due : ℕ × StreamPacket). Send due.1) l) (after_is ∙ ap (drop 1) before_is)
     ∙ sym (ap (map (λ (due : ℕ × StreamPacket). Send due.1)) before_is) in

@@ -1,12 +1,11 @@
 -- One more datagram that a mouth was to say.
-use Rattle.std.proofs.Common.{◌≡◌, ◌≢◌, ℕ, Bool, true, false, not, cond, ◌+◌, ◌-◌, ◌^◌, ◌≤◌, min, List, [], ◌∷◌, ◌++◌, length, map, fold, count_by, refl, sym, ap, ◌∙◌, arith, Option, None, Some, option_map, Result, Ok, Err, OnOk, OnErr}
+use Rattle.std.proofs.Common.{◌≡◌, ℕ, Bool, true, false, not, cond, ◌+◌, List, [], ◌∷◌, ◌++◌, length, map, fold, count_by, refl, sym, ap, ◌∙◌, arith, Option, None, Some, option_map, Result, Ok, Err, OnOk, OnErr}
 use Rattle.std.specs.List.{items_where_true}
-use Rattle.std.proofs.lemmas.List.{append-nil, append_assoc, length-append, length_push, map-append}
+use Rattle.std.proofs.lemmas.List.{append-nil, append_assoc, length_push, map-append}
 use Rattle.std.proofs.lemmas.List.Sums.{fold-append, sum_by_push}
 use Rattle.m17_values.specs.declared.peer.Peer.{Peer}
-use Rattle.m17_io.specs.Faults.{HasCause, HasRisen}
+use Rattle.m17_io.specs.Faults.{HasCause}
 use Rattle.m17_ports.specs.Told.{told_then}
-use Rattle.m17_ports.specs.Mouth.{Datagram}
 use Rattle.m17_ports.specs.Tallies.{IsTallied, tally_then}
 use Rattle.m17_ports.specs.declared.tally.Tally.{Tally}
 use Rattle.m17_client.specs.TalkDevices.{AreTallied, HasSaid, MouthTells}

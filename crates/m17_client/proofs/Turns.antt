@@ -1,6 +1,6 @@
 -- One more turn of a run.
-use Rattle.std.proofs.Common.{◌≡◌, ◌↔◌, ◌⊎◌, ℕ, Bool, true, false, cond, suc, zero, ◌+◌, ◌<◌, ◌≤◌, List, [], ◌∷◌, ◌++◌, length, map, take, reverse, refl, sym, ap, ◌∙◌, subst, inl, inr, arith, Option, None, Some, IsTrue}
-use Rattle.std.specs.List.{flat_map, last_or, prefix_len, slice_get, suffix_len}
+use Rattle.std.proofs.Common.{◌≡◌, ◌↔◌, ◌⊎◌, ℕ, true, cond, suc, zero, ◌+◌, ◌≤◌, List, [], ◌∷◌, ◌++◌, take, reverse, refl, sym, ap, ◌∙◌, subst, inl, inr, arith, None, Some, IsTrue}
+use Rattle.std.specs.List.{last_or, prefix_len, slice_get, suffix_len}
 use Rattle.std.proofs.lemmas.List.{append-nil, map-append, reverse-append}
 use Rattle.std.proofs.lemmas.Grind.{flat_map-append}
 use Rattle.m17_values.specs.declared.heard.Heard.{Heard}
@@ -11,7 +11,7 @@ use Rattle.m17_client.specs.declared.state.Ending.{Ending}
 use Rattle.m17_client.specs.declared.state.Input.{Input}
 use Rattle.m17_client.specs.declared.state.State.TheVariants.{Closed}
 use Rattle.m17_client.specs.Standing.{Standing}
-use Rattle.m17_client.specs.Steps.{ClientStep, standing_after}
+use Rattle.m17_client.specs.Steps.{ClientStep}
 use Rattle.m17_client.specs.Talk.{IsHeardAs, IsOver, IsTurn, TakesTurn, TalkPlan, Turn, entries_of, is_fault, steps_of}
 use Rattle.m17_client.specs.TalkDevices.{BookTells, MouthTells}
 use Rattle.m17_client.specs.TalkSoFar.{IsAt, IsSoFar, IsStepless, Origin}
@@ -42,7 +42,7 @@ pub faults_more : (entries : List Heard) (entry : Heard) → suffix_len is_fault
 faults_more entries entry =
     ap (prefix_len is_fault) (reverse-append entries (entry ∷ []))
     ∙ ap (λ n. cond (is_fault entry) n 0) (let one : 1 + prefix_len is_fault (reverse entries)
-        ≡ suffix_len is_fault entries + 1 = omega arith in one)
+    ≡ suffix_len is_fault entries + 1 = omega arith in one)
 
 -- a run after one more turn
 pub so_far_more : (origin : Origin) (turns : List Turn) (turn : Turn) (old new : Run)

@@ -1,5 +1,5 @@
 -- Runs of a client: lists of steps, and what is looked up in them. This profile.
-use Rattle.std.specs.Prelude.{◌≡◌, ℕ, Bool, true, false, ◌-◌, List, [], ◌∷◌, map, filter, Option, None, option_map, unwrap_or}
+use Rattle.std.specs.Prelude.{ℕ, Bool, true, false, ◌-◌, List, [], ◌∷◌, map, filter, Option, None, option_map, unwrap_or}
 use Rattle.std.specs.List.{find, last_or}
 use Rattle.std.specs.Option.{option_or}
 use Rattle.m17_client.specs.declared.state.State.{State}

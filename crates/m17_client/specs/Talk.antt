@@ -1,5 +1,5 @@
 -- A run of `talk`: which steps its client takes at what is heard. This profile.
-use Rattle.std.specs.Prelude.{◌≡◌, ◌≢◌, ◌⊎◌, ◌↔◌, ℕ, Bool, true, false, IsTrue, ◌<◌, ◌≤◌, ◌+◌, ◌-◌, ◌^◌, min, List, [], ◌∷◌, ◌++◌, length, map, filter, take, drop, nat_le, Option, None, Some, if◌then◌else◌}
+use Rattle.std.specs.Prelude.{◌≡◌, ◌≢◌, ◌⊎◌, ℕ, Bool, true, false, IsTrue, ◌<◌, ◌≤◌, ◌+◌, List, [], ◌∷◌, ◌++◌, length, map, filter, take, drop, nat_le, None, Some, if◌then◌else◌}
 use Rattle.std.specs.List.{flat_map, last_or, slice_get, suffix_len}
 use Rattle.m17_values.specs.declared.heard.Heard.{Heard}
 use Rattle.m17_values.specs.declared.heard.Heard.TheVariants as heard
@@ -13,7 +13,8 @@ use Rattle.m17_client.specs.Standing.{Standing}
 use Rattle.m17_client.specs.Steps.{ClientStep, IsClientRun, connected_at, inputs_of, is_connected, ms_since, paused_at, sends_of, standing_after}
 
 -- What `talk` is told: the reflector's peer, the client as it is handed in, the script, and how many milliseconds to
--- stay. A record of the script is a packet with its moment, counted from when the client became connected. This profile.
+-- stay. A record of the script is a packet with its moment, counted from when the client became connected. This
+-- profile.
 pub record TalkPlan : Type 0 where
   pub to : Peer
   pub client : Standing

@@ -1,5 +1,5 @@
 -- What a run of `talk` does with its devices, and what it answers. This profile.
-use Rattle.std.specs.Prelude.{◌≡◌, ◌≢◌, ◌↔◌, ℕ, Bool, true, false, not, IsTrue, ◌<◌, ◌≤◌, ◌+◌, ◌-◌, ◌^◌, min, List, [], ◌∷◌, ◌++◌, length, map, take, count_by, fold, Contains, Option, option_map}
+use Rattle.std.specs.Prelude.{◌≡◌, ◌≢◌, ◌↔◌, ℕ, Bool, true, false, not, IsTrue, ◌≤◌, ◌+◌, ◌-◌, ◌^◌, min, List, [], ◌∷◌, ◌++◌, length, map, take, count_by, fold, Contains, Option, option_map}
 use Rattle.std.specs.List.{concat, flat_map, items_where_true}
 use Rattle.m17_values.specs.declared.heard.Heard.{Heard}
 use Rattle.m17_values.specs.declared.heard.Heard.TheVariants.{Fault}
@@ -17,7 +17,6 @@ use Rattle.m17_ports.specs.declared.tally.Tally.{Tally}
 use Rattle.m17_client.specs.declared.state.Action.{Action}
 use Rattle.m17_client.specs.declared.state.Action.TheVariants.{Say, Keep}
 use Rattle.m17_client.specs.declared.talking.TalkEnd.{TalkEnd}
-use Rattle.m17_client.specs.Standing.{Standing}
 use Rattle.m17_client.specs.Steps.{ClientStep, standing_after}
 use Rattle.m17_client.specs.Talk.{TalkPlan, Turn, IsClosed, IsEnded, IsLost, steps_of}
 

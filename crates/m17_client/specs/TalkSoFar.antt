@@ -1,5 +1,5 @@
 -- How far a run of `talk` has come. No public clause cites this module.
-use Rattle.std.specs.Prelude.{◌≡◌, ◌↔◌, ◌⊎◌, ℕ, Bool, true, false, IsTrue, IsSome, ◌<◌, ◌≤◌, ◌-◌, ◌^◌, min, List, [], ◌∷◌, ◌++◌, length, map, filter, take, drop, nat_le, Option, None, Some, option_map, if◌then◌else◌}
+use Rattle.std.specs.Prelude.{◌≡◌, ◌↔◌, ◌⊎◌, ℕ, true, IsTrue, IsSome, ◌≤◌, ◌-◌, ◌^◌, min, List, [], length, filter, take, drop, nat_le, Option, None, Some, option_map, if◌then◌else◌}
 use Rattle.std.specs.List.{last_or, slice_get, suffix_len}
 use Rattle.std.specs.Option.{option_or}
 use Rattle.m17_values.specs.declared.heard.Heard.{Heard}
@@ -10,13 +10,9 @@ use Rattle.m17_client.specs.declared.log.Log.{Log}
 use Rattle.m17_client.specs.declared.progress.Progress.{Progress}
 use Rattle.m17_client.specs.declared.session.Session.{Session}
 use Rattle.m17_client.specs.declared.run.Run.{Run}
-use Rattle.m17_client.specs.declared.state.State.TheVariants.{Closed}
-use Rattle.m17_client.specs.declared.state.Ending.{Ending}
-use Rattle.m17_client.specs.declared.state.Input.{Input}
-use Rattle.m17_client.specs.declared.state.Input.TheVariants.{Send, Leave}
 use Rattle.m17_client.specs.Standing.{Standing}
-use Rattle.m17_client.specs.Steps.{ClientStep, IsClientRun, connected_at, inputs_of, is_connected, ms_since, sends_of, standing_after}
-use Rattle.m17_client.specs.Talk.{TalkPlan, Turn, IsEnded, IsOver, IsTurn, TakesTurn, due_records, entries_of, is_fault, steps_of}
+use Rattle.m17_client.specs.Steps.{ClientStep, IsClientRun, connected_at, is_connected, ms_since, sends_of, standing_after}
+use Rattle.m17_client.specs.Talk.{TalkPlan, Turn, IsEnded, IsOver, IsTurn, entries_of, is_fault, steps_of}
 use Rattle.m17_client.specs.TalkDevices.{BookTells, HasSaid, HasWritten, MouthTells, records_of, says_of}
 
 -- a client's moment, where it is connected
@@ -36,7 +32,7 @@ pub record IsAfter (first : Standing) (steps : List ClientStep) (p : Progress) :
 abbrev pub due_now : Progress → List (ℕ × StreamPacket) → List (ℕ × StreamPacket)
 due_now p script = if is_connected p.client.state
     then drop p.sent
-      (filter (λ due. nat_le due.0 (ms_since p.connected_at p.client)) script)
+    (filter (λ due. nat_le due.0 (ms_since p.connected_at p.client)) script)
     else []
 
 -- It is time to leave, with a script of so many packets. This profile.

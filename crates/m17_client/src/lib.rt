@@ -1,11 +1,11 @@
 //! A client of a reflector: it asks to join a module, answers pings, keeps the voice packets that reach it, and leaves.
-//! `Client::step` takes one thing that was heard or that the user does, with its moment, to what is to be said or kept and
-//! to the next state. It promises that each step is one of the table (`specs/Client.antt`), from any state, with the exact
-//! bytes that are said, and that a step asks for two things at most. `talk` runs a client over an ear, a mouth and a book,
-//! with a script of packets to send. It promises which steps are taken at what is heard (`specs/Talk.antt`), that the
-//! mouth said and the book has what these ask for, but for what a device failed to take, and when the run is over
-//! (`specs/TalkDevices.antt`). The devices, and that an ear answers often enough for the time rules to come in time, are
-//! left to its caller.
+//! `Client::step` takes one thing that was heard or that the user does, with its moment, to what is to be said or kept
+//! and to the next state. It promises that each step is one of the table (`specs/Client.antt`), from any state, with
+//! the exact bytes that are said, and that a step asks for two things at most. `talk` runs a client over an ear, a
+//! mouth and a book, with a script of packets to send. It promises which steps are taken at what is heard
+//! (`specs/Talk.antt`), that the mouth said and the book has what these ask for, but for what a device failed to take,
+//! and when the run is over (`specs/TalkDevices.antt`). The devices, and that an ear answers often enough for the time
+//! rules to come in time, are left to its caller.
 #![tactic(auto)]
 
 mod client;
@@ -23,7 +23,6 @@ pub use state::{Action, Ending, Input, LastKept, SAID_BYTES, State};
 pub use talking::{TalkEnd, talk};
 
 #[cfg(test)]
-mod tests;
-
-#[cfg(test)]
 mod talking_tests;
+#[cfg(test)]
+mod tests;

@@ -49,13 +49,13 @@ impl Log {
     )
         ensures said { (start : MouthTells) (before : List (List ℕ))
             → HasSaid start to.now before
-                (M.said mouth.old, M.tallies mouth.old, M.faults mouth.old)
+            (M.said mouth.old, M.tallies mouth.old, M.faults mouth.old)
             → HasSaid start to.now (before ++ flat_map said_by actions.now)
-                (M.said mouth.new, M.tallies mouth.new, M.faults mouth.new) }
+            (M.said mouth.new, M.tallies mouth.new, M.faults mouth.new) }
         ensures logged { (start : BookTells) (before : List (List ℕ))
             → IsLogged start before self.old (B.written book.old, B.faults book.old)
             → IsLogged start (before ++ flat_map (kept_by moment) actions.now) self.new
-                (B.written book.new, B.faults book.new) }
+            (B.written book.new, B.faults book.new) }
         ensures same_mouth { (M.mark mouth.new ≡ M.mark mouth.old)
             × (M.label mouth.new ≡ M.label mouth.old) }
         ensures same_book { (B.mark book.new ≡ B.mark book.old)
@@ -74,7 +74,7 @@ impl Log {
         ensures logged { (start : BookTells) (before : List (List ℕ))
             → IsLogged start before self.old (B.written book.old, B.faults book.old)
             → IsLogged start (before ++ record_bytes moment packet.now ∷ []) self.new
-                (B.written book.new, B.faults book.new) }
+            (B.written book.new, B.faults book.new) }
         ensures same_book { (B.mark book.new ≡ B.mark book.old)
             × (B.label book.new ≡ B.label book.old) }
     {
@@ -89,9 +89,9 @@ impl Log {
 fn say<M: Mouth>(to: &Peer, bytes: &[u8], mouth: &mut M)
     ensures said { (start : MouthTells) (before : List (List ℕ))
         → HasSaid start to.now before
-            (M.said mouth.old, M.tallies mouth.old, M.faults mouth.old)
+        (M.said mouth.old, M.tallies mouth.old, M.faults mouth.old)
         → HasSaid start to.now (before ++ bytes.now ∷ [])
-            (M.said mouth.new, M.tallies mouth.new, M.faults mouth.new) }
+        (M.said mouth.new, M.tallies mouth.new, M.faults mouth.new) }
     ensures same_mouth { (M.mark mouth.new ≡ M.mark mouth.old)
         × (M.label mouth.new ≡ M.label mouth.old) }
 {

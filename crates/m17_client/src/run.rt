@@ -57,12 +57,12 @@ impl Run {
         ensures taken { (origin : Origin) (turns : List Turn)
             → IsPlan origin.plan to.now script.now stay
             → IsSoFar origin turns self.old
-                (M.said mouth.old, M.tallies mouth.old, M.faults mouth.old)
-                (B.written book.old, B.faults book.old)
+            (M.said mouth.old, M.tallies mouth.old, M.faults mouth.old)
+            (B.written book.old, B.faults book.old)
             → (steps : List ClientStep)
             × IsSoFar origin (turns ++ record { heard = entry; steps = steps } ∷ []) self.new
-                (M.said mouth.new, M.tallies mouth.new, M.faults mouth.new)
-                (B.written book.new, B.faults book.new) }
+            (M.said mouth.new, M.tallies mouth.new, M.faults mouth.new)
+            (B.written book.new, B.faults book.new) }
         ensures same_mouth { (M.mark mouth.new ≡ M.mark mouth.old)
             × (M.label mouth.new ≡ M.label mouth.old) }
         ensures same_book { (B.mark book.new ≡ B.mark book.old)
@@ -112,7 +112,8 @@ impl Run {
     fn count_fault(&mut self, fault: bool)
         requires { self.old.faults < 16 }
         ensures { self.new ≡ record self.old {
-            faults = (if fault then self.old.faults + 1 else 0) } }
+          faults = (if fault then self.old.faults + 1 else 0);
+        } }
     {
         if fault {
             self.faults += 1;

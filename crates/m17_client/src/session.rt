@@ -53,12 +53,12 @@ impl Session {
         ensures taken { (origin : Origin) (steps : List ClientStep) (entry : Heard)
             → IsPlan origin.plan to.now script.now stay → IsHeardAs to.now entry input.now
             → IsAt origin steps self.old
-                (M.said mouth.old, M.tallies mouth.old, M.faults mouth.old)
-                (B.written book.old, B.faults book.old)
+            (M.said mouth.old, M.tallies mouth.old, M.faults mouth.old)
+            (B.written book.old, B.faults book.old)
             → (more : List ClientStep) × TakesTurn origin.plan steps entry more
             × IsAt origin (steps ++ more) self.new
-                (M.said mouth.new, M.tallies mouth.new, M.faults mouth.new)
-                (B.written book.new, B.faults book.new) }
+            (M.said mouth.new, M.tallies mouth.new, M.faults mouth.new)
+            (B.written book.new, B.faults book.new) }
         ensures same_mouth { (M.mark mouth.new ≡ M.mark mouth.old)
             × (M.label mouth.new ≡ M.label mouth.old) }
         ensures same_book { (B.mark book.new ≡ B.mark book.old)
@@ -83,13 +83,13 @@ impl Session {
         ensures sent { (origin : Origin) (steps : List ClientStep)
             → origin.plan.to ≡ to.now → origin.plan.script ≡ script.now
             → IsAt origin steps self.old
-                (M.said mouth.old, M.tallies mouth.old, M.faults mouth.old)
-                (B.written book.old, B.faults book.old)
+            (M.said mouth.old, M.tallies mouth.old, M.faults mouth.old)
+            (B.written book.old, B.faults book.old)
             → (sends : List ClientStep)
             × (inputs_of sends ≡ map (λ due. Input.Send due.1) (due_records origin.plan steps))
             × IsAt origin (steps ++ sends) self.new
-                (M.said mouth.new, M.tallies mouth.new, M.faults mouth.new)
-                (B.written book.new, B.faults book.new) }
+            (M.said mouth.new, M.tallies mouth.new, M.faults mouth.new)
+            (B.written book.new, B.faults book.new) }
         ensures same_mouth { (M.mark mouth.new ≡ M.mark mouth.old)
             × (M.label mouth.new ≡ M.label mouth.old) }
         ensures same_book { (B.mark book.new ≡ B.mark book.old)
@@ -105,12 +105,12 @@ impl Session {
         requires { is_send input.now ≡ false }
         ensures stepped { (origin : Origin) (steps : List ClientStep) → origin.plan.to ≡ to.now
             → IsAt origin steps self.old
-                (M.said mouth.old, M.tallies mouth.old, M.faults mouth.old)
-                (B.written book.old, B.faults book.old)
+            (M.said mouth.old, M.tallies mouth.old, M.faults mouth.old)
+            (B.written book.old, B.faults book.old)
             → (step : ClientStep) × (step.input ≡ input.now)
             × IsAt origin (steps ++ step ∷ []) self.new
-                (M.said mouth.new, M.tallies mouth.new, M.faults mouth.new)
-                (B.written book.new, B.faults book.new) }
+            (M.said mouth.new, M.tallies mouth.new, M.faults mouth.new)
+            (B.written book.new, B.faults book.new) }
         ensures same_mouth { (M.mark mouth.new ≡ M.mark mouth.old)
             × (M.label mouth.new ≡ M.label mouth.old) }
         ensures same_book { (B.mark book.new ≡ B.mark book.old)
@@ -134,12 +134,12 @@ impl Session {
         requires room { self.old.progress.sent < 2 ^ 57 }
         ensures stepped { (origin : Origin) (steps : List ClientStep) → origin.plan.to ≡ to.now
             → IsAt origin steps self.old
-                (M.said mouth.old, M.tallies mouth.old, M.faults mouth.old)
-                (B.written book.old, B.faults book.old)
+            (M.said mouth.old, M.tallies mouth.old, M.faults mouth.old)
+            (B.written book.old, B.faults book.old)
             → (step : ClientStep) × (step.input ≡ Input.Send packet)
             × IsAt origin (steps ++ step ∷ []) self.new
-                (M.said mouth.new, M.tallies mouth.new, M.faults mouth.new)
-                (B.written book.new, B.faults book.new) }
+            (M.said mouth.new, M.tallies mouth.new, M.faults mouth.new)
+            (B.written book.new, B.faults book.new) }
         ensures due { (script : List (ℕ × StreamPacket))
             → due_now self.new.progress script ≡ drop 1 (due_now self.old.progress script) }
         ensures sent { self.new.progress.sent ≡ self.old.progress.sent + 1 }

@@ -49,12 +49,12 @@ pub fn talk<R: Wait, E: Ear, M: Mouth, B: Book>(
         record { to = to.now; client = client; script = script.now; stay = stay } in
         (turns : List Turn) × IsTalkRun plan turns × IsTalkEnd plan turns result
         × HasHeard (E.heard ear.old, E.faults ear.old) (entries_of turns)
-            (E.heard ear.new, E.faults ear.new)
+        (E.heard ear.new, E.faults ear.new)
         × HasSaid (M.said mouth.old, M.tallies mouth.old, M.faults mouth.old) to.now
-            (says_of (steps_of turns))
-            (M.said mouth.new, M.tallies mouth.new, M.faults mouth.new)
+        (says_of (steps_of turns))
+        (M.said mouth.new, M.tallies mouth.new, M.faults mouth.new)
         × HasWritten (B.written book.old, B.faults book.old) (records_of (steps_of turns))
-            result.book_failed (B.written book.new, B.faults book.new) }
+        result.book_failed (B.written book.new, B.faults book.new) }
     ensures lost { IsTrue result.lost → HasRisen (E.faults ear.old) (E.faults ear.new) }
     ensures book_failed { IsTrue result.book_failed
         → HasRisen (B.faults book.old) (B.faults book.new) }

@@ -1,8 +1,8 @@
 use crate::{Client, Ending, State, TalkEnd, is_in_order, talk};
 use m17_callsign::CallAddress;
 use m17_control::ModuleLetter;
-use m17_ports::Ear;
 use m17_port_memory::{ListBook, ListMouth, ScriptEar};
+use m17_ports::Ear;
 use m17_samples::{ab1cd, frame};
 use m17_stream::StreamPacket;
 use m17_values::{Gram, Heard, Peer};
@@ -203,7 +203,11 @@ fn records_and_leave_come_in_time(rt: HostRuntime) -> Result<(), Fail> {
         let mut ear = Vec::new(alloc);
         for (k, at) in [0, 10, 49, 50, 109, 110, 129, 130].iter().enumerate() {
             if k <= n {
-                ear.push(if k == 1 { heard(10, b"ACKN") } else { quiet(*at) })?;
+                ear.push(if k == 1 {
+                    heard(10, b"ACKN")
+                } else {
+                    quiet(*at)
+                })?;
             }
         }
         let told = run(&rt, alloc, ear, &sound(&script, 20))?;

@@ -1,4 +1,4 @@
-use Rattle.std.proofs.Common.{◌≡◌, ◌++◌, ◌∙◌, ap, length, refl, rules, arith}
+use Rattle.std.proofs.Common.{◌≡◌, ◌++◌, ◌∙◌, ap, length, rules}
 use Rattle.m17_fields.specs.Fields.{be_16, be_64}
 use Rattle.m17_client.specs.TalkDevices.{record_bytes}
 use Rattle.m17_client.proofs.Logged.{three_fields}

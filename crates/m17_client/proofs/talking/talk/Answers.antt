@@ -1,4 +1,4 @@
-use Rattle.std.proofs.Common.{◌≡◌, ◌<◌, ◌≤◌, List, [], ◌∷◌, ◌++◌, refl, sym, ◌∙◌, subst, inl, inr, arith}
+use Rattle.std.proofs.Common.{[], ◌∷◌, ◌++◌, refl, sym, ◌∙◌, subst, inl, inr, arith}
 use Rattle.std.proofs.lemmas.Bool.Decides.{leb_tells}
 use Rattle.m17_client.specs.Talk.{TalkPlan, Turn, entries_of, steps_of}
 use Rattle.m17_client.specs.TalkDevices.{HasHeard, HasWritten, records_of}
@@ -86,8 +86,8 @@ returns-then-is_over-clause-talked g c =
       heard,
       next.1.at.said,
       subst (λ b. HasWritten (g.B.Book.written c.args.book.now, g.B.Book.faults c.args.book.now)
-      (records_of (steps_of (old.0 ++ turn ∷ []))) b (g.B.Book.written c.take.new.book, g.B.Book.faults c.take.new.book))
-      (sym c.end.ensures.book_failed) next.1.at.logged.written,
+          (records_of (steps_of (old.0 ++ turn ∷ []))) b (g.B.Book.written c.take.new.book, g.B.Book.faults c.take.new.book))
+          (sym c.end.ensures.book_failed) next.1.at.logged.written,
     )
 
 pub returns-then-is_over-clause-lost : goal.returns-then-is_over-clause-lost
@@ -160,8 +160,13 @@ loop-preserved g c =
     c.hear-entry.ensures.counted c.hear-entry.ensures.fault c.hear-entry.ensures.no_fault c.hear-entry.ensures.appended
     (λ e. not_over plan old.0 old.2 (inl e)) old.3) in
     record {
-      so_far = (old.0 ++ turn ∷ [], next.1, goes_on_more plan old.0 turn old.2
-      (λ over. let yes_over = c.is_over.ensures.1 (is_over.1 over) in let no_over = c.if-is_over.false in absurd (cc)), heard);
+      so_far = (
+        old.0 ++ turn ∷ [],
+        next.1,
+        goes_on_more plan old.0 turn old.2
+            (λ over. let yes_over = c.is_over.ensures.1 (is_over.1 over) in let no_over = c.if-is_over.false in absurd (cc)),
+        heard,
+      );
       same_ear = (
         c.hear-entry.ensures.same_device.0 ∙ c.loop.invariant.same_ear.0,
         c.hear-entry.ensures.same_device.1 ∙ c.loop.invariant.same_ear.1,

@@ -1,4 +1,4 @@
-use Rattle.std.proofs.Common.{◌≡◌, true, false, sym, ◌∙◌, refl, rules, arith, Some}
+use Rattle.std.proofs.Common.{◌≡◌, true, false, refl, rules, arith, Some}
 use Rattle.std.specs.List.{slice_get}
 use Rattle.std.proofs.lemmas.Option.{slice_get_read}
 use Rattle.m17_client.specs.Steps.{is_connected}

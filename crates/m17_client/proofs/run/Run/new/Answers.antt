@@ -1,4 +1,4 @@
-use Rattle.std.proofs.Common.{◌≡◌, refl}
+use Rattle.std.proofs.Common.{refl}
 use Rattle.m17_client.proofs.run.Run.new.Goals as goal
 
 pub returns : goal.returns

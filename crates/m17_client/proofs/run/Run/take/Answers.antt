@@ -14,25 +14,26 @@ returns-in-Some-clause-taken g c = λ origin turns plan_is h.
     let taken = c.turn.ensures.taken origin (steps_of turns) c.args.entry plan_is heard
     (subst (λ s. IsAt origin (steps_of turns) s
     (g.M.Mouth.said c.args.mouth.now, g.M.Mouth.tallies c.args.mouth.now, g.M.Mouth.faults c.args.mouth.now)
-    (g.B.Book.written c.args.book.now, g.B.Book.faults c.args.book.now)) (sym session) h.at) in
-    (taken.0, so_far_more origin turns (record { heard = c.args.entry; steps = taken.0 }) c.args.self.now
-    (record { session = c.turn.new.self; faults = c.count_fault.new.self.faults; ended = c.count_fault.new.self.ended })
-    (g.M.Mouth.said c.args.mouth.now, g.M.Mouth.tallies c.args.mouth.now, g.M.Mouth.faults c.args.mouth.now)
-    (g.M.Mouth.said c.turn.new.mouth, g.M.Mouth.tallies c.turn.new.mouth, g.M.Mouth.faults c.turn.new.mouth)
-    (g.B.Book.written c.args.book.now, g.B.Book.faults c.args.book.now)
-    (g.B.Book.written c.turn.new.book, g.B.Book.faults c.turn.new.book)
-    h taken.2
-    (turn_on origin.plan c.args.to.now (steps_of turns) c.args.entry c.in-Some.input taken.0 heard taken.1)
-    (ap (λ (r : Run). r.faults) c.count_fault.ensures
-    ∙ ap (λ b. cond b (c.args.self.now.faults + 1) 0) c.is_fault.ensures)
-    (subst (λ b. IsTrue b ↔ (c.args.entry ≡ End)) (sym (ap (λ (r : Run). r.ended) c.count_fault.ensures))
-    c.is_end-self.ensures))
+    (g.B.Book.written c.args.book.now, g.B.Book.faults c.args.book.now)) (sym session) h.at) in (
+      taken.0,
+      so_far_more origin turns (record { heard = c.args.entry; steps = taken.0 }) c.args.self.now
+          (record { session = c.turn.new.self; faults = c.count_fault.new.self.faults; ended = c.count_fault.new.self.ended })
+          (g.M.Mouth.said c.args.mouth.now, g.M.Mouth.tallies c.args.mouth.now, g.M.Mouth.faults c.args.mouth.now)
+          (g.M.Mouth.said c.turn.new.mouth, g.M.Mouth.tallies c.turn.new.mouth, g.M.Mouth.faults c.turn.new.mouth)
+          (g.B.Book.written c.args.book.now, g.B.Book.faults c.args.book.now)
+          (g.B.Book.written c.turn.new.book, g.B.Book.faults c.turn.new.book)
+          h taken.2
+          (turn_on origin.plan c.args.to.now (steps_of turns) c.args.entry c.in-Some.input taken.0 heard taken.1)
+          (ap (λ (r : Run). r.faults) c.count_fault.ensures
+          ∙ ap (λ b. cond b (c.args.self.now.faults + 1) 0) c.is_fault.ensures)
+          (subst (λ b. IsTrue b ↔ (c.args.entry ≡ End)) (sym (ap (λ (r : Run). r.ended) c.count_fault.ensures))
+          c.is_end-self.ensures),
+    )
 
 pub returns-in_default-clause-taken : goal.returns-in_default-clause-taken
-returns-in_default-clause-taken g c = λ origin turns plan_is h.
-    (
-      [],
-      so_far_more origin turns (record { heard = c.args.entry; steps = [] }) c.args.self.now c.count_fault.new.self
+returns-in_default-clause-taken g c = λ origin turns plan_is h. (
+  [],
+  so_far_more origin turns (record { heard = c.args.entry; steps = [] }) c.args.self.now c.count_fault.new.self
       (g.M.Mouth.said c.args.mouth.now, g.M.Mouth.tallies c.args.mouth.now, g.M.Mouth.faults c.args.mouth.now)
       (g.M.Mouth.said c.args.mouth.now, g.M.Mouth.tallies c.args.mouth.now, g.M.Mouth.faults c.args.mouth.now)
       (g.B.Book.written c.args.book.now, g.B.Book.faults c.args.book.now)
@@ -50,4 +51,4 @@ returns-in_default-clause-taken g c = λ origin turns plan_is h.
       ∙ ap (λ b. cond b (c.args.self.now.faults + 1) 0) c.is_fault.ensures)
       (subst (λ b. IsTrue b ↔ (c.args.entry ≡ End)) (sym (ap (λ (r : Run). r.ended) c.count_fault.ensures))
       c.is_end-self.ensures),
-    )
+)

@@ -1,4 +1,4 @@
-use Rattle.std.proofs.Common.{◌≡◌, refl}
+use Rattle.std.proofs.Common.{refl}
 use Rattle.m17_client.specs.declared.state.Input.TheVariants.{Send}
 use Rattle.m17_client.specs.Steps.{ClientStep}
 use Rattle.m17_client.specs.TalkDevices.{records_of, says_of}
@@ -15,18 +15,22 @@ returns-clause-stepped g c = λ origin steps to_is h.
       after = c.send.new.self.client;
     } in
     let same = send_stays c.args.self.now.progress.client c.args.packet c.send.new.out.items c.send.new.self.client
-    c.send.ensures.step in (step, refl, at_more origin steps step c.args.self.now
-    (record { progress = c.send.new.self; log = c.carry_out.new.self })
-    (g.M.Mouth.said c.args.mouth.now, g.M.Mouth.tallies c.args.mouth.now, g.M.Mouth.faults c.args.mouth.now)
-    (g.M.Mouth.said c.carry_out.new.mouth, g.M.Mouth.tallies c.carry_out.new.mouth, g.M.Mouth.faults c.carry_out.new.mouth)
-    (g.B.Book.written c.args.book.now, g.B.Book.faults c.args.book.now)
-    (g.B.Book.written c.carry_out.new.book, g.B.Book.faults c.carry_out.new.book)
-    h c.send.ensures.step
-    (after_send origin.plan.client steps step c.args.self.now.progress c.send.new.self h.after refl refl same
-    c.requires.connected c.send.ensures.connected c.send.ensures.sent c.send.ensures.sent_at)
-    (rw to_is (rw c.as_slice.ensures.value at (c.carry_out.ensures.said origin.mouth (says_of steps) (rw to_is at h.said))))
-    (rw (c.moment-moment.ensures, c.as_slice.ensures.value) at
-    (c.carry_out.ensures.logged origin.book (records_of steps) h.logged)))
+    c.send.ensures.step in (
+      step,
+      refl,
+      at_more origin steps step c.args.self.now
+          (record { progress = c.send.new.self; log = c.carry_out.new.self })
+          (g.M.Mouth.said c.args.mouth.now, g.M.Mouth.tallies c.args.mouth.now, g.M.Mouth.faults c.args.mouth.now)
+          (g.M.Mouth.said c.carry_out.new.mouth, g.M.Mouth.tallies c.carry_out.new.mouth, g.M.Mouth.faults c.carry_out.new.mouth)
+          (g.B.Book.written c.args.book.now, g.B.Book.faults c.args.book.now)
+          (g.B.Book.written c.carry_out.new.book, g.B.Book.faults c.carry_out.new.book)
+          h c.send.ensures.step
+          (after_send origin.plan.client steps step c.args.self.now.progress c.send.new.self h.after refl refl same
+          c.requires.connected c.send.ensures.connected c.send.ensures.sent c.send.ensures.sent_at)
+          (rw to_is (rw c.as_slice.ensures.value at (c.carry_out.ensures.said origin.mouth (says_of steps) (rw to_is at h.said))))
+          (rw (c.moment-moment.ensures, c.as_slice.ensures.value) at
+          (c.carry_out.ensures.logged origin.book (records_of steps) h.logged)),
+    )
 
 pub returns-clause-due : goal.returns-clause-due
 returns-clause-due g c = λ script. due_less c.args.self.now.progress c.send.new.self script

@@ -1,8 +1,7 @@
-use Rattle.std.proofs.Common.{◌≡◌, ℕ, List, [], ◌∷◌, ◌++◌, map, refl, sym, ap, ◌∙◌, subst}
+use Rattle.std.proofs.Common.{ℕ, [], ◌∷◌, ◌++◌, map, refl, sym, ap, ◌∙◌, subst}
 use Rattle.std.proofs.lemmas.List.{append-nil, append_assoc}
 use Rattle.m17_stream.specs.declared.packet.StreamPacket.{StreamPacket}
 use Rattle.m17_client.specs.declared.state.Input.TheVariants.{Send}
-use Rattle.m17_client.specs.Steps.{ClientStep}
 use Rattle.m17_client.specs.Talk.{due_records}
 use Rattle.m17_client.specs.TalkSoFar.{IsAt, due_now}
 use Rattle.m17_client.proofs.Due.{due_is}

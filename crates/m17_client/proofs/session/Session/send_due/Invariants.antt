@@ -1,5 +1,4 @@
-use Rattle.std.proofs.Common.{◌≡◌, ◌-◌, ℕ, List, ◌++◌, length, map}
-use Rattle.m17_stream.specs.declared.packet.StreamPacket.{StreamPacket}
+use Rattle.std.proofs.Common.{◌≡◌, ◌-◌, List, ◌++◌, length, map}
 use Rattle.m17_client.specs.declared.state.Input.TheVariants.{Send}
 use Rattle.m17_client.specs.Steps.{ClientStep, inputs_of}
 use Rattle.m17_client.specs.Talk.{due_records}

@@ -1,4 +1,4 @@
-use Rattle.std.proofs.Common.{◌≡◌, List, [], ◌∷◌, ◌++◌, length, refl, sym, ap, ◌∙◌, subst, inl, inr}
+use Rattle.std.proofs.Common.{[], ◌∷◌, ◌++◌, length, refl, sym, ap, subst, inl, inr}
 use Rattle.std.proofs.lemmas.List.{append-nil, append_assoc}
 use Rattle.m17_client.specs.Talk.{IsHeardAs}
 use Rattle.m17_client.specs.TalkSoFar.{IsAt}
@@ -29,9 +29,9 @@ returns-then-is_time_to_leave-clause-taken g c = λ origin steps entry plan_is h
         on_leave = inl (time.0 (c.is_time_to_leave.ensures.0 c.if-is_time_to_leave.true), ap (λ i. i ∷ []) on_leave.1);
       },
       subst (λ l. IsAt origin l c.step-then-is_time_to_leave.new.self
-      (g.M.Mouth.said c.step-then-is_time_to_leave.new.mouth, g.M.Mouth.tallies c.step-then-is_time_to_leave.new.mouth, g.M.Mouth.faults c.step-then-is_time_to_leave.new.mouth)
-      (g.B.Book.written c.step-then-is_time_to_leave.new.book, g.B.Book.faults c.step-then-is_time_to_leave.new.book))
-      (append_assoc steps (on_entry.0 ∷ on_due.0) (on_leave.0 ∷ [])) on_leave.2,
+          (g.M.Mouth.said c.step-then-is_time_to_leave.new.mouth, g.M.Mouth.tallies c.step-then-is_time_to_leave.new.mouth, g.M.Mouth.faults c.step-then-is_time_to_leave.new.mouth)
+          (g.B.Book.written c.step-then-is_time_to_leave.new.book, g.B.Book.faults c.step-then-is_time_to_leave.new.book))
+          (append_assoc steps (on_entry.0 ∷ on_due.0) (on_leave.0 ∷ [])) on_leave.2,
     )
 
 pub returns-else-is_time_to_leave-clause-taken : goal.returns-else-is_time_to_leave-clause-taken
@@ -55,7 +55,7 @@ returns-else-is_time_to_leave-clause-taken g c = λ origin steps entry plan_is h
         on_due = on_due.1;
         on_leave = inr (
           λ leaves. let now = c.is_time_to_leave.ensures.1 (time.1 leaves) in
-          let not_now = c.if-is_time_to_leave.false in absurd (cc),
+              let not_now = c.if-is_time_to_leave.false in absurd (cc),
           refl,
         );
       },
