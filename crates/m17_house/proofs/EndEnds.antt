@@ -3,8 +3,7 @@ use Rattle.std.proofs.Common.{◌≡◌, ℕ, true, List, [], ◌∷◌, ◌++�
 use Rattle.std.proofs.lemmas.Option.{slice_get_within}
 use Rattle.m17_values.specs.declared.heard.Heard.{Heard}
 use Rattle.m17_values.specs.declared.heard.Heard.TheVariants as heard
-use Rattle.m17_directory.specs.Entries.{Entry, Notice, Says, notice_of, notice_at, ends_at}
-use Rattle.m17_house.specs.Replay.{SaysEach}
+use Rattle.m17_directory.specs.Entries.{Entry, Notice, Says, SaysEach, notice_of, notice_at, ends_at}
 use Rattle.m17_house.specs.Laws.{EndEndsIt}
 
 -- what one of those that were heard says

@@ -5,8 +5,7 @@ use Rattle.std.proofs.lemmas.Bool.{and_from, le-leb, or_right}
 use Rattle.std.proofs.lemmas.Option.{none-some, same_Some, slice_get_within}
 use Rattle.m17_values.specs.declared.heard.Heard.{Heard}
 use Rattle.m17_values.specs.declared.heard.Heard.TheVariants as heard
-use Rattle.m17_directory.specs.Entries.{Entry, Notice, Says, notice_of, notice_at, is_end, is_fault, most_faults, ends_at}
-use Rattle.m17_house.specs.Replay.{SaysEach}
+use Rattle.m17_directory.specs.Entries.{Entry, Notice, Says, SaysEach, notice_of, notice_at, is_end, is_fault, most_faults, ends_at}
 use Rattle.m17_house.specs.Laws.{FaultsEndIt, sixteen_faults}
 
 -- what is said of one that was heard

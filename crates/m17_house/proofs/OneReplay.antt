@@ -7,12 +7,12 @@ use Rattle.std.proofs.lemmas.Bool.{cases_lt, false≢true}
 use Rattle.std.proofs.lemmas.Option.{same_Some}
 use Rattle.m17_values.specs.declared.heard.Heard.{Heard}
 use Rattle.m17_directory.specs.declared.known.Known.{Known}
-use Rattle.m17_directory.specs.Entries.{Claim, Entry, Notice, Says, notice_of, notice_at, claim_at, ends_at}
+use Rattle.m17_directory.specs.Entries.{Claim, Entry, Notice, Says, SaysEach, notice_of, notice_at, claim_at, ends_at}
 use Rattle.m17_directory.specs.Known.{Past, is_of_place}
 use Rattle.m17_directory.specs.Routed.{past_at, heard_at, others_at, asks_at, is_asks}
 use Rattle.m17_directory.specs.Laws.{EntriesBeforeDecide, EndedWhereItEnds, EachEntrySaysOneThing, HasBytes, is_ended}
 use Rattle.m17_house.specs.declared.plan.Plan.{Plan}
-use Rattle.m17_house.specs.Replay.{SaysEach, IsLeastFree, IsFreeClaim, IsReplayOf, given_before, setup_of}
+use Rattle.m17_house.specs.Replay.{IsLeastFree, IsFreeClaim, IsReplayOf, given_before, setup_of}
 use Rattle.m17_house.specs.Laws.{OneReplay}
 use Rattle.m17_house.proofs.Chosen.{count_range}
 

@@ -9,14 +9,14 @@ use Rattle.m17_values.specs.declared.heard.Heard.{Heard}
 use Rattle.m17_floor.specs.declared.verdict.Verdict.{Verdict}
 use Rattle.m17_floor.specs.Laws.{LaterActsChangeNoVerdict}
 use Rattle.m17_directory.specs.declared.verdict.LinkVerdict.{LinkVerdict}
-use Rattle.m17_directory.specs.Entries.{Entry, Says, claim_at, ends_at}
+use Rattle.m17_directory.specs.Entries.{Entry, Says, SaysEach, claim_at, ends_at}
 use Rattle.m17_directory.specs.Known.{is_of_place}
 use Rattle.m17_directory.specs.Routed.{link_verdict, posted, routed, direct_replies}
 use Rattle.m17_directory.specs.Laws.{LaterEntriesChangeNothing, OneEntryMore, EntriesBeforeDecide, EndedWhereItEnds, EventsCarryTheirIndex, is_ended}
 use Rattle.m17_port_memory.specs.Kept.{TalliesKept}
 use Rattle.m17_house.specs.declared.plan.Plan.{Plan}
 use Rattle.m17_house.specs.declared.run.Run.{Run}
-use Rattle.m17_house.specs.Replay.{SaysEach, EndsSomewhere, setup_of, verdicts_of, packet_verdict, packet_verdicts_of, said_to, IsReplayed}
+use Rattle.m17_house.specs.Replay.{EndsSomewhere, setup_of, verdicts_of, packet_verdict, packet_verdicts_of, said_to, IsReplayed}
 use Rattle.m17_house.specs.Tallied.{AreTalliesOf}
 use Rattle.m17_house.specs.Carried.{said_after}
 use Rattle.m17_house.specs.SoFar.{scene, AreCounts, IsOneMore, IsSoFar}

@@ -9,10 +9,10 @@ use Rattle.m17_ports.specs.declared.tally.Tally.{Tally}
 use Rattle.m17_port_memory.specs.Kept.{TalliesKept}
 use Rattle.m17_port_memory.specs.Peers.{tally_at}
 use Rattle.m17_directory.specs.declared.verdict.LinkVerdict.{LinkVerdict}
-use Rattle.m17_directory.specs.Entries.{Entry, most_faults, ends_at}
+use Rattle.m17_directory.specs.Entries.{Entry, most_faults, ends_at, SaysEach}
 use Rattle.m17_directory.specs.Laws.{HasBytes}
 use Rattle.m17_house.specs.declared.plan.Plan.{Plan}
-use Rattle.m17_house.specs.Replay.{SaysEach, EndsSomewhere, IsReplayOf, IsReplayed}
+use Rattle.m17_house.specs.Replay.{EndsSomewhere, IsReplayOf, IsReplayed}
 
 -- What was heard ends the link, where it has an End. This profile.
 abbrev pub EndEndsIt : Type 0

@@ -26,7 +26,7 @@ use Rattle.m17_directory.specs.declared.known.Known.{Known}
 use Rattle.m17_directory.specs.declared.verdict.LinkVerdict.{LinkVerdict}
 use Rattle.m17_directory.specs.declared.verdict.LinkVerdict.TheVariants.{Routed}
 use Rattle.m17_directory.specs.declared.verdict.Act.TheVariants as act
-use Rattle.m17_directory.specs.Entries.{Claim, Entry, Setup, Says, claim_at, ends_at, is_peer}
+use Rattle.m17_directory.specs.Entries.{Claim, Entry, Setup, SaysEach, claim_at, ends_at, is_peer}
 use Rattle.m17_directory.specs.Known.{is_of_place}
 use Rattle.m17_directory.specs.Laws.{EndsOnce}
 use Rattle.m17_directory.specs.Outcome.{has_place}
@@ -48,13 +48,6 @@ pub record IsPlan (plan : Plan) : Type 0 where
   pub at_most : plan.places < 257
   pub some_module : 0 < length (letters_of plan.modules)
   pub parrots : (letter : ℕ) → serves plan.parrots letter ≡ true → serves plan.modules letter ≡ true
-
--- Each of what was heard says what the entry beside it is. This profile.
-abbrev pub SaysEach : List Heard → List Entry → Type 0
-SaysEach [] [] = Unit {0}
-SaysEach [] (entry ∷ entries) = ⊥
-SaysEach (h ∷ heard) [] = ⊥
-SaysEach (h ∷ heard) (entry ∷ entries) = Says h entry.notice × SaysEach heard entries
 
 -- What was heard has an entry that ends the link, whatever claims are given. This profile.
 abbrev pub EndsSomewhere : List Heard → Type 0

@@ -12,8 +12,8 @@ use Rattle.m17_values.specs.declared.heard.Heard.{Heard}
 use Rattle.m17_values.specs.declared.heard.Heard.TheVariants as heard
 use Rattle.m17_values.specs.declared.peer.Peer.{Peer}
 use Rattle.m17_book.specs.Answers.{HasEnd}
-use Rattle.m17_directory.specs.Entries.{Notice, Entry, Says, notice_at, ends_at, is_fault, peer_cmp, peers_named, with_peer, with_sender}
-use Rattle.m17_house.specs.Replay.{SaysEach, EndsSomewhere}
+use Rattle.m17_directory.specs.Entries.{Notice, Entry, Says, SaysEach, notice_at, ends_at, is_fault, peer_cmp, peers_named, with_peer, with_sender}
+use Rattle.m17_house.specs.Replay.{EndsSomewhere}
 use Rattle.m17_replay.specs.Run.{is_fault_heard, sender_of, with_heard}
 
 pub length_says : (all : List Heard) (entries : List Entry) → SaysEach all entries → length all ≡ length entries

@@ -10,12 +10,12 @@ use Rattle.m17_values.specs.declared.heard.Heard.TheVariants as fault
 use Rattle.m17_values.specs.declared.peer.Peer.{Peer}
 use Rattle.m17_floor.specs.declared.verdict.Verdict.{Verdict}
 use Rattle.m17_directory.specs.declared.verdict.LinkVerdict.{LinkVerdict}
-use Rattle.m17_directory.specs.Entries.{Entry, notice_at, peers_named}
+use Rattle.m17_directory.specs.Entries.{Entry, notice_at, peers_named, SaysEach}
 use Rattle.m17_directory.specs.Routed.{link_verdict}
 use Rattle.m17_port_memory.specs.Kept.{TalliesKept}
 use Rattle.m17_port_memory.specs.Peers.{named_in}
 use Rattle.m17_house.specs.declared.plan.Plan.{Plan}
-use Rattle.m17_house.specs.Replay.{IsReplayed, SaysEach, setup_of, packet_verdict}
+use Rattle.m17_house.specs.Replay.{IsReplayed, setup_of, packet_verdict}
 use Rattle.m17_replay.specs.declared.judging.Replayed.{Replayed}
 use Rattle.m17_replay.specs.Replay.{is_lost}
 use Rattle.m17_replay.specs.Run.{is_fault_heard, sender_of, AreNamed, CanPrint, IsJudged}

@@ -10,10 +10,10 @@ use Rattle.m17_book.specs.Book.{IsTrace}
 use Rattle.m17_book.specs.Entries.{FitsEntry, SpellsEntry}
 use Rattle.m17_book.specs.Laws.{TracesAreExact}
 use Rattle.m17_book.specs.Limits.{SpellsEach}
-use Rattle.m17_directory.specs.Entries.{Entry, Notice, Says, notice_at, ends_at, is_end, is_fault, most_faults}
+use Rattle.m17_directory.specs.Entries.{Entry, Notice, Says, SaysEach, notice_at, ends_at, is_end, is_fault, most_faults}
 use Rattle.m17_house.specs.declared.plan.Plan.{Plan}
 use Rattle.m17_house.specs.Laws.{FaultsEndIt, sixteen_faults}
-use Rattle.m17_house.specs.Replay.{IsReplayOf, SaysEach}
+use Rattle.m17_house.specs.Replay.{IsReplayOf}
 use Rattle.m17_replay.specs.Laws.{HasSixteenFaults, LostBySixteenFaults}
 use Rattle.m17_replay.specs.Replay.{is_lost}
 use Rattle.m17_replay.specs.Run.{is_fault_heard}

@@ -1,7 +1,7 @@
 ghost use Rattle.std.specs.Prelude.{◌≡◌, true, List, [], ◌∷◌, ◌++◌, length, IfOk, OnOk, if◌then◌else◌};
 ghost use Rattle.std.specs.List.{filter_map};
-ghost use Rattle.m17_directory.specs.Entries.{Entry, peers_named};
-ghost use Rattle.m17_house.specs.Replay.{SaysEach, HasNoTallies};
+ghost use Rattle.m17_directory.specs.Entries.{Entry, peers_named, SaysEach};
+ghost use Rattle.m17_house.specs.Replay.{HasNoTallies};
 ghost use Rattle.m17_replay.specs.Run.{sender_of, with_heard, AreNamed};
 
 use m17_port_memory::TallyMouth;

@@ -1,6 +1,5 @@
 use Rattle.std.proofs.Common.{◌≡◌, List}
-use Rattle.m17_directory.specs.Entries.{Entry, peers_named}
-use Rattle.m17_house.specs.Replay.{SaysEach}
+use Rattle.m17_directory.specs.Entries.{Entry, peers_named, SaysEach}
 use Rattle.m17_replay.proofs.peers.name_peers.Given as goal
 
 -- the peers of so many that were heard are named
