@@ -1,5 +1,5 @@
 use Rattle.std.proofs.Common.{not, sym, subst, arith}
-use Rattle.m17_directory.specs.StandsFor.{StandsFor, IsBounded, is_member}
+use Rattle.m17_directory.specs.StandsFor.{Kept, StandsFor, IsBounded, is_member}
 use Rattle.m17_directory.specs.Sound.{kept_of}
 use Rattle.m17_directory.specs.Steps.{Lists}
 use Rattle.m17_directory.proofs.Filters.{filter_le}
@@ -22,6 +22,7 @@ pub returns-clause-bounds : goal.returns-clause-bounds
 returns-clause-bounds c = bounded c
 
 pub returns-clause-stands : goal.returns-clause-stands
-returns-clause-stands c entries stands =
+returns-clause-stands c entries stood =
+    let stands = subst (λ (k : Kept). StandsFor k entries) (sym c.self.view_is) stood in
     subst (λ (p : Lists). StandsFor (kept_of (record c.self.inside { people = p })) entries) (sym c.noted.ensures)
     (record { moment = stands.moment; known = stands.known; asked = stands.asked; faults = stands.faults })
