@@ -25,12 +25,11 @@ mod steps;
 mod trace;
 
 pub use book::{read_book, read_book_for};
-pub use form::TRACE_MAGIC;
 pub use reader::Reader;
 pub use record::Record;
 pub(crate) use refusal::Flaw;
 pub use refusal::FormRefusal;
-pub use spell_entry::write_entry;
+pub use spell_entry::{write_entry, write_trace_header};
 pub use spell_record::{write_header, write_record};
 pub use trace::{read_trace, read_trace_for};
 

@@ -1,15 +1,23 @@
 ghost use Rattle.std.specs.Prelude.{◌≡◌, ◌≢◌, ◌↔◌, ◌+◌, ◌≤◌, ◌<◌, ◌^◌, ◌∷◌, [], ◌++◌, length, IsNone, IfSome};
 ghost use Rattle.arrayvec.specs.ArrayVec.{array_vec_len};
 ghost use Rattle.m17_values.specs.declared.heard.Heard.TheVariants.{End};
+ghost use Rattle.m17_book.specs.Book.{trace_magic};
 ghost use Rattle.m17_book.specs.Entries.{entry_bytes, family_bytes};
 
-use crate::form::{DATAGRAM, FAULT, QUIET};
+use crate::form::{DATAGRAM, FAULT, QUIET, TRACE_MAGIC};
 use crate::spell_record::add;
 use arrayvec::ArrayVec;
 use m17_values::{Gram, Heard, Peer};
 
 /// How many bytes an entry has at the most: a datagram of 64 bytes from an IPv6 address.
 const ENTRY_BYTES: usize = 93;
+
+/// The eight bytes that a trace begins with: `M17TRACE`. This profile.
+pub fn write_trace_header() -> [u8; 8]
+    ensures { result ≡ trace_magic }
+{
+    TRACE_MAGIC
+}
 
 /// The bytes of an entry of a trace: 18 to 93 of a datagram, 9 of quiet, 1 of a fault; none for the end, which a trace
 /// does not spell. Of an IPv4 address the first four bytes count. This profile.

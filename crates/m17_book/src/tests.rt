@@ -1,7 +1,9 @@
 ghost use Rattle.std.specs.Prelude.{IfOk};
 ghost use Rattle.m17_book.specs.Records.{IsWritable, IsLowVerdict};
 
-use crate::{FormRefusal, Reader, Record, write_entry, write_header, write_record};
+use crate::{
+    FormRefusal, Reader, Record, write_entry, write_header, write_record, write_trace_header,
+};
 use m17_callsign::{CallAddress, encode};
 use m17_control::{ModuleLetter, Tag, Why};
 use m17_floor::Verdict;
@@ -221,6 +223,7 @@ fn an_entry_is_written_field_by_field(rt: HostRuntime) -> Result<(), Fail> {
         at: 40,
         bytes: Gram::of(b"ACKN"),
     };
+    assert_eq!(rt; write_trace_header().as_slice(), b"M17TRACE".as_slice());
     let entry = write_entry(&heard(four)).ok_or("no entry")?;
     assert_eq!(rt;
         entry.as_slice(),

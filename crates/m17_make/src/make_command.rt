@@ -7,7 +7,7 @@ ghost use Rattle.m17_make.specs.Made.{heard_as};
 ghost use Rattle.m17_make.specs.Make.{made_at, after, make_text};
 
 use crate::Maker;
-use m17_book::{TRACE_MAGIC, write_entry};
+use m17_book::{write_entry, write_trace_header};
 use m17_io::Sink;
 use m17_values::Failed;
 
@@ -24,7 +24,8 @@ pub fn make<K: Sink>(seed: u64, count: u32, out: &mut K) -> Result<(), Failed>
     ensures err { OnErr result ((before : List ℕ) → K.written out.old ≡ Some before
         → AppendsPrefix before (make_text seed count) (K.written out.new)) }
 {
-    match out.write(&TRACE_MAGIC) {
+    let header = write_trace_header();
+    match out.write(&header) {
         Ok(()) => {}
         Err(failed) => return Err(failed),
     }

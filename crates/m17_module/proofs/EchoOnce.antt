@@ -7,7 +7,6 @@ use Rattle.m17_stream.specs.declared.packet.StreamPacket.{StreamPacket}
 use Rattle.m17_control.specs.declared.item.Said.TheVariants as said
 use Rattle.m17_floor.specs.Acts.{moment_at}
 use Rattle.m17_parrot.specs.Recording.{Recording, is_due, next_frame, due_of}
-use Rattle.m17_module.specs.declared.seat.Seat.{Seat}
 use Rattle.m17_module.specs.Events.{acts_of}
 use Rattle.m17_module.specs.Seats.{seats_at, seat_of}
 use Rattle.m17_module.specs.Echoes.{holder_at, recording_with, closed_if, echoed_before, echo_at}

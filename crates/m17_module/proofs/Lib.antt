@@ -19,3 +19,5 @@ mod RecordingStep
 mod ParrotStep
 mod ModuleStep
 mod EchoOnce
+mod ItemsHold
+mod VerdictsFit

@@ -50,7 +50,7 @@ position_is : (j : ℕ) (o : Option ℕ) → is_position j o ≡ true → o ≡ 
 position_is j None e = cc
 position_is j (Some i) e = ap Some (eqb-true i j e)
 
-if_in_some : (places : ℕ) (events : List Event) (n j : ℕ) (o : Option Seat) (seat : Seat) → if_in_by places events n j o ≡ Some seat → (o ≡ Some seat) × (joined_at places (acts_of events) seat.member n ≡ Some j)
+pub if_in_some : (places : ℕ) (events : List Event) (n j : ℕ) (o : Option Seat) (seat : Seat) → if_in_by places events n j o ≡ Some seat → (o ≡ Some seat) × (joined_at places (acts_of events) seat.member n ≡ Some j)
 if_in_some places events n j None seat e = cc
 if_in_some places events n j (Some s) seat e =
     let parts = cond_some (is_position j (joined_at places (acts_of events) s.member n)) s seat e in
@@ -222,7 +222,7 @@ pub record HasSeat (places : ℕ) (events : List Event) (n : ℕ) (k : Member) :
   pub is : seat_at places events n k.place ≡ Some seat
   pub mine : seat.member ≡ k
 
-some_from_cond : (b : Bool) (o : Option ℕ) (a : ℕ) → cond b o None ≡ Some a → (b ≡ true) × (o ≡ Some a)
+pub some_from_cond : (b : Bool) (o : Option ℕ) (a : ℕ) → cond b o None ≡ Some a → (b ≡ true) × (o ≡ Some a)
 some_from_cond true o a e = (refl, e)
 some_from_cond false o a e = cc
 

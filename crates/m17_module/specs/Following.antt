@@ -35,10 +35,10 @@ unless_any (Some m) recording = option_and_then (unless_of m) recording
 
 -- The floor after the verdict on a packet that came in; and that a stream that goes on has the floor.
 pub record FloorHears (heard : Incoming) (verdict : Verdict) (old new : Option Frame) : Type 0
-    where
-  pub after : new ≡ (if admits (Some verdict) then Some (frame_from heard) else old)
-  pub goes_on : verdict ≡ Continued →
-      option_map (λ frame. frame.member) (only_if (has_floor heard.at) old) ≡ Some heard.sender
+  where
+    pub after : new ≡ (if admits (Some verdict) then Some (frame_from heard) else old)
+    pub goes_on : verdict ≡ Continued →
+        option_map (λ frame. frame.member) (only_if (has_floor heard.at) old) ≡ Some heard.sender
 
 -- The floor after an event.
 abbrev pub FloorFollows : List (Option Seat) → ℕ → Body → Option Verdict → Option Frame →

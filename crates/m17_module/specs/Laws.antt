@@ -1,6 +1,6 @@
 -- What follows from the definitions for every list of events. This profile.
 use Rattle.std.specs.Prelude.{◌≡◌, ◌↔◌, ℕ, ◌<◌, ◌≤◌, ◌⊎◌, ◌&&◌, Bool, true, false, not, List, [], ◌∷◌, ◌++◌, length, filter, slice_get, is_some, Option, None, Some}
-use Rattle.std.specs.List.{flat_map, range_with_len}
+use Rattle.std.specs.List.{All, flat_map, range_with_len}
 use Rattle.m17_values.specs.declared.member.Member.{Member}
 use Rattle.m17_stream.specs.declared.packet.StreamPacket.{StreamPacket}
 use Rattle.m17_control.specs.declared.event.Event.{Event}
@@ -9,6 +9,8 @@ use Rattle.m17_control.specs.declared.event.Body.TheVariants.{Packet}
 use Rattle.m17_control.specs.declared.item.Item.{Item}
 use Rattle.m17_control.specs.declared.item.Said.{Said}
 use Rattle.m17_control.specs.declared.item.Said.TheVariants as said
+use Rattle.m17_floor.specs.declared.verdict.Verdict.{Verdict}
+use Rattle.m17_floor.specs.declared.verdict.Verdict.TheVariants.{Busy, Late}
 use Rattle.m17_floor.specs.Acts.{is_join_of, settles, kind_at, joined_at}
 use Rattle.m17_floor.specs.Floor.{is_packet_of, admits, verdict_at}
 use Rattle.m17_module.specs.declared.seat.Seat.{Seat}
@@ -136,3 +138,35 @@ abbrev pub WhoNeverJoinsGetsNothing : Type 0
 WhoNeverJoinsGetsNothing =
     (setup : Setup) (events : List Event) (k : Member) →
     ((j : ℕ) → joins events k j ≡ false) ⊎ (setup.places ≤ k.place) → items_for setup events k ≡ []
+
+-- Each item is for a member at one of the module's places. This profile.
+abbrev pub ItemsAreAtPlaces : Type 0
+ItemsAreAtPlaces =
+    (setup : Setup) (events : List Event) (n : ℕ) →
+    All (λ item. item.member.place < setup.places) (items_at setup events n)
+
+-- Where each event's link is below so many, each item's link is. This profile.
+abbrev pub ItemsKeepLinks : Type 0
+ItemsKeepLinks =
+    (setup : Setup) (events : List Event) (n links : ℕ) →
+    All (λ event. event.tag.link < links) events →
+    All (λ item. item.link < links) (items_at setup events n)
+
+-- If the event is a packet, its number is below 32,768. This profile.
+abbrev pub IsNumbered : Body → Type 0
+IsNumbered (Packet k p) = p.number < 32768
+IsNumbered _ = Unit {0}
+
+-- The value of a verdict in a module of so many places: a Busy's holder is at one of them, and a Late's number is below
+-- 32,768. This profile.
+abbrev pub FitsIn : ℕ → Verdict → Type 0
+FitsIn places (Busy holder) = holder.place < places
+FitsIn places (Late last) = last < 32768
+FitsIn places _ = Unit {0}
+
+-- Where each packet's number is below 32,768, the value of each verdict fits. This profile.
+abbrev pub VerdictsFit : Type 0
+VerdictsFit =
+    (places : ℕ) (events : List Event) (n : ℕ) (verdict : Verdict) →
+    All (λ event. IsNumbered event.body) events →
+    verdict_at places (acts_of events) n ≡ Some verdict → FitsIn places verdict

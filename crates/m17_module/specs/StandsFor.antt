@@ -67,8 +67,8 @@ stepped answer kept given = record { answer = answer; kept = kept; given = given
 -- The step by an event after these: the module then stands for the list with the event, what it gave is what the
 -- event at this position gives, and its answer is the verdict there, which only a packet has. This profile.
 pub record IsStep (setup : Setup) (events : List Event) (event : Event) (to : Stepped) : Type 0
-    where
-  pub stands : StandsFor to.kept (events ++ event ∷ [])
-  pub items : to.given ≡ items_at setup (events ++ event ∷ []) (length events)
-  pub verdict : to.answer
-      ≡ verdict_at setup.places (acts_of (events ++ event ∷ [])) (length events)
+  where
+    pub stands : StandsFor to.kept (events ++ event ∷ [])
+    pub items : to.given ≡ items_at setup (events ++ event ∷ []) (length events)
+    pub verdict : to.answer
+        ≡ verdict_at setup.places (acts_of (events ++ event ∷ [])) (length events)

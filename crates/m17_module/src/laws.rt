@@ -47,3 +47,20 @@ pub fn share_is_the_others_frames()
 {
     frames_are_the_others();
 }
+
+/// Each item is for a member at one of the module's places. This profile.
+pub fn items_are_at_places()
+    ensures { law.ItemsAreAtPlaces }
+{}
+
+/// Where the links of the events are below a number, those of the items are: each item goes by the link of its member's
+/// Join. This profile.
+pub fn items_keep_links()
+    ensures { law.ItemsKeepLinks }
+{}
+
+/// A Busy's holder is at one of the module's places, and a Late's number is below 32,768 where the packets' numbers
+/// are. This profile.
+pub fn verdicts_fit()
+    ensures { law.VerdictsFit }
+{}

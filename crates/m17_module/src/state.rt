@@ -125,6 +125,13 @@ impl Module {
         })
     }
 
+    /// The module's moment: the greatest of its events' moments so far. This profile.
+    pub fn moment(&self) -> u64
+        ensures { result ≡ self.now.moment }
+    {
+        self.moment
+    }
+
     /// How many packets the module has admitted. This profile.
     pub fn admitted(&self) -> u64
         ensures { result ≡ self.now.admitted }

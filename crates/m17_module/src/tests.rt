@@ -190,6 +190,7 @@ fn a_small_evening(rt: HostRuntime) -> Result<(), Fail> {
         &[],
     );
     assert_eq!(rt; module.admitted(), 2);
+    assert_eq!(rt; module.moment(), 3_000);
     Ok(())
 }
 

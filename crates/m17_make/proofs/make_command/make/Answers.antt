@@ -5,12 +5,12 @@ use Rattle.m17_make.proofs.Texts.{IsMaking, making_first, making_more, making_fa
 use Rattle.m17_make.proofs.make_command.make.Goals as goal
 
 pub returns-in-Err-clause-err : goal.returns-in-Err-clause-err
-returns-in-Err-clause-err g c = header_failed c.args.seed c.args.count _ _ c.in-Err.ensures.err
+returns-in-Err-clause-err g c = header_failed c.args.seed c.args.count _ _ (rw c.write_trace_header-header.ensures at c.in-Err.ensures.err)
 
 pub loop-entry-init : goal.loop-entry-init
 loop-entry-init g c =
     subst (λ (e : Evening). IsMaking c.args.seed 0 e (g.K.Sink.written c.args.out.now) (g.K.Sink.written c.write.new.self) (g.K.Sink.faults c.args.out.now) (g.K.Sink.faults c.write.new.self))
-    (sym c.new-maker.ensures) (making_first c.args.seed _ _ _ _ c.in-Ok.ensures.ok c.in-Ok.ensures.cause.no_fault)
+    (sym c.new-maker.ensures) (making_first c.args.seed _ _ _ _ (rw c.write_trace_header-header.ensures at c.in-Ok.ensures.ok) c.in-Ok.ensures.cause.no_fault)
 
 pub write_next-requires : goal.write_next-requires
 write_next-requires g c = omega (arith, entry_index _ _ _ c.loop-entry.invariant.maker_is)
