@@ -9,7 +9,7 @@ use Rattle.m17_print.specs.declared.ending.Ending.{Ending}
 use Rattle.m17_print.specs.declared.ending.Ending.TheVariants as endings
 use Rattle.m17_app.specs.declared.status.Status.{Status}
 use Rattle.m17_app.specs.declared.status.Status.TheVariants.{ReadFailed, WriteFailed, NoMemory}
-use Rattle.m17_app.specs.Status.{status_of, Outside, HasCause, WritesLast}
+use Rattle.m17_app.specs.Status.{status_of, Outside, watched, HasCause, WritesLast}
 use Rattle.m17_app.specs.Run.{Stands, EndsWithLast}
 use Rattle.m17_app.proofs.Statuses.{is_write_failed, own_status, Told, told, never}
 
@@ -92,7 +92,7 @@ line_stands line own status first text mid after last told = elim (is_write_fail
 -- what stands written
 pub stands_of : {R : Type 0} (prints : Ending R → List ℕ → Option (List ℕ) → List ℕ → Type 0) (words : R → List ℕ) (ending : Ending R) (status : Status) (input first text : List ℕ) (before mid after : Outside)
     → HasCauses (counts before) (counts mid) (failed_device ending) → WritesLast (last_line words ending) (status_of ending) status mid after
-    → mid.written ≡ Some (first ++ text) → prints ending input mid.left text → Stands prints words status input first before after
+    → mid.written ≡ Some (first ++ text) → prints ending input mid.left text → Stands prints words status (watched input first before after)
 stands_of prints words ending status input first text before mid after causes last told printed =
     let line = line_stands (last_line words ending) (status_of ending) status first text mid after last told in
     record {

@@ -16,7 +16,7 @@ use Rattle.m17_replay.specs.Reasons.{refusal_told}
 use Rattle.m17_replay.specs.Replay.{IsReplayText, SaysReplay, PrintsReplay, failed_device, ComesToReplay}
 use Rattle.m17_app.specs.declared.status.Status.{Status}
 use Rattle.m17_app.specs.declared.status.Status.TheVariants.{Finished, InputRefused, WordsRefused, ReadFailed, WriteFailed, LinkLost, NoMemory}
-use Rattle.m17_app.specs.Status.{Outside, HasCause, WritesLast}
+use Rattle.m17_app.specs.Status.{Outside, watched, HasCause, WritesLast}
 use Rattle.m17_app.specs.Replayed.{replay_last_line, replay_status, IsRunText, IsWholeReplay, StandsReplay, RunsReplay}
 use Rattle.m17_app.proofs.Statuses.{Told, own_status, never}
 use Rattle.m17_app.proofs.Concluded.{counts, cause_from, sound_from, line_stands, whole_from}
@@ -90,7 +90,7 @@ Came plan summary ending before mid = (input : List ℕ) → before.left ≡ Som
 -- what stands written
 stands : (plan : Plan) (summary : Bool) (ending : ReplayEnding) (status : Status) (input first text : List ℕ) (before mid after : Outside)
     → HasCauses (counts before) (counts mid) (failed_device ending) → WritesLast (replay_last_line ending) (replay_status ending) status mid after
-    → mid.written ≡ Some (first ++ text) → PrintsReplay plan summary ending input text → StandsReplay plan summary status input first before after
+    → mid.written ≡ Some (first ++ text) → PrintsReplay plan summary ending input text → StandsReplay plan summary status (watched input first before after)
 stands plan summary ending status input first text before mid after causes last written printed =
     let line = line_stands (replay_last_line ending) (replay_status ending) status first text mid after last written in
     record {

@@ -12,7 +12,7 @@ use Rattle.m17_replay.specs.Reasons.{trace_reason_words, refusal_told}
 use Rattle.m17_replay.specs.Replay.{IsReplayText, PrintsReplay}
 use Rattle.m17_app.specs.declared.status.Status.{Status}
 use Rattle.m17_app.specs.declared.status.Status.TheVariants.{Finished, InputRefused, WordsRefused, ReadFailed, WriteFailed, LinkLost, NoMemory}
-use Rattle.m17_app.specs.Status.{Outside, HasCause}
+use Rattle.m17_app.specs.Status.{Outside, Watched, watched, HasCause}
 
 -- the last line of a run whose link was lost
 abbrev pub link_lost_line : List ℕ
@@ -52,18 +52,18 @@ IsWholeReplay status = (status ≡ Finished) ⊎ (status ≡ LinkLost) ⊎ (stat
 -- What stands written after a run of `replay` that came to this ending: what the ending prints, and then the last
 -- line. Where the sink failed, the last line may be cut, or the text; `read failed` is told only where the source's
 -- count rose.
-pub record StandsReplay (plan : Plan) (summary : Bool) (status : Status) (input first : List ℕ)
-    (before after : Outside) : Type 0 where
+pub record StandsReplay (plan : Plan) (summary : Bool) (status : Status) (run : Watched)
+    : Type 0 where
   pub ending : ReplayEnding
   pub status_is : (status ≡ replay_status ending) ⊎ (status ≡ WriteFailed)
-  pub sound : ending ≡ endings.ReadFailed → HasRisen before.reads after.reads
+  pub sound : ending ≡ endings.ReadFailed → HasRisen run.before.reads run.after.reads
   pub text : List ℕ
-  pub printed : PrintsReplay plan summary ending input text
+  pub printed : PrintsReplay plan summary ending run.input text
   pub last : List ℕ
   pub cut : List ℕ
   pub last_is : replay_last_line ending ≡ last ++ cut
   pub whole : status ≢ WriteFailed → cut ≡ []
-  pub written_is : after.written ≡ Some (first ++ text ++ last)
+  pub written_is : run.after.written ≡ Some (run.first ++ text ++ last)
 
 -- What a run of `replay` promises.
 pub record RunsReplay (plan : Plan) (summary : Bool) (status : Status) (before after : Outside)
@@ -86,7 +86,8 @@ pub record RunsReplay (plan : Plan) (summary : Bool) (status : Status) (before a
       → (text : List ℕ) × (after.written ≡ Some (first ++ text))
       × IsRunText plan summary status input text
   pub stands : status ≢ NoMemory → (input first : List ℕ) → before.left ≡ Some input
-      → before.written ≡ Some first → StandsReplay plan summary status input first before after
+      → before.written ≡ Some first
+      → StandsReplay plan summary status (watched input first before after)
   -- the last line, whatever the source tells
   pub last : status ≢ WriteFailed → status ≢ NoMemory → (first : List ℕ)
       → before.written ≡ Some first

@@ -17,7 +17,7 @@ use Rattle.m17_words.specs.declared.command.Command.{Command}
 use Rattle.m17_words.specs.Words.{Names}
 use Rattle.m17_app.specs.declared.status.Status.{Status}
 use Rattle.m17_app.specs.declared.status.Status.TheVariants.{Finished, InputRefused, WordsRefused, ReadFailed, WriteFailed, NoMemory}
-use Rattle.m17_app.specs.Status.{status_of, Outside, HasCause}
+use Rattle.m17_app.specs.Status.{status_of, Outside, Watched, watched, HasCause}
 
 -- the words name no command
 abbrev pub AreRefused : List (List ℕ) → Type 0
@@ -32,18 +32,17 @@ IsWhole status = (status ≡ Finished) ⊎ (status ≡ InputRefused)
 -- be cut, or the text, as `prints` says at that ending; `read failed` is told only where the
 -- source's count rose.
 pub record Stands {R : Type 0} (prints : Ending R → List ℕ → Option (List ℕ) → List ℕ
-    → Type 0) (words : R → List ℕ)
-    (status : Status) (input first : List ℕ) (before after : Outside) : Type 0 where
+    → Type 0) (words : R → List ℕ) (status : Status) (run : Watched) : Type 0 where
   pub ending : Ending R
   pub status_is : (status ≡ status_of ending) ⊎ (status ≡ WriteFailed)
-  pub sound : ending ≡ endings.ReadFailed → HasRisen before.reads after.reads
+  pub sound : ending ≡ endings.ReadFailed → HasRisen run.before.reads run.after.reads
   pub text : List ℕ
-  pub printed : prints ending input after.left text
+  pub printed : prints ending run.input run.after.left text
   pub last : List ℕ
   pub cut : List ℕ
   pub last_is : last_line words ending ≡ last ++ cut
   pub whole : status ≢ WriteFailed → cut ≡ []
-  pub written_is : after.written ≡ Some (first ++ text ++ last)
+  pub written_is : run.after.written ≡ Some (run.first ++ text ++ last)
 
 -- The last line is told of a sink that tells, whatever the source tells: at the end of what was
 -- written stands that of an ending with this status.
@@ -68,7 +67,7 @@ pub record RunsJudge (status : Status) (before after : Outside) : Type 0 where
       → (text : List ℕ) × (after.written ≡ Some (first ++ text)) × IsJudgeText input text
   pub stands : status ≢ NoMemory → (input first : List ℕ) → before.left ≡ Some input
       → before.written ≡ Some first
-      → Stands PrintsJudge judge_reason_words status input first before after
+      → Stands PrintsJudge judge_reason_words status (watched input first before after)
   pub last : EndsWithLast judge_reason_words status before after
   -- a list of records, and devices that do not fail
   pub complete : (input : List ℕ) (count : ℕ) → before.left ≡ Some input → AreRecords input count
@@ -92,7 +91,7 @@ pub record RunsShow (status : Status) (before after : Outside) : Type 0 where
       → before.written ≡ Some first
       → (text : List ℕ) × (after.written ≡ Some (first ++ text)) × IsShowText input text
   pub stands : (input first : List ℕ) → before.left ≡ Some input → before.written ≡ Some first
-      → Stands PrintsShow show_reason_words status input first before after
+      → Stands PrintsShow show_reason_words status (watched input first before after)
   pub last : EndsWithLast show_reason_words status before after
   -- lines of which none is refused, and devices that do not fail
   pub complete : (input : List ℕ) → before.left ≡ Some input

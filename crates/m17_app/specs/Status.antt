@@ -45,6 +45,18 @@ abbrev pub outside : Option (List ℕ) → ℕ → Option (List ℕ) → ℕ →
 outside left reads written writes held_back =
     record { left = left; reads = reads; written = written; writes = writes; held_back = held_back }
 
+-- A run over devices that tell: the input that was left before it and what stood written then, and what the devices
+-- tell before it and after it.
+pub record Watched : Type 0 where
+  pub input : List ℕ
+  pub first : List ℕ
+  pub before : Outside
+  pub after : Outside
+
+abbrev pub watched : List ℕ → List ℕ → Outside → Outside → Watched
+watched input first before after =
+    record { input = input; first = first; before = before; after = after }
+
 -- The source failed exactly where the status says so, and the sink where it says so; but the sink's
 -- failure is told in place of the source's. No count falls. This profile.
 pub record HasCause (status : Status) (before after : Outside) : Type 0 where

@@ -1,7 +1,7 @@
 //! The magics, codes and places of both formats, for the readers and the writers alike.
 
-/// What a trace begins with: `M17TRACE`.
-pub(crate) const TRACE_MAGIC: [u8; 8] = *b"M17TRACE";
+/// What a trace begins with: `M17TRACE`. This profile.
+pub const TRACE_MAGIC: [u8; 8] = *b"M17TRACE";
 
 /// What a book begins with: `M17BOOK1`.
 pub(crate) const BOOK_MAGIC: [u8; 8] = *b"M17BOOK1";

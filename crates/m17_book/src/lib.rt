@@ -25,6 +25,7 @@ mod steps;
 mod trace;
 
 pub use book::{read_book, read_book_for};
+pub use form::TRACE_MAGIC;
 pub use reader::Reader;
 pub use record::Record;
 pub(crate) use refusal::Flaw;

@@ -7,15 +7,12 @@ ghost use Rattle.m17_make.specs.Made.{heard_as};
 ghost use Rattle.m17_make.specs.Make.{made_at, after, make_text};
 
 use crate::Maker;
-use m17_book::write_entry;
+use m17_book::{TRACE_MAGIC, write_entry};
 use m17_io::Sink;
 use m17_values::Failed;
 
 /// How many entries may be made at the most.
 pub const ENTRIES_MAX: u32 = 100_000;
-
-/// What a trace begins with.
-const TRACE_MAGIC: [u8; 8] = *b"M17TRACE";
 
 /// Writes the trace of an evening that is drawn from this seed: its header, and `count` entries, 0 to 100,000. `Failed`
 /// where the sink failed, and then a first part of the trace stands written. This profile.

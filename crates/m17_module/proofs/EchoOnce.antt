@@ -1,5 +1,5 @@
--- An echo is one item.
-use Rattle.std.proofs.Common.{◌≡◌, ℕ, Bool, true, false, cond, [], length, get_or, is_none, option_map, Option, None, Some, refl, ap, sym, ◌∙◌}
+-- An echo is one item, to its member.
+use Rattle.std.proofs.Common.{◌≡◌, ℕ, Bool, true, false, cond, [], get_or, is_none, option_map, Option, None, Some, refl, ap, sym, ◌∙◌}
 use Rattle.std.specs.Option.{option_and_then}
 use Rattle.std.proofs.lemmas.Option.{same_Some}
 use Rattle.m17_values.specs.declared.member.Member.{Member}
@@ -42,10 +42,6 @@ echo_for : (at : ℕ) (s : Bool) (recording : Option Recording) (e : Member × S
 echo_for at s None e is = cc
 echo_for at s (Some r) e is = record { of = r; is = refl; member = due_is at (closed_if s at r) e is ∙ member_closed s at r }
 
-one_seat : (n : ℕ) (p : StreamPacket) (o : Option Seat) (seat : Seat) → o ≡ Some seat → length (to_one (said.Echo n p) o) ≡ 1
-one_seat n p None seat e = cc
-one_seat n p (Some s) seat e = refl
-
 pub echo_once : EachEchoIsSentOnce
 unfolding echoes_at echo_at
 echo_once setup events n echo parrot is =
@@ -55,7 +51,10 @@ echo_once setup events n echo parrot is =
     let has = joined_has_seat setup.places events n found_for.of.member at.join at.joined in
     let here : seat_of (seats_at setup.places events n) echo.0 ≡ Some has.seat =
     ap (seat_of (seats_at setup.places events n)) found_for.member
-    ∙ seat_of_some found_for.of.member (get_or (seats_at setup.places events n) found_for.of.member.place None) has.seat (seats_at_is setup.places events n found_for.of.member.place has.below ∙ has.is) has.mine in
-    ap (λ b. length (cond b (echo_items n (seats_at setup.places events n) (echo_at setup.places (acts_of events) n)) [])) parrot
-    ∙ ap (λ o. length (echo_items n (seats_at setup.places events n) o)) is
-    ∙ one_seat n echo.1 (seat_of (seats_at setup.places events n) echo.0) has.seat here
+    ∙ seat_of_some found_for.of.member (get_or (seats_at setup.places events n) found_for.of.member.place None) has.seat (seats_at_is setup.places events n found_for.of.member.place has.below ∙ has.is) has.mine in (
+      has.seat,
+      here,
+      ap (λ b. cond b (echo_items n (seats_at setup.places events n) (echo_at setup.places (acts_of events) n)) []) parrot
+          ∙ ap (echo_items n (seats_at setup.places events n)) is
+          ∙ ap (to_one (said.Echo n echo.1)) here,
+    )

@@ -14,7 +14,7 @@ use Rattle.m17_floor.specs.Rule.{Frame, only_if, has_floor}
 use Rattle.m17_floor.specs.Floor.{Past, floor_frame, admits, past_with, admitted_before, past_at, verdict_at}
 use Rattle.m17_floor.specs.Laws.{LaterActsChangeNoVerdict, LaterActsChangeNoMembership, LaterActsChangeNoMoment, LaterActsChangeNoKind}
 use Rattle.m17_parrot.specs.Recording.{Recording, most_frames, due_of}
-use Rattle.m17_module.specs.Echoes.{is_admitted_at, opens, is_opened_at, holder_at, packet_in, admitted_packet, held_before, has_end_bit, closes, close_before, is_in_since, recording_of, last_opened, recording_with, closed_if, echo_with, echoed_before, echo_at, recording_at}
+use Rattle.m17_module.specs.Echoes.{is_admitted_at, opens, is_opened_at, holder_at, packet_in, admitted_packet, held_before, has_end_bit, closes, close_before, is_in_since, opening, recording_of, last_opened, recording_with, closed_if, echo_with, echoed_before, echo_at, recording_at}
 use Rattle.m17_module.proofs.Below.{last_below_same, last_below_lt, and_then_same, length_more}
 use Rattle.m17_module.proofs.ItemsMore.{flat_map_same}
 
@@ -98,7 +98,7 @@ close_same later places acts more o n l h =
 abbrev recording_made : Member → ℕ → Bool → List StreamPacket → Option ℕ → Option Recording
 recording_made k given stays frames close = cond stays (Some (record { member = k; frames = frames; close = close; given = given })) None
 
-recording_of_same : Later → (places : ℕ) (acts more : List Act) (n : ℕ) (echoed : List Bool) (o : ℕ) (kind : ActKind) → o < n → n ≤ length acts → recording_of places (acts ++ more) n echoed o kind ≡ recording_of places acts n echoed o kind
+recording_of_same : Later → (places : ℕ) (acts more : List Act) (n : ℕ) (echoed : List Bool) (o : ℕ) (kind : ActKind) → o < n → n ≤ length acts → recording_of (opening places (acts ++ more) o n) echoed kind ≡ recording_of (opening places acts o n) echoed kind
 recording_of_same later places acts more n echoed o (Packet k p) l h =
     let given : ℕ = count_by (λ has_echo. has_echo) (drop (suc o) echoed) in
     ap (λ j. recording_made k given (option_map_or (λ i. nat_lt i o) j false) (held_before places (acts ++ more) o n) (option_map (moment_at (acts ++ more)) (close_before places (acts ++ more) o n))) (later.members places acts more k n h)
@@ -115,10 +115,10 @@ opened_same later places acts more n h =
 pub recording_with_same : Later → (places : ℕ) (acts more : List Act) (n : ℕ) (echoed : List Bool) → n ≤ length acts → recording_with places (acts ++ more) n echoed ≡ recording_with places acts n echoed
 unfolding recording_with
 recording_with_same later places acts more n echoed h =
-    ap (option_and_then (λ o. recording_of places (acts ++ more) n echoed o (kind_at (acts ++ more) o))) (opened_same later places acts more n h)
+    ap (option_and_then (λ o. recording_of (opening places (acts ++ more) o n) echoed (kind_at (acts ++ more) o))) (opened_same later places acts more n h)
     ∙ and_then_same (last_opened places acts n) _ _ (λ o e.
     let l : o < n = last_below_lt (is_opened_at places acts) n o e in
-    ap (recording_of places (acts ++ more) n echoed o) (later.kinds acts more o (omega arith))
+    ap (recording_of (opening places (acts ++ more) o n) echoed) (later.kinds acts more o (omega arith))
     ∙ recording_of_same later places acts more n echoed o (kind_at acts o) l h)
 
 echo_with_same : Later → (places : ℕ) (acts more : List Act) (n : ℕ) (echoed : List Bool) → n < length acts → echo_with places (acts ++ more) n echoed ≡ echo_with places acts n echoed

@@ -17,7 +17,7 @@ use Rattle.m17_floor.specs.declared.act.ActKind.TheVariants.{Join, Leave, Packet
 use Rattle.m17_floor.specs.Acts.{last_below, is_join_of, settles, kind_at, moment_at, joined_at}
 use Rattle.m17_parrot.specs.Recording.{Recording, most_frames}
 use Rattle.m17_module.specs.Events.{acts_of}
-use Rattle.m17_module.specs.Echoes.{is_admitted_at, is_opened_at, holder_at, positions_from, admitted_packet, held_before, has_end_bit, closes, close_before, is_in_since, recording_of, last_opened, recording_with}
+use Rattle.m17_module.specs.Echoes.{is_admitted_at, is_opened_at, holder_at, positions_from, admitted_packet, held_before, has_end_bit, closes, close_before, is_in_since, opening, recording_of, last_opened, recording_with}
 use Rattle.m17_module.proofs.Below.{last_below_suc, last_below_lt, length_more}
 use Rattle.m17_module.proofs.ItemsMore.{range_more}
 use Rattle.m17_module.proofs.Life.{joined_suc}
@@ -115,8 +115,8 @@ given_suc : (o : ℕ) (echoed : List Bool) (b : Bool) → o < length echoed → 
 given_suc o echoed b h = ap (count_by (λ has_echo. has_echo)) (drop-append-le (suc o) echoed (b ∷ []) (omega arith)) ∙ count_more (drop (suc o) echoed) b
 
 of_suc : (places : ℕ) (events : List Event) (n o : ℕ) (echoed : List Bool) (b : Bool) (kind : ActKind) → o < n → length echoed ≡ n →
-    recording_of places (acts_of events) (suc n) (echoed ++ b ∷ []) o kind
-    ≡ option_and_then (unless_settled (kind_at (acts_of events) n)) (option_map (moved (moment_at (acts_of events) n) (shuts places (acts_of events) n) (admitted_packet places (acts_of events) n) b) (recording_of places (acts_of events) n echoed o kind))
+    recording_of (opening places (acts_of events) o (suc n)) (echoed ++ b ∷ []) kind
+    ≡ option_and_then (unless_settled (kind_at (acts_of events) n)) (option_map (moved (moment_at (acts_of events) n) (shuts places (acts_of events) n) (admitted_packet places (acts_of events) n) b) (recording_of (opening places (acts_of events) o n) echoed kind))
 of_suc places events n o echoed b (Packet k p) h len =
     let acts : List Act = acts_of events in
     let move : Recording → Recording = moved (moment_at acts n) (shuts places acts n) (admitted_packet places acts n) b in
@@ -133,8 +133,8 @@ of_suc places events n o echoed b (Leave k) h len = refl
 of_suc places events n o echoed b Other h len = refl
 
 below_suc : (places : ℕ) (events : List Event) (n : ℕ) (echoed : List Bool) (b : Bool) (last : Option ℕ) → (((o : ℕ) → last ≡ Some o → o < n)) → length echoed ≡ n →
-    option_and_then (λ o. recording_of places (acts_of events) (suc n) (echoed ++ b ∷ []) o (kind_at (acts_of events) o)) last
-    ≡ option_and_then (unless_settled (kind_at (acts_of events) n)) (option_map (moved (moment_at (acts_of events) n) (shuts places (acts_of events) n) (admitted_packet places (acts_of events) n) b) (option_and_then (λ o. recording_of places (acts_of events) n echoed o (kind_at (acts_of events) o)) last))
+    option_and_then (λ o. recording_of (opening places (acts_of events) o (suc n)) (echoed ++ b ∷ []) (kind_at (acts_of events) o)) last
+    ≡ option_and_then (unless_settled (kind_at (acts_of events) n)) (option_map (moved (moment_at (acts_of events) n) (shuts places (acts_of events) n) (admitted_packet places (acts_of events) n) b) (option_and_then (λ o. recording_of (opening places (acts_of events) o n) echoed (kind_at (acts_of events) o)) last))
 below_suc places events n echoed b None h len = refl
 below_suc places events n echoed b (Some o) h len = of_suc places events n o echoed b (kind_at (acts_of events) o) (h o refl) len
 
@@ -145,7 +145,7 @@ pub recording_goes_on : (places : ℕ) (events : List Event) (n : ℕ) (echoed :
 unfolding recording_with
 recording_goes_on places events n echoed b len other =
     let opened : ℕ → Bool = is_opened_at places (acts_of events) in
-    ap (option_and_then (λ o. recording_of places (acts_of events) (suc n) (echoed ++ b ∷ []) o (kind_at (acts_of events) o)))
+    ap (option_and_then (λ o. recording_of (opening places (acts_of events) o (suc n)) (echoed ++ b ∷ []) (kind_at (acts_of events) o)))
     (last_below_suc opened n ∙ cond-false (opened n) (Some n) (last_below opened n) other)
     ∙ below_suc places events n echoed b (last_below opened n) (λ o e. last_below_lt opened n o e) len
 
@@ -185,9 +185,9 @@ recording_opens places events n echoed b k p len opened is stays packet admitted
     ∙ mapped (moment_at acts) p.last n in
     let given : count_by (λ has_echo. has_echo) (drop (suc n) (echoed ++ b ∷ [])) ≡ 0 =
     ap (count_by (λ has_echo. has_echo)) (drop_all (suc n) (echoed ++ b ∷ []) (omega (arith, length_more echoed b))) in
-    ap (option_and_then (λ o. recording_of places acts (suc n) (echoed ++ b ∷ []) o (kind_at acts o)))
+    ap (option_and_then (λ o. recording_of (opening places acts o (suc n)) (echoed ++ b ∷ []) (kind_at acts o)))
     (last_below_suc test n ∙ cond-true (test n) (Some n) (last_below test n) opened)
-    ∙ ap (recording_of places acts (suc n) (echoed ++ b ∷ []) n) is
+    ∙ ap (recording_of (opening places acts n (suc n)) (echoed ++ b ∷ [])) is
     ∙ cond-true (is_in_since places acts k n (suc n)) _ None since
     ∙ ap (λ xs. Some (made k xs (option_map (moment_at acts) (close_before places acts n (suc n))) (count_by (λ has_echo. has_echo) (drop (suc n) (echoed ++ b ∷ []))))) frames
     ∙ ap (λ c. Some (made k (p ∷ []) c (count_by (λ has_echo. has_echo) (drop (suc n) (echoed ++ b ∷ []))))) close
@@ -207,7 +207,7 @@ found_cond : (b : Bool) (x r : Recording) → cond b (Some x) None ≡ Some r �
 found_cond true x r e = (refl, same_Some x r e)
 found_cond false x r e = cc
 
-found_of : (places : ℕ) (acts : List Act) (n : ℕ) (echoed : List Bool) (o : ℕ) (kind : ActKind) (r : Recording) → recording_of places acts n echoed o kind ≡ Some r → IsFound places acts n r
+found_of : (places : ℕ) (acts : List Act) (n : ℕ) (echoed : List Bool) (o : ℕ) (kind : ActKind) (r : Recording) → recording_of (opening places acts o n) echoed kind ≡ Some r → IsFound places acts n r
 found_of places acts n echoed o (Packet k p) r e =
     let parts = found_cond (is_in_since places acts k o n) _ r e in
     let join = join_some o (joined_at places acts k n) parts.0 in
@@ -220,7 +220,7 @@ found_of places acts n echoed o (Join k listens) r e = cc
 found_of places acts n echoed o (Leave k) r e = cc
 found_of places acts n echoed o Other r e = cc
 
-found_last : (places : ℕ) (acts : List Act) (n : ℕ) (echoed : List Bool) (last : Option ℕ) (r : Recording) → option_and_then (λ o. recording_of places acts n echoed o (kind_at acts o)) last ≡ Some r → IsFound places acts n r
+found_last : (places : ℕ) (acts : List Act) (n : ℕ) (echoed : List Bool) (last : Option ℕ) (r : Recording) → option_and_then (λ o. recording_of (opening places acts o n) echoed (kind_at acts o)) last ≡ Some r → IsFound places acts n r
 found_last places acts n echoed None r e = cc
 found_last places acts n echoed (Some o) r e = found_of places acts n echoed o (kind_at acts o) r e
 

@@ -14,7 +14,7 @@ use Rattle.m17_module.specs.declared.seat.Seat.{Seat}
 use Rattle.m17_module.specs.Events.{kind_of, act_of, acts_of}
 use Rattle.m17_module.specs.Seats.{seats_at, members_of}
 use Rattle.m17_module.specs.Items.{Setup, Setting, ping_every_ms, item_to, says, pings_at, echoes_at, said_by, said_at, items_at}
-use Rattle.m17_module.specs.StandsFor.{People, PeopleStandFor, recorded, StandsFor, IsStep}
+use Rattle.m17_module.specs.StandsFor.{People, PeopleStandFor, recorded, StandsFor, stepped, IsStep}
 use Rattle.m17_module.proofs.Acts.{acts_more, length_acts}
 use Rattle.m17_module.proofs.Below.{length_more, slice_get_end}
 use Rattle.m17_module.proofs.SeatsMore.{seats_at_before}
@@ -80,7 +80,7 @@ pub step_is : MomentOfOneMore → MomentAfterOneMore → LaterActsChangeNoMember
     PeopleStandFor setup.places new (events ++ event ∷ []) × (answer ≡ verdict_at setup.places (acts_of (events ++ event ∷ [])) (length events)) →
     count' ≡ count + 1 → admitted' ≡ admitted + cond (admits answer) 1 0 →
     played ≡ echoes_at setup (events ++ event ∷ []) (length events) → recording' ≡ recorded setup (events ++ event ∷ []) →
-    IsStep setup events event answer (record { setup = setup; moment = moment; people = new; count = count'; admitted = admitted'; recording = recording' }) given
+    IsStep setup events event (stepped answer (record { setup = setup; moment = moment; people = new; count = count'; admitted = admitted'; recording = recording' }) given)
 unfolding items_at
 step_is here after later counts setup old new before moment count count' admitted admitted' recording recording' events event answer pings played given stands moment_is pings_are given_are happened count_is admitted_is played_is recording_is =
     let longer : List Event = events ++ event ∷ [] in

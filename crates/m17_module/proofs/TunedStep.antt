@@ -7,7 +7,7 @@ use Rattle.m17_control.specs.declared.event.Body.TheVariants.{Join, Leave, Packe
 use Rattle.m17_floor.specs.declared.verdict.Verdict.{Verdict}
 use Rattle.m17_floor.specs.declared.verdict.Verdict.TheVariants.{Opened, Continued, Busy, Repeat, Late, AfterEnd, NotMember, ListenOnly}
 use Rattle.m17_floor.specs.Acts.{is_packet}
-use Rattle.m17_floor.specs.Rule.{Frame}
+use Rattle.m17_floor.specs.Rule.{Frame, incoming}
 use Rattle.m17_parrot.specs.Recording.{Recording, is_going_on, with_given}
 use Rattle.m17_module.specs.declared.seat.Seat.{Seat}
 use Rattle.m17_module.specs.Events.{kind_of}
@@ -19,7 +19,7 @@ pub given_tuned : (at heard heard' : ℕ) (floor : Option Frame) (recording give
 given_tuned at heard heard' floor recording given same is e =
     ap (λ h. recorded_by h given) same ∙ ap (recorded_by heard) is ∙ given_by heard at recording ∙ e
 
-heard_tuned : (at heard : ℕ) (k : Member) (p : StreamPacket) (verdict : Verdict) (old new : Option Frame) (recording : Option Recording) → FloorHears at k p verdict old new → recorded_by heard recording ≡ held_by at old → recorded_by (heard_then at (Some verdict) heard) (recording_heard at k p verdict recording) ≡ held_by at new
+heard_tuned : (at heard : ℕ) (k : Member) (p : StreamPacket) (verdict : Verdict) (old new : Option Frame) (recording : Option Recording) → FloorHears (incoming k at p) verdict old new → recorded_by heard recording ≡ held_by at old → recorded_by (heard_then at (Some verdict) heard) (recording_heard at k p verdict recording) ≡ held_by at new
 heard_tuned at heard k p Opened old new recording h e = opened_tuned at k p ∙ ap (held_by at) (sym h.after)
 heard_tuned at heard k p Continued old new recording h e =
     continued_tuned at k p recording (speaker_is_recorded at heard k old recording e (h.goes_on refl)) ∙ ap (held_by at) (sym h.after)
@@ -34,7 +34,7 @@ silent_tuned : (at heard : ℕ) (answer : Option Verdict) (leaves : Option Membe
 silent_tuned at heard None leaves old new recording is none e = left_tuned at heard leaves old recording e ∙ ap (held_by at) (sym is)
 silent_tuned at heard (Some verdict) leaves old new recording is none e = cc
 
-packet_tuned : (at heard : ℕ) (k : Member) (p : StreamPacket) (answer : Option Verdict) (old new : Option Frame) (recording : Option Recording) → ((verdict : Verdict) → answer ≡ Some verdict → FloorHears at k p verdict old new) → is_some answer ≡ true → recorded_by heard recording ≡ held_by at old → recorded_by (heard_then at answer heard) (recording_then None at (Packet k p) answer recording) ≡ held_by at new
+packet_tuned : (at heard : ℕ) (k : Member) (p : StreamPacket) (answer : Option Verdict) (old new : Option Frame) (recording : Option Recording) → ((verdict : Verdict) → answer ≡ Some verdict → FloorHears (incoming k at p) verdict old new) → is_some answer ≡ true → recorded_by heard recording ≡ held_by at old → recorded_by (heard_then at answer heard) (recording_then None at (Packet k p) answer recording) ≡ held_by at new
 packet_tuned at heard k p None old new recording h some e = cc
 packet_tuned at heard k p (Some verdict) old new recording h some e = heard_tuned at heard k p verdict old new recording (h verdict refl) e
 

@@ -68,17 +68,28 @@ close_before places acts o n = find (closes places acts o) (positions_from o n)
 abbrev pub is_in_since : ℕ → List Act → Member → ℕ → ℕ → Bool
 is_in_since places acts k o n = option_map_or (λ j. nat_lt j o) (joined_at places acts k n) false
 
--- What is recorded before position n of what was opened at o, if its member has been in since before that.
--- `echoed` says of each position below n whether it has an echo. This profile.
-abbrev pub recording_of : ℕ → List Act → ℕ → List Bool → ℕ → ActKind → Option Recording
-recording_of places acts n echoed o (Packet k p) =
-    if is_in_since places acts k o n then Some (record {
+-- What was opened at a position, looked back at from a later one.
+pub record Opening : Type 0 where
+  pub places : ℕ
+  pub acts : List Act
+  pub opened : ℕ
+  pub now : ℕ
+
+abbrev pub opening : ℕ → List Act → ℕ → ℕ → Opening
+opening places acts o n = record { places = places; acts = acts; opened = o; now = n }
+
+-- What is recorded of it, if its member has been in since before it. `echoed` says of each position below the later one
+-- whether it has an echo. This profile.
+abbrev pub recording_of : Opening → List Bool → ActKind → Option Recording
+recording_of at echoed (Packet k p) =
+    if is_in_since at.places at.acts k at.opened at.now then Some (record {
       member = k;
-      frames = held_before places acts o n;
-      close = option_map (moment_at acts) (close_before places acts o n);
-      given = count_by (λ has_echo. has_echo) (drop (suc o) echoed);
+      frames = held_before at.places at.acts at.opened at.now;
+      close = option_map (moment_at at.acts)
+          (close_before at.places at.acts at.opened at.now);
+      given = count_by (λ has_echo. has_echo) (drop (suc at.opened) echoed);
     }) else None
-recording_of places acts n echoed o _ = None
+recording_of at echoed _ = None
 
 -- The last opened position below n. This profile.
 abbrev pub last_opened : ℕ → List Act → ℕ → Option ℕ
@@ -87,7 +98,7 @@ last_opened places acts n = last_below (is_opened_at places acts) n
 -- What is recorded before position n: of what was opened last. This profile.
 unfoldable pub recording_with : ℕ → List Act → ℕ → List Bool → Option Recording
 recording_with places acts n echoed =
-    option_and_then (λ o. recording_of places acts n echoed o (kind_at acts o))
+    option_and_then (λ o. recording_of (opening places acts o n) echoed (kind_at acts o))
     (last_opened places acts n)
 
 -- A recording that goes on is closed at this moment, if nobody has the floor. This profile.

@@ -7,7 +7,7 @@ use Rattle.m17_control.specs.declared.event.Body.{Body}
 use Rattle.m17_control.specs.declared.event.Body.TheVariants.{Join, Leave, Packet}
 use Rattle.m17_floor.specs.declared.verdict.Verdict.{Verdict}
 use Rattle.m17_floor.specs.declared.verdict.Verdict.TheVariants.{Opened, Continued}
-use Rattle.m17_floor.specs.Rule.{Frame, floor_timeout_ms, incoming, frame_from, only_if, has_floor}
+use Rattle.m17_floor.specs.Rule.{Frame, Incoming, floor_timeout_ms, incoming, frame_from, only_if, has_floor}
 use Rattle.m17_floor.specs.Floor.{admits}
 use Rattle.m17_floor.specs.StandsFor.{without}
 use Rattle.m17_parrot.specs.Recording.{Recording, begun, goes_on, with_frame, closed, unless_of}
@@ -33,18 +33,18 @@ abbrev pub unless_any : Option Member → Option Recording → Option Recording
 unless_any None recording = recording
 unless_any (Some m) recording = option_and_then (unless_of m) recording
 
--- The floor after the verdict on a packet; and that a stream that goes on has the floor.
-pub record FloorHears (at : ℕ) (k : Member) (p : StreamPacket) (verdict : Verdict)
-    (old new : Option Frame) : Type 0 where
-  pub after : new ≡ (if admits (Some verdict) then Some (frame_from (incoming k at p)) else old)
+-- The floor after the verdict on a packet that came in; and that a stream that goes on has the floor.
+pub record FloorHears (heard : Incoming) (verdict : Verdict) (old new : Option Frame) : Type 0
+    where
+  pub after : new ≡ (if admits (Some verdict) then Some (frame_from heard) else old)
   pub goes_on : verdict ≡ Continued →
-      option_map (λ frame. frame.member) (only_if (has_floor at) old) ≡ Some k
+      option_map (λ frame. frame.member) (only_if (has_floor heard.at) old) ≡ Some heard.sender
 
 -- The floor after an event.
 abbrev pub FloorFollows : List (Option Seat) → ℕ → Body → Option Verdict → Option Frame →
     Option Frame → Type 0
 FloorFollows seats at (Packet k p) answer old new =
-    (verdict : Verdict) → answer ≡ Some verdict → FloorHears at k p verdict old new
+    (verdict : Verdict) → answer ≡ Some verdict → FloorHears (incoming k at p) verdict old new
 FloorFollows seats at body answer old new = new ≡ without_any (leaver seats body) old
 
 -- whose frame has the floor, and since when

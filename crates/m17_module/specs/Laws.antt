@@ -11,10 +11,11 @@ use Rattle.m17_control.specs.declared.item.Said.{Said}
 use Rattle.m17_control.specs.declared.item.Said.TheVariants as said
 use Rattle.m17_floor.specs.Acts.{is_join_of, settles, kind_at, joined_at}
 use Rattle.m17_floor.specs.Floor.{is_packet_of, admits, verdict_at}
+use Rattle.m17_module.specs.declared.seat.Seat.{Seat}
 use Rattle.m17_module.specs.Events.{acts_of}
 use Rattle.m17_module.specs.Seats.{seats_at, seat_of}
 use Rattle.m17_module.specs.Echoes.{echo_at}
-use Rattle.m17_module.specs.Items.{to_one, echoes_at, frames_for, Setup, items_at, items_given, is_for, items_for}
+use Rattle.m17_module.specs.Items.{item_to, to_one, echoes_at, frames_for, Setup, items_at, items_given, is_for, items_for}
 
 -- What comes later changes nothing of what an event gives. This profile.
 abbrev pub LaterEventsChangeNoItems : Type 0
@@ -75,12 +76,14 @@ EachHeardIsSentOnce =
     (places : ℕ) (events : List Event) (k : Member) (n : ℕ) → hears places events k n ≡ true →
     length (frame_sent places events k n) ≡ 1
 
--- An echo that a parrot module has at a position is one item: its member is in. This profile.
+-- An echo that a parrot module has at a position is one item, to its member, which is in: with the position and the
+-- packet, to the link and peer of its Join. This profile.
 abbrev pub EachEchoIsSentOnce : Type 0
 EachEchoIsSentOnce =
     (setup : Setup) (events : List Event) (n : ℕ) (echo : Member × StreamPacket) →
     setup.parrot ≡ true → echo_at setup.places (acts_of events) n ≡ Some echo →
-    length (echoes_at setup events n) ≡ 1
+    (seat : Seat) × (seat_of (seats_at setup.places events n) echo.0 ≡ Some seat)
+    × (echoes_at setup events n ≡ item_to (said.Echo n echo.1) seat ∷ [])
 
 -- A Hello, and a Bye. This profile.
 abbrev pub is_hello : Said → Bool

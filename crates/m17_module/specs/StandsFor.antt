@@ -55,10 +55,20 @@ pub record StandsFor (kept : Kept) (events : List Event) : Type 0 where
   -- a parrot's recording is of what was opened last: its held frames, its close, and how many were given
   pub recording : kept.recording ≡ recorded kept.setup events
 
+-- What came of a step: what it answered, what the module keeps then, and what it gave. This profile.
+pub record Stepped : Type 0 where
+  pub answer : Option Verdict
+  pub kept : Kept
+  pub given : List Item
+
+abbrev pub stepped : Option Verdict → Kept → List Item → Stepped
+stepped answer kept given = record { answer = answer; kept = kept; given = given }
+
 -- The step by an event after these: the module then stands for the list with the event, what it gave is what the
 -- event at this position gives, and its answer is the verdict there, which only a packet has. This profile.
-pub record IsStep (setup : Setup) (events : List Event) (event : Event) (answer : Option Verdict)
-    (kept : Kept) (given : List Item) : Type 0 where
-  pub stands : StandsFor kept (events ++ event ∷ [])
-  pub items : given ≡ items_at setup (events ++ event ∷ []) (length events)
-  pub verdict : answer ≡ verdict_at setup.places (acts_of (events ++ event ∷ [])) (length events)
+pub record IsStep (setup : Setup) (events : List Event) (event : Event) (to : Stepped) : Type 0
+    where
+  pub stands : StandsFor to.kept (events ++ event ∷ [])
+  pub items : to.given ≡ items_at setup (events ++ event ∷ []) (length events)
+  pub verdict : to.answer
+      ≡ verdict_at setup.places (acts_of (events ++ event ∷ [])) (length events)

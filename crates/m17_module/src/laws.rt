@@ -29,7 +29,8 @@ pub fn frames_are_the_others()
     floor_laws::only_speakers_are_heard();
 }
 
-/// The echo that a parrot module has at a position is one item, to the member whose recording it is.
+/// The echo that a parrot module has at a position is one item, to the member whose recording it is, by the link and peer
+/// of its Join.
 pub fn echoes_are_sent_once()
     ensures { law.EachEchoIsSentOnce }
 {}

@@ -9,6 +9,7 @@ ghost use Rattle.m17_module.specs.Seats.{seat_from, members_of, seat_in, seat_of
 ghost use Rattle.m17_module.specs.Items.{item_to, to_one, greets, says};
 ghost use Rattle.m17_module.specs.Held.{held_from, to_other, with_place, without_place};
 ghost use Rattle.arrayvec.specs.ArrayVec.{array_vec_len};
+ghost use Rattle.m17_floor.specs.Rule.{incoming};
 ghost use Rattle.m17_floor.specs.StandsFor.{without};
 ghost use Rattle.m17_module.specs.StandsFor.{PeopleStandFor};
 ghost use Rattle.m17_module.specs.Following.{seat_member, leaver, without_any, FloorHears, FloorFollows};
@@ -263,7 +264,8 @@ impl Room {
         requires is_in { seat_in self.old.seats seat.now.member.place ≡ Some seat.now }
         requires speaks { seat.now.listens ≡ false }
         ensures seats { self.new.seats ≡ self.old.seats }
-        ensures floor { FloorHears at seat.now.member p.now result self.old.floor self.new.floor }
+        ensures floor { FloorHears (incoming seat.now.member at p.now) result self.old.floor
+            self.new.floor }
         ensures stands { (places : ℕ) (events : List Event) (event : Event) →
             kind_of event.body ≡ act.Packet seat.now.member p.now →
             at ≡ max (moment_before (acts_of events) (length events)) event.at →
@@ -278,7 +280,7 @@ impl Room {
     // A packet of a member, or of one that is none.
     fn packet(&mut self, k: Member, at: u64, p: &StreamPacket) -> Verdict
         ensures seats { self.new.seats ≡ self.old.seats }
-        ensures floor { FloorHears at k p.now result self.old.floor self.new.floor }
+        ensures floor { FloorHears (incoming k at p.now) result self.old.floor self.new.floor }
         ensures stands { (places : ℕ) (events : List Event) (event : Event) →
             kind_of event.body ≡ act.Packet k p.now →
             at ≡ max (moment_before (acts_of events) (length events)) event.at →
@@ -381,7 +383,7 @@ impl Room {
         ensures told { out.new ≡ out.old ++ (if admits (Some result)
             then map (item_to (said.Frame position p.now)) (others_than k self.old.seats) else []) }
         ensures seats { self.new.seats ≡ self.old.seats }
-        ensures floor { FloorHears at k p.now result self.old.floor self.new.floor }
+        ensures floor { FloorHears (incoming k at p.now) result self.old.floor self.new.floor }
         ensures stands { (places : ℕ) (events : List Event) (event : Event) →
             kind_of event.body ≡ act.Packet k p.now →
             at ≡ max (moment_before (acts_of events) (length events)) event.at →

@@ -6,7 +6,7 @@ ghost use Rattle.m17_floor.specs.Floor.{admits};
 ghost use Rattle.m17_module.specs.Events.{kind_of};
 ghost use Rattle.m17_module.specs.Seats.{members_of};
 ghost use Rattle.m17_module.specs.Items.{item_to, ping_every_ms};
-ghost use Rattle.m17_module.specs.StandsFor.{StandsFor, IsStep};
+ghost use Rattle.m17_module.specs.StandsFor.{StandsFor, stepped, IsStep};
 
 use crate::Basket;
 use crate::basket::Tray;
@@ -140,7 +140,7 @@ impl Module {
         requires { out.old ≡ [] }
         ensures by_rule { (events : List Event) →
             StandsFor self.old events → length events < 2 ^ 64 - 1 →
-            IsStep self.old.setup events event.now result self.new out.new }
+            IsStep self.old.setup events event.now (stepped result self.new out.new) }
         ensures setup { self.new.setup ≡ self.old.setup }
         ensures answer { is_some result ≡ is_packet (kind_of event.now.body) }
         // Counts that have come to their type's end stay there.
@@ -157,7 +157,7 @@ impl Module {
         requires { out.old ≡ [] }
         ensures by_rule { (events : List Event) →
             StandsFor self.old events → length events < 2 ^ 64 - 1 →
-            IsStep self.old.setup events event.now result self.new out.new }
+            IsStep self.old.setup events event.now (stepped result self.new out.new) }
         ensures setup { self.new.setup ≡ self.old.setup }
         ensures answer { is_some result ≡ is_packet (kind_of event.now.body) }
         ensures count { self.new.count ≡ min (self.old.count + 1) (2 ^ 64 - 1) }

@@ -1,5 +1,5 @@
 -- Values that are none: of a command, of an option, and parrots among modules.
-use Rattle.std.proofs.Common.{ℕ, Bool, List, Option, None, Some, IfNone}
+use Rattle.std.proofs.Common.{ℕ, List, Option, None, Some, IfNone}
 use Rattle.std.specs.Prelude.{IsTrue}
 use Rattle.std.proofs.lemmas.List.Elements.{All-weaker}
 use Rattle.clap.specs.Words.{Row}
@@ -8,7 +8,7 @@ use Rattle.m17_control.specs.Modules.{serves}
 use Rattle.m17_words.specs.declared.command.Command.{Command}
 use Rattle.m17_words.specs.declared.command.Command.TheVariants.{Judge, Show, Replay, Make}
 use Rattle.m17_words.specs.Values.{NamesModules, NamesParrots}
-use Rattle.m17_words.specs.Words.{IsReplay, IsReplayWith}
+use Rattle.m17_words.specs.Words.{ReplayOptions, options, IsReplay, IsReplayWith}
 
 pub if_none : {X : Type 0} (o : Option X) (P : Type 0) → P → IfNone o P
 if_none None P h = h
@@ -30,9 +30,9 @@ same_parrots text m m' (Some t) p named named' some = (
       (λ letter served. (named'.letters letter).1 ((named.letters letter).0 served)) t some.1,
 )
 
-pub not_replay : (rows : List Row) → ((call : ℕ) (modules parrots : Modules) (places : ℕ) (summary : Bool) → IsReplay rows call modules parrots places summary → ⊥)
+pub not_replay : (rows : List Row) → ((o : ReplayOptions) → IsReplay rows o → ⊥)
     → (command : Command) → IsReplayWith rows command → ⊥
 not_replay rows none Judge values = values
 not_replay rows none Show values = values
-not_replay rows none (Replay call modules parrots places summary) values = none call modules parrots places summary values
+not_replay rows none (Replay call modules parrots places summary) values = none (options call modules parrots places summary) values
 not_replay rows none (Make seed count) values = values

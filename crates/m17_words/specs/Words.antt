@@ -15,15 +15,31 @@ word_of Show = codes "show"
 word_of (Replay call modules parrots places summary) = codes "replay"
 word_of (Make seed count) = codes "make"
 
+-- what a replay is run with
+pub record ReplayOptions : Type 0 where
+  pub call : ℕ
+  pub modules : Modules
+  pub parrots : Modules
+  pub places : ℕ
+  pub summary : Bool
+
 -- The values of a replay: its own callsign, the modules, which of them are parrots, the places, and whether the summary
 -- is printed.
-pub record IsReplay (found : List Row) (call : ℕ) (modules parrots : Modules) (places : ℕ)
-    (summary : Bool) : Type 0 where
-  pub call_is : IsCallsignOf (text_or found (codes "call") (codes "M17-TST")) call
-  pub modules_are : NamesModules (text_or found (codes "modules") (codes "ABC")) modules
-  pub parrots_are : NamesParrots (text_of found (codes "parrots")) modules parrots
-  pub places_are : IsNumber 1 256 (text_or found (codes "places") (codes "64")) places
-  pub summary_is : IsFlagged (text_of found (codes "summary")) summary
+pub record IsReplay (found : List Row) (o : ReplayOptions) : Type 0 where
+  pub call_is : IsCallsignOf (text_or found (codes "call") (codes "M17-TST")) o.call
+  pub modules_are : NamesModules (text_or found (codes "modules") (codes "ABC")) o.modules
+  pub parrots_are : NamesParrots (text_of found (codes "parrots")) o.modules o.parrots
+  pub places_are : IsNumber 1 256 (text_or found (codes "places") (codes "64")) o.places
+  pub summary_is : IsFlagged (text_of found (codes "summary")) o.summary
+
+abbrev pub options : ℕ → Modules → Modules → ℕ → Bool → ReplayOptions
+options call modules parrots places summary = record {
+  call = call;
+  modules = modules;
+  parrots = parrots;
+  places = places;
+  summary = summary;
+}
 
 -- the values of a made evening: the seed, and how many entries
 pub record IsMake (found : List Row) (seed count : ℕ) : Type 0 where
@@ -33,7 +49,7 @@ pub record IsMake (found : List Row) (seed count : ℕ) : Type 0 where
 -- the same of a command
 abbrev pub IsReplayWith : List Row → Command → Type 0
 IsReplayWith found (Replay call modules parrots places summary) =
-    IsReplay found call modules parrots places summary
+    IsReplay found (options call modules parrots places summary)
 IsReplayWith found _ = ⊥
 
 abbrev pub IsMakeWith : List Row → Command → Type 0
@@ -45,7 +61,7 @@ abbrev pub Gives : List Text → Command → Type 0
 Gives words Judge = Takes judge_table words
 Gives words Show = Takes show_table words
 Gives words (Replay call modules parrots places summary) = Takes replay_table words
-    × IsReplay (found replay_table words) call modules parrots places summary
+    × IsReplay (found replay_table words) (options call modules parrots places summary)
 Gives words (Make seed count) = Takes make_table words × IsMake (found make_table words) seed count
 
 -- The words name a command: the first is its word, byte for byte, and the others give its values. This profile.

@@ -6,14 +6,14 @@ use Rattle.m17_words.proofs.reading.replay_of.Goals as goal
 
 pub returns-in_err-modules-clause-none : goal.returns-in_err-modules-clause-none
 returns-in_err-modules-clause-none c = if_none c.from_residual-in_err-modules.result _
-    (not_replay (rows_of (found_of c.args.matches.now)) (λ call modules parrots places summary replay.
-    c.in_err-modules.ensures.none modules (subst (λ (t : List ℕ). NamesModules t modules) (sym c.text_or-2.ensures) replay.modules_are)))
+    (not_replay (rows_of (found_of c.args.matches.now)) (λ o replay.
+    c.in_err-modules.ensures.none o.modules (subst (λ (t : List ℕ). NamesModules t o.modules) (sym c.text_or-2.ensures) replay.modules_are)))
 
 pub returns-in_err-parrots-clause-none : goal.returns-in_err-parrots-clause-none
 returns-in_err-parrots-clause-none c = if_none c.from_residual-in_err-parrots.result _
-    (not_replay (rows_of (found_of c.args.matches.now)) (λ call modules parrots places summary replay.
-    c.in_err-parrots.ensures.none parrots
-    (subst (λ (t : Option (List ℕ)). NamesParrots t c.in_ok-modules.modules parrots) (sym c.text_of.ensures)
-    (same_parrots c.text_or-2.result.now modules c.in_ok-modules.modules _ parrots
-    (subst (λ (t : List ℕ). NamesModules t modules) (sym c.text_or-2.ensures) replay.modules_are)
+    (not_replay (rows_of (found_of c.args.matches.now)) (λ o replay.
+    c.in_err-parrots.ensures.none o.parrots
+    (subst (λ (t : Option (List ℕ)). NamesParrots t c.in_ok-modules.modules o.parrots) (sym c.text_of.ensures)
+    (same_parrots c.text_or-2.result.now o.modules c.in_ok-modules.modules _ o.parrots
+    (subst (λ (t : List ℕ). NamesModules t o.modules) (sym c.text_or-2.ensures) replay.modules_are)
     c.in_ok-modules.ensures.some replay.parrots_are))))

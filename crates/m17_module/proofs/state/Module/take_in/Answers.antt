@@ -1,6 +1,6 @@
 use Rattle.std.proofs.Common.{◌≡◌, ◌+◌, ◌<◌, ℕ, Bool, length, max, is_some, ap, sym, subst, ◌∙◌, arith}
 use Rattle.m17_module.specs.Items.{echo_items}
-use Rattle.m17_module.specs.StandsFor.{Kept, StandsFor, IsStep}
+use Rattle.m17_module.specs.StandsFor.{Kept, StandsFor, stepped, IsStep}
 use Rattle.m17_module.proofs.EchoesBefore.{Later}
 use Rattle.m17_module.proofs.ModuleStep.{recording_in, due_in, before_is, EachStepped, played_end, recorded_end}
 use Rattle.m17_module.proofs.StepMore.{step_is}
@@ -38,9 +38,9 @@ returns-clause-by_rule c = λ events stands few.
       before = before_is c.self.inside.recorder r _ is inside.recording;
       tuned = turned_tuned c.self.inside.moment at r.heard c.self.inside.room.floor r.parrot (omega (arith, c.max-moment.ensures)) (c.self.invariant.1 r is);
     } in
-    subst (λ (k : Kept). IsStep k.setup events c.args.event.now c.happen-answer.result (now (length c.happen-answer.new.room.seats) (is_some c.happen-answer.new.recorder)) c.happen-answer.new.out) c.self.view_is
-    (subst (λ (b : Bool). IsStep old.setup events c.args.event.now c.happen-answer.result (now (length c.happen-answer.new.room.seats) b) c.happen-answer.new.out) (sym c.happen-answer.ensures.stays)
-    (subst (λ (n : ℕ). IsStep old.setup events c.args.event.now c.happen-answer.result (now n (is_some c.self.inside.recorder)) c.happen-answer.new.out) (sym c.happen-answer.ensures.length)
+    subst (λ (k : Kept). IsStep k.setup events c.args.event.now (stepped c.happen-answer.result (now (length c.happen-answer.new.room.seats) (is_some c.happen-answer.new.recorder)) c.happen-answer.new.out)) c.self.view_is
+    (subst (λ (b : Bool). IsStep old.setup events c.args.event.now (stepped c.happen-answer.result (now (length c.happen-answer.new.room.seats) b) c.happen-answer.new.out)) (sym c.happen-answer.ensures.stays)
+    (subst (λ (n : ℕ). IsStep old.setup events c.args.event.now (stepped c.happen-answer.result (now n (is_some c.self.inside.recorder)) c.happen-answer.new.out)) (sym c.happen-answer.ensures.length)
     (step_is c.the_greatest_moment_counts.ensures.here c.the_greatest_moment_counts.ensures.after c.later_acts_change_nothing_before.ensures.members c.admitted_positions_are_counted.ensures.one_more
     old.setup c.self.inside.room c.happen-answer.new.room c.self.inside.moment at c.self.inside.count c.saturating_add-self-inside.result c.self.inside.admitted c.count_admitted-self-inside.result
     (recording_in c.self.inside.recorder) (recording_in c.happen-answer.new.recorder)
