@@ -30,9 +30,9 @@ said_by (Keep packet) = []
 abbrev pub says_of : List ClientStep → List (List ℕ)
 says_of steps = flat_map (λ step. flat_map said_by step.actions) steps
 
--- The record of a kept packet, as `judge` reads it: the client's moment in 8 bytes, talker 0 in 2, and the packet with
--- its right CRC in 54. This profile.
-abbrev pub record_bytes : ℕ → StreamPacket → List ℕ
+-- The record of a kept packet, which is the one that `judge` reads: the client's moment in 8 bytes, talker 0 in 2, and
+-- the packet with its right CRC in 54. This profile.
+unfoldable pub record_bytes : ℕ → StreamPacket → List ℕ
 record_bytes moment packet = be_64 moment ++ be_16 0
     ++ (front_bytes packet ++ be_16 (crc_of (front_bytes packet)))
 

@@ -1,6 +1,6 @@
 //! How far a client has come with its script.
 
-ghost use Rattle.std.specs.Prelude.{◌≡◌, ◌↔◌, ℕ, ◌+◌, ◌<◌, ◌^◌, List, [], ◌∷◌, length, Some, IsTrue, IsSome, MatchOption};
+ghost use Rattle.std.specs.Prelude.{◌≡◌, ◌↔◌, ℕ, true, ◌+◌, ◌<◌, ◌^◌, List, [], ◌∷◌, length, Some, IsTrue, IsSome, MatchOption};
 ghost use Rattle.std.specs.Option.{option_or};
 ghost use Rattle.m17_stream.specs.declared.packet.StreamPacket.{StreamPacket};
 ghost use Rattle.m17_client.specs.declared.state.Input.{Input};
@@ -55,7 +55,7 @@ impl Progress {
     /// Sends the next packet of the script, while the client is connected.
     pub(crate) fn send(&mut self, packet: StreamPacket, out: &mut ArrayVec<Action, MOST_ACTIONS>)
         requires out { out.old.items ≡ [] }
-        requires room { self.old.sent < 2 ^ 60 }
+        requires room { self.old.sent < 2 ^ 57 }
         ensures step { IsClientStep self.old.client (Input.Send packet) out.new.items
             self.new.client }
         ensures connected { self.new.connected_at ≡ self.old.connected_at }
@@ -73,9 +73,14 @@ impl Progress {
         ensures due { MatchOption result (due_now self.now script.now ≡ [])
             (λ packet. (moment : ℕ) × (rest : List (ℕ × StreamPacket))
             × (due_now self.now script.now ≡ (moment, packet) ∷ rest)) }
+        ensures connected { IsSome result → is_connected self.now.client.state ≡ true }
         ensures within { IsSome result → self.now.sent < length script.now }
+        ensures room { IsSome result → self.now.sent < 2 ^ 57 }
     {
-        if !self.is_connected() || self.sent >= script.len() {
+        if !self.is_connected() {
+            return None;
+        }
+        if self.sent >= script.len() {
             return None;
         }
         let (moment, packet) = &script[self.sent];

@@ -68,8 +68,8 @@ impl Run {
         ensures same_book { (B.mark book.new ≡ B.mark book.old)
             × (B.label book.new ≡ B.label book.old) }
     {
-        self.ended = matches!(&entry, Heard::End);
-        self.count_fault(matches!(&entry, Heard::Fault));
+        self.ended = is_end(&entry);
+        self.count_fault(is_fault(&entry));
         if let Some(input) = input_of(entry, to) {
             self.session.turn(&input, to, script, stay, mouth, book);
         }
@@ -120,6 +120,20 @@ impl Run {
             self.faults = 0;
         }
     }
+}
+
+// Whether an entry is End.
+fn is_end(entry: &Heard) -> bool
+    ensures { IsTrue result ↔ (entry.now ≡ Heard.End) }
+{
+    matches!(entry, Heard::End)
+}
+
+// Whether an entry is a Fault.
+fn is_fault(entry: &Heard) -> bool
+    ensures { result ≡ is_fault entry.now }
+{
+    matches!(entry, Heard::Fault)
 }
 
 // What an entry is to the client, if it is anything: a datagram of the reflector, or a moment that went by.

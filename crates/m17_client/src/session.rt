@@ -95,7 +95,7 @@ impl Session {
         ensures same_book { (B.mark book.new ≡ B.mark book.old)
             × (B.label book.new ≡ B.label book.old) }
     {
-        while let Some(packet) = self.progress.next_due(script) {
+        'due: while let Some(packet) = self.progress.next_due(script) {
             self.send(packet, to, mouth, book);
         }
     }
@@ -131,7 +131,7 @@ impl Session {
         book: &mut B,
     )
         requires connected { is_connected self.old.progress.client.state ≡ true }
-        requires room { self.old.progress.sent < 2 ^ 60 }
+        requires room { self.old.progress.sent < 2 ^ 57 }
         ensures stepped { (origin : Origin) (steps : List ClientStep) → origin.plan.to ≡ to.now
             → IsAt origin steps self.old
                 (M.said mouth.old, M.tallies mouth.old, M.faults mouth.old)
