@@ -35,7 +35,7 @@ last_more script due =
         ap (λ n. slice_get (script ++ due ∷ []) n) at ∙ slice_get_after script due [] (length script) refl in
     ap (λ o. unwrap_or (option_map (λ (d : Due). d.0) o) 0) found
 
-last_at : (script : List Due) (n : ℕ) (due : Due) → slice_get script n ≡ Some due → n + 1 ≡ length script → last_moment script ≡ due.0
+pub last_at : (script : List Due) (n : ℕ) (due : Due) → slice_get script n ≡ Some due → n + 1 ≡ length script → last_moment script ≡ due.0
 last_at script n due found last =
     let at : length script - 1 ≡ n = omega arith in
     ap (λ k. unwrap_or (option_map (λ (d : Due). d.0) (slice_get script k)) 0) at ∙ ap (λ o. unwrap_or (option_map (λ (d : Due). d.0) o) 0) found

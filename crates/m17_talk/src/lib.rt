@@ -2,10 +2,16 @@
 //! to.
 #![tactic(auto)]
 
+mod ending;
 pub mod laws;
+mod line;
+mod opening;
 mod reading;
 mod reason;
 mod record;
+mod talk_command;
 
+pub use ending::{TalkEnding, Talked};
 pub use reading::read_script;
 pub use reason::{ScriptFailure, ScriptReason};
+pub use talk_command::talk;
