@@ -15,3 +15,6 @@ pub use ending::{TalkEnding, Talked};
 pub use reading::read_script;
 pub use reason::{ScriptFailure, ScriptReason};
 pub use talk_command::talk;
+
+#[cfg(test)]
+mod tests;
