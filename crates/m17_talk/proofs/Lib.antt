@@ -1,5 +1,5 @@
 pub mod Records
 pub mod Stops
 pub mod Exact
-pub mod Opening
+pub mod Questions
 pub mod Told

@@ -52,4 +52,4 @@ there_mapped f None p same = same
 there_mapped f (Some x) p same = same
 
 pub there_then : {X Y Z : Type 0} (a : Option X) (b : Option Y) (c : Option Z) → (IsSome a ↔ IsSome b) → (IsSome b ↔ IsSome c) → IsSome a ↔ IsSome c
-there_then a b c first then = ((λ h. then.0 (first.0 h)), (λ h. first.1 (then.1 h)))
+there_then a b c first next = ((λ h. next.0 (first.0 h)), (λ h. first.1 (next.1 h)))

@@ -12,6 +12,7 @@ pub mod laws;
 mod order;
 mod reading;
 mod tables;
+mod talk_words;
 mod values;
 
 pub use command::{Command, WordsRefusal};

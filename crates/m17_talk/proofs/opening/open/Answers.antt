@@ -1,5 +1,5 @@
 use Rattle.m17_talk.specs.Devices.{ports_told}
-use Rattle.m17_talk.proofs.Opening.{failed_at_last}
+use Rattle.m17_talk.proofs.Questions.{failed_at_last}
 use Rattle.m17_talk.proofs.opening.open.Goals as goal
 
 pub returns-in-Err-open_book-clause-failed : goal.returns-in-Err-open_book-clause-failed
