@@ -6,10 +6,12 @@
 #![tactic(auto)]
 
 mod conclude;
+mod done;
 mod interruption;
 mod run;
 mod run_make;
 mod run_replay;
+mod run_talk;
 mod status;
 mod std_in;
 mod std_out;

@@ -1,6 +1,6 @@
 //! What no clause says: the worked runs of the commands, over devices in memory.
 use crate::run::run;
-use m17_devices::{BytesSink, BytesSource};
+use m17_devices::{BytesSink, BytesSource, ScriptPorts};
 use std::alloc::{AllocError, Global};
 use std::test::Fail;
 
@@ -39,8 +39,10 @@ pub fn ran(
     let Ok(mut sink) = BytesSink::make(alloc, 4096, write_fails.to_vec(alloc)?) else {
         return Err(AllocError);
     };
-    let status = run(rt, alloc, &words(alloc, given)?, &mut source, &mut sink);
-    Ok((status, sink.bytes().to_vec(alloc)?))
+    let mut ports = ScriptPorts::new(Vec::new(alloc), Vec::new(alloc), Vec::new(alloc));
+    let words = words(alloc, given)?;
+    let done = run(rt, alloc, &words, &mut ports, &mut source, &mut sink);
+    Ok((done.status, sink.bytes().to_vec(alloc)?))
 }
 
 #[test]
