@@ -29,7 +29,7 @@ pub(crate) fn alone<E, M, B>(status: Status) -> Ended<E, M, B>
 }
 
 // What the caller is told of a run.
-pub(crate) fn done<E, M, B>(ended: Ended<E, M, B>) -> Done<E, M, B>
+pub(crate) fn answer_of<E, M, B>(ended: Ended<E, M, B>) -> Done<E, M, B>
     ensures code { result.status ≡ code_of ended.status }
     ensures talk { result.talk ≡ ended.talk }
 {

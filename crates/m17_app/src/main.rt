@@ -25,19 +25,20 @@ use status::Status;
 use std::env;
 use std::io::ErrorKind;
 use std::process::ExitCode;
+use std::sync::Wait;
 use streams::run_on;
 use words::words_after_name;
 
 fn main(rt: HostRuntime) -> ExitCode {
-    start(rt)
+    start(rt, &rt)
 }
 
-// Runs the program on the standard streams.
-fn start(rt: HostRuntime) -> ExitCode
+// Runs the program on the standard streams. It waits by `waits`, which is the runtime too.
+fn start<W: Wait>(rt: HostRuntime, waits: &W) -> ExitCode
     ensures { IsStatus (exit_status result) }
 {
     let status = match words_of(rt) {
-        Some(words) => run_on(&rt, rt.alloc(), &words, rt.stdin(), &rt),
+        Some(words) => run_on(waits, rt.alloc(), &words, rt.stdin(), &rt),
         None => Status::NoMemory.code(),
     };
     ExitCode::from(status)

@@ -6,7 +6,7 @@ ghost use Rattle.m17_app.specs.Run.{AreRefused, RunsJudge, RunsShow, RefusesWord
 ghost use Rattle.m17_app.specs.Commands.{Runs, RunsWords, EndsRefused, IsRunnable};
 
 use crate::conclude::{conclude, refuse_words};
-use crate::done::{Done, Ended, alone, done};
+use crate::done::{Done, Ended, alone, answer_of};
 use crate::run_make::run_make;
 use crate::run_replay::run_replay;
 use crate::run_talk::run_talk;
@@ -149,8 +149,8 @@ pub fn run<R: Wait, P: Ports, S: Input<K>, K: Sink>(
         result.talk))) }
 {
     match read_words(alloc, words) {
-        Ok(command) => done(run_command(rt, alloc, command, ports, input, out)),
-        Err(WordsRefusal::Refused) => done(alone(run_nothing(input, out))),
-        Err(WordsRefusal::NoMemory) => done(alone(Status::NoMemory)),
+        Ok(command) => answer_of(run_command(rt, alloc, command, ports, input, out)),
+        Err(WordsRefusal::Refused) => answer_of(alone(run_nothing(input, out))),
+        Err(WordsRefusal::NoMemory) => answer_of(alone(Status::NoMemory)),
     }
 }
