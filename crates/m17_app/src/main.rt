@@ -59,4 +59,6 @@ mod replay_tests;
 #[cfg(test)]
 mod std_tests;
 #[cfg(test)]
+mod talk_tests;
+#[cfg(test)]
 mod tests;

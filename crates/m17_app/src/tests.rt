@@ -19,7 +19,7 @@ fn records(alloc: Global, spoken: &[Spoken]) -> Result<Vec<u8>, AllocError> {
     Ok(input)
 }
 
-fn words(alloc: Global, given: &[&str]) -> Result<Vec<String>, AllocError> {
+pub fn words(alloc: Global, given: &[&str]) -> Result<Vec<String>, AllocError> {
     let mut words = Vec::new(alloc);
     for word in given {
         words.push(String::from_str(alloc, word)?)?;

@@ -32,7 +32,7 @@ pub last_more : (script : List Due) (due : Due) → last_moment (script ++ due �
 last_more script due =
     let at : length (script ++ due ∷ []) - 1 ≡ length script = omega (arith, length-append script (due ∷ [])) in
     let found : slice_get (script ++ due ∷ []) (length (script ++ due ∷ []) - 1) ≡ Some due =
-        ap (λ n. slice_get (script ++ due ∷ []) n) at ∙ slice_get_after script due [] (length script) refl in
+    ap (λ n. slice_get (script ++ due ∷ []) n) at ∙ slice_get_after script due [] (length script) refl in
     ap (λ o. unwrap_or (option_map (λ (d : Due). d.0) o) 0) found
 
 pub last_at : (script : List Due) (n : ℕ) (due : Due) → slice_get script n ≡ Some due → n + 1 ≡ length script → last_moment script ≡ due.0

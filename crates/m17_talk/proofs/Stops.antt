@@ -51,7 +51,7 @@ stops bytes script moment buffer filled n k place reason left left' size within 
     few,
     k,
     wrong_part (last_moment script) (from_record bytes (length script)) buffer filled n k reason left' size within is
-    (subst (λ (m : ℕ). RefusesNext m (take n filled) k reason) last wrong),
+        (subst (λ (m : ℕ). RefusesNext m (take n filled) k reason) last wrong),
     at,
   );
 }

@@ -30,10 +30,8 @@ fn push_state(line: &mut Line, state: State)
             line.push_text("closed ");
             line.push_text(word(why));
         }
-        State::Idle
-        | State::Connecting { .. }
-        | State::Connected { .. }
-        | State::Leaving => line.push_text("ended"),
+        State::Idle | State::Connecting { .. } | State::Connected { .. } | State::Leaving =>
+            line.push_text("ended"),
     }
 }
 

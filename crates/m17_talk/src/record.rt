@@ -12,10 +12,7 @@ const PACKET_AT: usize = 8;
 
 /// The record that these bytes are, all that are left or as many as a record has, behind one of the moment `last`; else
 /// at which of them and why they are none.
-pub(crate) fn read_record(
-    b: &[u8],
-    last: u64,
-) -> Result<(u64, StreamPacket), (usize, ScriptReason)>
+pub(crate) fn read_record(b: &[u8], last: u64) -> Result<(u64, StreamPacket), (usize, ScriptReason)>
     requires { (0 < length b.now) × (length b.now ≤ record_size) }
     ensures { MatchResult result (λ due. SpellsDue due b.now × (last ≤ due.0))
         (λ flaw. RefusesNext last b.now flaw.0 flaw.1) }

@@ -43,8 +43,12 @@ pub fn talk<R: Wait, P: Ports, S: Input<K>, K: Sink>(
         (mouth_told (P.Mouth.said d.1) (P.Mouth.tallies d.1) (P.Mouth.faults d.1) (P.Mouth.mark d.1))
         (option_map (λ b. book_told (P.Book.written b) (P.Book.faults b) (P.Book.mark b)) d.2.inner))
         done.devices))
-        (record { left = S.left input.old; rest = S.left input.new;
-        first = K.written out.old; written = K.written out.new })) }
+        (record {
+          left = S.left input.old;
+          rest = S.left input.new;
+          first = K.written out.old;
+          written = K.written out.new;
+        })) }
     ensures appended { Grows (K.written out.old) (K.written out.new) }
     // Want of memory comes before the ports are asked and before anything is written, and no device has failed then.
     ensures untouched { OnErr result ((ports.new ≡ ports.old)

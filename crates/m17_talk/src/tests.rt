@@ -148,7 +148,15 @@ fn a_client_joins_talks_and_leaves(rt: HostRuntime) -> Result<(), Fail> {
     let bytes = script(alloc, &[0])?;
     let mut ports = ports(alloc, evening(alloc)?, NONE)?;
     let line = "closed asked kept 0\n";
-    let done = expect(&rt, alloc, &order, bytes, &mut ports, TalkEnding::Finished, line)?;
+    let done = expect(
+        &rt,
+        alloc,
+        &order,
+        bytes,
+        &mut ports,
+        TalkEnding::Finished,
+        line,
+    )?;
     let mut wanted = CONN.to_vec(alloc)?;
     wanted.extend_from_slice(&write(&frame(0x1234, 0, false)))?;
     wanted.extend_from_slice(&PART)?;
@@ -165,7 +173,15 @@ fn an_ear_that_ends_first_leaves_the_client_where_it_is(rt: HostRuntime) -> Resu
     let heard = Vec::from_array(alloc, [Heard::Quiet { at: 0 }])?;
     let mut ports = ports(alloc, heard, NONE)?;
     let line = "ended kept 0\n";
-    let done = expect(&rt, alloc, &order, bytes, &mut ports, TalkEnding::Finished, line)?;
+    let done = expect(
+        &rt,
+        alloc,
+        &order,
+        bytes,
+        &mut ports,
+        TalkEnding::Finished,
+        line,
+    )?;
     assert_eq!(rt; said(alloc, &done)?, CONN.to_vec(alloc)?);
     Ok(())
 }
@@ -183,7 +199,15 @@ fn why_a_client_is_closed_stands_in_the_line(rt: HostRuntime) -> Result<(), Fail
         let heard = [Heard::Quiet { at: 0 }, answer, Heard::Quiet { at }];
         let bytes = script(alloc, &[100_000])?;
         let mut ports = ports(alloc, Vec::from_array(alloc, heard)?, NONE)?;
-        expect(&rt, alloc, &order, bytes, &mut ports, TalkEnding::Finished, line)?;
+        expect(
+            &rt,
+            alloc,
+            &order,
+            bytes,
+            &mut ports,
+            TalkEnding::Finished,
+            line,
+        )?;
     }
     let mut heard = Vec::new(alloc);
     for n in 0..6 {
@@ -192,7 +216,15 @@ fn why_a_client_is_closed_stands_in_the_line(rt: HostRuntime) -> Result<(), Fail
     let mut ports = ports(alloc, heard, NONE)?;
     let line = "closed no-answer kept 0\n";
     let bytes = Vec::new(alloc);
-    expect(&rt, alloc, &order, bytes, &mut ports, TalkEnding::Finished, line)?;
+    expect(
+        &rt,
+        alloc,
+        &order,
+        bytes,
+        &mut ports,
+        TalkEnding::Finished,
+        line,
+    )?;
     Ok(())
 }
 
@@ -207,7 +239,15 @@ fn ports_that_fail_end_the_run_before_a_line(rt: HostRuntime) -> Result<(), Fail
         };
         let mut ports = ports(alloc, evening(alloc)?, fails)?;
         let bytes = script(alloc, &[0])?;
-        let done = expect(&rt, alloc, &named, bytes, &mut ports, TalkEnding::PortFailed, "")?;
+        let done = expect(
+            &rt,
+            alloc,
+            &named,
+            bytes,
+            &mut ports,
+            TalkEnding::PortFailed,
+            "",
+        )?;
         assert!(rt; done.devices.is_none());
     }
     // no book is asked for where none is named
@@ -219,7 +259,15 @@ fn ports_that_fail_end_the_run_before_a_line(rt: HostRuntime) -> Result<(), Fail
     let line = "closed asked kept 0\n";
     let bytes = script(alloc, &[0])?;
     let order = order(alloc, None)?;
-    expect(&rt, alloc, &order, bytes, &mut ports, TalkEnding::Finished, line)?;
+    expect(
+        &rt,
+        alloc,
+        &order,
+        bytes,
+        &mut ports,
+        TalkEnding::Finished,
+        line,
+    )?;
     Ok(())
 }
 
@@ -271,7 +319,15 @@ fn a_mouth_that_fails_loses_that_datagram_alone(rt: HostRuntime) -> Result<(), F
     let mut ports = ports(alloc, evening(alloc)?, Fails { mouth, ..NONE })?;
     let bytes = script(alloc, &[0])?;
     let line = "closed asked kept 0\n";
-    let done = expect(&rt, alloc, &order, bytes, &mut ports, TalkEnding::Finished, line)?;
+    let done = expect(
+        &rt,
+        alloc,
+        &order,
+        bytes,
+        &mut ports,
+        TalkEnding::Finished,
+        line,
+    )?;
     let mut wanted = CONN.to_vec(alloc)?;
     wanted.extend_from_slice(&PART)?;
     assert_eq!(rt; said(alloc, &done)?, wanted);
@@ -289,7 +345,15 @@ fn sixteen_faults_in_a_row_lose_the_link(rt: HostRuntime) -> Result<(), Fail> {
         }
         let mut ports = ports(alloc, heard, NONE)?;
         let bytes = script(alloc, &[0])?;
-        expect(&rt, alloc, &order, bytes, &mut ports, ending, "ended kept 0\n")?;
+        expect(
+            &rt,
+            alloc,
+            &order,
+            bytes,
+            &mut ports,
+            ending,
+            "ended kept 0\n",
+        )?;
     }
     Ok(())
 }
@@ -331,7 +395,15 @@ fn want_of_memory_comes_before_the_ports_are_asked(rt: HostRuntime) -> Result<()
             assert!(rt; sink.bytes().is_empty());
             let bytes = script(alloc, &[0])?;
             let line = "closed asked kept 0\n";
-            expect(&rt, alloc, &order, bytes, &mut ports, TalkEnding::Finished, line)?;
+            expect(
+                &rt,
+                alloc,
+                &order,
+                bytes,
+                &mut ports,
+                TalkEnding::Finished,
+                line,
+            )?;
         }
     }
     Ok(())
@@ -359,13 +431,25 @@ fn an_input_that_is_no_script_is_refused_at_its_place(rt: HostRuntime) -> Result
     let whole = script(alloc, &[5, 4])?;
     // a moment below the one before it, also where its packet is cut
     expect_refused(&rt, alloc, script(alloc, &[5, 4])?, 62, ScriptReason::Field)?;
-    expect_refused(&rt, alloc, whole[..70].to_vec(alloc)?, 62, ScriptReason::Field)?;
+    expect_refused(
+        &rt,
+        alloc,
+        whole[..70].to_vec(alloc)?,
+        62,
+        ScriptReason::Field,
+    )?;
     for size in [1, 7, 8, 61, 63, 69] {
         let bytes = whole[..size].to_vec(alloc)?;
         expect_refused(&rt, alloc, bytes, size as u64, ScriptReason::Cut)?;
     }
     let cut = script(alloc, &[5, 5])?;
-    expect_refused(&rt, alloc, cut[..123].to_vec(alloc)?, 123, ScriptReason::Cut)?;
+    expect_refused(
+        &rt,
+        alloc,
+        cut[..123].to_vec(alloc)?,
+        123,
+        ScriptReason::Cut,
+    )?;
     // a packet with a wrong CRC
     let mut wrong = script(alloc, &[5, 5])?;
     wrong[123] ^= 1;
@@ -385,7 +469,15 @@ fn a_byte_after_16384_records_is_too_many(rt: HostRuntime) -> Result<(), Fail> {
     let mut ports = ports(alloc, Vec::new(alloc), NONE)?;
     let line = "ended kept 0\n";
     let most = bytes.as_slice().to_vec(alloc)?;
-    expect(&rt, alloc, &order, most, &mut ports, TalkEnding::Finished, line)?;
+    expect(
+        &rt,
+        alloc,
+        &order,
+        most,
+        &mut ports,
+        TalkEnding::Finished,
+        line,
+    )?;
     assert!(rt; bytes.push(0).is_ok());
     expect_refused(&rt, alloc, bytes, 1_015_808, ScriptReason::Large)
 }

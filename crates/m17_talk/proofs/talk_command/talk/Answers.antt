@@ -19,10 +19,9 @@ returns-clause-ended g c =
     let mouth = c.in-Ok-open.devices.1 in
     let shelf = c.in-Ok-open.devices.2 in
     let new : DevicesTold = devices_told (ear_told (g.P.Ear.Ear.heard ear) (g.P.Ear.Ear.faults ear) (g.P.Ear.Ear.mark ear))
-        (mouth_told (g.P.Mouth.Mouth.said mouth) (g.P.Mouth.Mouth.tallies mouth) (g.P.Mouth.Mouth.faults mouth) (g.P.Mouth.Mouth.mark mouth))
-        (option_map (λ b. book_told (g.P.Book.Book.written b) (g.P.Book.Book.faults b) (g.P.Book.Book.mark b)) shelf.inner) in
-    talked_told c.print_end-printed.result c.args.order.now c.ending.result c.run_client-end.result _ _ c.ending.ensures.ok c.ending.ensures.err
-    (
+    (mouth_told (g.P.Mouth.Mouth.said mouth) (g.P.Mouth.Mouth.tallies mouth) (g.P.Mouth.Mouth.faults mouth) (g.P.Mouth.Mouth.mark mouth))
+    (option_map (λ b. book_told (g.P.Book.Book.written b) (g.P.Book.Book.faults b) (g.P.Book.Book.mark b)) shelf.inner) in
+    talked_told c.print_end-printed.result c.args.order.now c.ending.result c.run_client-end.result _ _ c.ending.ensures.ok c.ending.ensures.err (
       c.in-Ok.script.items,
       (c.in-Ok.ensures.in_order, c.in-Ok.ensures.script),
       record {
