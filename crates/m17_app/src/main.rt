@@ -2,7 +2,8 @@
 //! status; it promises what was written for the bytes that came in, the cause of each status, and that the sink holds
 //! nothing back at the end. `main` hands it the standard streams and ends with its answer. `StdIn` and `StdOut` are the
 //! trusted edge: one call of the system each, counted faults, and no content told. What lies between them and `run` is
-//! left to `m17_buffers`, and what the commands print to their own crates.
+//! left to `m17_buffers`, and what the commands print to their own crates. Ports that have devices to hand out are to
+//! come: until then `talk` ends with `port failed`.
 #![tactic(auto)]
 
 mod conclude;
