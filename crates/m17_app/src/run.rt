@@ -64,7 +64,7 @@ fn run_command<R: Wait, P: Ports, S: Input<K>, K: Sink>(
     input: &mut S,
     out: &mut K,
 ) -> Ended<P::Ear, P::Mouth, P::Book>
-    requires { IsRunnable command }
+    requires runnable { IsRunnable command }
     ensures { Runs command result.status
         (outside (S.left input.old) (S.faults input.old)
         (K.written out.old) (K.faults out.old) (K.held_back out.old))

@@ -1,5 +1,5 @@
-use Rattle.std.proofs.Common.{◌≡◌, refl, ap}
-use Rattle.std.specs.Option.{option_map}
+use Rattle.std.proofs.Common.{refl, ap}
+use Rattle.m17_talk.specs.Devices.{ports_told}
 use Rattle.m17_app.specs.Status.{Outside, outside}
 use Rattle.m17_app.proofs.TalkRuns.{ran, no_run}
 use Rattle.m17_app.proofs.run_talk.run_talk.Goals as goal
@@ -11,4 +11,8 @@ returns-in-Ok g c =
     ran c.args.order.now c.in-Ok.done.ending c.conclude_talk.result _ mid _ _ c.scripts_are_exact.ensures c.in-Ok.ensures.ended c.in-Ok.ensures.causes (c.conclude_talk.ensures mid.left mid.reads)
 
 pub returns-in-Err : goal.returns-in-Err
-returns-in-Err g c = ?
+returns-in-Err g c =
+    let same = c.in-Err.ensures.untouched.0 in
+    rw (c.alone.ensures.status, c.alone.ensures.none)
+    (no_run c.args.order.now _ _ _ (ap (λ p. ports_told (g.P.Ports.asked p) (g.P.Ports.calls p) (g.P.Ports.faults p)) same, refl)
+    c.in-Err.ensures.untouched.1 c.in-Err.ensures.no_fault.0 c.in-Err.ensures.no_fault.1)
