@@ -3,11 +3,10 @@ use Rattle.std.proofs.Common.{◌≡◌, ℕ, zero, suc, ◌+◌, ◌-◌, ◌*�
 use Rattle.std.specs.List.{slice_get}
 use Rattle.std.specs.Option.{option_map}
 use Rattle.std.specs.Int.{w64, from_be_bytes}
-use Rattle.std.proofs.lemmas.Option.{slice_get_within}
-use Rattle.std.proofs.lemmas.List.{drop-drop, drop-take, length-drop, length-take-le, length_push, nil_from_length, take-take, take_at, take_all}
+use Rattle.std.proofs.lemmas.Option.{slice_get_within, slice_get-get_or}
+use Rattle.std.proofs.lemmas.List.{drop-drop, drop-take, get_or_at, length-drop, length-take-le, length_push, nil_from_length, take-take, take_at, take_all}
 use Rattle.std.proofs.lemmas.Bool.{cases_lt}
 use Rattle.m17_fill.specs.Fill.{IsFilled}
-use Rattle.m17_print.proofs.TextsOfLines.{slice_get_after, slice_get_longer}
 use Rattle.m17_client.specs.Talk.{IsInOrder}
 use Rattle.m17_talk.specs.Script.{Due, most_records, from_record, record_at, last_moment, moment_of, packet_of, BeginsWith, IsScript, SpellsDue}
 
@@ -27,12 +26,17 @@ at_start bytes left told = record {
   rest_left = told;
 }
 
+-- what stands behind a list
+slice_get_after : (script : List Due) (due : Due) (n : ℕ) → length script ≡ n → slice_get (script ++ due ∷ []) n ≡ Some due
+slice_get_after script due n size =
+    slice_get-get_or (script ++ due ∷ []) n due (omega (arith, length-append script (due ∷ []))) ∙ ap Some (get_or_at script due [] due n size)
+
 -- the last record of a list, and of a longer one
 pub last_more : (script : List Due) (due : Due) → last_moment (script ++ due ∷ []) ≡ due.0
 last_more script due =
     let at : length (script ++ due ∷ []) - 1 ≡ length script = omega (arith, length-append script (due ∷ [])) in
     let found : slice_get (script ++ due ∷ []) (length (script ++ due ∷ []) - 1) ≡ Some due =
-    ap (λ n. slice_get (script ++ due ∷ []) n) at ∙ slice_get_after script due [] (length script) refl in
+    ap (λ n. slice_get (script ++ due ∷ []) n) at ∙ slice_get_after script due (length script) refl in
     ap (λ o. unwrap_or (option_map (λ (d : Due). d.0) o) 0) found
 
 pub last_at : (script : List Due) (n : ℕ) (due : Due) → slice_get script n ≡ Some due → n + 1 ≡ length script → last_moment script ≡ due.0
@@ -48,7 +52,7 @@ stood_before (x ∷ xs) due other (suc n) below found = stood_before xs due othe
 
 is_last : (script : List Due) (due other : Due) (n : ℕ) → n ≡ length script → slice_get (script ++ due ∷ []) n ≡ Some other → due ≡ other
 is_last script due other n at found =
-    let here = slice_get_after script due [] n (sym at) in
+    let here = slice_get_after script due n (sym at) in
     cc
 
 pub in_order_more : (script : List Due) (due : Due) → IsInOrder script → last_moment script ≤ due.0 → IsInOrder (script ++ due ∷ [])
