@@ -153,3 +153,16 @@ closed_pipe() {
     done
 }
 check "a reader that goes away gives 4, and no signal ends the program" closed_pipe
+
+# A client from the shell: its words and its script are judged, and there is no port to open yet.
+talk_has_no_port() {
+    set -- talk --call AB1CD --module A --bind x --to 10.0.0.9:17000
+    gives 5 'port failed\n' prog "$@" </dev/null &&
+        gives 5 'port failed\n' prog "$@" --listen --stay 5 --book b </dev/null || return 1
+    head -c 61 /dev/zero >cut
+    gives 1 'input refused at 61: cut\n' prog "$@" <cut || return 1
+    head -c 62 /dev/zero >zeros
+    gives 1 'input refused at 8: field\n' prog "$@" <zeros || return 1
+    refused talk && refused "$@" --stay 86400001 && refused "$@" x
+}
+check "a talk from a shell ends with port failed, a wrong script with its refusal" talk_has_no_port

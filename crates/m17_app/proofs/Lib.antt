@@ -9,3 +9,4 @@ pub mod ReplayRuns
 pub mod Runnable
 pub mod WordsRefused
 pub mod Codes
+pub mod TalkRuns

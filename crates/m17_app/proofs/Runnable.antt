@@ -8,7 +8,7 @@ use Rattle.m17_control.specs.Modules.{serves, letters_of}
 use Rattle.m17_control.proofs.ModuleSets.{serves_within}
 use Rattle.m17_house.specs.Replay.{IsPlan}
 use Rattle.m17_words.specs.declared.command.Command.{Command}
-use Rattle.m17_words.specs.declared.command.Command.TheVariants.{Judge, Show, Replay, Make}
+use Rattle.m17_words.specs.declared.command.Command.TheVariants.{Judge, Show, Replay, Make, Talk}
 use Rattle.m17_words.specs.Values.{NamesModules, NamesParrots}
 use Rattle.m17_words.specs.Words.{Names, Gives}
 use Rattle.m17_app.specs.Commands.{IsRunnable}
@@ -42,6 +42,7 @@ gives_runnable : (words : List (List ℕ)) (command : Command) → Gives words c
 gives_runnable words Judge gives = tt
 gives_runnable words Show gives = tt
 gives_runnable words (Make seed count) gives = gives.1.count_is.at_most
+gives_runnable words (Talk order) gives = tt
 gives_runnable words (Replay call modules parrots places summary) gives = record {
   some_place = omega (arith, gives.1.places_are.at_least);
   at_most = omega (arith, gives.1.places_are.at_most);

@@ -4,14 +4,16 @@ use Rattle.m17_control.specs.declared.modules.Modules.{Modules}
 use Rattle.m17_house.specs.declared.plan.Plan.{Plan}
 use Rattle.m17_house.specs.Replay.{IsPlan}
 use Rattle.m17_words.specs.declared.command.Command.{Command}
-use Rattle.m17_words.specs.declared.command.Command.TheVariants.{Judge, Show, Replay, Make}
+use Rattle.m17_words.specs.declared.command.Command.TheVariants.{Judge, Show, Replay, Make, Talk}
 use Rattle.m17_words.specs.Words.{Names}
 use Rattle.m17_app.specs.declared.status.Status.{Status}
 use Rattle.m17_app.specs.declared.status.Status.TheVariants.{NoMemory}
 use Rattle.m17_app.specs.Status.{Outside}
 use Rattle.m17_app.specs.Run.{AreRefused, RunsJudge, RunsShow, RefusesWords}
 use Rattle.m17_app.specs.Make.{RunsMake}
+use Rattle.m17_talk.specs.Talked.{AsksNothing, Handed}
 use Rattle.m17_app.specs.Replayed.{RunsReplay}
+use Rattle.m17_app.specs.Talk.{RunsTalk}
 
 -- the plan of a replay: patient, and with no tapes
 abbrev pub plan_of : ℕ → Modules → Modules → ℕ → Plan
@@ -24,27 +26,29 @@ plan_of call modules parrots places = record {
   entries = 0;
 }
 
--- What the run of a command promises. This profile.
-abbrev pub Runs : Command → Status → Outside → Outside → Type 0
-Runs Judge status before after = RunsJudge status before after
-Runs Show status before after = RunsShow status before after
-Runs (Make seed count) status before after = RunsMake seed count status before after
-Runs (Replay call modules parrots places summary) status before after =
-    RunsReplay (plan_of call modules parrots places) summary status before after
+-- What the run of a command promises. Only `talk` asks the ports for anything, and hands back devices. This profile.
+abbrev pub Runs : Command → Status → Outside → Outside → Handed → Type 0
+Runs Judge status before after run = RunsJudge status before after × AsksNothing run
+Runs Show status before after run = RunsShow status before after × AsksNothing run
+Runs (Make seed count) status before after run =
+    RunsMake seed count status before after × AsksNothing run
+Runs (Replay call modules parrots places summary) status before after run =
+    RunsReplay (plan_of call modules parrots places) summary status before after × AsksNothing run
+Runs (Talk order) status before after run = RunsTalk order status before after run
 
 -- What a run promises: that of the command which its words name, or that they are refused where they name none; or
 -- there was no memory for reading them, and no device was touched. This profile.
-abbrev pub RunsWords : List (List ℕ) → Status → Outside → Outside → Type 0
-RunsWords words status before after =
-    ((command : Command) × Names words command × Runs command status before after)
-    ⊎ (AreRefused words × RefusesWords status before after)
-    ⊎ ((status ≡ NoMemory) × (after ≡ before))
+abbrev pub RunsWords : List (List ℕ) → Status → Outside → Outside → Handed → Type 0
+RunsWords words status before after run =
+    ((command : Command) × Names words command × Runs command status before after run)
+    ⊎ (AreRefused words × RefusesWords status before after × AsksNothing run)
+    ⊎ ((status ≡ NoMemory) × (after ≡ before) × AsksNothing run)
 
 -- What a run promises whose words name no command: that they are refused, or there was no memory for reading them and
 -- no device was touched. This profile.
-abbrev pub EndsRefused : Status → Outside → Outside → Type 0
-EndsRefused status before after =
-    RefusesWords status before after ⊎ ((status ≡ NoMemory) × (after ≡ before))
+abbrev pub EndsRefused : Status → Outside → Outside → Handed → Type 0
+EndsRefused status before after run = (RefusesWords status before after × AsksNothing run)
+    ⊎ ((status ≡ NoMemory) × (after ≡ before) × AsksNothing run)
 
 -- The values of a command are within the bounds that its run needs, as those of a command that words name are. This
 -- profile.
@@ -54,3 +58,4 @@ IsRunnable Show = Unit {0}
 IsRunnable (Make seed count) = count ≤ 100000
 IsRunnable (Replay call modules parrots places summary) =
     IsPlan (plan_of call modules parrots places)
+IsRunnable (Talk order) = Unit {0}

@@ -2,4 +2,5 @@ pub mod Status
 pub mod Run
 pub mod Make
 pub mod Replayed
+pub mod Talk
 pub mod Commands

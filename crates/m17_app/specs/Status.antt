@@ -5,7 +5,7 @@ use Rattle.m17_io.specs.Sink.{AppendsPrefix}
 use Rattle.m17_print.specs.declared.ending.Ending.{Ending}
 use Rattle.m17_print.specs.declared.ending.Ending.TheVariants as endings
 use Rattle.m17_app.specs.declared.status.Status.{Status}
-use Rattle.m17_app.specs.declared.status.Status.TheVariants.{Finished, InputRefused, WordsRefused, ReadFailed, WriteFailed, LinkLost, NoMemory}
+use Rattle.m17_app.specs.declared.status.Status.TheVariants.{Finished, InputRefused, WordsRefused, ReadFailed, WriteFailed, PortFailed, LinkLost, BookFailed, NoMemory}
 
 -- the number that the program ends with
 abbrev pub code_of : Status → ℕ
@@ -14,7 +14,9 @@ code_of InputRefused = 1
 code_of WordsRefused = 2
 code_of ReadFailed = 3
 code_of WriteFailed = 4
+code_of PortFailed = 5
 code_of LinkLost = 7
+code_of BookFailed = 8
 code_of NoMemory = 70
 
 -- the number is that of a status with this property

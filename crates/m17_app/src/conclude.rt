@@ -2,12 +2,14 @@ ghost use Rattle.std.specs.Prelude.{◌≡◌, ℕ, Option, List};
 ghost use Rattle.m17_print.specs.Endings.{last_line, words_refused_line};
 ghost use Rattle.m17_app.specs.Status.{status_of, outside, WritesLast};
 ghost use Rattle.m17_app.specs.Replayed.{replay_last_line, replay_status};
+ghost use Rattle.m17_app.specs.Talk.{talk_last_line, talk_status};
 ghost use Rattle.m17_app.specs.declared.status.Status.TheVariants.{WordsRefused};
 
 use crate::status::Status;
 use m17_io::Sink;
 use m17_print::{Ending, Line, Reason};
 use m17_replay::ReplayEnding;
+use m17_talk::TalkEnding;
 
 // Writes a last line, which may be empty, hands on all that was written, and answers the status, or that the sink
 // failed.
@@ -63,6 +65,28 @@ pub fn conclude_replay<K: Sink>(out: &mut K, ending: &ReplayEnding) -> Status
         },
         ReplayEnding::ReadFailed => Ending::ReadFailed,
         ReplayEnding::WriteFailed => Ending::WriteFailed,
+    };
+    conclude(out, &ending)
+}
+
+// Ends a run of `talk` that ended so.
+pub fn conclude_talk<K: Sink>(out: &mut K, ending: &TalkEnding) -> Status
+    ensures { (left : Option (List ℕ)) (reads : ℕ) →
+        WritesLast (talk_last_line ending.now) (talk_status ending.now) result
+        (outside left reads (K.written out.old) (K.faults out.old) (K.held_back out.old))
+        (outside left reads (K.written out.new) (K.faults out.new) (K.held_back out.new)) }
+{
+    let ending = match ending {
+        TalkEnding::LinkLost => return end_with(out, b"link lost\n", Status::LinkLost),
+        TalkEnding::BookFailed => return end_with(out, b"book failed\n", Status::BookFailed),
+        TalkEnding::PortFailed => return end_with(out, b"port failed\n", Status::PortFailed),
+        TalkEnding::Finished => Ending::Finished,
+        TalkEnding::Refused { place, reason } => Ending::Refused {
+            place: *place,
+            reason: *reason,
+        },
+        TalkEnding::ReadFailed => Ending::ReadFailed,
+        TalkEnding::WriteFailed => Ending::WriteFailed,
     };
     conclude(out, &ending)
 }

@@ -2,14 +2,17 @@
 //! status; it promises what was written for the bytes that came in, the cause of each status, and that the sink holds
 //! nothing back at the end. `main` hands it the standard streams and ends with its answer. `StdIn` and `StdOut` are the
 //! trusted edge: one call of the system each, counted faults, and no content told. What lies between them and `run` is
-//! left to `m17_buffers`, and what the commands print to their own crates.
+//! left to `m17_buffers`, and what the commands print to their own crates. Ports that have devices to hand out are to
+//! come: until then `talk` ends with `port failed`.
 #![tactic(auto)]
 
 mod conclude;
+mod done;
 mod interruption;
 mod run;
 mod run_make;
 mod run_replay;
+mod run_talk;
 mod status;
 mod std_in;
 mod std_out;
@@ -23,19 +26,20 @@ use status::Status;
 use std::env;
 use std::io::ErrorKind;
 use std::process::ExitCode;
+use std::sync::Wait;
 use streams::run_on;
 use words::words_after_name;
 
 fn main(rt: HostRuntime) -> ExitCode {
-    start(rt)
+    start(rt, &rt)
 }
 
-// Runs the program on the standard streams.
-fn start(rt: HostRuntime) -> ExitCode
+// Runs the program on the standard streams. It waits by `waits`, which is the runtime too.
+fn start<W: Wait>(rt: HostRuntime, waits: &W) -> ExitCode
     ensures { IsStatus (exit_status result) }
 {
     let status = match words_of(rt) {
-        Some(words) => run_on(&rt, rt.alloc(), &words, rt.stdin(), &rt),
+        Some(words) => run_on(waits, rt.alloc(), &words, rt.stdin(), &rt),
         None => Status::NoMemory.code(),
     };
     ExitCode::from(status)
@@ -55,5 +59,7 @@ fn words_of(rt: HostRuntime) -> Option<Vec<String>> {
 mod replay_tests;
 #[cfg(test)]
 mod std_tests;
+#[cfg(test)]
+mod talk_tests;
 #[cfg(test)]
 mod tests;

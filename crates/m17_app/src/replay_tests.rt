@@ -74,7 +74,7 @@ fn each_way_to_end_has_its_status_and_last_line(rt: HostRuntime) -> Result<(), F
         (faults(alloc, 16)?, &[], &[0], 4, ""),
     ];
     for (input, read_fails, write_fails, status, text) in runs {
-        let (answer, written) = ran(&rt, replay, input, read_fails, write_fails)?;
+        let (answer, written) = ran(&rt, rt.alloc(), replay, input, read_fails, write_fails)?;
         assert_eq!(rt; answer, status, "{text}");
         assert_eq!(rt; written.as_slice(), text.as_bytes());
     }
@@ -83,7 +83,14 @@ fn each_way_to_end_has_its_status_and_last_line(rt: HostRuntime) -> Result<(), F
 
 #[test]
 fn sixteen_faults_in_a_row_lose_the_link(rt: HostRuntime) -> Result<(), Fail> {
-    let (status, written) = ran(&rt, &["replay"], faults(rt.alloc(), 16)?, &[], &[])?;
+    let (status, written) = ran(
+        &rt,
+        rt.alloc(),
+        &["replay"],
+        faults(rt.alloc(), 16)?,
+        &[],
+        &[],
+    )?;
     assert_eq!(rt; status, 7);
     let rest = written
         .as_slice()
@@ -96,7 +103,7 @@ fn sixteen_faults_in_a_row_lose_the_link(rt: HostRuntime) -> Result<(), Fail> {
 #[test]
 fn the_summary_counts(rt: HostRuntime) -> Result<(), Fail> {
     let input = MADE.to_vec(rt.alloc())?;
-    let (status, written) = ran(&rt, &["replay", "--summary"], input, &[], &[])?;
+    let (status, written) = ran(&rt, rt.alloc(), &["replay", "--summary"], input, &[], &[])?;
     assert_eq!(rt; status, 0);
     assert_eq!(rt; written.as_slice(), SUMMARY.as_bytes());
     Ok(())
@@ -120,13 +127,13 @@ fn a_listener_hears_until_it_leaves(rt: HostRuntime) -> Result<(), Fail> {
         Came(130, 2, &LEAVE),
         Came(160, 1, &frames[3]),
     ];
-    let (status, written) = ran(&rt, &["replay"], trace(alloc, &came)?, &[], &[])?;
+    let (status, written) = ran(&rt, rt.alloc(), &["replay"], trace(alloc, &came)?, &[], &[])?;
     assert_eq!(rt; status, 0);
     let lines =
         "0 A join\n1 A opened\n2 A join\n3 A continued\n4 A continued\n5 A leave\n6 A continued\n";
     assert_eq!(rt; written.as_slice(), lines.as_bytes());
     let input = trace(alloc, &came)?;
-    let (status, written) = ran(&rt, &["replay", "--summary"], input, &[], &[])?;
+    let (status, written) = ran(&rt, rt.alloc(), &["replay", "--summary"], input, &[], &[])?;
     assert_eq!(rt; status, 0);
     let peers = "peer 10.0.0.1:17000 ackn 1 nack 0 ping 0 pong 0 disc 1 frame 0\n\
         peer 10.0.0.2:17000 ackn 1 nack 0 ping 0 pong 0 disc 1 frame 2\n";
@@ -145,7 +152,7 @@ fn each_is_asked_who_it_is_and_where(rt: HostRuntime) -> Result<(), Fail> {
         Came(0, 3, &JOIN_D),
     ];
     let input = trace(rt.alloc(), &came)?;
-    let (status, written) = ran(&rt, &["replay"], input, &[], &[])?;
+    let (status, written) = ran(&rt, rt.alloc(), &["replay"], input, &[], &[])?;
     assert_eq!(rt; status, 0);
     let lines = "0 A join\n1 A listen-only\n2 not-connected\n3 not-served D\n";
     assert_eq!(rt; written.as_slice(), lines.as_bytes());
@@ -162,7 +169,14 @@ fn there_are_as_many_places_as_the_words_say(rt: HostRuntime) -> Result<(), Fail
         Came(0, 3, &JOIN),
     ];
     let input = trace(rt.alloc(), &came)?;
-    let (status, written) = ran(&rt, &["replay", "--places", "2"], input, &[], &[])?;
+    let (status, written) = ran(
+        &rt,
+        rt.alloc(),
+        &["replay", "--places", "2"],
+        input,
+        &[],
+        &[],
+    )?;
     assert_eq!(rt; status, 0);
     let lines = "0 A join\n1 A join\n2 full\n3 A leave\n4 A join\n";
     assert_eq!(rt; written.as_slice(), lines.as_bytes());

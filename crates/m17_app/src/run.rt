@@ -1,16 +1,22 @@
-ghost use Rattle.std.specs.Prelude.{◌≡◌, map, string_bytes};
+ghost use Rattle.std.specs.Prelude.{◌≡◌, map, string_bytes, option_map};
+ghost use Rattle.m17_talk.specs.Devices.{ports_told, ear_told, mouth_told, book_told, devices_told};
+ghost use Rattle.m17_talk.specs.Talked.{handed};
 ghost use Rattle.m17_app.specs.Status.{Tells, IsStatus, outside};
 ghost use Rattle.m17_app.specs.Run.{AreRefused, RunsJudge, RunsShow, RefusesWords};
 ghost use Rattle.m17_app.specs.Commands.{Runs, RunsWords, EndsRefused, IsRunnable};
 
 use crate::conclude::{conclude, refuse_words};
+use crate::done::{Done, Ended, alone, answer_of};
 use crate::run_make::run_make;
 use crate::run_replay::run_replay;
+use crate::run_talk::run_talk;
 use crate::status::Status;
+use m17_devices::Ports;
 use m17_house::Plan;
 use m17_io::{Input, Sink};
 use m17_words::{Command, WordsRefusal, read_words};
 use std::alloc::Global;
+use std::sync::Wait;
 
 // Runs `judge` to its last line.
 fn run_judge<S: Input<K>, K: Sink>(alloc: Global, input: &mut S, out: &mut K) -> Status
@@ -50,23 +56,32 @@ fn run_nothing<S: Input<K>, K: Sink>(input: &S, out: &mut K) -> Status
 }
 
 // Runs the command that the words name.
-fn run_command<S: Input<K>, K: Sink>(
+fn run_command<R: Wait, P: Ports, S: Input<K>, K: Sink>(
+    rt: &R,
     alloc: Global,
     command: Command,
+    ports: &mut P,
     input: &mut S,
     out: &mut K,
-) -> Status
-    requires { IsRunnable command }
-    ensures { Runs command result
+) -> Ended<P::Ear, P::Mouth, P::Book>
+    requires runnable { IsRunnable command }
+    ensures { Runs command result.status
         (outside (S.left input.old) (S.faults input.old)
         (K.written out.old) (K.faults out.old) (K.held_back out.old))
         (outside (S.left input.new) (S.faults input.new)
-        (K.written out.new) (K.faults out.new) (K.held_back out.new)) }
+        (K.written out.new) (K.faults out.new) (K.held_back out.new))
+        (handed (ports_told (P.asked ports.old) (P.calls ports.old) (P.faults ports.old))
+        (ports_told (P.asked ports.new) (P.calls ports.new) (P.faults ports.new))
+        (option_map (λ d. devices_told
+        (ear_told (P.Ear.heard d.0) (P.Ear.faults d.0) (P.Ear.mark d.0))
+        (mouth_told (P.Mouth.said d.1) (P.Mouth.tallies d.1) (P.Mouth.faults d.1) (P.Mouth.mark d.1))
+        (option_map (λ b. book_told (P.Book.written b) (P.Book.faults b) (P.Book.mark b)) d.2.inner))
+        result.talk)) }
 {
     match command {
-        Command::Judge => run_judge(alloc, input, out),
-        Command::Show => run_show(input, out),
-        Command::Make { seed, count } => run_make(seed, count, input, out),
+        Command::Judge => alone(run_judge(alloc, input, out)),
+        Command::Show => alone(run_show(input, out)),
+        Command::Make { seed, count } => alone(run_make(seed, count, input, out)),
         Command::Replay {
             call,
             modules,
@@ -82,43 +97,60 @@ fn run_command<S: Input<K>, K: Sink>(
                 patient: true,
                 entries: 0,
             };
-            run_replay(alloc, &plan, summary, input, out)
+            alone(run_replay(alloc, &plan, summary, input, out))
         }
+        Command::Talk(order) => run_talk(rt, alloc, &order, ports, input, out),
     }
 }
 
-/// Does all that the program does: reads the words, runs their command over the source and the sink, and answers the
-/// status: 0 where the input was read to its end, 1 where it is refused, 2 where the words are, 3 where the source
-/// failed, 4 where the sink failed, in place of all others, 7 where the link of a replayed trace was lost, and 70 where
-/// there was no memory. `make` reads no input, and ends with 0 or 4. This profile.
-pub fn run<R, S: Input<K>, K: Sink>(
-    _rt: &R,
+/// Does all that the program does: reads the words, runs their command over the ports, the source and the sink, and
+/// answers the status: 0 where the command went to its end, 1 where the input is refused, 2 where the words are, 3 where
+/// the source failed, 4 where the sink failed, in place of all others, 5 where the ports failed, 7 where a link was
+/// lost, 8 where a book failed, and 70 where there was no memory. Only `talk` asks the ports for anything; where it ran,
+/// its devices are handed back. `make` reads no input, and ends with 0 or 4. This profile.
+pub fn run<R: Wait, P: Ports, S: Input<K>, K: Sink>(
+    rt: &R,
     alloc: Global,
     words: &[String],
+    ports: &mut P,
     input: &mut S,
     out: &mut K,
-) -> u8
+) -> Done<P::Ear, P::Mouth, P::Book>
     // No other status comes.
-    ensures status { IsStatus result }
+    ensures status { IsStatus result.status }
     // 2 comes where the words name no command, and nowhere else.
-    ensures taken { result ≡ 2 → AreRefused (map string_bytes words.now) }
+    ensures taken { result.status ≡ 2 → AreRefused (map string_bytes words.now) }
     // The run is that of a command which the words name, or says that they name none.
-    ensures runs { Tells result (λ status. RunsWords (map string_bytes words.now) status
+    ensures runs { Tells result.status (λ status. RunsWords (map string_bytes words.now) status
         (outside (S.left input.old) (S.faults input.old)
         (K.written out.old) (K.faults out.old) (K.held_back out.old))
         (outside (S.left input.new) (S.faults input.new)
-        (K.written out.new) (K.faults out.new) (K.held_back out.new))) }
+        (K.written out.new) (K.faults out.new) (K.held_back out.new))
+        (handed (ports_told (P.asked ports.old) (P.calls ports.old) (P.faults ports.old))
+        (ports_told (P.asked ports.new) (P.calls ports.new) (P.faults ports.new))
+        (option_map (λ d. devices_told
+        (ear_told (P.Ear.heard d.0) (P.Ear.faults d.0) (P.Ear.mark d.0))
+        (mouth_told (P.Mouth.said d.1) (P.Mouth.tallies d.1) (P.Mouth.faults d.1) (P.Mouth.mark d.1))
+        (option_map (λ b. book_told (P.Book.written b) (P.Book.faults b) (P.Book.mark b)) d.2.inner))
+        result.talk))) }
     // Words that name no command are refused, but for want of memory.
     ensures refused { AreRefused (map string_bytes words.now)
-        → Tells result (λ status. EndsRefused status
+        → Tells result.status (λ status. EndsRefused status
         (outside (S.left input.old) (S.faults input.old)
         (K.written out.old) (K.faults out.old) (K.held_back out.old))
         (outside (S.left input.new) (S.faults input.new)
-        (K.written out.new) (K.faults out.new) (K.held_back out.new))) }
+        (K.written out.new) (K.faults out.new) (K.held_back out.new))
+        (handed (ports_told (P.asked ports.old) (P.calls ports.old) (P.faults ports.old))
+        (ports_told (P.asked ports.new) (P.calls ports.new) (P.faults ports.new))
+        (option_map (λ d. devices_told
+        (ear_told (P.Ear.heard d.0) (P.Ear.faults d.0) (P.Ear.mark d.0))
+        (mouth_told (P.Mouth.said d.1) (P.Mouth.tallies d.1) (P.Mouth.faults d.1) (P.Mouth.mark d.1))
+        (option_map (λ b. book_told (P.Book.written b) (P.Book.faults b) (P.Book.mark b)) d.2.inner))
+        result.talk))) }
 {
     match read_words(alloc, words) {
-        Ok(command) => run_command(alloc, command, input, out).code(),
-        Err(WordsRefusal::Refused) => run_nothing(input, out).code(),
-        Err(WordsRefusal::NoMemory) => Status::NoMemory.code(),
+        Ok(command) => answer_of(run_command(rt, alloc, command, ports, input, out)),
+        Err(WordsRefusal::Refused) => answer_of(alone(run_nothing(input, out))),
+        Err(WordsRefusal::NoMemory) => answer_of(alone(Status::NoMemory)),
     }
 }

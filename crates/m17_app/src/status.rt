@@ -11,8 +11,12 @@ pub enum Status {
     ReadFailed,
     /// The sink failed, in place of all others.
     WriteFailed,
-    /// The link that was replayed was lost by its faults.
+    /// The ports failed.
+    PortFailed,
+    /// A link was lost by its faults.
     LinkLost,
+    /// A book failed, and no link was lost.
+    BookFailed,
     /// There was no memory.
     NoMemory,
 }
@@ -31,7 +35,9 @@ impl Status {
             Status::WordsRefused => 2,
             Status::ReadFailed => 3,
             Status::WriteFailed => 4,
+            Status::PortFailed => 5,
             Status::LinkLost => 7,
+            Status::BookFailed => 8,
             Status::NoMemory => 70,
         }
     }

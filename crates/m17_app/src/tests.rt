@@ -1,7 +1,8 @@
 //! What no clause says: the worked runs of the commands, over devices in memory.
 use crate::run::run;
-use m17_devices::{BytesSink, BytesSource};
+use m17_devices::{BytesSink, BytesSource, ScriptPorts};
 use std::alloc::{AllocError, Global};
+use std::sync::Wait;
 use std::test::Fail;
 
 // A record of `judge`: its moment, its talker, and the stream id, number and end bit of its packet.
@@ -18,7 +19,7 @@ fn records(alloc: Global, spoken: &[Spoken]) -> Result<Vec<u8>, AllocError> {
     Ok(input)
 }
 
-fn words(alloc: Global, given: &[&str]) -> Result<Vec<String>, AllocError> {
+pub fn words(alloc: Global, given: &[&str]) -> Result<Vec<String>, AllocError> {
     let mut words = Vec::new(alloc);
     for word in given {
         words.push(String::from_str(alloc, word)?)?;
@@ -27,20 +28,22 @@ fn words(alloc: Global, given: &[&str]) -> Result<Vec<String>, AllocError> {
 }
 
 // Runs the program, and hands back its status and what it wrote.
-pub fn ran(
-    rt: &HostRuntime,
+pub fn ran<R: Wait>(
+    rt: &R,
+    alloc: Global,
     given: &[&str],
     input: Vec<u8>,
     read_fails: &[u64],
     write_fails: &[u64],
 ) -> Result<(u8, Vec<u8>), AllocError> {
-    let alloc = rt.alloc();
     let mut source = BytesSource::new(input, read_fails.to_vec(alloc)?);
     let Ok(mut sink) = BytesSink::make(alloc, 4096, write_fails.to_vec(alloc)?) else {
         return Err(AllocError);
     };
-    let status = run(rt, alloc, &words(alloc, given)?, &mut source, &mut sink);
-    Ok((status, sink.bytes().to_vec(alloc)?))
+    let mut ports = ScriptPorts::new(Vec::new(alloc), Vec::new(alloc), Vec::new(alloc));
+    let words = words(alloc, given)?;
+    let done = run(rt, alloc, &words, &mut ports, &mut source, &mut sink);
+    Ok((done.status, sink.bytes().to_vec(alloc)?))
 }
 
 #[test]
@@ -91,7 +94,14 @@ fn the_floor_is_held_lost_and_given_up(rt: HostRuntime) -> Result<(), Fail> {
         (&back, "0 opened\n1 busy 0\n2 opened\n"),
     ];
     for (spoken, text) in runs {
-        let (status, written) = ran(&rt, &["judge"], records(rt.alloc(), spoken)?, &[], &[])?;
+        let (status, written) = ran(
+            &rt,
+            rt.alloc(),
+            &["judge"],
+            records(rt.alloc(), spoken)?,
+            &[],
+            &[],
+        )?;
         assert_eq!(rt; status, 0, "{text}");
         assert_eq!(rt; written.as_slice(), text.as_bytes());
     }
@@ -109,7 +119,7 @@ fn a_refused_packet_moves_the_moment_alone(rt: HostRuntime) -> Result<(), Fail> 
     assert_eq!(rt; input.len(), 192);
     input[64 + 10 + 53] = 0xff;
     input[64 + 10 + 52] = 0xff;
-    let (status, written) = ran(&rt, &["judge"], input, &[], &[])?;
+    let (status, written) = ran(&rt, rt.alloc(), &["judge"], input, &[], &[])?;
     assert_eq!(rt; status, 0);
     let mut lines = written.as_slice().split(|byte| *byte == b'\n');
     assert_eq!(rt; lines.next(), Some(b"0 opened".as_slice()));
@@ -127,7 +137,7 @@ fn a_wrong_magic_is_named(rt: HostRuntime) -> Result<(), Fail> {
     input[11] = b'O';
     input[12] = b'N';
     input[13] = b'X';
-    let (status, written) = ran(&rt, &["judge"], input, &[], &[])?;
+    let (status, written) = ran(&rt, rt.alloc(), &["judge"], input, &[], &[])?;
     assert_eq!(rt; status, 0);
     assert_eq!(rt;
         written.as_slice(),
@@ -217,7 +227,7 @@ fn each_way_to_end_has_its_status_and_last_line(rt: HostRuntime) -> Result<(), F
         (&["help"], Vec::new(alloc), &[], &[1], 4, "words refused\n"),
     ];
     for (given, input, read_fails, write_fails, status, text) in runs {
-        let (answer, written) = ran(&rt, given, input, read_fails, write_fails)?;
+        let (answer, written) = ran(&rt, rt.alloc(), given, input, read_fails, write_fails)?;
         assert_eq!(rt; answer, status, "{text}");
         assert_eq!(rt; written.as_slice(), text.as_bytes());
     }
@@ -248,7 +258,7 @@ fn an_evening_is_made(rt: HostRuntime) -> Result<(), Fail> {
     ];
     for (given, write_fails, status, length) in runs {
         // A source that fails is not read.
-        let (answer, written) = ran(&rt, given, Vec::new(alloc), &[0], write_fails)?;
+        let (answer, written) = ran(&rt, rt.alloc(), given, Vec::new(alloc), &[0], write_fails)?;
         assert_eq!(rt; answer, status);
         assert_eq!(rt; written.len(), length);
         assert!(rt; MADE.starts_with(written.as_slice()));
@@ -271,7 +281,7 @@ fn words_past_their_bounds_are_refused(rt: HostRuntime) -> Result<(), Fail> {
         &["replay", "--call", "m17-tst"],
     ];
     for given in refused {
-        let (status, written) = ran(&rt, given, Vec::new(rt.alloc()), &[0], &[])?;
+        let (status, written) = ran(&rt, rt.alloc(), given, Vec::new(rt.alloc()), &[0], &[])?;
         assert_eq!(rt; status, 2);
         assert_eq!(rt; written.as_slice(), b"words refused\n".as_slice());
     }

@@ -10,7 +10,7 @@ use Rattle.m17_print.specs.Texts.{IsTextOf}
 use Rattle.m17_print.specs.declared.ending.Ending.TheVariants.{Finished, Refused, ReadFailed, WriteFailed}
 use Rattle.m17_print.proofs.TextsOfLines.{slice_get_longer, no_lines, same_lines, one_more_line, cut_line}
 use Rattle.m17_judge.specs.declared.reason.JudgeReason.TheVariants.{Cut}
-use Rattle.m17_judge.specs.Fill.{IsFilled, IsCutShort}
+use Rattle.m17_fill.specs.Fill.{IsFilled, IsCutShort}
 use Rattle.m17_judge.specs.Judge.{joins, talkers, acts_with, IsRecordLine, HasRecordLine, IsTextOfRecords, SaysJudge, PrintsJudge}
 use Rattle.m17_judge.specs.Records.{most_records, record_at, AreRecords, RefusesRecords}
 use Rattle.m17_judge.specs.Run.{AreJudged}

@@ -1,5 +1,4 @@
 pub mod Causes
-pub mod FillSteps
 pub mod Joins
 pub mod Standing
 pub mod RecordLines

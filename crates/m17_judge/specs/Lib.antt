@@ -3,6 +3,5 @@ pub mod Records
 pub mod Judge
 pub mod Laws
 -- for proofs alone
-pub mod Fill
 pub mod Table
 pub mod Run

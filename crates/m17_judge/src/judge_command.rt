@@ -6,9 +6,10 @@ ghost use Rattle.m17_judge.specs.Records.{most_records};
 ghost use Rattle.m17_judge.specs.Run.{AreJudged, LooksPast};
 ghost use Rattle.m17_judge.specs.Table.{TableStandsFor};
 
+use crate::JudgeReason;
 use crate::judging::{RECORD_BYTES, judge_record};
 use crate::table::Table;
-use crate::{JudgeReason, fill};
+use m17_fill::fill;
 use m17_floor::laws;
 use m17_io::{Fault, Input, Sink};
 use m17_print::{Ending, Line};

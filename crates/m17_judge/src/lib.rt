@@ -5,13 +5,11 @@
 //! input. The last line of the run and its status are left to the program.
 #![tactic(auto)]
 
-mod filling;
 mod judge_command;
 mod judging;
 pub mod laws;
 mod reason;
 mod table;
 
-pub(crate) use filling::fill;
 pub use judge_command::judge;
 pub use reason::JudgeReason;

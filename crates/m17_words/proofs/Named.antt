@@ -2,9 +2,9 @@
 use Rattle.std.proofs.Common.{◌≡◌, List, ◌∷◌, codes, slice_index, ap, arith}
 use Rattle.clap.specs.Words.{Text}
 use Rattle.m17_words.specs.declared.command.Command.{Command}
-use Rattle.m17_words.specs.declared.command.Command.TheVariants.{Judge, Show, Replay, Make}
-use Rattle.m17_words.specs.Tables.{judge_table, show_table, replay_table, make_table, Takes, found}
-use Rattle.m17_words.specs.Words.{IsReplayWith, IsMakeWith, Names}
+use Rattle.m17_words.specs.declared.command.Command.TheVariants.{Judge, Show, Replay, Make, Talk}
+use Rattle.m17_words.specs.Tables.{judge_table, show_table, replay_table, make_table, talk_table, Takes, found}
+use Rattle.m17_words.specs.Words.{IsReplayWith, IsMakeWith, IsTalkWith, Names}
 
 -- the first letter tells commands apart
 first_letter : (a b : Text) → a ≡ b → slice_index a 0 ≡ slice_index b 0
@@ -15,12 +15,14 @@ no_judge words refuses Judge named = refuses named.1
 no_judge words refuses Show named = omega (arith, first_letter (codes "judge") (codes "show") named.0)
 no_judge words refuses (Replay call modules parrots places summary) named = omega (arith, first_letter (codes "judge") (codes "replay") named.0)
 no_judge words refuses (Make seed count) named = omega (arith, first_letter (codes "judge") (codes "make") named.0)
+no_judge words refuses (Talk order) named = omega (arith, first_letter (codes "judge") (codes "talk") named.0)
 
 pub no_show : (words : List Text) → (Takes show_table words → ⊥) → (command : Command) → Names (codes "show" ∷ words) command → ⊥
 no_show words refuses Judge named = omega (arith, first_letter (codes "show") (codes "judge") named.0)
 no_show words refuses Show named = refuses named.1
 no_show words refuses (Replay call modules parrots places summary) named = omega (arith, first_letter (codes "show") (codes "replay") named.0)
 no_show words refuses (Make seed count) named = omega (arith, first_letter (codes "show") (codes "make") named.0)
+no_show words refuses (Talk order) named = omega (arith, first_letter (codes "show") (codes "talk") named.0)
 
 -- a replay: `clap` refuses the words, or the values are none of a replay
 pub no_replay : (words : List Text) → (Takes replay_table words → (command : Command) → IsReplayWith (found replay_table words) command → ⊥)
@@ -29,6 +31,7 @@ no_replay words refuses Judge named = omega (arith, first_letter (codes "replay"
 no_replay words refuses Show named = omega (arith, first_letter (codes "replay") (codes "show") named.0)
 no_replay words refuses (Replay call modules parrots places summary) named = refuses named.1.0 (Replay call modules parrots places summary) named.1.1
 no_replay words refuses (Make seed count) named = omega (arith, first_letter (codes "replay") (codes "make") named.0)
+no_replay words refuses (Talk order) named = omega (arith, first_letter (codes "replay") (codes "talk") named.0)
 
 pub no_make : (words : List Text) → (Takes make_table words → (command : Command) → IsMakeWith (found make_table words) command → ⊥)
     → (command : Command) → Names (codes "make" ∷ words) command → ⊥
@@ -36,10 +39,20 @@ no_make words refuses Judge named = omega (arith, first_letter (codes "make") (c
 no_make words refuses Show named = omega (arith, first_letter (codes "make") (codes "show") named.0)
 no_make words refuses (Replay call modules parrots places summary) named = omega (arith, first_letter (codes "make") (codes "replay") named.0)
 no_make words refuses (Make seed count) named = refuses named.1.0 (Make seed count) named.1.1
+no_make words refuses (Talk order) named = omega (arith, first_letter (codes "make") (codes "talk") named.0)
 
-pub no_first : (first : Text) (words : List Text) → (first ≡ codes "judge" → ⊥) → (first ≡ codes "show" → ⊥) → (first ≡ codes "replay" → ⊥) → (first ≡ codes "make" → ⊥)
+pub no_talk : (words : List Text) → (Takes talk_table words → (command : Command) → IsTalkWith (found talk_table words) command → ⊥)
+    → (command : Command) → Names (codes "talk" ∷ words) command → ⊥
+no_talk words refuses Judge named = omega (arith, first_letter (codes "talk") (codes "judge") named.0)
+no_talk words refuses Show named = omega (arith, first_letter (codes "talk") (codes "show") named.0)
+no_talk words refuses (Replay call modules parrots places summary) named = omega (arith, first_letter (codes "talk") (codes "replay") named.0)
+no_talk words refuses (Make seed count) named = omega (arith, first_letter (codes "talk") (codes "make") named.0)
+no_talk words refuses (Talk order) named = refuses named.1.0 (Talk order) named.1.1
+
+pub no_first : (first : Text) (words : List Text) → (first ≡ codes "judge" → ⊥) → (first ≡ codes "show" → ⊥) → (first ≡ codes "replay" → ⊥) → (first ≡ codes "make" → ⊥) → (first ≡ codes "talk" → ⊥)
     → (command : Command) → Names (first ∷ words) command → ⊥
-no_first first words judge show replay make Judge named = judge named.0
-no_first first words judge show replay make Show named = show named.0
-no_first first words judge show replay make (Replay call modules parrots places summary) named = replay named.0
-no_first first words judge show replay make (Make seed count) named = make named.0
+no_first first words judge show replay make talk Judge named = judge named.0
+no_first first words judge show replay make talk Show named = show named.0
+no_first first words judge show replay make talk (Replay call modules parrots places summary) named = replay named.0
+no_first first words judge show replay make talk (Make seed count) named = make named.0
+no_first first words judge show replay make talk (Talk order) named = talk named.0

@@ -4,8 +4,8 @@ use Rattle.std.specs.Prelude.{IsTrue}
 use Rattle.clap.specs.Words.{Text}
 use Rattle.m17_control.specs.declared.modules.Modules.{Modules}
 use Rattle.m17_control.specs.Modules.{serves}
-use Rattle.m17_words.specs.declared.command.Command.TheVariants.{Judge, Show, Replay, Make}
-use Rattle.m17_words.specs.Values.{NamesModules, NamesParrots}
+use Rattle.m17_words.specs.declared.command.Command.TheVariants.{Judge, Show, Replay, Make, Talk}
+use Rattle.m17_words.specs.Values.{NamesLetter, NamesModules, NamesParrots}
 use Rattle.m17_words.specs.Laws.{SameModules, OneCommand}
 
 -- one word begins with one letter
@@ -25,16 +25,21 @@ same_parrots None m m' p p' none none' letter =
     ((λ h. absurd (not_true (serves p' letter) (none' letter) h)), (λ h. absurd (not_true (serves p letter) (none letter) h)))
 same_parrots (Some text) m m' p p' some some' letter = same_modules text p p' some.0 some'.0 letter
 
+one_letter : (text : List ℕ) (a b : ℕ) → NamesLetter text a → NamesLetter text b → b ≡ a
+one_letter text a b x y = let e = x.1 in let f = y.1 in cc
+
 pub one_command : OneCommand
 one_command [] command other named named' = absurd named
 one_command (first ∷ words) Judge Judge named named' = refl
 one_command (first ∷ words) Judge Show named named' = absurd (omega (arith, letters first (codes "judge") (codes "show") named.0 named'.0))
 one_command (first ∷ words) Judge (Replay c m p n s) named named' = absurd (omega (arith, letters first (codes "judge") (codes "replay") named.0 named'.0))
 one_command (first ∷ words) Judge (Make seed count) named named' = absurd (omega (arith, letters first (codes "judge") (codes "make") named.0 named'.0))
+one_command (first ∷ words) Judge (Talk o) named named' = absurd (omega (arith, letters first (codes "judge") (codes "talk") named.0 named'.0))
 one_command (first ∷ words) Show Judge named named' = absurd (omega (arith, letters first (codes "show") (codes "judge") named.0 named'.0))
 one_command (first ∷ words) Show Show named named' = refl
 one_command (first ∷ words) Show (Replay c m p n s) named named' = absurd (omega (arith, letters first (codes "show") (codes "replay") named.0 named'.0))
 one_command (first ∷ words) Show (Make seed count) named named' = absurd (omega (arith, letters first (codes "show") (codes "make") named.0 named'.0))
+one_command (first ∷ words) Show (Talk o) named named' = absurd (omega (arith, letters first (codes "show") (codes "talk") named.0 named'.0))
 one_command (first ∷ words) (Replay c m p n s) Judge named named' = absurd (omega (arith, letters first (codes "replay") (codes "judge") named.0 named'.0))
 one_command (first ∷ words) (Replay c m p n s) Show named named' = absurd (omega (arith, letters first (codes "replay") (codes "show") named.0 named'.0))
 one_command (first ∷ words) (Replay c m p n s) (Replay c' m' p' n' s') named named' =
@@ -47,6 +52,7 @@ one_command (first ∷ words) (Replay c m p n s) (Replay c' m' p' n' s') named n
       ((λ h. a.summary_is.1 (b.summary_is.0 h)), (λ h. b.summary_is.1 (a.summary_is.0 h))),
     )
 one_command (first ∷ words) (Replay c m p n s) (Make seed count) named named' = absurd (omega (arith, letters first (codes "replay") (codes "make") named.0 named'.0))
+one_command (first ∷ words) (Replay c m p n s) (Talk o) named named' = absurd (omega (arith, letters first (codes "replay") (codes "talk") named.0 named'.0))
 one_command (first ∷ words) (Make seed count) Judge named named' = absurd (omega (arith, letters first (codes "make") (codes "judge") named.0 named'.0))
 one_command (first ∷ words) (Make seed count) Show named named' = absurd (omega (arith, letters first (codes "make") (codes "show") named.0 named'.0))
 one_command (first ∷ words) (Make seed count) (Replay c m p n s) named named' = absurd (omega (arith, letters first (codes "make") (codes "replay") named.0 named'.0))
@@ -54,3 +60,20 @@ one_command (first ∷ words) (Make seed count) (Make seed' count') named named'
     let a = named.1.1 in
     let b = named'.1.1 in
     ap₂ Make (b.seed_is.value ∙ sym a.seed_is.value) (b.count_is.value ∙ sym a.count_is.value)
+one_command (first ∷ words) (Make seed count) (Talk o) named named' = absurd (omega (arith, letters first (codes "make") (codes "talk") named.0 named'.0))
+one_command (first ∷ words) (Talk o) Judge named named' = absurd (omega (arith, letters first (codes "talk") (codes "judge") named.0 named'.0))
+one_command (first ∷ words) (Talk o) Show named named' = absurd (omega (arith, letters first (codes "talk") (codes "show") named.0 named'.0))
+one_command (first ∷ words) (Talk o) (Replay c m p n s) named named' = absurd (omega (arith, letters first (codes "talk") (codes "replay") named.0 named'.0))
+one_command (first ∷ words) (Talk o) (Make seed count) named named' = absurd (omega (arith, letters first (codes "talk") (codes "make") named.0 named'.0))
+one_command (first ∷ words) (Talk o) (Talk o') named named' =
+    let a = named.1.1 in
+    let b = named'.1.1 in
+    record {
+      call = b.call_is.sum ∙ sym a.call_is.sum;
+      letter = one_letter _ o.letter o'.letter a.module_is b.module_is;
+      listen = ((λ h. a.listen_is.1 (b.listen_is.0 h)), (λ h. b.listen_is.1 (a.listen_is.0 h)));
+      bind = b.bind_is ∙ sym a.bind_is;
+      to = sym b.to_is.text_is ∙ a.to_is.text_is;
+      stay = b.stay_is.value ∙ sym a.stay_is.value;
+      book = b.book_is ∙ sym a.book_is;
+    }

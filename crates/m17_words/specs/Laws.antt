@@ -1,15 +1,28 @@
 -- Words name one command. This profile.
-use Rattle.std.specs.Prelude.{◌≡◌, ◌↔◌, ℕ, List, IsTrue}
+use Rattle.std.specs.Prelude.{◌≡◌, ◌↔◌, ℕ, List, IsTrue, string_bytes}
+use Rattle.std.specs.Option.{option_map}
 use Rattle.clap.specs.Words.{Text}
 use Rattle.m17_control.specs.declared.modules.Modules.{Modules}
 use Rattle.m17_control.specs.Modules.{serves}
+use Rattle.m17_peer.specs.Text.{text_of}
+use Rattle.m17_words.specs.declared.order.TalkOrder.{TalkOrder}
 use Rattle.m17_words.specs.declared.command.Command.{Command}
-use Rattle.m17_words.specs.declared.command.Command.TheVariants.{Judge, Show, Replay, Make}
+use Rattle.m17_words.specs.declared.command.Command.TheVariants.{Judge, Show, Replay, Make, Talk}
 use Rattle.m17_words.specs.Words.{Names}
 
 -- the sets have the same modules
 abbrev pub SameModules : Modules → Modules → Type 0
 SameModules m m' = (letter : ℕ) → IsTrue (serves m letter) ↔ IsTrue (serves m' letter)
+
+-- the orders are one: each value is the same, and of each text and of the peer what it spells
+pub record SameOrder (o o' : TalkOrder) : Type 0 where
+  pub call : o'.call ≡ o.call
+  pub letter : o'.letter ≡ o.letter
+  pub listen : IsTrue o'.listen ↔ IsTrue o.listen
+  pub bind : string_bytes o'.bind ≡ string_bytes o.bind
+  pub to : text_of o'.to ≡ text_of o.to
+  pub stay : o'.stay ≡ o.stay
+  pub book : option_map string_bytes o'.book ≡ option_map string_bytes o.book
 
 -- The commands are one, with the same values.
 abbrev pub SameCommand : Command → Command → Type 0
@@ -21,6 +34,8 @@ SameCommand (Replay call modules parrots places summary)
     × (places' ≡ places) × (IsTrue summary' ↔ IsTrue summary)
 SameCommand (Replay call modules parrots places summary) other = ⊥
 SameCommand (Make seed count) other = other ≡ Make seed count
+SameCommand (Talk order) (Talk order') = SameOrder order order'
+SameCommand (Talk order) other = ⊥
 
 -- words name one command
 abbrev pub OneCommand : Type 0

@@ -4,3 +4,4 @@ pub mod Words
 pub mod Laws
 -- for proofs alone
 pub mod First
+pub mod TalkValues

@@ -13,9 +13,12 @@ bare name = on_top (λ s. record s {
 })
     (new_app name)
 
--- an option with a value, a flag, and an argument that has to be there
+-- an option with a value, one that has to be there, a flag, and an argument that has to be there
 abbrev pub option : Text → Rule
 option name = record (new_rule name) { long = Some name }
+
+abbrev pub needed : Text → Rule
+needed name = record (new_rule name) { long = Some name; required = true }
 
 abbrev pub flag : Text → Rule
 flag name = record (new_rule name) { long = Some name; action = Some SetTrue }
@@ -38,6 +41,16 @@ replay_table = with_rule (with_rule (with_rule (with_rule (with_rule (bare (code
 unfoldable pub make_table : App
 make_table = with_rule (with_rule (bare (codes "make")) (argument (codes "seed")))
     (argument (codes "count"))
+
+-- what `talk` has to be told, and then all that it may be told
+abbrev pub needed_table : App
+needed_table = with_rule (with_rule (with_rule (with_rule (bare (codes "talk"))
+    (needed (codes "call"))) (needed (codes "module"))) (needed (codes "bind")))
+    (needed (codes "to"))
+
+unfoldable pub talk_table : App
+talk_table = with_rule (with_rule (with_rule needed_table (flag (codes "listen")))
+    (option (codes "stay"))) (option (codes "book"))
 
 -- the words that such a command takes, and what it finds among them, are known from `clap`'s own definitions
 unfoldable pub IsSimple : App → Type 0

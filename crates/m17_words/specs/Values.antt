@@ -1,7 +1,8 @@
 -- The values of options and arguments: which texts they are, and their bounds. This profile.
-use Rattle.std.specs.Prelude.{◌≡◌, ℕ, Bool, false, ◌≤◌, ◌↔◌, List, All, Contains, IsTrue, codes, Option, None, Some}
+use Rattle.std.specs.Prelude.{◌≡◌, ℕ, Bool, false, ◌≤◌, ◌↔◌, List, [], ◌∷◌, All, Contains, IsTrue, codes, Option, None, Some}
 use Rattle.std.specs.Str.Parse.{IsNumeral, digits_value}
 use Rattle.m17_control.specs.declared.modules.Modules.{Modules}
+use Rattle.m17_control.specs.Forms.{IsModule}
 use Rattle.m17_control.specs.Modules.{serves, IsModulesText}
 
 -- The text is one or more decimal digits and nothing else, with this value, which is within its bounds.
@@ -21,6 +22,10 @@ abbrev pub NamesParrots : Option (List ℕ) → Modules → Modules → Type 0
 NamesParrots None modules parrots = (letter : ℕ) → serves parrots letter ≡ false
 NamesParrots (Some text) modules parrots =
     NamesModules text parrots × All (λ letter. IsTrue (serves modules letter)) text
+
+-- the text is the letter of a module
+abbrev pub NamesLetter : List ℕ → ℕ → Type 0
+NamesLetter text letter = IsModule letter × (text ≡ letter ∷ [])
 
 -- a flag is there
 abbrev pub IsFlagged : Option (List ℕ) → Bool → Type 0

@@ -1,12 +1,15 @@
 -- The words of the command line, and what they ask for. This profile.
-use Rattle.std.specs.Prelude.{◌≡◌, ℕ, Bool, ◌-◌, ◌^◌, List, [], ◌∷◌, codes}
+use Rattle.std.specs.Prelude.{◌≡◌, ℕ, Bool, ◌-◌, ◌^◌, List, [], ◌∷◌, codes, string_bytes}
+use Rattle.std.specs.Option.{option_map}
 use Rattle.clap.specs.Words.{Row, Text}
 use Rattle.m17_callsign.specs.Callsign.{IsCallsignOf}
 use Rattle.m17_control.specs.declared.modules.Modules.{Modules}
+use Rattle.m17_peer.specs.Text.{IsTextOf}
+use Rattle.m17_words.specs.declared.order.TalkOrder.{TalkOrder}
 use Rattle.m17_words.specs.declared.command.Command.{Command}
-use Rattle.m17_words.specs.declared.command.Command.TheVariants.{Judge, Show, Replay, Make}
-use Rattle.m17_words.specs.Tables.{judge_table, show_table, replay_table, make_table, Takes, found, text_of, text_or}
-use Rattle.m17_words.specs.Values.{IsNumber, NamesModules, NamesParrots, IsFlagged}
+use Rattle.m17_words.specs.declared.command.Command.TheVariants.{Judge, Show, Replay, Make, Talk}
+use Rattle.m17_words.specs.Tables.{judge_table, show_table, replay_table, make_table, talk_table, Takes, found, text_of, text_or}
+use Rattle.m17_words.specs.Values.{IsNumber, NamesLetter, NamesModules, NamesParrots, IsFlagged}
 
 -- the word that names a command
 abbrev pub word_of : Command → Text
@@ -14,6 +17,7 @@ word_of Judge = codes "judge"
 word_of Show = codes "show"
 word_of (Replay call modules parrots places summary) = codes "replay"
 word_of (Make seed count) = codes "make"
+word_of (Talk order) = codes "talk"
 
 -- what a replay is run with
 pub record ReplayOptions : Type 0 where
@@ -46,6 +50,17 @@ pub record IsMake (found : List Row) (seed count : ℕ) : Type 0 where
   pub seed_is : IsNumber 0 (2 ^ 64 - 1) (text_or found (codes "seed") []) seed
   pub count_is : IsNumber 0 100000 (text_or found (codes "count") []) count
 
+-- The values of a talk: the client's callsign, the module that it asks for, whether it only listens, where its link is
+-- bound, the reflector, for how long it stays, and its book.
+pub record IsTalk (found : List Row) (order : TalkOrder) : Type 0 where
+  pub call_is : IsCallsignOf (text_or found (codes "call") []) order.call
+  pub module_is : NamesLetter (text_or found (codes "module") []) order.letter
+  pub bind_is : string_bytes order.bind ≡ text_or found (codes "bind") []
+  pub to_is : IsTextOf order.to (text_or found (codes "to") [])
+  pub listen_is : IsFlagged (text_of found (codes "listen")) order.listen
+  pub stay_is : IsNumber 0 86400000 (text_or found (codes "stay") (codes "0")) order.stay
+  pub book_is : option_map string_bytes order.book ≡ text_of found (codes "book")
+
 -- the same of a command
 abbrev pub IsReplayWith : List Row → Command → Type 0
 IsReplayWith found (Replay call modules parrots places summary) =
@@ -56,6 +71,10 @@ abbrev pub IsMakeWith : List Row → Command → Type 0
 IsMakeWith found (Make seed count) = IsMake found seed count
 IsMakeWith found _ = ⊥
 
+abbrev pub IsTalkWith : List Row → Command → Type 0
+IsTalkWith found (Talk order) = IsTalk found order
+IsTalkWith found _ = ⊥
+
 -- The words after the first one give the values of the command.
 abbrev pub Gives : List Text → Command → Type 0
 Gives words Judge = Takes judge_table words
@@ -63,6 +82,7 @@ Gives words Show = Takes show_table words
 Gives words (Replay call modules parrots places summary) = Takes replay_table words
     × IsReplay (found replay_table words) (options call modules parrots places summary)
 Gives words (Make seed count) = Takes make_table words × IsMake (found make_table words) seed count
+Gives words (Talk order) = Takes talk_table words × IsTalk (found talk_table words) order
 
 -- The words name a command: the first is its word, byte for byte, and the others give its values. This profile.
 abbrev pub Names : List Text → Command → Type 0

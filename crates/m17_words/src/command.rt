@@ -1,8 +1,9 @@
+use crate::TalkOrder;
 use m17_callsign::CallAddress;
 use m17_control::Modules;
 
 /// What the words ask for. This profile.
-#[derive(Clone, Copy, Debug, PartialEq, Eq)]
+#[derive(Debug, PartialEq, Eq, Drop)]
 pub enum Command {
     /// `judge`: verdict lines for records of packets.
     Judge,
@@ -22,6 +23,8 @@ pub enum Command {
         seed: u64,
         count: u32,
     },
+    /// `talk`: a client of a reflector, by a script.
+    Talk(TalkOrder),
 }
 
 /// Why the words give no command. This profile.

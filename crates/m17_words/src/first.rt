@@ -8,6 +8,7 @@ pub(crate) enum FirstWord {
     Show,
     Replay,
     Make,
+    Talk,
 }
 
 // Which command's first word a text is, byte for byte.
@@ -17,12 +18,14 @@ pub(crate) fn first_word(text: &str) -> Option<FirstWord>
     ensures no_show { IfNone result (text.now ≢ codes "show") }
     ensures no_replay { IfNone result (text.now ≢ codes "replay") }
     ensures no_make { IfNone result (text.now ≢ codes "make") }
+    ensures no_talk { IfNone result (text.now ≢ codes "talk") }
 {
     match text {
         "judge" => Some(FirstWord::Judge),
         "show" => Some(FirstWord::Show),
         "replay" => Some(FirstWord::Replay),
         "make" => Some(FirstWord::Make),
+        "talk" => Some(FirstWord::Talk),
         _ => None,
     }
 }

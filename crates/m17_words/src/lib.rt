@@ -9,11 +9,14 @@ mod clap_words;
 mod command;
 mod first;
 pub mod laws;
+mod order;
 mod reading;
 mod tables;
+mod talk_words;
 mod values;
 
 pub use command::{Command, WordsRefusal};
+pub use order::TalkOrder;
 pub use reading::read_words;
 
 #[cfg(test)]

@@ -7,6 +7,7 @@ ghost use Rattle.m17_words.specs.First.{text_of_first};
 use crate::clap_words::{find, is_there, text_of, text_or};
 use crate::first::{FirstWord, first_word};
 use crate::tables::{judge_table, make_table, replay_table, show_table};
+use crate::talk_words::read_talk;
 use crate::{Command, WordsRefusal, values};
 use clap::ArgMatches;
 use std::alloc::Global;
@@ -45,6 +46,7 @@ fn read_after(alloc: Global, word: FirstWord, words: &[String]) -> Result<Comman
         FirstWord::Show => read_show(alloc, words),
         FirstWord::Replay => read_replay(alloc, words),
         FirstWord::Make => read_make(alloc, words),
+        FirstWord::Talk => read_talk(alloc, words),
     }
 }
 

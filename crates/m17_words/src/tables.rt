@@ -1,6 +1,6 @@
 ghost use Rattle.std.specs.Prelude.{◌≡◌, IfOk, IfErr, false};
 ghost use Rattle.clap.specs.Words.{app_of, rule_of, with_rule};
-ghost use Rattle.m17_words.specs.Tables.{bare, option, flag, argument, judge_table, show_table, replay_table, make_table};
+ghost use Rattle.m17_words.specs.Tables.{bare, option, needed, flag, argument, judge_table, show_table, replay_table, make_table, needed_table, talk_table};
 
 use crate::WordsRefusal;
 use clap::{Arg, ArgAction, Command};
@@ -22,6 +22,14 @@ fn option<'a>(alloc: Global, name: &'a str) -> Arg<'a>
     ensures own { result.global ≡ false }
 {
     Arg::new(alloc, name).long(name)
+}
+
+// An option with a value that has to be there.
+fn needed<'a>(alloc: Global, name: &'a str) -> Arg<'a>
+    ensures rule { rule_of result ≡ needed name.entry.now }
+    ensures own { result.global ≡ false }
+{
+    Arg::new(alloc, name).long(name).required(true)
 }
 
 // A flag.
@@ -90,4 +98,26 @@ pub(crate) fn make_table<'a>(alloc: Global) -> Result<Command<'a>, WordsRefusal>
 {
     let command = with(bare(alloc, "make"), argument(alloc, "seed"))?;
     with(command, argument(alloc, "count"))
+}
+
+// The part of the table of `talk` that has to be there.
+fn needed_table<'a>(alloc: Global) -> Result<Command<'a>, WordsRefusal>
+    ensures table { IfOk result (λ c. app_of c ≡ needed_table) }
+    ensures memory { IfErr result (λ e. e ≡ WordsRefusal.NoMemory) }
+{
+    let command = with(bare(alloc, "talk"), needed(alloc, "call"))?;
+    let command = with(command, needed(alloc, "module"))?;
+    let command = with(command, needed(alloc, "bind"))?;
+    with(command, needed(alloc, "to"))
+}
+
+// The table of `talk`.
+#[tactic(auto, unfolding(crate::specs::Tables::talk_table))]
+pub(crate) fn talk_table<'a>(alloc: Global) -> Result<Command<'a>, WordsRefusal>
+    ensures table { IfOk result (λ c. app_of c ≡ talk_table) }
+    ensures memory { IfErr result (λ e. e ≡ WordsRefusal.NoMemory) }
+{
+    let command = with(needed_table(alloc)?, flag(alloc, "listen"))?;
+    let command = with(command, option(alloc, "stay"))?;
+    with(command, option(alloc, "book"))
 }

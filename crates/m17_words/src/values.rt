@@ -1,11 +1,14 @@
 ghost use Rattle.std.specs.Prelude.{◌≡◌, ◌≤◌, ◌<◌, ◌^◌, ◌↔◌, ℕ, List, All, IsTrue, IfSome, IfNone, option_map};
 ghost use Rattle.m17_callsign.specs.Callsign.{IsCallsignOf};
+ghost use Rattle.m17_values.specs.declared.peer.Peer.{Peer};
 ghost use Rattle.m17_control.specs.declared.modules.Modules.{Modules};
 ghost use Rattle.m17_control.specs.Modules.{serves};
-ghost use Rattle.m17_words.specs.Values.{IsNumber, NamesModules, NamesParrots};
+ghost use Rattle.m17_peer.specs.Text.{IsTextOf};
+ghost use Rattle.m17_words.specs.Values.{IsNumber, NamesLetter, NamesModules, NamesParrots};
 
 use m17_callsign::{CallAddress, encode};
-use m17_control::Modules;
+use m17_control::{ModuleLetter, Modules};
+use m17_values::Peer;
 
 // The number that a text of decimal digits writes, where it is within these bounds.
 pub(crate) fn number(text: &str, least: u64, most: u64) -> Option<u64>
@@ -31,6 +34,25 @@ pub(crate) fn call(text: &str) -> Option<CallAddress>
         Ok(address) => CallAddress::new(address),
         Err(_) => None,
     }
+}
+
+// The letter of the module that a text is.
+pub(crate) fn letter(text: &str) -> Option<ModuleLetter>
+    ensures some { IfSome result (NamesLetter text.now) }
+    ensures none { IfNone result ((m : ℕ) → ¬ NamesLetter text.now m) }
+{
+    match text.as_bytes() {
+        [byte] => ModuleLetter::new(*byte),
+        _ => None,
+    }
+}
+
+// The peer whose text this is.
+pub(crate) fn peer(text: &str) -> Option<Peer>
+    ensures some { IfSome result (λ p. IsTextOf p text.now) }
+    ensures none { IfNone result ((p : Peer) → ¬ IsTextOf p text.now) }
+{
+    m17_peer::read(text)
 }
 
 // The modules that a text names.

@@ -1,7 +1,7 @@
 ghost use Rattle.std.specs.Prelude.{◌≡◌, ℕ, ◌≤◌, List, length, Some, IfOk, Err};
 ghost use Rattle.m17_io.specs.Faults.{HasCauses};
 ghost use Rattle.m17_io.specs.Tied.{fault_of};
-ghost use Rattle.m17_judge.specs.Fill.{IsFilled, IsCutShort};
+ghost use Rattle.m17_fill.specs.Fill.{IsFilled, IsCutShort};
 
 use m17_io::{Fault, Input, Sink, read_tied};
 

@@ -1,5 +1,5 @@
 use Rattle.std.proofs.Common.{◌≡◌, ℕ, ◌-◌, ◌≤◌, List, ◌++◌, length, take, drop, Some}
-use Rattle.m17_judge.proofs.filling.fill.Given as goal
+use Rattle.m17_fill.proofs.filling.fill.Given as goal
 
 -- so far so many bytes were taken, no device failed, and nothing was written
 abbrev pub invariant-loop-have : goal.invariant-loop-have

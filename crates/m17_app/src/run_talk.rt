@@ -1,0 +1,51 @@
+ghost use Rattle.std.specs.Prelude.{option_map};
+ghost use Rattle.m17_talk.specs.Devices.{ports_told, ear_told, mouth_told, book_told, devices_told};
+ghost use Rattle.m17_talk.specs.Talked.{handed};
+ghost use Rattle.m17_app.specs.Status.{outside};
+ghost use Rattle.m17_app.specs.Talk.{RunsTalk};
+
+use crate::conclude::conclude_talk;
+use crate::done::{Ended, alone};
+use crate::status::Status;
+use m17_devices::Ports;
+use m17_io::{Input, Sink};
+use m17_talk::laws::scripts_are_exact;
+use m17_talk::{Talked, talk};
+use m17_words::TalkOrder;
+use std::alloc::Global;
+use std::sync::Wait;
+
+// Runs `talk` to its last line.
+pub(crate) fn run_talk<R: Wait, P: Ports, S: Input<K>, K: Sink>(
+    rt: &R,
+    alloc: Global,
+    order: &TalkOrder,
+    ports: &mut P,
+    input: &mut S,
+    out: &mut K,
+) -> Ended<P::Ear, P::Mouth, P::Book>
+    ensures { RunsTalk order.now result.status
+        (outside (S.left input.old) (S.faults input.old)
+        (K.written out.old) (K.faults out.old) (K.held_back out.old))
+        (outside (S.left input.new) (S.faults input.new)
+        (K.written out.new) (K.faults out.new) (K.held_back out.new))
+        (handed (ports_told (P.asked ports.old) (P.calls ports.old) (P.faults ports.old))
+        (ports_told (P.asked ports.new) (P.calls ports.new) (P.faults ports.new))
+        (option_map (λ d. devices_told
+        (ear_told (P.Ear.heard d.0) (P.Ear.faults d.0) (P.Ear.mark d.0))
+        (mouth_told (P.Mouth.said d.1) (P.Mouth.tallies d.1) (P.Mouth.faults d.1) (P.Mouth.mark d.1))
+        (option_map (λ b. book_told (P.Book.written b) (P.Book.faults b) (P.Book.mark b)) d.2.inner))
+        result.talk)) }
+{
+    scripts_are_exact();
+    match talk(rt, alloc, order, ports, input, out) {
+        Ok(done) => {
+            let Talked { ending, devices } = done;
+            Ended {
+                status: conclude_talk(out, &ending),
+                talk: devices,
+            }
+        }
+        Err(_) => alone(Status::NoMemory),
+    }
+}

@@ -1,0 +1,5 @@
+pub mod Records
+pub mod Stops
+pub mod Exact
+pub mod Questions
+pub mod Told

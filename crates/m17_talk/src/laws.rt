@@ -1,0 +1,10 @@
+//! What holds of all bytes. It is a function without arguments, which does nothing and ensures the law.
+ghost use Rattle.m17_talk.specs.Laws.{ScriptsAreExact};
+
+/// Each byte list is one script at most, or is refused at one place for one reason, and not both. This profile.
+#[inline]
+pub fn scripts_are_exact()
+    ensures { ScriptsAreExact }
+{
+    m17_stream::laws::one_spelling();
+}
