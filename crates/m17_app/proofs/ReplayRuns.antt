@@ -13,7 +13,7 @@ use Rattle.m17_replay.specs.declared.ending.ReplayEnding.{ReplayEnding}
 use Rattle.m17_replay.specs.declared.ending.ReplayEnding.TheVariants as endings
 use Rattle.m17_replay.specs.declared.reason.TraceReason.{TraceReason}
 use Rattle.m17_replay.specs.Reasons.{refusal_told}
-use Rattle.m17_replay.specs.Replay.{IsReplayText, SaysReplay, PrintsReplay, failed_device, ComesToReplay}
+use Rattle.m17_replay.specs.Replay.{IsReplayText, SaysReplay, PrintsReplay, failed_device, streams, ComesToReplay}
 use Rattle.m17_app.specs.declared.status.Status.{Status}
 use Rattle.m17_app.specs.declared.status.Status.TheVariants.{Finished, InputRefused, WordsRefused, ReadFailed, WriteFailed, LinkLost, NoMemory}
 use Rattle.m17_app.specs.Status.{Outside, watched, HasCause, WritesLast}
@@ -85,7 +85,7 @@ complete_as plan summary endings.WriteFailed status input heard left before afte
 
 -- what is said of the input after the last line, which leaves the input alone
 abbrev pub Came : Plan → Bool → ReplayEnding → Outside → Outside → Type 0
-Came plan summary ending before mid = (input : List ℕ) → before.left ≡ Some input → ComesToReplay plan summary ending input mid.left before.written mid.written
+Came plan summary ending before mid = (input : List ℕ) → before.left ≡ Some input → ComesToReplay plan summary ending (streams input mid.left before.written mid.written)
 
 -- what stands written
 stands : (plan : Plan) (summary : Bool) (ending : ReplayEnding) (status : Status) (input first text : List ℕ) (before mid after : Outside)
