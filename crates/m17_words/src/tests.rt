@@ -207,7 +207,8 @@ fn a_talk_has_what_its_words_say(rt: HostRuntime) -> Result<(), Fail> {
         assert_eq!(rt; read(alloc, line.as_str())?.is_ok(), taken, "{line}");
     }
     assert!(rt; read(alloc, needed)? == talk(alloc, false, 0, None)?);
-    let line = "talk --book=b --to=10.0.0.9:17000 --stay=0250 --bind=x --listen --module=A --call=AB1CD";
+    let line =
+        "talk --book=b --to=10.0.0.9:17000 --stay=0250 --bind=x --listen --module=A --call=AB1CD";
     assert!(rt; read(alloc, line)? == talk(alloc, true, 250, Some("b"))?);
     Ok(())
 }
