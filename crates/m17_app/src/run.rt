@@ -74,8 +74,10 @@ fn run_command<R: Wait, P: Ports, S: Input<K>, K: Sink>(
         (ports_told (P.asked ports.new) (P.calls ports.new) (P.faults ports.new))
         (option_map (λ d. devices_told
         (ear_told (P.Ear.heard d.0) (P.Ear.faults d.0) (P.Ear.mark d.0))
-        (mouth_told (P.Mouth.said d.1) (P.Mouth.tallies d.1) (P.Mouth.faults d.1) (P.Mouth.mark d.1))
-        (option_map (λ b. book_told (P.Book.written b) (P.Book.faults b) (P.Book.mark b)) d.2.inner))
+        (mouth_told (P.Mouth.said d.1) (P.Mouth.tallies d.1)
+        (P.Mouth.faults d.1) (P.Mouth.mark d.1))
+        (option_map (λ b. book_told (P.Book.written b) (P.Book.faults b) (P.Book.mark b))
+        d.2.inner))
         result.talk)) }
 {
     match command {
@@ -130,8 +132,10 @@ pub fn run<R: Wait, P: Ports, S: Input<K>, K: Sink>(
         (ports_told (P.asked ports.new) (P.calls ports.new) (P.faults ports.new))
         (option_map (λ d. devices_told
         (ear_told (P.Ear.heard d.0) (P.Ear.faults d.0) (P.Ear.mark d.0))
-        (mouth_told (P.Mouth.said d.1) (P.Mouth.tallies d.1) (P.Mouth.faults d.1) (P.Mouth.mark d.1))
-        (option_map (λ b. book_told (P.Book.written b) (P.Book.faults b) (P.Book.mark b)) d.2.inner))
+        (mouth_told (P.Mouth.said d.1) (P.Mouth.tallies d.1)
+        (P.Mouth.faults d.1) (P.Mouth.mark d.1))
+        (option_map (λ b. book_told (P.Book.written b) (P.Book.faults b) (P.Book.mark b))
+        d.2.inner))
         result.talk))) }
     // Words that name no command are refused, but for want of memory.
     ensures refused { AreRefused (map string_bytes words.now)
@@ -144,8 +148,10 @@ pub fn run<R: Wait, P: Ports, S: Input<K>, K: Sink>(
         (ports_told (P.asked ports.new) (P.calls ports.new) (P.faults ports.new))
         (option_map (λ d. devices_told
         (ear_told (P.Ear.heard d.0) (P.Ear.faults d.0) (P.Ear.mark d.0))
-        (mouth_told (P.Mouth.said d.1) (P.Mouth.tallies d.1) (P.Mouth.faults d.1) (P.Mouth.mark d.1))
-        (option_map (λ b. book_told (P.Book.written b) (P.Book.faults b) (P.Book.mark b)) d.2.inner))
+        (mouth_told (P.Mouth.said d.1) (P.Mouth.tallies d.1)
+        (P.Mouth.faults d.1) (P.Mouth.mark d.1))
+        (option_map (λ b. book_told (P.Book.written b) (P.Book.faults b) (P.Book.mark b))
+        d.2.inner))
         result.talk))) }
 {
     match read_words(alloc, words) {

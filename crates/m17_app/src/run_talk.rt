@@ -33,8 +33,10 @@ pub(crate) fn run_talk<R: Wait, P: Ports, S: Input<K>, K: Sink>(
         (ports_told (P.asked ports.new) (P.calls ports.new) (P.faults ports.new))
         (option_map (λ d. devices_told
         (ear_told (P.Ear.heard d.0) (P.Ear.faults d.0) (P.Ear.mark d.0))
-        (mouth_told (P.Mouth.said d.1) (P.Mouth.tallies d.1) (P.Mouth.faults d.1) (P.Mouth.mark d.1))
-        (option_map (λ b. book_told (P.Book.written b) (P.Book.faults b) (P.Book.mark b)) d.2.inner))
+        (mouth_told (P.Mouth.said d.1) (P.Mouth.tallies d.1)
+        (P.Mouth.faults d.1) (P.Mouth.mark d.1))
+        (option_map (λ b. book_told (P.Book.written b) (P.Book.faults b) (P.Book.mark b))
+        d.2.inner))
         result.talk)) }
 {
     scripts_are_exact();

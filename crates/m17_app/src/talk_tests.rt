@@ -55,11 +55,11 @@ fn sent(at: u64, bytes: &[u8]) -> Heard {
 // A script of these moments, with frames of stream 1234 that are numbered from 0.
 fn script(alloc: Global, moments: &[u64]) -> Result<Vec<u8>, Fail> {
     let mut bytes = Vec::new(alloc);
-    let mut number = 0;
+    let mut number = 0u16;
     for at in moments {
         bytes.extend_from_slice(&at.to_be_bytes())?;
         bytes.extend_from_slice(&m17_stream::write(&m17_samples::frame(0x1234, number, false)))?;
-        number += 1;
+        number = number.wrapping_add(1);
     }
     Ok(bytes)
 }

@@ -40,7 +40,8 @@ pub(crate) fn open<P: Ports>(
     ensures no_fault { IfOk result (λ d. P.faults ports.new ≡ P.faults ports.old) }
     ensures new { IfOk result (λ d. AreNew (P.calls ports.old) (devices_told
         (ear_told (P.Ear.heard d.0) (P.Ear.faults d.0) (P.Ear.mark d.0))
-        (mouth_told (P.Mouth.said d.1) (P.Mouth.tallies d.1) (P.Mouth.faults d.1) (P.Mouth.mark d.1))
+        (mouth_told (P.Mouth.said d.1) (P.Mouth.tallies d.1)
+        (P.Mouth.faults d.1) (P.Mouth.mark d.1))
         (option_map (λ b. book_told (P.Book.written b) (P.Book.faults b) (P.Book.mark b))
         d.2.inner))) }
     ensures there { IfOk result (λ d. IsSome d.2.inner ↔ IsSome order.now.book) }

@@ -40,8 +40,10 @@ pub fn talk<R: Wait, P: Ports, S: Input<K>, K: Sink>(
         (ports_told (P.asked ports.new) (P.calls ports.new) (P.faults ports.new))
         (option_map (λ d. devices_told
         (ear_told (P.Ear.heard d.0) (P.Ear.faults d.0) (P.Ear.mark d.0))
-        (mouth_told (P.Mouth.said d.1) (P.Mouth.tallies d.1) (P.Mouth.faults d.1) (P.Mouth.mark d.1))
-        (option_map (λ b. book_told (P.Book.written b) (P.Book.faults b) (P.Book.mark b)) d.2.inner))
+        (mouth_told (P.Mouth.said d.1) (P.Mouth.tallies d.1)
+        (P.Mouth.faults d.1) (P.Mouth.mark d.1))
+        (option_map (λ b. book_told (P.Book.written b) (P.Book.faults b) (P.Book.mark b))
+        d.2.inner))
         done.devices))
         (record {
           left = S.left input.old;
@@ -101,10 +103,12 @@ fn run_client<R: Wait, E: Ear, M: Mouth, B: Book>(
     requires { IsInOrder script.now }
     ensures talked { HasTalked (plan_of order.now script.now) result
         (devices_told (ear_told (E.heard ear.old) (E.faults ear.old) (E.mark ear.old))
-        (mouth_told (M.said mouth.old) (M.tallies mouth.old) (M.faults mouth.old) (M.mark mouth.old))
+        (mouth_told (M.said mouth.old) (M.tallies mouth.old)
+        (M.faults mouth.old) (M.mark mouth.old))
         (option_map (λ b. book_told (B.written b) (B.faults b) (B.mark b)) shelf.old.inner))
         (devices_told (ear_told (E.heard ear.new) (E.faults ear.new) (E.mark ear.new))
-        (mouth_told (M.said mouth.new) (M.tallies mouth.new) (M.faults mouth.new) (M.mark mouth.new))
+        (mouth_told (M.said mouth.new) (M.tallies mouth.new)
+        (M.faults mouth.new) (M.mark mouth.new))
         (option_map (λ b. book_told (B.written b) (B.faults b) (B.mark b)) shelf.new.inner)) }
     ensures there { IsSome shelf.new.inner ↔ IsSome shelf.old.inner }
 {
