@@ -158,43 +158,55 @@ fn an_ear_may_end_first(rt: HostRuntime) -> Result<(), Fail> {
 }
 
 #[test]
-fn each_status_of_a_talk_has_its_last_line(rt: HostRuntime) -> Result<(), Fail> {
+fn a_script_whose_moments_fall_is_refused(rt: HostRuntime) -> Result<(), Fail> {
     let alloc = rt.alloc();
-    let refused = "input refused at 62: field\n";
-    let heard = ports(alloc, evening(alloc)?, &[], &[])?;
-    let done = expect(
-        &rt,
-        alloc,
-        &TALK,
-        script(alloc, &[5, 4])?,
-        heard,
-        1,
-        refused,
-    )?;
+    let ports = ports(alloc, evening(alloc)?, &[], &[])?;
+    let text = "input refused at 62: field\n";
+    let done = expect(&rt, alloc, &TALK, script(alloc, &[5, 4])?, ports, 1, text)?;
     assert!(rt; done.talk.is_none());
+    Ok(())
+}
+
+#[test]
+fn ports_that_fail_are_told(rt: HostRuntime) -> Result<(), Fail> {
+    let alloc = rt.alloc();
     for call in [[0], [1]] {
-        let failing = ports(alloc, evening(alloc)?, &call, &[])?;
+        let ports = ports(alloc, evening(alloc)?, &call, &[])?;
         let bytes = script(alloc, &[20])?;
-        let done = expect(&rt, alloc, &BOOK, bytes, failing, 5, "port failed\n")?;
+        let done = expect(&rt, alloc, &BOOK, bytes, ports, 5, "port failed\n")?;
         assert!(rt; done.talk.is_none());
     }
+    Ok(())
+}
+
+#[test]
+fn a_lost_link_is_told(rt: HostRuntime) -> Result<(), Fail> {
+    let alloc = rt.alloc();
     let mut faults = Vec::new(alloc);
     for _ in 0..16 {
         assert_pushed(faults.push(Heard::Fault).is_ok())?;
     }
-    let lost = ports(alloc, faults, &[], &[])?;
+    let ports = ports(alloc, faults, &[], &[])?;
     let text = "ended kept 0\nlink lost\n";
-    let done = expect(&rt, alloc, &TALK, Vec::new(alloc), lost, 7, text)?;
+    let done = expect(&rt, alloc, &TALK, Vec::new(alloc), ports, 7, text)?;
     assert!(rt; done.talk.is_some());
-    let bad = ports(alloc, evening(alloc)?, &[], &[0])?;
-    let text = "closed asked kept 1\nbook failed\n";
-    let done = expect(&rt, alloc, &BOOK, script(alloc, &[20])?, bad, 8, text)?;
-    assert!(rt; done.talk.is_some());
-    let kept = ports(alloc, evening(alloc)?, &[], &[])?;
-    let text = "closed asked kept 1\n";
-    let done = expect(&rt, alloc, &BOOK, script(alloc, &[20])?, kept, 0, text)?;
-    let book = done.talk.ok_or("no devices")?.2.inner.ok_or("no book")?;
-    assert_eq!(rt; book.bytes().len(), 64);
+    Ok(())
+}
+
+#[test]
+fn a_book_is_kept_or_has_failed(rt: HostRuntime) -> Result<(), Fail> {
+    let alloc = rt.alloc();
+    let cases: [(&[u64], u8, &str, usize); 2] = [
+        (&[], 0, "closed asked kept 1\n", 64),
+        (&[0], 8, "closed asked kept 1\nbook failed\n", 0),
+    ];
+    for (fails, status, text, size) in cases {
+        let ports = ports(alloc, evening(alloc)?, &[], fails)?;
+        let bytes = script(alloc, &[20])?;
+        let done = expect(&rt, alloc, &BOOK, bytes, ports, status, text)?;
+        let book = done.talk.ok_or("no devices")?.2.inner.ok_or("no book")?;
+        assert_eq!(rt; book.bytes().len(), size);
+    }
     Ok(())
 }
 

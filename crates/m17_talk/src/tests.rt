@@ -426,6 +426,14 @@ fn expect_refused<R: Abort + Wait>(
     Ok(())
 }
 
+// The first bytes, as many as that; none where there are fewer.
+fn first(alloc: Global, bytes: &[u8], size: usize) -> Result<Vec<u8>, Fail> {
+    if size > bytes.len() {
+        return Ok(Vec::new(alloc));
+    }
+    Ok(bytes[..size].to_vec(alloc)?)
+}
+
 #[test]
 fn an_input_that_is_no_script_is_refused_at_its_place(rt: HostRuntime) -> Result<(), Fail> {
     let alloc = rt.alloc();
@@ -436,24 +444,17 @@ fn an_input_that_is_no_script_is_refused_at_its_place(rt: HostRuntime) -> Result
     expect_refused(
         &rt,
         alloc,
-        whole[..70].to_vec(alloc)?,
+        first(alloc, &whole, 70)?,
         62,
         ScriptReason::Field,
     )?;
     for size in [1, 7, 8, 61, 63, 69] {
-        assert!(rt; size <= whole.len());
-        let bytes = whole[..size].to_vec(alloc)?;
+        let bytes = first(alloc, &whole, size)?;
         expect_refused(&rt, alloc, bytes, size as u64, ScriptReason::Cut)?;
     }
     let cut = script(alloc, &[5, 5])?;
     assert_eq!(rt; cut.len(), 124);
-    expect_refused(
-        &rt,
-        alloc,
-        cut[..123].to_vec(alloc)?,
-        123,
-        ScriptReason::Cut,
-    )?;
+    expect_refused(&rt, alloc, first(alloc, &cut, 123)?, 123, ScriptReason::Cut)?;
     // a packet with a wrong CRC
     let mut wrong = script(alloc, &[5, 5])?;
     assert_eq!(rt; wrong.len(), 124);
