@@ -22,7 +22,7 @@ at_snoc (z ∷ xs) (f ∷ front) rest y x e =
       | inr h ↦ inr (let at : z ∷ xs ≡ f ∷ (front ++ x ∷ h.0) = cc in (h.0, at))
     ]
 
-never : {T : Type 0} (front rest : List T) (x : T) → [] ≡ front ++ x ∷ rest → ⊥
+pub never : {T : Type 0} (front rest : List T) (x : T) → [] ≡ front ++ x ∷ rest → ⊥
 never [] rest x e = cc
 never (f ∷ front) rest x e = cc
 
