@@ -77,7 +77,7 @@ Ordered items (j ∷ js) =
     × ((k : Joined) → Contains js k → j.member ≢ k.member)
     × Ordered items js
 
-append_none : {X : Type 0} (xs ys : List X) → xs ++ ys ≡ [] → ys ≡ []
+pub append_none : {X : Type 0} (xs ys : List X) → xs ++ ys ≡ [] → ys ≡ []
 append_none [] ys e = e
 append_none (x ∷ xs) ys e = absurd (never [] (xs ++ ys) x (sym e))
 

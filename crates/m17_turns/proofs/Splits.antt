@@ -91,10 +91,10 @@ filter_flat_map t f (x ∷ xs) =
     filter-append t (f x) (flat_map f xs) ∙ ap (λ ws. filter t (f x) ++ ws) (filter_flat_map t f xs)
 
 -- functions that agree on the items of a list
-contains_here : {T : Type 0} (x : T) (xs : List T) → Contains (x ∷ xs) x
+pub contains_here : {T : Type 0} (x : T) (xs : List T) → Contains (x ∷ xs) x
 contains_here x xs = contains_at [] xs x
 
-contains_later : {T : Type 0} (x : T) (xs : List T) (y : T) → Contains xs y → Contains (x ∷ xs) y
+pub contains_later : {T : Type 0} (x : T) (xs : List T) (y : T) → Contains xs y → Contains (x ∷ xs) y
 contains_later x xs y h = Contains-append_right (x ∷ []) xs y h
 
 pub flat_map_agree : {X A : Type 0} (f g : X → List A) (xs : List X) → ((x : X) → Contains xs x → f x ≡ g x) → flat_map f xs ≡ flat_map g xs
