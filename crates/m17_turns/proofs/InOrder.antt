@@ -1,18 +1,18 @@
 -- What is said to memberships that wait for one another stands in their order.
-use Rattle.std.proofs.Common.{◌≡◌, ◌≢◌, ℕ, ◌<◌, Bool, true, List, [], ◌∷◌, ◌++◌, refl, ap, sym, ◌∙◌, subst, Contains, All, take}
+use Rattle.std.proofs.Common.{◌≡◌, ℕ, Bool, true, List, [], ◌∷◌, ◌++◌, refl, ap, sym, ◌∙◌, subst, Contains, take}
 use Rattle.std.specs.List.{flat_map, filter, AllPairs}
 use Rattle.std.proofs.lemmas.Bool.{cond-true}
 use Rattle.std.proofs.lemmas.List.{append_assoc}
 use Rattle.std.proofs.lemmas.List.Concat.{flat_map-append}
-use Rattle.std.proofs.lemmas.List.Elements.{All-head, All-same, All-contains, filter-append, filter_passes}
+use Rattle.std.proofs.lemmas.List.Elements.{All-head, All-same, All-contains, filter_passes}
 use Rattle.m17_values.specs.declared.member.Member.{Member}
 use Rattle.m17_control.specs.declared.item.Item.{Item}
 use Rattle.m17_turns.specs.Acts.{Act, things_of, notes_of}
 use Rattle.m17_turns.specs.Turns.{HasBye, Turns}
-use Rattle.m17_turns.specs.Joined.{Queues, Joined, is_to, items_of, IsJoined, WaitsFor, AreInTurn, item_of, items_said, is_to_any}
+use Rattle.m17_turns.specs.Joined.{Queues, Joined, is_to, items_of, IsJoined, WaitsFor, item_of, items_said, is_to_any}
 use Rattle.m17_turns.specs.Laws.{TurnsKeepEachMemberInOrder}
 use Rattle.m17_turns.proofs.Grown.{never}
-use Rattle.m17_turns.proofs.Splits.{Found, found_in, contains_split, contains_at, contains_from, flat_map_at, filter_flat_map, flat_map_agree, filter_filter, filter_none_at, contains_here, contains_later}
+use Rattle.m17_turns.proofs.Splits.{Found, found_in, contains_split, flat_map_at, filter_flat_map, flat_map_agree, filter_filter, filter_none_at, contains_here, contains_later}
 use Rattle.m17_turns.proofs.Members.{is_same_self, one_to, SaysIt, says_it, own_items, any_one, any_from, pairs_head, pairs_tail}
 use Rattle.m17_turns.proofs.Waits.{hello_waits}
 use Rattle.m17_turns.proofs.Rows.{none_in, append_none, Ordered, in_rows}
@@ -86,21 +86,21 @@ front_of acts more queues link j js t turns things pair passes front rest y e is
     let s : SaysIt t f.it y = says_it t f.it y f.it_is in
     let whole : acts ++ more ≡ f.before ++ Act.Says s.m s.q y ∷ f.behind = f.xs_are ∙ ap (λ (w : Act). f.before ++ w ∷ f.behind) s.act_is in
     none_in (is_to_any js) front (λ a b z at any.
-      let one = any_one js z any in
-      let nothing : filter (is_to one.0.member) (items_said f.before) ≡ [] = none_before acts more queues link j one.0 turns things (pair one.0 one.1) f.before f.behind s.m s.q y whole is in
-      let kept : front ≡ filter t (items_said f.before) = sym f.front_is ∙ sym (filter_flat_map t item_of f.before) in
-      let none : filter (is_to one.0.member) front ≡ [] = ap (filter (is_to one.0.member)) kept ∙ filter_filter t (is_to one.0.member) (items_said f.before) (passes one.0 one.1) ∙ nothing in
-      filter_none_at (is_to one.0.member) front a b z none at one.2)
+    let one = any_one js z any in
+    let nothing : filter (is_to one.0.member) (items_said f.before) ≡ [] = none_before acts more queues link j one.0 turns things (pair one.0 one.1) f.before f.behind s.m s.q y whole is in
+    let kept : front ≡ filter t (items_said f.before) = sym f.front_is ∙ sym (filter_flat_map t item_of f.before) in
+    let none : filter (is_to one.0.member) front ≡ [] = ap (filter (is_to one.0.member)) kept ∙ filter_filter t (is_to one.0.member) (items_said f.before) (passes one.0 one.1) ∙ nothing in
+    filter_none_at (is_to one.0.member) front a b z none at one.2)
 
 ordered : (acts more : List Act) (queues : Queues) (link : ℕ) (js : List Joined) (t : Item → Bool) → Turns acts → ((m q : ℕ) → things_of m q (acts ++ more) ≡ queues m q) → ((k : Joined) → Contains js k → IsJoined queues link k) → AllPairs (WaitsFor (notes_of link acts)) js → ((k : Joined) → Contains js k → (x : Item) → is_to k.member x ≡ true → t x ≡ true) → Ordered (filter t (items_said (acts ++ more))) js
 ordered acts more queues link [] t turns things each pairs passes = tt
 ordered acts more queues link (j ∷ js) t turns things each pairs passes =
     let waits : (k : Joined) → Contains js k → WaitsFor (notes_of link acts) j k = pairs_head (WaitsFor (notes_of link acts)) j js pairs in (
       front_of acts more queues link j js t turns things
-      (λ k here. record { earlier = each j (contains_here j js); later = each k (contains_later j js k here); waits = waits k here })
-      (λ k here. passes k (contains_later j js k here)),
+          (λ k here. record { earlier = each j (contains_here j js); later = each k (contains_later j js k here); waits = waits k here })
+          (λ k here. passes k (contains_later j js k here)),
       (λ k here. (waits k here).0),
-      ordered acts more queues link js t turns things (λ k here. each k (contains_later j js k here)) (pairs_tail (WaitsFor (notes_of link acts)) j js pairs) (λ k here. passes k (contains_later j js k here))
+      ordered acts more queues link js t turns things (λ k here. each k (contains_later j js k here)) (pairs_tail (WaitsFor (notes_of link acts)) j js pairs) (λ k here. passes k (contains_later j js k here)),
     )
 
 pub in_order : TurnsKeepEachMemberInOrder

@@ -6,3 +6,4 @@ mod Rows
 mod InOrder
 mod Marked
 mod Less
+mod Spelled

@@ -1,8 +1,7 @@
 -- What goes to a peer by a link, each packet marked as a reply past all modules or as an item's.
 use Rattle.std.proofs.Common.{◌≡◌, ◌==◌, ◌&&◌, ℕ, Bool, true, false, not, cond, List, [], ◌∷◌, ◌++◌, map, Option, None, Some, inl, inr, refl, ap, sym, ◌∙◌, subst, Contains}
-use Rattle.std.specs.List.{flat_map, filter, filter_map, cons_option}
-use Rattle.std.proofs.lemmas.Bool.{cond-true, cond-false, and_left, and_right, and_from}
-use Rattle.std.proofs.lemmas.List.{append_assoc, map-append}
+use Rattle.std.specs.List.{flat_map, filter, cons_option}
+use Rattle.std.proofs.lemmas.List.{map-append}
 use Rattle.std.proofs.lemmas.List.Elements.{filter-append, filter_map-append}
 use Rattle.m17_values.specs.declared.peer.Peer.{Peer}
 use Rattle.m17_control.specs.declared.item.Direct.{Direct}
@@ -12,7 +11,7 @@ use Rattle.m17_control.specs.declared.packet.Packet.TheVariants as packets
 use Rattle.m17_control.specs.Spelled.{packet_said}
 use Rattle.m17_turns.specs.Acts.{Act, Saying, to_peer, things_of, answer_of, answers_of, saying_of, sayings}
 use Rattle.m17_turns.specs.Orders.{IsInterleaving}
-use Rattle.m17_turns.specs.Joined.{Queues, Joined, items_of, is_to_any, item_of, items_said, goes_to, replies_to, packets_to, packets_of}
+use Rattle.m17_turns.specs.Joined.{Queues, items_of, is_to_any, item_of, items_said, goes_to, replies_to, packets_to, packets_of}
 use Rattle.m17_turns.specs.Laws.{RepliesAndItemsInterleave, PeersAreToldInOrder}
 use Rattle.m17_turns.proofs.Splits.{MakesOne, Found, found_in, contains_split, contains_from, filter_agree_on}
 use Rattle.m17_turns.proofs.Members.{in_its_queue}

@@ -1,10 +1,9 @@
 -- Items in the order of the memberships that they are to.
-use Rattle.std.proofs.Common.{inl, inr, ◌≡◌, ◌≢◌, ◌||◌, ℕ, Bool, true, false, not, cond, List, [], ◌∷◌, ◌++◌, refl, ap, sym, ◌∙◌, subst, Contains, All}
+use Rattle.std.proofs.Common.{inl, inr, ◌≡◌, ◌≢◌, ◌||◌, Bool, true, false, not, cond, List, [], ◌∷◌, ◌++◌, refl, ap, sym, ◌∙◌, subst, Contains}
 use Rattle.std.specs.List.{flat_map, filter}
-use Rattle.std.proofs.lemmas.Bool.{true≢false, or_cases, not-true, not_from_false, not_from_true, false_from_ne_true, cond-true, cond-false}
+use Rattle.std.proofs.lemmas.Bool.{true≢false, or_cases, not-true, not_from_false, false_from_ne_true}
 use Rattle.std.proofs.lemmas.List.{append_assoc}
 use Rattle.std.proofs.lemmas.List.Elements.{Contains-append_right, All-contains, filter-append, filter_passes}
-use Rattle.m17_values.specs.declared.member.Member.{Member}
 use Rattle.m17_control.specs.declared.item.Item.{Item}
 use Rattle.m17_turns.specs.Joined.{Joined, is_to, is_to_any}
 use Rattle.m17_turns.proofs.Grown.{never}
@@ -55,8 +54,8 @@ passes_first_tail t x xs first = λ front rest y e is.
 none_passes_behind : {X : Type 0} (t : X → Bool) (x : X) (xs : List X) → PassesFirst t (x ∷ xs) → t x ≡ false → filter t xs ≡ []
 none_passes_behind t x xs first is =
     none_in t xs (λ front rest z e passes.
-      let no : not (t x) ≡ false = (cond_none (not (t x)) x (filter (λ w. not (t w)) front) (first (x ∷ front) rest z (ap (λ ws. x ∷ ws) e) passes)).0 in
-      true≢false (sym (not_from_false (t x) is) ∙ no))
+    let no : not (t x) ≡ false = (cond_none (not (t x)) x (filter (λ w. not (t w)) front) (first (x ∷ front) rest z (ap (λ ws. x ∷ ws) e) passes)).0 in
+    true≢false (sym (not_from_false (t x) is) ∙ no))
 
 parts_at : {X : Type 0} (t : X → Bool) (x : X) (xs : List X) (b : Bool) → t x ≡ b → PassesFirst t (x ∷ xs) → xs ≡ filter t xs ++ filter (λ w. not (t w)) xs → x ∷ xs ≡ cond b (x ∷ filter t xs) (filter t xs) ++ cond (not b) (x ∷ filter (λ w. not (t w)) xs) (filter (λ w. not (t w)) xs)
 parts_at t x xs true is first below = ap (λ ws. x ∷ ws) below
@@ -85,11 +84,11 @@ ordered_behind : (front items all : List Item) (js : List Joined) → all ≡ fr
 ordered_behind front items all [] e h = tt
 ordered_behind front items all (j ∷ js) e h = (
   (λ f rest y at is.
-    append_none (filter (is_to_any js) front) (filter (is_to_any js) f)
-    (sym (filter-append (is_to_any js) front f)
-    ∙ h.0 (front ++ f) rest y (e ∙ ap (λ ws. front ++ ws) at ∙ sym (append_assoc front f (y ∷ rest))) is)),
+      append_none (filter (is_to_any js) front) (filter (is_to_any js) f)
+      (sym (filter-append (is_to_any js) front f)
+      ∙ h.0 (front ++ f) rest y (e ∙ ap (λ ws. front ++ ws) at ∙ sym (append_assoc front f (y ∷ rest))) is)),
   h.1,
-  ordered_behind front items all js e h.2
+  ordered_behind front items all js e h.2,
 )
 
 abbrev pub AllTo : List Item → List Joined → Type 0
@@ -98,12 +97,12 @@ AllTo items js = (x : Item) → Contains items x → is_to_any js x ≡ true
 first_ones : (items : List Item) (j : Joined) (js : List Joined) → AllTo items (j ∷ js) → Ordered items (j ∷ js) → PassesFirst (is_to j.member) items
 first_ones items j js all ordered = λ front rest y e is.
     none_in (λ x. not (is_to j.member x)) front (λ f g z at passes.
-      let here : items ≡ f ++ z ∷ (g ++ y ∷ rest) = e ∙ ap (λ ws. ws ++ y ∷ rest) at ∙ append_assoc f (z ∷ g) (y ∷ rest) in
-      let one : (is_to j.member z || is_to_any js z) ≡ true = all z (contains_from items f (g ++ y ∷ rest) z here) in
-      elim (or_cases (is_to j.member z) (is_to_any js z) one) [
-        | inl mine ↦ true≢false (sym mine ∙ not-true (is_to j.member z) passes)
-        | inr theirs ↦ filter_none_at (is_to_any js) front f g z (ordered.0 front rest y e is) at theirs
-      ])
+    let here : items ≡ f ++ z ∷ (g ++ y ∷ rest) = e ∙ ap (λ ws. ws ++ y ∷ rest) at ∙ append_assoc f (z ∷ g) (y ∷ rest) in
+    let one : (is_to j.member z || is_to_any js z) ≡ true = all z (contains_from items f (g ++ y ∷ rest) z here) in
+    elim (or_cases (is_to j.member z) (is_to_any js z) one) [
+      | inl mine ↦ true≢false (sym mine ∙ not-true (is_to j.member z) passes)
+      | inr theirs ↦ filter_none_at (is_to_any js) front f g z (ordered.0 front rest y e is) at theirs
+    ])
 
 others_to : (items : List Item) (j : Joined) (js : List Joined) → AllTo items (j ∷ js) → items ≡ filter (is_to j.member) items ++ filter (λ x. not (is_to j.member x)) items → AllTo (filter (λ x. not (is_to j.member x)) items) js
 others_to items j js all e x here =
@@ -124,7 +123,7 @@ in_rows items (j ∷ js) all ordered =
     let below : rest ≡ flat_map (λ k. filter (is_to k.member) rest) js = in_rows rest js (others_to items j js all e) (ordered_behind (filter (is_to j.member) items) rest items js e ordered.2) in
     let same : flat_map (λ k. filter (is_to k.member) rest) js ≡ flat_map (λ k. filter (is_to k.member) items) js =
     flat_map_agree (λ k. filter (is_to k.member) rest) (λ k. filter (is_to k.member) items) js (λ k here.
-      filter_filter (λ x. not (is_to j.member x)) (is_to k.member) items (λ x theirs.
-        not_from_false (is_to j.member x) (false_from_ne_true (is_to j.member x) (λ mine.
-          ordered.1 k here (sym (same_member x.member j.member mine) ∙ same_member x.member k.member theirs))))) in
+    filter_filter (λ x. not (is_to j.member x)) (is_to k.member) items (λ x theirs.
+    not_from_false (is_to j.member x) (false_from_ne_true (is_to j.member x) (λ mine.
+    ordered.1 k here (sym (same_member x.member j.member mine) ∙ same_member x.member k.member theirs))))) in
     e ∙ ap (λ ws. filter (is_to j.member) items ++ ws) (below ∙ same)

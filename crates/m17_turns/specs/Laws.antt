@@ -1,13 +1,15 @@
 -- What follows of every list of acts, for callers to cite by name. This profile.
 use Rattle.std.specs.Prelude.{◌≡◌, ℕ, Bool, false, List, [], ◌∷◌, ◌++◌, map, filter, All, Contains}
-use Rattle.std.specs.List.{flat_map}
+use Rattle.std.specs.List.{flat_map, AllZip}
 use Rattle.m17_values.specs.declared.member.Member.{Member}
 use Rattle.m17_values.specs.declared.peer.Peer.{Peer}
 use Rattle.m17_control.specs.declared.event.Why.{Why}
 use Rattle.m17_control.specs.declared.item.Item.{Item}
 use Rattle.m17_control.specs.declared.item.Said.{Said}
 use Rattle.m17_control.specs.declared.item.Said.TheVariants.{Hello, Bye}
-use Rattle.m17_turns.specs.Acts.{Act, things_of, answers_of, notes_of, sayings}
+use Rattle.m17_control.specs.Forms.{Spells}
+use Rattle.m17_ports.specs.Mouth.{Datagram}
+use Rattle.m17_turns.specs.Acts.{Act, Saying, things_of, answers_of, notes_of, sayings, AreSpelled}
 use Rattle.m17_turns.specs.Turns.{HasBye, MayFollow, Turns}
 use Rattle.m17_turns.specs.Orders.{IsInterleaving}
 use Rattle.m17_turns.specs.Joined.{Queues, Joined, items_of, IsLifeFrom, AreInTurn, items_said, is_to_any, goes_to, replies_to, packets_to, packets_of}
@@ -55,6 +57,18 @@ PeersAreToldInOrder =
     IsInterleaving (replies_to link x (answers_of (acts ++ more)))
     (packets_of name (flat_map (items_of queues) joins))
     (packets_to x (sayings name link (acts ++ more)))
+
+-- The bytes of the datagrams to a peer, which is told by a test, in order. This profile.
+abbrev pub bytes_to : (Peer → Bool) → List Datagram → List (List ℕ)
+bytes_to x datagrams = map (λ d. d.1) (filter (λ d. x d.0) datagrams)
+
+-- Datagrams that spell packets, and more that spell more, spell them together; and those to a peer
+-- spell the packets to it. This profile.
+pub record SpelledPartByPart : Type 0 where
+  pub in_turn : (said more : List Saying) (one other : List Datagram) → AreSpelled said one →
+      AreSpelled more other → AreSpelled (said ++ more) (one ++ other)
+  pub to_each : (x : Peer → Bool) (said : List Saying) (datagrams : List Datagram) →
+      AreSpelled said datagrams → AllZip Spells (packets_to x said) (bytes_to x datagrams)
 
 -- A Hello. This profile.
 abbrev pub IsHello : Said → Type 0

@@ -31,6 +31,12 @@ pub fn peers_are_told_in_order()
     replies_and_items_interleave();
 }
 
+/// Datagrams that spell packets, and more that spell more, spell them together; and those to one peer spell the packets
+/// to it. This profile.
+pub fn spelled_part_by_part()
+    ensures { law.SpelledPartByPart }
+{}
+
 /// What a queue holds for a member begins with the member's Hello, and has nothing behind its Bye, if that holds of all
 /// that its module gave to it and no Hello was left out. This profile.
 pub fn less_of_a_life_is_a_life()
