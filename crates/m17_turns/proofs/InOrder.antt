@@ -104,7 +104,9 @@ ordered acts more queues link (j ∷ js) t turns things each pairs passes =
     )
 
 pub in_order : TurnsKeepEachMemberInOrder
-in_order acts more queues link joins turns things inturn =
+in_order acts more queues link joins all inturn =
+    let turns : Turns acts = all.turns in
+    let things : (m q : ℕ) → things_of m q (acts ++ more) ≡ queues m q = all.things in
     let t : Item → Bool = is_to_any joins in
     let said : List Item = items_said (acts ++ more) in
     let each : (k : Joined) → Contains joins k → IsJoined queues link k = λ k here. All-contains (IsJoined queues link) joins k inturn.each here in

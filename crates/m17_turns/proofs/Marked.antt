@@ -136,10 +136,10 @@ queued acts queues things z here =
     (a.0, a.1, subst (λ ws. Contains ws z) (things a.0 a.1) (in_its_queue acts a.0 a.1 z there))
 
 pub told_in_order : PeersAreToldInOrder
-told_in_order acts more queues link joins turns things inturn name x agree =
+told_in_order acts more queues link joins all inturn name x agree =
     let same : filter (goes_to link x) (items_said (acts ++ more)) ≡ flat_map (items_of queues) joins =
     filter_agree_on (goes_to link x) (is_to_any joins) (items_said (acts ++ more))
-    (λ z here. let there = queued (acts ++ more) queues things z here in agree there.0 there.1 z there.2)
-    ∙ in_order acts more queues link joins turns things inturn in
+    (λ z here. let there = queued (acts ++ more) queues all.things z here in agree there.0 there.1 z there.2)
+    ∙ in_order acts more queues link joins all inturn in
     subst (λ items. IsInterleaving (replies_to link x (answers_of (acts ++ more))) (packets_of name items) (packets_to x (sayings name link (acts ++ more)))) same
     (interleave name link x (acts ++ more))

@@ -1,4 +1,5 @@
--- The memberships of a peer, what each is told by its queue, and what goes to the peer. This profile.
+-- The memberships of a peer, what each is told by its queue, and what goes to the peer. This
+-- profile.
 use Rattle.std.specs.Prelude.{◌≡◌, ◌≢◌, ◌==◌, ◌&&◌, ℕ, Bool, List, [], ◌∷◌, ◌++◌, map, take, filter, All, AllPairs, Contains}
 use Rattle.std.specs.List.{flat_map, filter_map, list_any}
 use Rattle.m17_values.specs.declared.member.Member.{Member}
@@ -11,11 +12,18 @@ use Rattle.m17_control.specs.declared.packet.Packet.{Packet}
 use Rattle.m17_control.specs.declared.packet.Packet.TheVariants as packets
 use Rattle.m17_control.specs.Spelled.{packet_said}
 use Rattle.m17_floor.specs.Acts.{is_same}
-use Rattle.m17_turns.specs.Acts.{Act, Saying}
+use Rattle.m17_turns.specs.Acts.{Act, Saying, things_of}
+use Rattle.m17_turns.specs.Turns.{Turns}
 
 -- What each queue holds, in order, by the number of its module and its place. This profile.
 abbrev pub Queues : Type 0
 Queues = ℕ → ℕ → List Item
+
+-- Acts in turn, and more behind them, say what the queues hold, each queue's items in order. This
+-- profile.
+pub record SayAll (acts more : List Act) (queues : Queues) : Type 0 where
+  pub turns : Turns acts
+  pub things : (m q : ℕ) → things_of m q (acts ++ more) ≡ queues m q
 
 -- A membership: the number of its module, its member, and how many departed members of its link are
 -- to be noted before it is greeted. This profile.

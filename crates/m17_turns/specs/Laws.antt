@@ -9,10 +9,10 @@ use Rattle.m17_control.specs.declared.item.Said.{Said}
 use Rattle.m17_control.specs.declared.item.Said.TheVariants.{Hello, Bye}
 use Rattle.m17_control.specs.Forms.{Spells}
 use Rattle.m17_ports.specs.Mouth.{Datagram}
-use Rattle.m17_turns.specs.Acts.{Act, Saying, things_of, answers_of, notes_of, sayings, AreSpelled}
+use Rattle.m17_turns.specs.Acts.{Act, Saying, answers_of, notes_of, sayings, AreSpelled}
 use Rattle.m17_turns.specs.Turns.{HasBye, MayFollow, Turns}
 use Rattle.m17_turns.specs.Orders.{IsInterleaving}
-use Rattle.m17_turns.specs.Joined.{Queues, Joined, items_of, IsLifeFrom, AreInTurn, items_said, is_to_any, goes_to, replies_to, packets_to, packets_of}
+use Rattle.m17_turns.specs.Joined.{Queues, SayAll, Joined, items_of, IsLifeFrom, AreInTurn, items_said, is_to_any, goes_to, replies_to, packets_to, packets_of}
 
 -- No acts are in turn, and acts in turn still are when one follows that may; and a member may be
 -- noted to the link of its Bye from then on. This profile.
@@ -25,14 +25,12 @@ pub record TurnsGrow : Type 0 where
   pub still : (acts more : List Act) (link : ℕ) (k : Member) → HasBye acts link k →
       HasBye (acts ++ more) link k
 
--- Acts in turn, and more behind them, say what the queues hold. Then what is said to memberships of
--- a link, each waiting for all before it, is their items, one membership after another. This
--- profile.
+-- Where acts in turn and more behind them say all, what is said to memberships on a link, each
+-- waiting for all before it, is their items, one membership after another. This profile.
 abbrev pub TurnsKeepEachMemberInOrder : Type 0
 TurnsKeepEachMemberInOrder =
-    (acts more : List Act) (queues : Queues) (link : ℕ) (joins : List Joined) → Turns acts →
-    ((m q : ℕ) → things_of m q (acts ++ more) ≡ queues m q) →
-    AreInTurn queues link (notes_of link acts) joins →
+    (acts more : List Act) (queues : Queues) (link : ℕ) (joins : List Joined) →
+    SayAll acts more queues → AreInTurn queues link (notes_of link acts) joins →
     filter (is_to_any joins) (items_said (acts ++ more)) ≡ flat_map (items_of queues) joins
 
 -- The packets to a peer by a link are one order of the replies to it past all modules, and of those
@@ -45,13 +43,13 @@ RepliesAndItemsInterleave =
     (packets_to x (sayings name i acts))
 
 -- Both together: where the items to the peer by the link are those to the memberships, the packets
--- to it are one order of the replies to it, and of what the memberships are told, one after another.
--- This profile.
+-- to it are one order of the replies to it, and of what the memberships are told, one after
+-- another. This profile.
 abbrev pub PeersAreToldInOrder : Type 0
 PeersAreToldInOrder =
-    (acts more : List Act) (queues : Queues) (link : ℕ) (joins : List Joined) → Turns acts →
-    ((m q : ℕ) → things_of m q (acts ++ more) ≡ queues m q) →
-    AreInTurn queues link (notes_of link acts) joins → (name : ℕ) (x : Peer → Bool) →
+    (acts more : List Act) (queues : Queues) (link : ℕ) (joins : List Joined) →
+    SayAll acts more queues → AreInTurn queues link (notes_of link acts) joins →
+    (name : ℕ) (x : Peer → Bool) →
     ((m q : ℕ) (item : Item) → Contains (queues m q) item →
     goes_to link x item ≡ is_to_any joins item) →
     IsInterleaving (replies_to link x (answers_of (acts ++ more)))
