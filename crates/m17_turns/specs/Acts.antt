@@ -18,8 +18,8 @@ pub data Act : Type 0 where
   Answers : (direct : Direct) → Act
   Notes : (link : ℕ) (member : Member) → Act
 
--- The items of queue q of module m that were said, in order; a queue that isn't there has none. A
--- Bye that spells nothing counts as said. This profile.
+-- The items of queue q of module m that were said, in order. A Bye that spells nothing counts as
+-- said. This profile.
 abbrev pub thing_of : ℕ → ℕ → Act → List Item
 thing_of m q (Act.Says n p item) = if m == n && q == p then item ∷ [] else []
 thing_of m q (Act.Answers direct) = []
