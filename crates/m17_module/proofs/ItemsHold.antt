@@ -1,6 +1,6 @@
 -- What holds of each member that is in holds of each item: R of the member's seat, P of the item.
 use Rattle.std.proofs.Common.{◌≡◌, ℕ, zero, suc, ◌/◌, ◌<◌, Bool, true, false, cond, List, [], ◌∷◌, ◌++◌, length, map, slice_get, get_or, nat_lt, Option, None, Some, refl, ap, sym, ◌∙◌, subst}
-use Rattle.std.specs.List.{All, cons_option, range_with_len}
+use Rattle.std.specs.List.{All, cons_option, flat_map, range_with_len}
 use Rattle.std.proofs.lemmas.Bool.{ltb-true, false≢true}
 use Rattle.std.proofs.lemmas.List.Elements.{All-nil, All-cons, All-head, All-tail, All-get_or, All-append, All-filter, All-map, All-weaker}
 use Rattle.std.proofs.lemmas.Option.{same_Some, option_and_then_some, get_or_from_slice_get, slice_get_within}
@@ -19,7 +19,7 @@ use Rattle.m17_module.specs.declared.seat.Seat.{Seat}
 use Rattle.m17_module.specs.Events.{acts_of}
 use Rattle.m17_module.specs.Seats.{seat_joined, seat_from, if_in_by, last_join, seat_at, seats_at, members_of, seat_in, if_of, seat_of, others_than}
 use Rattle.m17_module.specs.Echoes.{echo_at}
-use Rattle.m17_module.specs.Items.{Setup, Setting, setting_at, ping_every_ms, item_to, to_one, greets, says, pings_at, echo_items, echoes_at, said_by, said_at, items_at}
+use Rattle.m17_module.specs.Items.{Setup, Setting, setting_at, ping_every_ms, item_to, to_one, greets, says, pings_at, echo_items, echoes_at, said_by, said_at, items_at, items_given}
 use Rattle.m17_module.specs.Laws.{is_hello, ItemsAreAtPlaces, ItemsKeepLinks, FollowsJoin, ItemsFollowTheirJoins}
 use Rattle.m17_module.proofs.SeatsMore.{if_in_some, joined_has_seat, length_seats}
 
@@ -236,8 +236,19 @@ hello_follows events j event k peer callsign listens after at is = record {
   waits = λ number same. (let back : number ≡ after = cc in back);
 }
 
-pub items_follow_their_joins : ItemsFollowTheirJoins
-items_follow_their_joins setup events n =
+follow_at : (setup : Setup) (events : List Event) (n : ℕ) → All (FollowsJoin events) (items_at setup events n)
+follow_at setup events n =
     items_hold (HasJoin events) (FollowsJoin events) (follows events) setup events n
     (λ j event seat at is below. seat_has_join events j event seat at is)
     (λ j event at k peer callsign listens after is below. hello_follows events j event k peer callsign listens after at is)
+
+all_given : (P : Item → Type 0) (f : ℕ → List Item) (ns : List ℕ) → ((n : ℕ) → All P (f n)) → All P (flat_map f ns)
+all_given P f [] each = All-nil P
+all_given P f (n ∷ ns) each = All-append P (f n) (flat_map f ns) (each n) (all_given P f ns each)
+
+follow_given : (setup : Setup) (events : List Event) → All (FollowsJoin events) (items_given setup events)
+unfolding items_given
+follow_given setup events = all_given (FollowsJoin events) (items_at setup events) (range_with_len 0 (length events)) (follow_at setup events)
+
+pub items_follow_their_joins : ItemsFollowTheirJoins
+items_follow_their_joins = record { at = follow_at; given = follow_given }

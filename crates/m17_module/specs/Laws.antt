@@ -165,11 +165,13 @@ pub record FollowsJoin (events : List Event) (item : Item) : Type 0 where
   pub link : event.tag.link ≡ item.link
   pub waits : (number : ℕ) → item.body ≡ said.Hello number → number ≡ after
 
--- Each item follows a Join of its member. This profile.
-abbrev pub ItemsFollowTheirJoins : Type 0
-ItemsFollowTheirJoins =
-    (setup : Setup) (events : List Event) (n : ℕ) →
-    All (FollowsJoin events) (items_at setup events n)
+-- Each item that a position gives follows a Join of its member, and so does each of all that are
+-- given. This profile.
+pub record ItemsFollowTheirJoins : Type 0 where
+  pub at : (setup : Setup) (events : List Event) (n : ℕ) →
+      All (FollowsJoin events) (items_at setup events n)
+  pub given : (setup : Setup) (events : List Event) →
+      All (FollowsJoin events) (items_given setup events)
 
 -- If the event is a packet, its number is below 32,768. This profile.
 abbrev pub IsNumbered : Body → Type 0
