@@ -5,7 +5,7 @@ use Rattle.m17_values.specs.declared.member.Member.{Member}
 use Rattle.m17_stream.specs.declared.packet.StreamPacket.{StreamPacket}
 use Rattle.m17_control.specs.declared.event.Event.{Event}
 use Rattle.m17_control.specs.declared.event.Body.{Body}
-use Rattle.m17_control.specs.declared.event.Body.TheVariants.{Packet}
+use Rattle.m17_control.specs.declared.event.Body.TheVariants.{Join, Packet}
 use Rattle.m17_control.specs.declared.item.Item.{Item}
 use Rattle.m17_control.specs.declared.item.Said.{Said}
 use Rattle.m17_control.specs.declared.item.Said.TheVariants as said
@@ -151,6 +151,27 @@ ItemsKeepLinks =
     (setup : Setup) (events : List Event) (n links : ℕ) →
     All (λ event. event.tag.link < links) events →
     All (λ item. item.link < links) (items_at setup events n)
+
+-- An item follows a Join of its member: it goes to the peer that the Join names, by the link of its event, and where
+-- it is a Hello, it waits for as many notes as the Join says. This profile.
+pub record FollowsJoin (events : List Event) (item : Item) : Type 0 where
+  pub position : ℕ
+  pub event : Event
+  pub callsign : ℕ
+  pub listens : Bool
+  pub after : ℕ
+  pub there : slice_get events position ≡ Some event
+  pub body : event.body ≡ Join item.member item.peer callsign listens after
+  pub link : event.tag.link ≡ item.link
+  pub waits : (number : ℕ) → item.body ≡ said.Hello number → number ≡ after
+
+-- Each item that a position gives follows a Join of its member, and so does each of all that are
+-- given. This profile.
+pub record ItemsFollowTheirJoins : Type 0 where
+  pub at : (setup : Setup) (events : List Event) (n : ℕ) →
+      All (FollowsJoin events) (items_at setup events n)
+  pub given : (setup : Setup) (events : List Event) →
+      All (FollowsJoin events) (items_given setup events)
 
 -- If the event is a packet, its number is below 32,768. This profile.
 abbrev pub IsNumbered : Body → Type 0

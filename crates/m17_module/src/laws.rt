@@ -53,6 +53,12 @@ pub fn items_are_at_places()
     ensures { law.ItemsAreAtPlaces }
 {}
 
+/// Each item follows a Join of its member: it goes to the peer that the Join names, by the link of the Join's event, and a
+/// Hello waits for as many notes as the Join says. This profile.
+pub fn items_follow_their_joins()
+    ensures { law.ItemsFollowTheirJoins }
+{}
+
 /// Where the links of the events are below a number, those of the items are: each item goes by the link of its member's
 /// Join. This profile.
 pub fn items_keep_links()
