@@ -1,5 +1,6 @@
 //! Pushes and pops at one place of a row of ends, with what they come to for the whole row.
-ghost use Rattle.std.specs.Prelude.{◌≡◌, ◌<◌, ◌≤◌, length, map, slice_get, vec_len, vec_capacity, MatchOption, MatchResult, IfErr, IfSome, ForSome};
+ghost use Rattle.std.specs.Prelude.{◌≡◌, ◌<◌, ◌≤◌, length, map, slice_get, vec_len, vec_capacity, MatchOption, MatchResult, IfErr, IfSome};
+ghost use Rattle.std.specs.Option.{ForSome};
 ghost use Rattle.m17_rows.specs.Rows.{push_each, grow_each, pop_each, only, nowhere};
 ghost use Rattle.m17_rows.specs.Grids.{pop_grid, only_in};
 
@@ -58,9 +59,9 @@ pub fn pop_in<T, R: Wait>(
 ) -> Option<T>
     requires row { row < vec_len grid.old }
     requires at { ForSome (slice_get grid.old.items row) (λ ends. at < vec_len ends) }
-    ensures grid { MatchOption result (grid.new.items ≡ grid.old.items)
-        (λ x. map (λ ends. ends.items) grid.new.items
-        ≡ pop_grid (only_in row at x) 0 (map (λ ends. ends.items) grid.old.items)) }
+    ensures grid { let was = map (λ ends. ends.items) grid.old.items in
+        let is = map (λ ends. ends.items) grid.new.items in
+        MatchOption result (is ≡ was) (λ x. is ≡ pop_grid (only_in row at x) 0 was) }
     ensures same_room { vec_capacity grid.new ≡ vec_capacity grid.old }
 {
     pop_at(rt, &mut grid[row], at)
