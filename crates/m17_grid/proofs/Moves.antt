@@ -1,5 +1,6 @@
 -- What a step of the two loops over columns does: an item leaves a column's end for the row, or comes there from it.
-use Rattle.std.proofs.Common.{◌≡◌, ℕ, zero, suc, ◌+◌, ◌<◌, ◌≤◌, List, [], ◌∷◌, ◌++◌, map, length, set, get_or, drop, sym, refl, ap, ◌∙◌, arith}
+use Rattle.std.proofs.Common.{◌≡◌, ℕ, zero, suc, ◌+◌, ◌<◌, ◌≤◌, List, [], ◌∷◌, ◌++◌, map, length, set, get_or, drop, sym, subst, refl, ap, ◌∙◌, arith}
+use Rattle.std.proofs.lemmas.List.{map-set, length-map}
 use Rattle.std.specs.List.{AllZip}
 use Rattle.m17_grid.specs.Columns.{each_with}
 
@@ -35,7 +36,7 @@ module _ {A : Type 0} where
   taken_step zero [] row old c d x h lt e = absurd (omega arith)
   taken_step zero (b ∷ now) (y ∷ row) old c d x h lt e = absurd (not_empty y row h.0)
   taken_step zero (b ∷ now) [] [] c d x h lt e = absurd (not_empty b now h.1)
-  taken_step zero (b ∷ now) [] (o ∷ old) c d x h lt e = (sym (heads d b o now old h.1) ∙ e, refl, tails b o now old h.1)
+  taken_step zero (b ∷ now) [] (o ∷ old) c d x h lt e = (sym (heads d b o now old h.1) ∙ e, (refl, tails b o now old h.1))
   taken_step (suc k) [] row old c d x h lt e = absurd h
   taken_step (suc k) (b ∷ now) [] old c d x h lt e = absurd h
   taken_step (suc k) (b ∷ now) (y ∷ row) [] c d x h lt e = absurd h
@@ -98,3 +99,44 @@ module _ {V : Type 0} (R : V → V → Type 0) where
   changed_read k (w ∷ now) [] d h = absurd h
   changed_read zero (w ∷ now) (o ∷ old) d h = h.0
   changed_read (suc k) (w ∷ now) (o ∷ old) d h = changed_read k now old d h.1
+
+-- one step, where the columns are what `items` shows of the members of a list
+module _ {V A : Type 0} (items : V → List A) where
+  pub took : (cols old : List V) (k n : ℕ) (row more : List A) (was is : V) (x : A) → n ≡ suc k → Taken k (map items cols) row (map items old) → k < length cols → was ≡ get_or cols k was → items was ≡ items is ++ x ∷ [] → more ≡ row ++ x ∷ [] → Taken n (map items (set cols k is)) more (map items old)
+  took cols old k n row more was is x next h lt at left came =
+      let long : length (map items cols) ≡ length cols = length-map cols items in
+      let step : Taken (suc k) (set (map items cols) k (items is)) (row ++ x ∷ []) (map items old) =
+          taken_step k (map items cols) row (map items old) (items is) (items was) x h (omega arith) (map_read items cols k was ∙ ap items (sym at) ∙ left) in
+      subst (λ (j : ℕ). Taken j (map items (set cols k is)) more (map items old)) (sym next)
+      (subst (λ (l : List A). Taken (suc k) (map items (set cols k is)) l (map items old)) (sym came)
+       (subst (λ (l : List (List A)). Taken (suc k) l (row ++ x ∷ []) (map items old)) (sym (map-set items cols k is)) step))
+
+  pub same_items : (cols old : List V) (k : ℕ) (row : List A) (was : V) → Taken k (map items cols) row (map items old) → was ≡ get_or cols k was → items was ≡ items (get_or old k was)
+  same_items cols old k row was h at =
+      ap items at ∙ sym (map_read items cols k was) ∙ taken_read k (map items cols) row (map items old) (items was) h ∙ map_read items old k was
+
+  pub dealt_at_first : (old : List V) (n : ℕ) → n ≡ length old → Dealt n (map items old) (map items old) []
+  dealt_at_first old n e = subst (λ (j : ℕ). Dealt j (map items old) (map items old) []) (length-map old items ∙ sym e) (dealt_none (map items old))
+
+  pub dealt_one : (cols : List V) (old : List (List A)) (j k m : ℕ) (gone : List A) (was is : V) (x : A) → j ≡ suc k → m ≡ k → Dealt j (map items cols) old gone → was ≡ get_or cols m was → items is ≡ items was ++ x ∷ [] → Dealt k (map items (set cols m is)) old (x ∷ gone)
+  dealt_one cols old j k m gone was is x next same h at came =
+      let here : was ≡ get_or cols k was = at ∙ ap (λ (i : ℕ). get_or cols i was) same in
+      let step = dealt_step k (map items cols) old gone (items was) x (subst (λ (i : ℕ). Dealt i (map items cols) old gone) next h) in
+      let put : get_or (map items cols) k (items was) ++ x ∷ [] ≡ items is = ap (λ (l : List A). l ++ x ∷ []) (map_read items cols k was ∙ ap items (sym here)) ∙ sym came in
+      subst (λ (i : ℕ). Dealt k (map items (set cols i is)) old (x ∷ gone)) (sym same)
+      (subst (λ (l : List (List A)). Dealt k l old (x ∷ gone)) (sym (map-set items cols k is))
+       (subst (λ (l : List A). Dealt k (set (map items cols) k l) old (x ∷ gone)) put step))
+
+module _ {V : Type 0} (R : V → V → Type 0) where
+  pub changed_one : (cols old : List V) (j k m : ℕ) (was is : V) → j ≡ suc k → m ≡ k → Changed R j cols old → was ≡ get_or cols m was → R was is → Changed R k (set cols m is) old
+  changed_one cols old j k m was is next same h at r =
+      let before = subst (λ (i : ℕ). Changed R i cols old) next h in
+      let here : was ≡ get_or old k was = at ∙ ap (λ (i : ℕ). get_or cols i was) same ∙ changed_read R k cols old was before in
+      subst (λ (i : ℕ). Changed R k (set cols i is) old) (sym same)
+      (changed_step R k cols old was is before (subst (λ (v : V). R v is) here r))
+
+  pub still : (cols old : List V) (j m : ℕ) (was : V) → j ≡ suc m → Changed R j cols old → was ≡ get_or cols m was → was ≡ get_or old m was
+  still cols old j m was next h at = at ∙ changed_read R m cols old was (subst (λ (i : ℕ). Changed R i cols old) next h)
+
+  pub changed_at_first : (old : List V) (n : ℕ) → n ≡ length old → Changed R n old old
+  changed_at_first old n e = subst (λ (j : ℕ). Changed R j old old) (sym e) (changed_none R old)

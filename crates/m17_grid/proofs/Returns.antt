@@ -1,15 +1,20 @@
 -- What a step of the loops that take lanes back does, from the last lane to the first.
-use Rattle.std.proofs.Common.{◌≡◌, ℕ, zero, suc, ◌+◌, ◌<◌, ◌≤◌, List, [], ◌∷◌, ◌++◌, map, length, set, get_or, take, reverse, Option, None, Some, sym, subst, refl, ap, ◌∙◌, append_assoc, append-nil, length-append, arith}
-use Rattle.std.proofs.lemmas.Option.{same_Some, none-some}
+use Rattle.std.proofs.Common.{◌≡◌, ℕ, zero, suc, ◌+◌, ◌<◌, ◌≤◌, List, [], ◌∷◌, ◌++◌, map, length, All, take, reverse, Option, None, Some, sym, subst, refl, ap, ◌∙◌, append_assoc, append-nil, length-append, arith}
+use Rattle.std.proofs.lemmas.Option.{same_Some, none-some, slice_get_within, get_or_from_slice_get}
+use Rattle.std.proofs.lemmas.List.Elements.{All-from_recursion, recursion_from_All}
 use Rattle.std.proofs.lemmas.List.{reverse-append, length-map, map-append}
 use Rattle.std.specs.Prelude.{slice_get}
 use Rattle.std.specs.List.{AllByRecursion, cons_option}
 use Rattle.m17_lane.specs.Ends.{PushEnd, PopEnd, TrailEnd, AreOf}
-use Rattle.m17_grid.specs.Columns.{each_with, row_at, lanes_of, lanes_popped}
+use Rattle.m17_grid.specs.Columns.{each_with, row_at, lanes_of, lanes_popped, IsGrid}
 use Rattle.m17_grid.specs.Trails.{IsTrailOf, IsTrailOfOne, AreTrails, AreTrailsOfOnes}
 use Rattle.m17_grid.proofs.Moves.{heads, tails, not_empty, cons_both}
 
 module _ {A : Type 0} where
+  pub empty_of : (xs : List A) → length xs ≡ 0 → xs ≡ []
+  empty_of [] e = refl
+  empty_of (x ∷ xs) e = absurd (omega arith)
+
   -- the item behind the first k, and those
   pub last_of_take : (k : ℕ) (col c : List A) (x : A) → k < length col → c ++ x ∷ [] ≡ take (suc k) col → (c ≡ take k col) × (slice_get col k ≡ Some x)
   last_of_take k [] c x lt e = absurd (omega arith)
@@ -170,6 +175,50 @@ module _ {T : Type 0} where
   popper_at cols all left rest p trails h is =
       ap (λ (l : List (PopEnd T)). slice_get l (length rest)) (h.poppers ∙ ap (λ (l : List (PopEnd T)). l ++ h.done) is)
       ∙ at_end_of rest p h.done
+
+  -- what the row is that leaves the columns with the last popper
+  pub record Taking (cols now : List (List (PushEnd T))) (rest : List (PopEnd T)) (p : PopEnd T) (row : List (PushEnd T)) : Type 0 where
+    pub columns : now ≡ map (take (length rest)) cols
+    pub row_is : row ≡ row_at (length rest) cols
+    pub lane : AreOf p.lane row
+    pub count : length row ≡ p.producers
+
+  pub all_long : (cols : List (List (PushEnd T))) (all : List (PopEnd T)) → IsGrid cols all → AllByRecursion (λ col. length col ≡ length all) cols
+  all_long cols all grid = columns_long cols all (recursion_from_All (λ col. lanes_of col ≡ lanes_popped all) cols grid.lanes)
+
+  pub longer_rest : (cols : List (List (PushEnd T))) (all left rest : List (PopEnd T)) (p : PopEnd T) (trails : List (TrailEnd T)) → IsGrid cols all → Back cols all left trails → left ≡ rest ++ p ∷ [] → AllByRecursion (λ col. length rest < length col) cols
+  longer_rest cols all left rest p trails grid h is =
+      longer_than cols (length all) (length rest) (slice_get_within all (length rest) p (popper_at cols all left rest p trails h is)) (all_long cols all grid)
+
+  one_longer : (left rest : List (PopEnd T)) (p : PopEnd T) → left ≡ rest ++ p ∷ [] → length left ≡ suc (length rest)
+  one_longer left rest p is = let e = ap length is ∙ length-append rest (p ∷ []) in omega arith
+
+  pub taking : (cols was now : List (List (PushEnd T))) (all left rest : List (PopEnd T)) (p : PopEnd T) (trails : List (TrailEnd T)) (row : List (PushEnd T)) → IsGrid cols all → Back cols all left trails → left ≡ rest ++ p ∷ [] → was ≡ map (take (length left)) cols → was ≡ each_with now row → length now ≡ length cols → length row ≡ length cols → Taking cols now rest p row
+  taking cols was now all left rest p trails row grid h is before left_row long row_long =
+      let at = popper_at cols all left rest p trails h is in
+      let cut : map (take (suc (length rest))) cols ≡ each_with now row =
+          ap (λ (n : ℕ). map (take n) cols) (sym (one_longer left rest p is)) ∙ sym before ∙ left_row in
+      let parts = shrunk (length rest) cols now row (longer_rest cols all left rest p trails grid h is) long row_long cut in
+      let lanes = lane_of_row cols all (length rest) p (recursion_from_All (λ col. lanes_of col ≡ lanes_popped all) cols grid.lanes) at in
+      let made = grid.producers (length rest) p (slice_get_within all (length rest) p at) in
+      let there = get_or_from_slice_get all (length rest) p p at in
+      record {
+        columns = parts.0;
+        row_is = parts.1;
+        lane = subst (λ (r : List (PushEnd T)). AreOf p.lane r) (sym parts.1) lanes.0;
+        count = row_long ∙ sym (sym (ap (λ (r : PopEnd T). r.producers) there) ∙ made);
+      }
+
+  -- no column is empty while a popper is left
+  pub some_ends : {V : Type 0} (items : V → List (PushEnd T)) (size : V → ℕ) → ((v : V) → size v ≡ length (items v)) → (vs : List V) (cols : List (List (PushEnd T))) (all left rest : List (PopEnd T)) (p : PopEnd T) (trails : List (TrailEnd T)) → IsGrid cols all → Back cols all left trails → left ≡ rest ++ p ∷ [] → map items vs ≡ map (take (length left)) cols → All (λ v. 0 < size v) vs
+  some_ends {V} items size sized vs cols all left rest p trails grid h is before =
+      let ends = some_left (length rest) cols (longer_rest cols all left rest p trails grid h is) in
+      let cut : map (take (suc (length rest))) cols ≡ map items vs = ap (λ (n : ℕ). map (take n) cols) (sym (one_longer left rest p is)) ∙ sym before in
+      All-from_recursion (λ v. 0 < size v) vs (each vs (subst (λ (cs : List (List (PushEnd T))). AllByRecursion (λ col. 0 < length col) cs) cut ends))
+      where
+      each : (us : List V) → AllByRecursion (λ (col : List (PushEnd T)). 0 < length col) (map items us) → AllByRecursion (λ v. 0 < size v) us
+      each [] a = tt
+      each (u ∷ us) a = (omega (arith, a.0, sized u), each us a.1)
 
   -- the same of lanes of one producer
   abbrev pub OnesFrom : List (PushEnd T) → List (PopEnd T) → List (TrailEnd T) → Type 0

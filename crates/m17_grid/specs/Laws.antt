@@ -11,7 +11,7 @@ use Rattle.m17_grid.specs.Interleavings.{IsInterleaving}
 -- How a grid comes to be: from empty columns, by the row of one more lane, and it stays one whatever goes
 -- through its ends. This profile.
 pub record GridsStand (T : Type 0) : Type 0 where
-  pub empty : (n : ℕ) → IsGrid {T} (replicate n []) []
+  pub empty : (n : ℕ) → IsGrid {T = T} (replicate n []) []
   pub dealt : (columns : List (List (PushEnd T))) (poppers : List (PopEnd T)) (row : List (PushEnd T))
       (p : PopEnd T) → IsGrid columns poppers → AreOf p.lane row → length row ≡ length columns
       → p.producers ≡ length columns → IsGrid (each_with columns row) (poppers ++ p ∷ [])
