@@ -1,9 +1,11 @@
 -- What pops at the ends of a row come to, one lot after another and place by place.
 use Rattle.std.proofs.Common.{◌≡◌, ℕ, zero, suc, ◌+◌, ◌<◌, ◌≤◌, List, [], ◌∷◌, ◌++◌, map, length, set, get_or, Some, sym, refl, ap, ◌∙◌, append_assoc, append-nil, arith}
-use Rattle.std.proofs.lemmas.Option.{slice_get_within, get_or_from_slice_get}
+use Rattle.std.proofs.lemmas.Option.{same_Some, none-some, slice_get_within, get_or_from_slice_get}
+use Rattle.std.proofs.lemmas.List.Elements.{recursion_from_All}
+use Rattle.std.specs.List.{AllByRecursion}
 use Rattle.std.specs.Prelude.{slice_get, option_map}
 use Rattle.m17_lane.specs.Ends.{PopEnd}
-use Rattle.m17_rows.specs.Rows.{pops, pop_each, only, as_new_popper}
+use Rattle.m17_rows.specs.Rows.{pops, pop_each, only, IsNewPopper, as_new_popper}
 use Rattle.m17_rows.specs.Laws.{RowsPop}
 use Rattle.m17_rows.proofs.Places.{only_here, only_else}
 
@@ -66,6 +68,13 @@ module _ {T : Type 0} where
   kept f k [] = refl
   kept f k (p ∷ ps) = ap (λ (l : List (PopEnd T)). as_new_popper p ∷ l) (kept f (suc k) ps)
 
+  new_from : (f : ℕ → List T) (k : ℕ) (ps : List (PopEnd T)) (m n : ℕ) (q : PopEnd T) → AllByRecursion IsNewPopper ps → n ≡ k + m → slice_get (pop_each f k ps) m ≡ Some q → q.popped ≡ f n
+  new_from f k [] m n q h is e = absurd (none-some q e)
+  new_from f k (p ∷ ps) zero n q h is e =
+      let at : k ≡ n = omega arith in
+      sym (ap (λ (r : PopEnd T). r.popped) (same_Some (pops p (f k)) q e)) ∙ ap (λ (l : List T). l ++ f k) h.0 ∙ ap f at
+  new_from f k (p ∷ ps) (suc m) n q h is e = new_from f (suc k) ps m n q h.1 (omega arith) e
+
   pub law : RowsPop T
   law = record {
     none = none;
@@ -75,4 +84,5 @@ module _ {T : Type 0} where
     count = count;
     at = λ f ps m. at_from f 0 ps m m (omega arith);
     kept = kept;
+    from_new = λ f ps m q h e. new_from f 0 ps m m q (recursion_from_All IsNewPopper ps h) (omega arith) e;
   }

@@ -11,4 +11,4 @@ returns-clause-grid g c =
 pub returns-clause-same_lengths : goal.returns-clause-same_lengths
 returns-clause-same_lengths g c =
     map_kept (λ ends. vec_len ends) c.args.grid.now.items c.args.row c.index_mut.result.now c.pop_at.new.row
-    (omega (arith, c.args.grid.now.ok.0, c.requires.row)) c.index_mut.ensures.value c.pop_at.ensures.same_length
+    c.index_mut.ensures.value c.pop_at.ensures.same_length
