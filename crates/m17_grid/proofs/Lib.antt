@@ -2,3 +2,4 @@ mod Moves
 mod Returns
 pub mod Stands
 pub mod Orders
+mod Lays

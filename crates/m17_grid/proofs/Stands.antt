@@ -29,14 +29,14 @@ module _ {A : Type 0} where
   inside (y ∷ c) x zero lt = refl
   inside (y ∷ c) x (suc m) lt = inside c x m (omega arith)
 
-  last_row : (cols : List (List A)) (row : List A) (m : ℕ) → AllByRecursion (λ c. length c ≡ m) cols → length row ≡ length cols → row_at m (each_with cols row) ≡ row
+  pub last_row : (cols : List (List A)) (row : List A) (m : ℕ) → AllByRecursion (λ c. length c ≡ m) cols → length row ≡ length cols → row_at m (each_with cols row) ≡ row
   last_row [] [] m h e = refl
   last_row [] (x ∷ row) m h e = absurd (omega arith)
   last_row (c ∷ cols) [] m h e = absurd (omega arith)
   last_row (c ∷ cols) (x ∷ row) m h e =
       row_more m (c ++ x ∷ []) (each_with cols row) x (at_end c x m h.0) ∙ ap (λ (l : List A). x ∷ l) (last_row cols row m h.1 (omega arith))
 
-  other_rows : (cols : List (List A)) (row : List A) (m : ℕ) → AllByRecursion (λ c. m < length c) cols → length row ≡ length cols → row_at m (each_with cols row) ≡ row_at m cols
+  pub other_rows : (cols : List (List A)) (row : List A) (m : ℕ) → AllByRecursion (λ c. m < length c) cols → length row ≡ length cols → row_at m (each_with cols row) ≡ row_at m cols
   other_rows [] row m h e = refl
   other_rows (c ∷ cols) [] m h e = absurd (omega arith)
   other_rows (c ∷ cols) (x ∷ row) m h e =
@@ -61,7 +61,7 @@ module _ {T : Type 0} where
     lanes_dealt cols poppers row p h.1 of.1 (omega arith),
   )
 
-  dealt : (cols : List (List (PushEnd T))) (poppers : List (PopEnd T)) (row : List (PushEnd T)) (p : PopEnd T) → IsGrid cols poppers → AreOf p.lane row → length row ≡ length cols → p.producers ≡ length cols → IsGrid (each_with cols row) (poppers ++ p ∷ [])
+  pub dealt : (cols : List (List (PushEnd T))) (poppers : List (PopEnd T)) (row : List (PushEnd T)) (p : PopEnd T) → IsGrid cols poppers → AreOf p.lane row → length row ≡ length cols → p.producers ≡ length cols → IsGrid (each_with cols row) (poppers ++ p ∷ [])
   dealt cols poppers row p h of count made = record {
     lanes = All-from_recursion (λ c. lanes_of c ≡ lanes_popped (poppers ++ p ∷ [])) (each_with cols row)
         (lanes_dealt cols poppers row p (recursion_from_All (λ c. lanes_of c ≡ lanes_popped poppers) cols h.lanes) of count);
@@ -136,7 +136,7 @@ module _ {T : Type 0} where
       ∙ sym (ap (λ (l : List (PushEnd T)). push_each (λ i. f i m) k l) (row_more m c cols q at))
 
   -- the logs of pushers numbered from k on, of which nothing was pushed before
-  abbrev New : ℕ → List (PushEnd T) → Type 0
+  abbrev pub New : ℕ → List (PushEnd T) → Type 0
   New k [] = Unit {0}
   New k (q ∷ qs) = (q.number ≡ k) × (q.pushed ≡ []) × New (suc k) qs
 
@@ -144,11 +144,11 @@ module _ {T : Type 0} where
   new_snoc k m [] q h is number none = (let a : m ≡ k = omega arith in number ∙ a, none, tt)
   new_snoc k m (r ∷ qs) q h is number none = (h.0, h.1, new_snoc (suc k) m qs q h.2 (omega arith) number none)
 
-  new_count : (p : PopEnd T) (n : ℕ) → length (new_pushers p n) ≡ n
+  pub new_count : (p : PopEnd T) (n : ℕ) → length (new_pushers p n) ≡ n
   new_count p zero = refl
   new_count p (suc n) = let e = length-append (new_pushers p n) (new_pusher p n ∷ []) in let ih = new_count p n in omega arith
 
-  are_new : (p : PopEnd T) (n : ℕ) → New 0 (new_pushers p n)
+  pub are_new : (p : PopEnd T) (n : ℕ) → New 0 (new_pushers p n)
   are_new p zero = tt
   are_new p (suc n) = let long = new_count p n in new_snoc 0 n (new_pushers p n) (new_pusher p n) (are_new p n) (omega arith) refl refl
 
