@@ -10,6 +10,8 @@
 mod columns;
 mod laying;
 pub mod laws;
+#[cfg(test)]
+mod tests;
 mod trails;
 
 pub use columns::{collect, deal};
