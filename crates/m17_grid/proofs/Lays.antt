@@ -1,5 +1,5 @@
 -- One lane more in a new grid.
-use Rattle.std.proofs.Common.{◌≡◌, ℕ, zero, suc, ◌+◌, ◌<◌, ◌≤◌, ◌⊎◌, inl, inr, ⊎_elim, List, [], ◌∷◌, ◌++◌, map, length, set, get_or, All, Some, sym, subst, refl, ap, ◌∙◌, length-append, arith}
+use Rattle.std.proofs.Common.{◌≡◌, ℕ, zero, suc, ◌+◌, ◌⊎◌, inl, inr, ⊎_elim, List, [], ◌∷◌, ◌++◌, map, length, set, get_or, All, Some, sym, subst, refl, ap, ◌∙◌, arith}
 use Rattle.std.proofs.lemmas.Option.{same_Some, none-some, slice_get_within}
 use Rattle.std.proofs.lemmas.List.Elements.{All-push, All-from_recursion, recursion_from_All}
 use Rattle.std.specs.Prelude.{slice_get}
@@ -8,7 +8,7 @@ use Rattle.atomic_table.specs.Seated.{TableId}
 use Rattle.m17_lane.specs.Ends.{PushEnd, PopEnd, AreOf, new_popper, new_pusher, new_pushers}
 use Rattle.m17_rows.specs.Rows.{push_each, only, as_new, IsNewRow, IsNewPusher, IsSameRow}
 use Rattle.m17_rows.specs.Laws.{RowsPush}
-use Rattle.m17_grid.specs.Columns.{each_with, row_at, lanes_of, lanes_popped, IsGrid}
+use Rattle.m17_grid.specs.Columns.{each_with, row_at, lanes_of, IsGrid}
 use Rattle.m17_grid.specs.Laid.{IsLaid}
 use Rattle.m17_grid.proofs.Returns.{all_long, longer_than}
 use Rattle.m17_grid.proofs.Stands.{each_count, last_row, other_rows, new_count, dealt, grids}

@@ -1,5 +1,5 @@
 -- What a step of the two loops over columns does: an item leaves a column's end for the row, or comes there from it.
-use Rattle.std.proofs.Common.{◌≡◌, ℕ, zero, suc, ◌+◌, ◌<◌, ◌≤◌, List, [], ◌∷◌, ◌++◌, map, length, set, get_or, drop, sym, subst, refl, ap, ◌∙◌, arith}
+use Rattle.std.proofs.Common.{◌≡◌, ℕ, zero, suc, ◌<◌, List, [], ◌∷◌, ◌++◌, map, length, set, get_or, drop, sym, subst, refl, ap, ◌∙◌, arith}
 use Rattle.std.proofs.lemmas.List.{map-set, length-map}
 use Rattle.std.specs.List.{AllZip}
 use Rattle.m17_grid.specs.Columns.{each_with}
@@ -106,10 +106,10 @@ module _ {V A : Type 0} (items : V → List A) where
   took cols old k n row more was is x next h lt at left came =
       let long : length (map items cols) ≡ length cols = length-map cols items in
       let step : Taken (suc k) (set (map items cols) k (items is)) (row ++ x ∷ []) (map items old) =
-          taken_step k (map items cols) row (map items old) (items is) (items was) x h (omega arith) (map_read items cols k was ∙ ap items (sym at) ∙ left) in
+      taken_step k (map items cols) row (map items old) (items is) (items was) x h (omega arith) (map_read items cols k was ∙ ap items (sym at) ∙ left) in
       subst (λ (j : ℕ). Taken j (map items (set cols k is)) more (map items old)) (sym next)
       (subst (λ (l : List A). Taken (suc k) (map items (set cols k is)) l (map items old)) (sym came)
-       (subst (λ (l : List (List A)). Taken (suc k) l (row ++ x ∷ []) (map items old)) (sym (map-set items cols k is)) step))
+      (subst (λ (l : List (List A)). Taken (suc k) l (row ++ x ∷ []) (map items old)) (sym (map-set items cols k is)) step))
 
   pub same_items : (cols old : List V) (k : ℕ) (row : List A) (was : V) → Taken k (map items cols) row (map items old) → was ≡ get_or cols k was → items was ≡ items (get_or old k was)
   same_items cols old k row was h at =
@@ -125,7 +125,7 @@ module _ {V A : Type 0} (items : V → List A) where
       let put : get_or (map items cols) k (items was) ++ x ∷ [] ≡ items is = ap (λ (l : List A). l ++ x ∷ []) (map_read items cols k was ∙ ap items (sym here)) ∙ sym came in
       subst (λ (i : ℕ). Dealt k (map items (set cols i is)) old (x ∷ gone)) (sym same)
       (subst (λ (l : List (List A)). Dealt k l old (x ∷ gone)) (sym (map-set items cols k is))
-       (subst (λ (l : List A). Dealt k (set (map items cols) k l) old (x ∷ gone)) put step))
+      (subst (λ (l : List A). Dealt k (set (map items cols) k l) old (x ∷ gone)) put step))
 
 module _ {V : Type 0} (R : V → V → Type 0) where
   pub changed_one : (cols old : List V) (j k m : ℕ) (was is : V) → j ≡ suc k → m ≡ k → Changed R j cols old → was ≡ get_or cols m was → R was is → Changed R k (set cols m is) old

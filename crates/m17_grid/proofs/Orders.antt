@@ -2,11 +2,9 @@
 use Rattle.std.proofs.Common.{◌≡◌, ℕ, zero, suc, ◌+◌, ◌<◌, List, [], ◌∷◌, map, length, All, Some, sym, subst, refl, ap, ◌∙◌, arith}
 use Rattle.std.proofs.lemmas.Option.{same_Some, none-some}
 use Rattle.std.specs.Prelude.{slice_get}
-use Rattle.m17_lane.specs.Ends.{PushEnd, PopEnd, TrailEnd, logs_of}
+use Rattle.m17_lane.specs.Ends.{PushEnd, logs_of}
 use Rattle.m17_lane.specs.Laws.{OrderIsAShuffle}
 use Rattle.m17_lane.specs.Orders.{items_of, picked, EachRow, IsShuffle}
-use Rattle.m17_grid.specs.Trails.{IsTrailOf}
-use Rattle.m17_grid.specs.Interleavings.{IsInterleaving}
 use Rattle.m17_grid.specs.Laws.{OrderIsInterleaving}
 
 module _ {T : Type 0} where
@@ -28,7 +26,7 @@ module _ {T : Type 0} where
   interleaving law f row p t h tells =
       let shuffle : IsShuffle (logs_of row) t.order = subst (λ logs. IsShuffle logs t.order) h.logs h.whole.1.shuffle in
       let both = law (logs_of row) t.order shuffle f
-          (each_told f 0 row (λ i j q is e. let at : i ≡ j = omega arith in subst (λ (n : ℕ). All (λ x. f x ≡ n) q.pushed) at (tells i q e))) in
+      (each_told f 0 row (λ i j q is e. let at : i ≡ j = omega arith in subst (λ (n : ℕ). All (λ x. f x ≡ n) q.pushed) at (tells i q e))) in
       record {
         parts = λ i l e. parts_at f (items_of t.order) 0 row both.0 i i l (omega arith) e;
         known = subst (λ (n : ℕ). All (λ x. f x < n) (items_of t.order)) (logs_count row) both.1;

@@ -1,5 +1,5 @@
 -- What a step of the loops that take lanes back does, from the last lane to the first.
-use Rattle.std.proofs.Common.{◌≡◌, ℕ, zero, suc, ◌+◌, ◌<◌, ◌≤◌, List, [], ◌∷◌, ◌++◌, map, length, All, take, reverse, Option, None, Some, sym, subst, refl, ap, ◌∙◌, append_assoc, append-nil, length-append, arith}
+use Rattle.std.proofs.Common.{◌≡◌, ℕ, zero, suc, ◌+◌, ◌<◌, List, [], ◌∷◌, ◌++◌, map, length, All, take, reverse, Option, Some, sym, subst, refl, ap, ◌∙◌, append_assoc, append-nil, length-append, arith}
 use Rattle.std.proofs.lemmas.Option.{same_Some, none-some, slice_get_within, get_or_from_slice_get}
 use Rattle.std.proofs.lemmas.List.Elements.{All-from_recursion, recursion_from_All}
 use Rattle.std.proofs.lemmas.List.{reverse-append, length-map, map-append}
@@ -41,14 +41,15 @@ module _ {A : Type 0} where
   shrunk k (col ∷ cols) (c ∷ now) [] long is row_is e = absurd (omega arith)
   shrunk k (col ∷ cols) (c ∷ now) (x ∷ row) long is row_is e =
       let first = last_of_take k col c x long.0 (sym (heads c (take (suc k) col) (c ++ x ∷ []) (map (take (suc k)) cols) (each_with now row) e)) in
-      let rest = shrunk k cols now row long.1 (omega arith) (omega arith) (tails (take (suc k) col) (c ++ x ∷ []) (map (take (suc k)) cols) (each_with now row) e) in
-      (cons_both c (take k col) now (map (take k) cols) first.0 rest.0,
-       ap (λ (l : List A). x ∷ l) rest.1 ∙ sym (row_more k col cols x first.1))
+      let rest = shrunk k cols now row long.1 (omega arith) (omega arith) (tails (take (suc k) col) (c ++ x ∷ []) (map (take (suc k)) cols) (each_with now row) e) in (
+        cons_both c (take k col) now (map (take k) cols) first.0 rest.0,
+        ap (λ (l : List A). x ∷ l) rest.1 ∙ sym (row_more k col cols x first.1),
+      )
 
   pub take_whole : (cols : List (List A)) (n : ℕ) → AllByRecursion (λ col. length col ≡ n) cols → cols ≡ map (take n) cols
   take_whole [] n h = refl
   take_whole (col ∷ cols) n h = cons_both col (take n col) cols (map (take n) cols) (whole col n h.0) (take_whole cols n h.1)
-      where
+    where
       whole : (xs : List A) (m : ℕ) → length xs ≡ m → xs ≡ take m xs
       whole [] zero e = refl
       whole [] (suc m) e = refl
@@ -103,7 +104,7 @@ module _ {T : Type 0} where
   pub last_lane : (qs restq : List (PushEnd T)) (ps restp : List (PopEnd T)) (q : PushEnd T) (p : PopEnd T) → lanes_of qs ≡ lanes_popped ps → qs ≡ restq ++ q ∷ [] → ps ≡ restp ++ p ∷ [] → (lanes_of restq ≡ lanes_popped restp) × (q.lane ≡ p.lane)
   last_lane qs restq ps restp q p h isq isp = snoc_parts (lanes_of restq) (lanes_popped restp) q.lane p.lane
       (sym (map-append (λ (x : PushEnd T). x.lane) restq (q ∷ [])) ∙ sym (ap lanes_of isq) ∙ h ∙ ap lanes_popped isp
-       ∙ map-append (λ (x : PopEnd T). x.lane) restp (p ∷ []))
+      ∙ map-append (λ (x : PopEnd T). x.lane) restp (p ∷ []))
 
   -- the trails of the lanes from number k on
   abbrev pub TrailsFrom : List (List (PushEnd T)) → ℕ → List (PopEnd T) → List (TrailEnd T) → Type 0
@@ -152,11 +153,11 @@ module _ {T : Type 0} where
     done = p ∷ h.done;
     poppers = h.poppers ∙ ap (λ (l : List (PopEnd T)). l ++ h.done) is ∙ append_assoc rest (p ∷ []) h.done;
     trail = (
-      let long : length left ≡ suc (length rest) = (let e = ap length is ∙ length-append rest (p ∷ []) in omega arith) in
-      let order : t ∷ reverse trails ≡ reverse more = sym (ap reverse came ∙ reverse-append trails (t ∷ [])) in
-      subst (λ (ts : List (TrailEnd T)). TrailsFrom cols (length rest) (p ∷ h.done) ts) order
-      (trail, subst (λ (j : ℕ). TrailsFrom cols j h.done (reverse trails)) long h.trail)
-    );
+        let long : length left ≡ suc (length rest) = (let e = ap length is ∙ length-append rest (p ∷ []) in omega arith) in
+        let order : t ∷ reverse trails ≡ reverse more = sym (ap reverse came ∙ reverse-append trails (t ∷ [])) in
+        subst (λ (ts : List (TrailEnd T)). TrailsFrom cols (length rest) (p ∷ h.done) ts) order
+        (trail, subst (λ (j : ℕ). TrailsFrom cols j h.done (reverse trails)) long h.trail)
+        );
   }
 
   pub back_all : (cols : List (List (PushEnd T))) (all left : List (PopEnd T)) (trails : List (TrailEnd T)) → Back cols all left trails → left ≡ [] → AreTrails cols all (reverse trails)
@@ -164,7 +165,7 @@ module _ {T : Type 0} where
       let same : h.done ≡ all = sym (h.poppers ∙ ap (λ (l : List (PopEnd T)). l ++ h.done) none) in
       trails_are cols all (reverse trails)
       (subst (λ (ps : List (PopEnd T)). TrailsFrom cols 0 ps (reverse trails)) same
-       (subst (λ (l : List (PopEnd T)). TrailsFrom cols (length l) h.done (reverse trails)) none h.trail))
+      (subst (λ (l : List (PopEnd T)). TrailsFrom cols (length l) h.done (reverse trails)) none h.trail))
 
   -- the popper that is taken now stands in the list of all at its place
   at_end_of : (rest : List (PopEnd T)) (p : PopEnd T) (done : List (PopEnd T)) → slice_get ((rest ++ p ∷ []) ++ done) (length rest) ≡ Some p
@@ -197,7 +198,7 @@ module _ {T : Type 0} where
   taking cols was now all left rest p trails row grid h is before left_row long row_long =
       let at = popper_at cols all left rest p trails h is in
       let cut : map (take (suc (length rest))) cols ≡ each_with now row =
-          ap (λ (n : ℕ). map (take n) cols) (sym (one_longer left rest p is)) ∙ sym before ∙ left_row in
+      ap (λ (n : ℕ). map (take n) cols) (sym (one_longer left rest p is)) ∙ sym before ∙ left_row in
       let parts = shrunk (length rest) cols now row (longer_rest cols all left rest p trails grid h is) long row_long cut in
       let lanes = lane_of_row cols all (length rest) p (recursion_from_All (λ col. lanes_of col ≡ lanes_popped all) cols grid.lanes) at in
       let made = grid.producers (length rest) p (slice_get_within all (length rest) p at) in
@@ -215,7 +216,7 @@ module _ {T : Type 0} where
       let ends = some_left (length rest) cols (longer_rest cols all left rest p trails grid h is) in
       let cut : map (take (suc (length rest))) cols ≡ map items vs = ap (λ (n : ℕ). map (take n) cols) (sym (one_longer left rest p is)) ∙ sym before in
       All-from_recursion (λ v. 0 < size v) vs (each vs (subst (λ (cs : List (List (PushEnd T))). AllByRecursion (λ col. 0 < length col) cs) cut ends))
-      where
+    where
       each : (us : List V) → AllByRecursion (λ (col : List (PushEnd T)). 0 < length col) (map items us) → AllByRecursion (λ v. 0 < size v) us
       each [] a = tt
       each (u ∷ us) a = (omega (arith, a.0, sized u), each us a.1)
@@ -282,4 +283,4 @@ module _ {T : Type 0} where
       let samep : h.donep ≡ allp = sym (h.poppers ∙ ap (λ (l : List (PopEnd T)). l ++ h.donep) nop) in
       let whole = subst (λ (qs : List (PushEnd T)). OnesFrom qs allp (reverse trails)) sameq
       (subst (λ (ps : List (PopEnd T)). OnesFrom h.doneq ps (reverse trails)) samep h.trail) in
-      record { count = ones_count allq allp (reverse trails) whole; each = ones_at allq allp (reverse trails) whole; }
+      record { count = ones_count allq allp (reverse trails) whole; each = ones_at allq allp (reverse trails) whole }

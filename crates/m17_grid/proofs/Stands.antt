@@ -1,15 +1,15 @@
 -- How a grid comes to be and stays one, and what its rows are.
-use Rattle.std.proofs.Common.{◌≡◌, ℕ, zero, suc, ◌+◌, ◌<◌, ◌≤◌, List, [], ◌∷◌, ◌++◌, map, length, All, replicate, Option, None, Some, sym, subst, refl, ap, ◌∙◌, length-append, arith}
+use Rattle.std.proofs.Common.{◌≡◌, ℕ, zero, suc, ◌+◌, ◌<◌, List, [], ◌∷◌, ◌++◌, map, length, All, Option, Some, sym, subst, refl, ap, ◌∙◌, length-append, arith}
 use Rattle.std.proofs.lemmas.Option.{same_Some, none-some}
-use Rattle.std.proofs.lemmas.List.{map-append, length-map}
+use Rattle.std.proofs.lemmas.List.{map-append}
 use Rattle.std.proofs.lemmas.List.Elements.{All-push, All-replicate, All-from_recursion, recursion_from_All}
 use Rattle.std.specs.Prelude.{slice_get}
 use Rattle.std.specs.List.{AllZip, AllByRecursion, cons_option, range_with_len}
 use Rattle.m17_lane.specs.Ends.{PushEnd, PopEnd, AreOf, logs_of, new_pushers, new_pusher}
 use Rattle.m17_rows.specs.Rows.{pushes, push_each, as_new, as_new_popper, IsSameRow, IsSamePopRow}
-use Rattle.m17_grid.specs.Columns.{each_with, row_at, push_grid, lanes_of, lanes_popped, IsGrid, numbered}
+use Rattle.m17_grid.specs.Columns.{each_with, row_at, push_grid, lanes_of, lanes_popped, IsGrid}
 use Rattle.m17_grid.specs.Laws.{GridsStand, RowsStand}
-use Rattle.m17_grid.proofs.Moves.{heads, tails, not_empty, cons_both}
+use Rattle.m17_grid.proofs.Moves.{heads, tails, not_empty}
 use Rattle.m17_grid.proofs.Returns.{row_more}
 
 module _ {A : Type 0} where
@@ -110,7 +110,7 @@ module _ {T : Type 0} where
         (lanes_stay cols cols' ps ps' z (same_popped ps ps' e) (recursion_from_All (λ c. lanes_of c ≡ lanes_popped ps) cols h.lanes));
     producers = subst (λ (n : ℕ). All (λ (q : PopEnd T). q.producers ≡ n) ps') (sym (zip_long cols cols' z))
         (All-from_recursion (λ (q : PopEnd T). q.producers ≡ length cols) ps'
-         (made_stay (length cols) ps ps' e (recursion_from_All (λ (q : PopEnd T). q.producers ≡ length cols) ps h.producers)));
+        (made_stay (length cols) ps ps' e (recursion_from_All (λ (q : PopEnd T). q.producers ≡ length cols) ps h.producers)));
   }
 
   row_same : (f : ℕ → List T) (k : ℕ) (qs : List (PushEnd T)) → map as_new (push_each f k qs) ≡ map as_new qs
@@ -159,7 +159,7 @@ module _ {T : Type 0} where
   logs_from f k (q ∷ qs) (suc n) h e =
       let next : suc k ≡ k + 1 = omega arith in
       let rest : logs_of (push_each f (suc k) qs) ≡ map (λ i. (i, f i)) (range_with_len (k + 1) n) =
-          logs_from f (suc k) qs n h.2 (omega arith) ∙ ap (λ (j : ℕ). map (λ (i : ℕ). (i, f i)) (range_with_len j n)) next in
+      logs_from f (suc k) qs n h.2 (omega arith) ∙ ap (λ (j : ℕ). map (λ (i : ℕ). (i, f i)) (range_with_len j n)) next in
       let number = h.0 in let none = h.1 in λ i. (number i, none i ++ f k) ∷ rest i
 
   pub grids : GridsStand T

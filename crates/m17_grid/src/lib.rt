@@ -8,8 +8,8 @@
 #![tactic(auto)]
 
 mod columns;
-mod laying;
 pub mod laws;
+mod laying;
 #[cfg(test)]
 mod tests;
 mod trails;

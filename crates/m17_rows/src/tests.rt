@@ -60,7 +60,9 @@ fn a_grid_pops_by_row_and_place(rt: HostRuntime) -> Result<(), Fail> {
 }
 
 #[test]
-fn a_job_goes_or_quits_by_its_order_and_leaves_what_comes_after_it(rt: HostRuntime) -> Result<(), Fail> {
+fn a_job_goes_or_quits_by_its_order_and_leaves_what_comes_after_it(
+    rt: HostRuntime,
+) -> Result<(), Fail> {
     let (mut orders, mut told) = make_one(rt.alloc(), 4)?;
     orders.push_waiting(&rt, Order::Stop);
     orders.push_waiting(&rt, Order::Go);

@@ -1,4 +1,4 @@
-use Rattle.std.proofs.Common.{length, map, slice_index_or, ap, ◌∙◌, arith}
+use Rattle.std.proofs.Common.{length, map, slice_index_or, ap, arith}
 use Rattle.std.proofs.lemmas.List.{length-map}
 use Rattle.m17_grid.proofs.Moves.{took, same_items, taken_all}
 use Rattle.m17_grid.proofs.columns.collect.Goals as goal

@@ -1,4 +1,4 @@
-use Rattle.std.proofs.Common.{◌≡◌, ◌≤◌, [], map, length, All, vec_len, vec_capacity, sym, subst, ap, ◌∙◌, arith}
+use Rattle.std.proofs.Common.{◌≡◌, ◌≤◌, [], map, length, All, vec_len, vec_capacity, sym, subst, ap, arith}
 use Rattle.std.proofs.lemmas.List.{length-map}
 use Rattle.std.proofs.lemmas.List.Elements.{All-weaker, All-push, recursion_from_All}
 use Rattle.m17_grid.specs.Laid.{IsLaid}
@@ -9,11 +9,11 @@ pub loop-laid-init : goal.loop-laid-init
 loop-laid-init g c =
     let made = c.in_ok-columns in let cols = map (λ column. column.items) made.columns.items in
     let none = shown_empty (λ column. column.items) made.columns.items (recursion_from_All (λ column. column.items ≡ []) made.columns.items
-        (All-weaker (λ column. (column.items ≡ []) × (vec_capacity column ≡ c.args.lanes)) (λ column. column.items ≡ []) (λ column both. both.0) made.columns.items made.ensures.empty)) in
+    (All-weaker (λ column. (column.items ≡ []) × (vec_capacity column ≡ c.args.lanes)) (λ column. column.items ≡ []) (λ column both. both.0) made.columns.items made.ensures.empty)) in
     let shells = ap length c.in-Ok-with_capacity.ensures.items in record {
       laid = subst (λ ps. IsLaid c.args.producers c.args.capacity cols ps) (sym c.in-Ok.ensures.items)
           (laid_none c.args.producers c.args.capacity cols
-           (omega (arith, made.ensures.count, made.columns.ok.0, length-map made.columns.items (λ column. column.items))) none);
+          (omega (arith, made.ensures.count, made.columns.ok.0, length-map made.columns.items (λ column. column.items))) none);
       columns = All-weaker (λ column. (column.items ≡ []) × (vec_capacity column ≡ c.args.lanes)) (λ column. (vec_len column ≡ 0) × (vec_capacity column ≡ c.args.lanes))
           (λ column both. let e = ap length both.0 in (omega (arith, column.ok.0), both.1)) made.columns.items made.ensures.empty;
       poppers = (c.in-Ok.ensures.len, c.in-Ok.ensures.exact);
@@ -31,6 +31,6 @@ loop-laid-preserved g c =
       poppers = (omega (arith, before.poppers.0, c.push_reserved.ensures.len), omega (arith, before.poppers.1, c.push_reserved.ensures.capacity));
       shells = subst (λ ss. All (λ shell. (shell.items ≡ []) × (c.args.producers ≤ vec_capacity shell)) ss) (sym c.push_reserved-in-loop-laid.ensures.items)
           (All-push (λ shell. (shell.items ≡ []) × (c.args.producers ≤ vec_capacity shell)) now.shells.items c.deal.new.row before.shells
-           (c.deal.ensures.emptied, omega (arith, c.deal.ensures.same_room, made.ensures.count, made.row.ok.0, made.row.ok.1)));
+          (c.deal.ensures.emptied, omega (arith, c.deal.ensures.same_room, made.ensures.count, made.row.ok.0, made.row.ok.1)));
       shell_count = (omega (arith, before.shell_count.0, c.push_reserved-in-loop-laid.ensures.len), omega (arith, before.shell_count.1, c.push_reserved-in-loop-laid.ensures.capacity));
     }

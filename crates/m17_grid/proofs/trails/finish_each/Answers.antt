@@ -28,20 +28,20 @@ pub finish-requires-clause-of_one_lane : goal.finish-requires-clause-of_one_lane
 finish-requires-clause-of_one_lane g c =
     let now = c.loop-popper in let row = c.take_row-row in let old = c.args.columns.now in
     let took = taking (map (λ column. column.items) old.items) (map (λ column. column.items) now.columns.items) (map (λ column. column.items) row.new.columns.items)
-        c.args.poppers.now.items now.poppers.items c.pop.new.self.items c.in-Some.popper now.trails.items row.result.items c.requires.grid
-        now.invariant.back c.in-Some.ensures.items now.invariant.columns row.ensures.taken
-        (omega (arith, row.ensures.same_length, now.invariant.same_length, row.new.columns.ok.0, old.ok.0, length-map row.new.columns.items (λ column. column.items), length-map old.items (λ column. column.items)))
-        (omega (arith, row.ensures.count, now.invariant.same_length, row.result.ok.0, old.ok.0, length-map old.items (λ column. column.items))) in
+    c.args.poppers.now.items now.poppers.items c.pop.new.self.items c.in-Some.popper now.trails.items row.result.items c.requires.grid
+    now.invariant.back c.in-Some.ensures.items now.invariant.columns row.ensures.taken
+    (omega (arith, row.ensures.same_length, now.invariant.same_length, row.new.columns.ok.0, old.ok.0, length-map row.new.columns.items (λ column. column.items), length-map old.items (λ column. column.items)))
+    (omega (arith, row.ensures.count, now.invariant.same_length, row.result.ok.0, old.ok.0, length-map old.items (λ column. column.items))) in
     took.lane
 
 pub finish-requires-clause-all : goal.finish-requires-clause-all
 finish-requires-clause-all g c =
     let now = c.loop-popper in let row = c.take_row-row in let old = c.args.columns.now in
     let took = taking (map (λ column. column.items) old.items) (map (λ column. column.items) now.columns.items) (map (λ column. column.items) row.new.columns.items)
-        c.args.poppers.now.items now.poppers.items c.pop.new.self.items c.in-Some.popper now.trails.items row.result.items c.requires.grid
-        now.invariant.back c.in-Some.ensures.items now.invariant.columns row.ensures.taken
-        (omega (arith, row.ensures.same_length, now.invariant.same_length, row.new.columns.ok.0, old.ok.0, length-map row.new.columns.items (λ column. column.items), length-map old.items (λ column. column.items)))
-        (omega (arith, row.ensures.count, now.invariant.same_length, row.result.ok.0, old.ok.0, length-map old.items (λ column. column.items))) in
+    c.args.poppers.now.items now.poppers.items c.pop.new.self.items c.in-Some.popper now.trails.items row.result.items c.requires.grid
+    now.invariant.back c.in-Some.ensures.items now.invariant.columns row.ensures.taken
+    (omega (arith, row.ensures.same_length, now.invariant.same_length, row.new.columns.ok.0, old.ok.0, length-map row.new.columns.items (λ column. column.items), length-map old.items (λ column. column.items)))
+    (omega (arith, row.ensures.count, now.invariant.same_length, row.result.ok.0, old.ok.0, length-map old.items (λ column. column.items))) in
     took.count
 
 pub loop-popper-preserved : goal.loop-popper-preserved
@@ -49,10 +49,10 @@ loop-popper-preserved g c =
     let now = c.loop-popper in let before = now.invariant in let row = c.take_row-row in let old = c.args.columns.now in let done = c.finish.ensures in
     let cols = map (λ column. column.items) old.items in
     let took = taking cols (map (λ column. column.items) now.columns.items) (map (λ column. column.items) row.new.columns.items)
-        c.args.poppers.now.items now.poppers.items c.pop.new.self.items c.in-Some.popper now.trails.items row.result.items c.requires.grid
-        before.back c.in-Some.ensures.items before.columns row.ensures.taken
-        (omega (arith, row.ensures.same_length, before.same_length, row.new.columns.ok.0, old.ok.0, length-map row.new.columns.items (λ column. column.items), length-map old.items (λ column. column.items)))
-        (omega (arith, row.ensures.count, before.same_length, row.result.ok.0, old.ok.0, length-map old.items (λ column. column.items))) in record {
+    c.args.poppers.now.items now.poppers.items c.pop.new.self.items c.in-Some.popper now.trails.items row.result.items c.requires.grid
+    before.back c.in-Some.ensures.items before.columns row.ensures.taken
+    (omega (arith, row.ensures.same_length, before.same_length, row.new.columns.ok.0, old.ok.0, length-map row.new.columns.items (λ column. column.items), length-map old.items (λ column. column.items)))
+    (omega (arith, row.ensures.count, before.same_length, row.result.ok.0, old.ok.0, length-map old.items (λ column. column.items))) in record {
       columns = took.columns;
       back = back_more cols c.args.poppers.now.items now.poppers.items c.pop.new.self.items c.in-Some.popper now.trails.items c.push_reserved.new.self.items
           c.finish.result before.back c.in-Some.ensures.items c.push_reserved.ensures.items (record {

@@ -18,20 +18,20 @@ loop-popper-init g c =
 pub finish_one-requires-clause-of_one_lane : goal.finish_one-requires-clause-of_one_lane
 finish_one-requires-clause-of_one_lane g c =
     let two = last_lane c.loop-popper.pushers.items c.pop-in-Some.new.self.items c.loop-popper.poppers.items c.pop.new.self.items
-        c.in-Some-pop.pusher c.in-Some.popper c.loop-popper.invariant.lanes c.in-Some-pop.ensures.items c.in-Some.ensures.items in
+    c.in-Some-pop.pusher c.in-Some.popper c.loop-popper.invariant.lanes c.in-Some-pop.ensures.items c.in-Some.ensures.items in
     two.1
 
 pub loop-popper-preserved : goal.loop-popper-preserved
 loop-popper-preserved g c =
     let now = c.loop-popper in let before = now.invariant in let one = c.finish_one.ensures in
     let two = last_lane now.pushers.items c.pop-in-Some.new.self.items now.poppers.items c.pop.new.self.items
-        c.in-Some-pop.pusher c.in-Some.popper before.lanes c.in-Some-pop.ensures.items c.in-Some.ensures.items in record {
+    c.in-Some-pop.pusher c.in-Some.popper before.lanes c.in-Some-pop.ensures.items c.in-Some.ensures.items in record {
       lanes = two.0;
       alone = (All-pop (λ p. p.producers ≡ 1) now.poppers.items c.pop.new.self.items (Some c.in-Some.popper) c.in-Some.ensures.items before.alone).0;
       back = ones_more c.args.pushers.now.items now.pushers.items c.pop-in-Some.new.self.items c.args.poppers.now.items now.poppers.items c.pop.new.self.items
           now.trails.items c.push_reserved.new.self.items c.in-Some-pop.pusher c.in-Some.popper c.finish_one.result before.back
           c.in-Some-pop.ensures.items c.in-Some.ensures.items c.push_reserved.ensures.items (record {
-            trail = record { logs = one.logs; refused = one.refused; popped = one.popped; whole = one.whole; };
+            trail = record { logs = one.logs; refused = one.refused; popped = one.popped; whole = one.whole };
             order = one.order;
             settled = one.settled;
           });
