@@ -121,6 +121,14 @@ module _ {T : Type 0} where
   pushed f k [] = tt
   pushed f k (c ∷ cols) = (row_same (f k) 0 c, pushed f (suc k) cols)
 
+  by_column : (f : ℕ → ℕ → List T) (k : ℕ) (cols cols' : List (List (PushEnd T))) → length cols' ≡ length cols → ((i j : ℕ) (c c' : List (PushEnd T)) → j ≡ k + i → slice_get cols i ≡ Some c → slice_get cols' i ≡ Some c' → c' ≡ push_each (f j) 0 c) → cols' ≡ push_grid f k cols
+  by_column f k [] [] long h = refl
+  by_column f k [] (c' ∷ cols') long h = absurd (omega arith)
+  by_column f k (c ∷ cols) [] long h = absurd (omega arith)
+  by_column f k (c ∷ cols) (c' ∷ cols') long h =
+      let first = h 0 k c c' (omega arith) refl refl in
+      let rest = by_column f (suc k) cols cols' (omega arith) (λ i j a b is e d. h (suc i) j a b (omega arith) e d) in λ i. first i ∷ rest i
+
   end_pushed : (f : ℕ → List T) (k : ℕ) (qs : List (PushEnd T)) (m n : ℕ) (q : PushEnd T) → n ≡ k + m → slice_get qs m ≡ Some q → slice_get (push_each f k qs) m ≡ Some (pushes q (f n))
   end_pushed f k [] m n q is e = absurd (none-some q e)
   end_pushed f k (r ∷ qs) zero n q is e =
@@ -171,6 +179,7 @@ module _ {T : Type 0} where
     dealt = dealt;
     stays = stays;
     pushed = pushed;
+    by_column = λ f cols cols' long h. by_column f 0 cols cols' long (λ i j c c' is e d. let at : i ≡ j = omega arith in h i c c' e d ∙ ap (λ (n : ℕ). push_each (f n) 0 c) at);
   }
 
   pub rows : RowsStand T

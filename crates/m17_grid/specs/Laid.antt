@@ -13,4 +13,5 @@ module _ {T : Type 0} where
     pub count : length columns ≡ producers
     pub new : All IsNewRow columns
     pub rows : (m : ℕ) (p : PopEnd T) → slice_get poppers m ≡ Some p
-        → (p ≡ new_popper p.lane capacity producers) × (row_at m columns ≡ new_pushers p producers)
+        → (p ≡ new_popper p.lane capacity producers)
+        × (row_at m columns ≡ new_pushers p producers)

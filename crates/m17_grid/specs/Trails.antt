@@ -13,15 +13,15 @@ module _ {T : Type 0} where
     pub popped : t.popped ≡ p.popped
     pub whole : (rest : List T) × IsWhole t.logs t.popped t.order rest
 
-  -- The trail of a lane of one producer: the order is what that pushed, and begins with what was popped.
-  -- This profile.
+  -- The trail of a lane of one producer: the order is what that pushed, and begins with what was
+  -- popped. This profile.
   pub record IsTrailOfOne (q : PushEnd T) (p : PopEnd T) (t : TrailEnd T) : Type 0 where
     pub trail : IsTrailOf (q ∷ []) p t
     pub order : items_of t.order ≡ q.pushed
     pub settled : (rest : List T) × (q.pushed ≡ p.popped ++ rest)
 
-  -- One trail for each popper, in order: that of its lane, whose pushers stand in the columns at its place.
-  -- This profile.
+  -- One trail for each popper, in order: that of its lane, whose pushers stand in the columns at its
+  -- place. This profile.
   pub record AreTrails (columns : List (List (PushEnd T))) (poppers : List (PopEnd T))
       (trails : List (TrailEnd T)) : Type 0 where
     pub count : length trails ≡ length poppers

@@ -8,8 +8,8 @@ use m17_lane::{Popper, Pusher, Trail, finish, finish_one};
 
 /// Takes all ends of many lanes back: a column of pushers for each producer, with an end for each lane, and the poppers
 /// of the lanes. It gives the lanes' trails, in the order of the poppers. `shells` are empty vectors with room for a
-/// lane's pushers, one for each lane, and `trails` is to be empty with room for all. It waits for nothing, and allocates
-/// nothing. This profile.
+/// lane's pushers, one for each lane, and `trails` is to be empty with room for all. It waits for nothing, and
+/// allocates nothing. This profile.
 pub fn finish_each<T: Drop>(
     columns: &mut Vec<Vec<Pusher<T>>>,
     poppers: &mut Vec<Popper<T>>,

@@ -75,6 +75,14 @@ module _ {T : Type 0} where
       sym (ap (λ (r : PopEnd T). r.popped) (same_Some (pops p (f k)) q e)) ∙ ap (λ (l : List T). l ++ f k) h.0 ∙ ap f at
   new_from f k (p ∷ ps) (suc m) n q h is e = new_from f (suc k) ps m n q h.1 (omega arith) e
 
+  by_place : (f : ℕ → List T) (k : ℕ) (ps qs : List (PopEnd T)) → length qs ≡ length ps → ((m n : ℕ) (p q : PopEnd T) → n ≡ k + m → slice_get ps m ≡ Some p → slice_get qs m ≡ Some q → q ≡ pops p (f n)) → qs ≡ pop_each f k ps
+  by_place f k [] [] long h = refl
+  by_place f k [] (q ∷ qs) long h = absurd (omega arith)
+  by_place f k (p ∷ ps) [] long h = absurd (omega arith)
+  by_place f k (p ∷ ps) (q ∷ qs) long h =
+      let first = h 0 k p q (omega arith) refl refl in
+      let rest = by_place f (suc k) ps qs (omega arith) (λ m n r s is e d. h (suc m) n r s (omega arith) e d) in λ i. first i ∷ rest i
+
   pub law : RowsPop T
   law = record {
     none = none;
@@ -83,6 +91,7 @@ module _ {T : Type 0} where
     same = same;
     count = count;
     at = λ f ps m. at_from f 0 ps m m (omega arith);
+    by_place = λ f ps qs long h. by_place f 0 ps qs long (λ m n p q is e d. let at : m ≡ n = omega arith in h m p q e d ∙ ap (λ (j : ℕ). pops p (f j)) at);
     kept = kept;
     from_new = λ f ps m q h e. new_from f 0 ps m m q (recursion_from_All IsNewPopper ps h) (omega arith) e;
   }

@@ -7,8 +7,8 @@ use Rattle.m17_rows.specs.Starts.{HasStarted}
 use Rattle.m17_crew.specs.declared.order.Order.{Order}
 use Rattle.m17_crew.specs.declared.order.Order.TheVariants.{Go, Quit, Stop}
 
--- How pushes at the ends of a row compose: none, one, one lot after another, and the end at a place;
--- and what an end of a new row has pushed then. This profile.
+-- How pushes at the ends of a row compose: none, one, one lot after another, and place by place; and
+-- what an end of a new row has pushed then. This profile.
 pub record RowsPush (T : Type 0) : Type 0 where
   pub none : (f : ℕ → List T) (k : ℕ) (ps : List (PushEnd T)) → ((i : ℕ) → f i ≡ [])
       → push_each f k ps ≡ ps
@@ -22,11 +22,14 @@ pub record RowsPush (T : Type 0) : Type 0 where
       → length (push_each f k ps) ≡ length ps
   pub at : (f : ℕ → List T) (ps : List (PushEnd T)) (m : ℕ)
       → slice_get (push_each f 0 ps) m ≡ option_map (λ p. pushes p (f m)) (slice_get ps m)
+  pub by_place : (f : ℕ → List T) (ps qs : List (PushEnd T)) → length qs ≡ length ps
+      → ((m : ℕ) (p q : PushEnd T) → slice_get ps m ≡ Some p → slice_get qs m ≡ Some q
+      → q ≡ pushes p (f m)) → qs ≡ push_each f 0 ps
   pub kept : (f : ℕ → List T) (k : ℕ) (ps : List (PushEnd T)) → IsSameRow ps (push_each f k ps)
   pub from_new : (f : ℕ → List T) (ps : List (PushEnd T)) (m : ℕ) (q : PushEnd T) → IsNewRow ps
       → slice_get (push_each f 0 ps) m ≡ Some q → q.pushed ≡ f m
 
--- The same of pushes and refusals at the ends of a row, and that without refusals it is pushes alone.
+-- The same of pushes and refusals at the ends of a row; without refusals they are pushes alone.
 -- This profile.
 pub record RowsGrow (T : Type 0) : Type 0 where
   pub none : (f g : ℕ → List T) (k : ℕ) (ps : List (PushEnd T)) → ((i : ℕ) → f i ≡ [])
@@ -69,6 +72,9 @@ pub record RowsPop (T : Type 0) : Type 0 where
       → length (pop_each f k ps) ≡ length ps
   pub at : (f : ℕ → List T) (ps : List (PopEnd T)) (m : ℕ)
       → slice_get (pop_each f 0 ps) m ≡ option_map (λ p. pops p (f m)) (slice_get ps m)
+  pub by_place : (f : ℕ → List T) (ps qs : List (PopEnd T)) → length qs ≡ length ps
+      → ((m : ℕ) (p q : PopEnd T) → slice_get ps m ≡ Some p → slice_get qs m ≡ Some q
+      → q ≡ pops p (f m)) → qs ≡ pop_each f 0 ps
   pub kept : (f : ℕ → List T) (k : ℕ) (ps : List (PopEnd T)) → IsSamePopRow ps (pop_each f k ps)
   pub from_new : (f : ℕ → List T) (ps : List (PopEnd T)) (m : ℕ) (q : PopEnd T) → IsNewPopRow ps
       → slice_get (pop_each f 0 ps) m ≡ Some q → q.popped ≡ f m
@@ -92,8 +98,8 @@ pub record GridsPop (T : Type 0) : Type 0 where
   pub kept : (f : ℕ → ℕ → List T) (k : ℕ) (rows : List (List (PopEnd T)))
       → IsSameGrid rows (pop_grid f k rows)
 
--- A job obeys the first order of its lane, where that is no Stop, and pops it alone before it starts.
--- This profile.
+-- A job obeys the first order of its lane, where that is no Stop, and pops it alone before it
+-- starts. This profile.
 abbrev pub FirstOrderDecides : Type 0
 FirstOrderDecides =
     (before after : PopEnd Order) (goes : Bool) (first : Order) (more rest : List Order)

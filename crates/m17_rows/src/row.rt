@@ -17,8 +17,8 @@ pub fn push_at<T, R: Wait>(rt: &R, row: &mut Vec<Pusher<T>>, at: usize, item: T)
     row[at].push_waiting(rt, item);
 }
 
-/// Pushes `item` at the end of the row with that index where there is room, and hands it back where the lane is full; it
-/// then counts as refused at that end. It never waits. All other ends of the row are as they were. In a lane of one
+/// Pushes `item` at the end of the row with that index where there is room, and hands it back where the lane is full;
+/// it then counts as refused at that end. It never waits. All other ends of the row are as they were. In a lane of one
 /// producer a refusal comes only after at least `capacity` pushes. This profile.
 pub fn try_push_at<T, R: Wait>(
     rt: &R,
