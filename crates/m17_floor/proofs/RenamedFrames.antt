@@ -1,18 +1,13 @@
 -- The frames that the rule looks at, where the same acts are of other members.
-use Rattle.std.proofs.Common.{◌≡◌, ℕ, ◌<◌, ◌==◌, ◌&&◌, Bool, true, false, not, cond, List, [], ◌∷◌, length, Option, None, Some, nat_lt, nat_le, refl, ap, sym, ◌∙◌, arith}
-use Rattle.std.specs.Prelude.{◌-◌}
+use Rattle.std.proofs.Common.{◌≡◌, ℕ, ◌<◌, ◌&&◌, Bool, true, false, cond, List, length, Option, None, Some, nat_lt, refl, ap, ◌∙◌}
 use Rattle.std.specs.Option.{option_and_then, option_map_or}
 use Rattle.m17_values.specs.declared.member.Member.{Member}
-use Rattle.m17_stream.specs.Stream.{steps_ahead}
-use Rattle.m17_floor.specs.declared.act.Act.{Act}
 use Rattle.m17_floor.specs.declared.act.ActKind.{ActKind}
 use Rattle.m17_floor.specs.declared.act.ActKind.TheVariants.{Join, Leave, Packet, Other}
-use Rattle.m17_floor.specs.declared.verdict.Verdict.{Verdict}
-use Rattle.m17_floor.specs.declared.verdict.Verdict.TheVariants.{Opened, Continued, Busy, Repeat, Late, AfterEnd, NotMember, ListenOnly}
-use Rattle.m17_floor.specs.Acts.{last_below, kind_at, moment_at, is_same}
-use Rattle.m17_floor.specs.Rule.{Frame, Incoming, incoming, frame_from, late_from, floor_timeout_ms, stream_memory_ms, has_floor, is_compared, is_of_stream, busy, after_end, repeated, late, continued, first_fit, verdict_beside, only_if, verdict_by_frames}
-use Rattle.m17_floor.specs.Floor.{Past, was_admitted, joined, is_in_since, frame_of, frame_at, has_stayed, last_admitted, floor_frame, is_packet_of, last_own, own_frame, not_member, listens, listen_only, verdict_after, verdict_given}
-use Rattle.m17_floor.specs.Renamed.{IsOneToOne, IsRenamedKind, unnamed, unnamed_verdict}
+use Rattle.m17_floor.specs.Acts.{last_below, kind_at, moment_at}
+use Rattle.m17_floor.specs.Rule.{Frame}
+use Rattle.m17_floor.specs.Floor.{Past, was_admitted, joined, is_in_since, frame_of, frame_at, has_stayed, last_admitted, floor_frame, is_packet_of, last_own, own_frame}
+use Rattle.m17_floor.specs.Renamed.{IsOneToOne, IsRenamedKind}
 use Rattle.m17_floor.proofs.Frames.{stayed_at, own_test}
 use Rattle.m17_floor.proofs.LastBelow.{last_below_same, last_below_lt}
 

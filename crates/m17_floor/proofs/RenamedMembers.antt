@@ -1,5 +1,5 @@
 -- Who is in, where the same acts are of other members.
-use Rattle.std.proofs.Common.{◌≡◌, ℕ, zero, suc, ◌<◌, ◌==◌, ◌&&◌, ◌||◌, Bool, true, false, cond, List, Option, None, Some, nat_lt, inl, inr, refl, ap, sym, ◌∙◌, arith}
+use Rattle.std.proofs.Common.{◌≡◌, ℕ, zero, suc, ◌<◌, ◌==◌, Bool, true, false, cond, List, Option, None, Some, nat_lt, inl, inr, refl, ap, sym, ◌∙◌, arith}
 use Rattle.std.proofs.lemmas.Bool.{cases_Bool, cond-true, cond-false, eq-eqb, eqb-true, lt-ltb}
 use Rattle.std.specs.Option.{option_and_then}
 use Rattle.m17_values.specs.declared.member.Member.{Member}

@@ -1,10 +1,9 @@
 -- Verdicts, where the same acts are of other members.
 use Rattle.std.proofs.Common.{◌≡◌, ℕ, zero, suc, ◌<◌, ◌≤◌, ◌==◌, ◌&&◌, Bool, true, false, not, cond, List, [], ◌∷◌, ◌++◌, length, take, map, Option, None, Some, is_none, nat_lt, nat_le, inl, inr, refl, ap, sym, ◌∙◌, arith}
-use Rattle.std.specs.Prelude.{◌-◌, option_map, fold, max}
+use Rattle.std.specs.Prelude.{◌-◌, fold, max}
 use Rattle.std.proofs.lemmas.Bool.{cases_lt}
 use Rattle.std.proofs.lemmas.List.{take-map, length-map, length-take-le}
 use Rattle.std.proofs.lemmas.Option.{slice_get_past}
-use Rattle.std.specs.Option.{option_and_then, option_map_or}
 use Rattle.m17_values.specs.declared.member.Member.{Member}
 use Rattle.m17_stream.specs.declared.packet.StreamPacket.{StreamPacket}
 use Rattle.m17_stream.specs.Stream.{steps_ahead}
@@ -13,11 +12,11 @@ use Rattle.m17_floor.specs.declared.act.ActKind.{ActKind}
 use Rattle.m17_floor.specs.declared.act.ActKind.TheVariants.{Join, Leave, Packet, Other}
 use Rattle.m17_floor.specs.declared.verdict.Verdict.{Verdict}
 use Rattle.m17_floor.specs.declared.verdict.Verdict.TheVariants.{Opened, Continued, Busy, Repeat, Late, AfterEnd, NotMember, ListenOnly}
-use Rattle.m17_floor.specs.Acts.{kind_or_other, kind_at, moment_at, is_same, joined_at}
-use Rattle.m17_floor.specs.Rule.{Frame, Incoming, incoming, late_from, floor_timeout_ms, stream_memory_ms, has_floor, is_compared, is_of_stream, busy, after_end, repeated, late, continued, first_fit, verdict_beside, only_if, verdict_by_frames}
+use Rattle.m17_floor.specs.Acts.{kind_or_other, kind_at, moment_at, is_same}
+use Rattle.m17_floor.specs.Rule.{Frame, incoming, late_from, floor_timeout_ms, stream_memory_ms, has_floor, is_compared, busy, after_end, repeated, late, continued, first_fit, verdict_beside, only_if, verdict_by_frames}
 use Rattle.m17_floor.specs.Floor.{Past, joined, floor_frame, own_frame, not_member, listens, listen_only, verdict_after, verdict_given, admits, past_with, admitted_before, past_at, verdict_at}
-use Rattle.m17_floor.specs.Renamed.{IsOneToOne, IsRenamedKind, AreRenamed, AreFreelyRenamed, unnamed, unnamed_verdict}
-use Rattle.m17_floor.proofs.RenamedFrames.{IsLike, IsLikeFrame, AreLikeFrames, like_cond, floor_like, own_like}
+use Rattle.m17_floor.specs.Renamed.{IsOneToOne, IsRenamedKind, AreFreelyRenamed, unnamed, unnamed_verdict}
+use Rattle.m17_floor.proofs.RenamedFrames.{IsLike, AreLikeFrames, like_cond, floor_like, own_like}
 use Rattle.m17_floor.proofs.RenamedMembers.{joined_renamed}
 use Rattle.m17_floor.proofs.Positions.{kind_front, moment_front, joined_front}
 use Rattle.m17_floor.proofs.Prefix.{joined_lt}
