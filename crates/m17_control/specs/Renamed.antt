@@ -1,0 +1,40 @@
+-- The same events of other members, and what of a module's items reaches some peers. This profile.
+use Rattle.std.specs.Prelude.{◌≡◌, ℕ, Bool, true, List, Option, None, if◌then◌else◌}
+use Rattle.std.specs.List.{AllZip}
+use Rattle.m17_values.specs.declared.member.Member.{Member}
+use Rattle.m17_values.specs.declared.peer.Peer.{Peer}
+use Rattle.m17_control.specs.declared.event.Body.{Body}
+use Rattle.m17_control.specs.declared.event.Body.TheVariants.{Join, Leave, Reply, Tick, Stop}
+use Rattle.m17_control.specs.declared.event.Body.TheVariants as body
+use Rattle.m17_control.specs.declared.event.Event.{Event}
+use Rattle.m17_control.specs.declared.item.Item.{Item}
+use Rattle.m17_control.specs.declared.packet.Packet.{Packet}
+use Rattle.m17_control.specs.Spelled.{packet_said}
+
+-- The same happens, to the member that stands for the other; only what its greeting waits for may differ. This
+-- profile.
+abbrev pub IsRenamedBody : (Member → Member → Bool) → Body → Body → Type 0
+IsRenamedBody stands (Join k x callsign listen after) (Join k' x' callsign' listen' after') =
+    (stands k k' ≡ true) × (x ≡ x') × (callsign ≡ callsign') × (listen ≡ listen')
+IsRenamedBody stands (Leave k why) (Leave k' why') = (stands k k' ≡ true) × (why ≡ why')
+IsRenamedBody stands (body.Packet k p) (body.Packet k' p') = (stands k k' ≡ true) × (p ≡ p')
+IsRenamedBody stands (Reply k control) (Reply k' control') =
+    (stands k k' ≡ true) × (control ≡ control')
+IsRenamedBody stands Tick Tick = Unit {0}
+IsRenamedBody stands Stop Stop = Unit {0}
+IsRenamedBody stands _ _ = ⊥
+
+-- The same event, at the same moment and of the same entry, of the member that stands for the other. This profile.
+pub record IsRenamedEvent (stands : Member → Member → Bool) (event other : Event) : Type 0 where
+  pub tag : event.tag ≡ other.tag
+  pub at : event.at ≡ other.at
+  pub what : IsRenamedBody stands event.body other.body
+
+-- The same events in the same order. This profile.
+abbrev pub AreRenamedEvents : (Member → Member → Bool) → List Event → List Event → Type 0
+AreRenamedEvents stands events others = AllZip (IsRenamedEvent stands) events others
+
+-- The packet that an item is as it reaches one of these peers, in the name of the reflector. This profile.
+abbrev pub packet_reaching : (Peer → Bool) → ℕ → Item → Option Packet
+packet_reaching these name item =
+    if these item.peer then packet_said item.body name else None
