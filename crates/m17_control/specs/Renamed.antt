@@ -1,5 +1,5 @@
 -- The same events of other members, and what of a module's items reaches some peers. This profile.
-use Rattle.std.specs.Prelude.{◌≡◌, ℕ, Bool, true, List, Option, None, if◌then◌else◌}
+use Rattle.std.specs.Prelude.{◌≡◌, ℕ, ◌<◌, Bool, true, List, Option, None, Some, slice_get, option_and_then, if◌then◌else◌}
 use Rattle.std.specs.List.{AllZip}
 use Rattle.m17_values.specs.declared.member.Member.{Member}
 use Rattle.m17_values.specs.declared.peer.Peer.{Peer}
@@ -33,6 +33,34 @@ pub record IsRenamedEvent (stands : Member → Member → Bool) (event other : E
 -- The same events in the same order. This profile.
 abbrev pub AreRenamedEvents : (Member → Member → Bool) → List Event → List Event → Type 0
 AreRenamedEvents stands events others = AllZip (IsRenamedEvent stands) events others
+
+-- The member, if this is its Join; and its Leave; and the same of the event at a position. This profile.
+abbrev pub joining : Body → Option Member
+joining (Join k x callsign listen after) = Some k
+joining _ = None
+
+abbrev pub leaving : Body → Option Member
+leaving (Leave k why) = Some k
+leaving _ = None
+
+abbrev pub joins_at : List Event → ℕ → Option Member
+joins_at events n = option_and_then (λ (event : Event). joining event.body) (slice_get events n)
+
+abbrev pub leaves_at : List Event → ℕ → Option Member
+leaves_at events n = option_and_then (λ (event : Event). leaving event.body) (slice_get events n)
+
+-- The member leaves between the two positions. This profile.
+pub record LeavesBetween (events : List Event) (k : Member) (i n : ℕ) : Type 0 where
+  pub at : ℕ
+  pub behind : i < at
+  pub before : at < n
+  pub leaves : leaves_at events at ≡ Some k
+
+-- Who joins takes one of the places, and whoever joined at it before has left in between. This profile.
+pub record TakeFreePlaces (places : ℕ) (events : List Event) : Type 0 where
+  pub below : (n : ℕ) (k : Member) → joins_at events n ≡ Some k → k.place < places
+  pub left : (i n : ℕ) (m k : Member) → i < n → joins_at events i ≡ Some m →
+      joins_at events n ≡ Some k → m.place ≡ k.place → LeavesBetween events m i n
 
 -- The packet that an item is as it reaches one of these peers, in the name of the reflector. This profile.
 abbrev pub packet_reaching : (Peer → Bool) → ℕ → Item → Option Packet

@@ -1,7 +1,7 @@
 -- What a parrot plays back, where the same acts are of other members.
-use Rattle.std.proofs.Common.{◌≡◌, ℕ, zero, suc, ◌+◌, ◌-◌, ◌<◌, ◌≤◌, ◌&&◌, ◌||◌, Bool, true, false, cond, List, [], ◌∷◌, ◌++◌, length, take, drop, map, nat_lt, is_some, is_none, option_map, Option, None, Some, refl, ap, sym, subst, ◌∙◌, arith}
+use Rattle.std.proofs.Common.{◌≡◌, ℕ, zero, suc, ◌-◌, ◌<◌, ◌≤◌, ◌&&◌, ◌||◌, Bool, true, false, cond, List, [], ◌∷◌, ◌++◌, length, take, drop, map, nat_lt, is_some, is_none, option_map, Option, None, Some, refl, ap, sym, subst, ◌∙◌, arith}
 use Rattle.std.specs.Prelude.{fold, max}
-use Rattle.std.specs.List.{range_with_len, count_by, find}
+use Rattle.std.specs.List.{count_by}
 use Rattle.std.specs.Option.{option_and_then, option_map_or}
 use Rattle.std.proofs.lemmas.List.{take-map}
 use Rattle.m17_values.specs.declared.member.Member.{Member}
@@ -16,7 +16,7 @@ use Rattle.m17_floor.specs.Rule.{only_if, has_floor}
 use Rattle.m17_floor.specs.Floor.{floor_frame, past_at, admits, verdict_at}
 use Rattle.m17_floor.specs.Renamed.{IsRenamedKind, AreFreelyRenamed, unnamed_verdict}
 use Rattle.m17_parrot.specs.Recording.{Recording, most_frames, is_due, next_frame, due_of}
-use Rattle.m17_module.specs.Echoes.{is_admitted_at, opens, is_opened_at, holder_at, packet_in, admitted_packet, positions_from, held_before, has_end_bit, closes, close_before, is_in_since, opening, recording_of, last_opened, recording_with, closed_if, echo_with, echoed_before, echo_at}
+use Rattle.m17_module.specs.Echoes.{is_admitted_at, opens, is_opened_at, holder_at, packet_in, admitted_packet, held_before, has_end_bit, closes, close_before, is_in_since, opening, recording_of, last_opened, recording_with, closed_if, echo_with, echoed_before, echo_at}
 use Rattle.m17_module.proofs.Below.{last_below_same, last_below_lt}
 use Rattle.m17_module.proofs.ItemsMore.{flat_map_same}
 use Rattle.m17_module.proofs.EchoesBefore.{find_same}

@@ -1,20 +1,22 @@
 -- The same events of other members, position by position, and what the floor sees of them.
-use Rattle.std.proofs.Common.{◌≡◌, ℕ, zero, suc, ◌<◌, Bool, true, List, [], ◌∷◌, length, map, slice_get, Option, None, Some, refl, ap, sym, ◌∙◌, arith}
-use Rattle.std.specs.List.{AllZip}
+use Rattle.std.proofs.Common.{◌≡◌, ℕ, zero, suc, ◌<◌, ◌≤◌, Bool, true, List, [], ◌∷◌, length, map, slice_get, option_and_then, Option, None, Some, refl, ap, sym, ◌∙◌, arith}
+use Rattle.std.proofs.lemmas.Option.{same_Some}
+use Rattle.m17_floor.specs.declared.act.ActKind.TheVariants as act
+use Rattle.m17_floor.specs.Acts.{kind_at, is_same, is_join_of, settles, joined_at}
 use Rattle.m17_values.specs.declared.member.Member.{Member}
 use Rattle.m17_control.specs.declared.event.Body.{Body}
 use Rattle.m17_control.specs.declared.event.Body.TheVariants as body
 use Rattle.m17_control.specs.declared.event.Event.{Event}
-use Rattle.m17_control.specs.Renamed.{IsRenamedBody, IsRenamedEvent, AreRenamedEvents}
+use Rattle.m17_control.specs.Renamed.{joining, leaving, joins_at, leaves_at, LeavesBetween, TakeFreePlaces, IsRenamedBody, IsRenamedEvent, AreRenamedEvents}
 use Rattle.m17_floor.specs.declared.act.Act.{Act}
-use Rattle.m17_floor.specs.Acts.{kind_at}
-use Rattle.m17_floor.specs.Floor.{verdict_at}
 use Rattle.m17_floor.specs.Renamed as floor
 use Rattle.m17_floor.specs.Renamed.{IsRenamedKind, unnamed_verdict}
 use Rattle.m17_floor.specs.Laws as floor_law
-use Rattle.m17_module.specs.Events.{kind_of, act_of, acts_of}
+use Rattle.m17_module.specs.Events.{kind_of, acts_of}
 use Rattle.m17_module.specs.Laws.{AreFreelyRenamed, RenamingChangesNoVerdict}
 use Rattle.m17_module.proofs.Acts.{kind_from, kind_at_is}
+use Rattle.m17_module.proofs.Below.{last_below_ge}
+use Rattle.m17_module.proofs.SeatsMore.{same_from_is_same, is_same_self, join_parts, joined_below}
 
 -- what the floor promises of such lists
 pub record FloorRenamed : Type 0 where
@@ -62,6 +64,63 @@ from_renamed stands (Some a) (Some b) h = kind_renamed stands a.body b.body h.wh
 from_renamed stands None (Some b) h = absurd h
 from_renamed stands (Some a) None h = absurd h
 
+-- who joins, and who leaves
+joins_body : (b : Body) (k : Member) (listens : Bool) → kind_of b ≡ act.Join k listens → joining b ≡ Some k
+joins_body (body.Join m x c l after) k listens e = cc
+joins_body (body.Leave m why) k listens e = cc
+joins_body (body.Packet m p) k listens e = cc
+joins_body (body.Reply m c) k listens e = cc
+joins_body body.Tick k listens e = cc
+joins_body body.Stop k listens e = cc
+
+is_join_body : (b : Body) (k : Member) → is_join_of k (kind_of b) ≡ true → joining b ≡ Some k
+is_join_body (body.Join m x c l after) k e = ap Some (same_from_is_same m k e)
+is_join_body (body.Leave m why) k e = cc
+is_join_body (body.Packet m p) k e = cc
+is_join_body (body.Reply m c) k e = cc
+is_join_body body.Tick k e = cc
+is_join_body body.Stop k e = cc
+
+leaves_body : (b : Body) (k : Member) → leaving b ≡ Some k → settles k (kind_of b) ≡ true
+leaves_body (body.Join m x c l after) k e = cc
+leaves_body (body.Leave m why) k e = ap (λ x. is_same x k) (same_Some m k e) ∙ is_same_self k
+leaves_body (body.Packet m p) k e = cc
+leaves_body (body.Reply m c) k e = cc
+leaves_body body.Tick k e = cc
+leaves_body body.Stop k e = cc
+
+joins_kind : (o : Option Event) (k : Member) (listens : Bool) → kind_from o ≡ act.Join k listens → option_and_then (λ (event : Event). joining event.body) o ≡ Some k
+joins_kind None k listens e = cc
+joins_kind (Some event) k listens e = joins_body event.body k listens e
+
+is_join_kind : (o : Option Event) (k : Member) → is_join_of k (kind_from o) ≡ true → option_and_then (λ (event : Event). joining event.body) o ≡ Some k
+is_join_kind None k e = cc
+is_join_kind (Some event) k e = is_join_body event.body k e
+
+leaves_kind : (o : Option Event) (k : Member) → option_and_then (λ (event : Event). leaving event.body) o ≡ Some k → settles k (kind_from o) ≡ true
+leaves_kind None k e = cc
+leaves_kind (Some event) k e = leaves_body event.body k e
+
+-- Who joins takes a place at which nobody is in.
+nobody_in : (places : ℕ) (events : List Event) (n : ℕ) (k m : Member) (o : Option ℕ) → TakeFreePlaces places events → joins_at events n ≡ Some k → m.place ≡ k.place → joined_at places (acts_of events) m n ≡ o → o ≡ None
+nobody_in places events n k m None free e same joined = refl
+nobody_in places events n k m (Some i) free e same joined =
+    let parts = join_parts places events n m i joined in
+    let below : i < n = joined_below places events n m i joined in
+    let joins : joins_at events i ≡ Some m = is_join_kind (slice_get events i) m (ap (is_join_of m) (sym (kind_at_is events i)) ∙ parts.join) in
+    let gone : LeavesBetween events m i n = free.left i n m k below joins e same in
+    let settled : settles m (kind_at (acts_of events) gone.at) ≡ true = ap (settles m) (kind_at_is events gone.at) ∙ leaves_kind (slice_get events gone.at) m gone.leaves in
+    let late : gone.at ≤ i = last_below_ge (λ j. settles m (kind_at (acts_of events) j)) n i gone.at parts.last settled gone.before in
+    absurd (omega (arith, late, gone.behind))
+
+pub free_acts : (places : ℕ) (events : List Event) → TakeFreePlaces places events → floor.TakeFreePlaces places (acts_of events)
+free_acts places events free n k listens e =
+    let joins : joins_at events n ≡ Some k = joins_kind (slice_get events n) k listens (sym (kind_at_is events n) ∙ e) in
+    record {
+      below = free.below n k joins;
+      free = λ m same. nobody_in places events n k m (joined_at places (acts_of events) m n) free joins same refl;
+    }
+
 -- So the floor sees the same acts of other members.
 pub acts_renamed : (stands : Member → Member → Bool) (places : ℕ) (events others : List Event) → AreFreelyRenamed stands places events others → floor.AreFreelyRenamed stands places (acts_of events) (acts_of others)
 acts_renamed stands places events others r = record {
@@ -70,8 +129,8 @@ acts_renamed stands places events others r = record {
     moments = moments_renamed stands events others r.renamed;
     kinds = λ n. rw (kind_at_is events n, kind_at_is others n) (from_renamed stands (slice_get events n) (slice_get others n) (renamed_at stands events others n r.renamed));
   };
-  free = r.free;
-  free_others = r.free_others;
+  free = free_acts places events r.free;
+  free_others = free_acts places others r.free_others;
 }
 
 pub verdict_renamed : floor_law.RenamingChangesNoVerdict → RenamingChangesNoVerdict

@@ -1,7 +1,7 @@
 -- What is said, where the same events are of other members.
-use Rattle.std.proofs.Common.{◌≡◌, ℕ, zero, suc, ◌+◌, ◌/◌, ◌<◌, ◌≤◌, ◌&&◌, Bool, true, false, not, cond, List, [], ◌∷◌, ◌++◌, length, map, replicate, slice_get, nat_lt, Option, None, Some, inl, inr, refl, ap, sym, subst, ◌∙◌, arith}
+use Rattle.std.proofs.Common.{◌≡◌, ℕ, suc, ◌+◌, ◌/◌, ◌<◌, ◌≤◌, ◌&&◌, Bool, true, false, not, cond, List, [], ◌∷◌, ◌++◌, length, map, replicate, slice_get, nat_lt, Option, None, Some, inl, inr, refl, ap, sym, ◌∙◌, arith}
 use Rattle.std.specs.List.{filter, filter_map, flat_map, cons_option, range_with_len, count_by}
-use Rattle.std.proofs.lemmas.Bool.{cond-true, lt-ltb, cases_Bool}
+use Rattle.std.proofs.lemmas.Bool.{lt-ltb, cases_Bool}
 use Rattle.std.proofs.lemmas.List.Sums.{sum_by-cons}
 use Rattle.m17_values.specs.declared.member.Member.{Member}
 use Rattle.m17_values.specs.declared.peer.Peer.{Peer}
@@ -9,17 +9,14 @@ use Rattle.m17_stream.specs.declared.packet.StreamPacket.{StreamPacket}
 use Rattle.m17_control.specs.declared.event.Body.{Body}
 use Rattle.m17_control.specs.declared.event.Body.TheVariants as body
 use Rattle.m17_control.specs.declared.event.Event.{Event}
-use Rattle.m17_control.specs.declared.event.Why.{Why}
 use Rattle.m17_control.specs.declared.event.Why.TheVariants.{Replaced}
 use Rattle.m17_control.specs.declared.item.Item.{Item}
 use Rattle.m17_control.specs.declared.item.Said.{Said}
 use Rattle.m17_control.specs.declared.item.Said.TheVariants as said
 use Rattle.m17_control.specs.declared.packet.Packet.{Packet}
-use Rattle.m17_control.specs.Renamed.{IsRenamedBody, IsRenamedEvent, packet_reaching}
+use Rattle.m17_control.specs.Renamed.{IsRenamedBody, packet_reaching}
 use Rattle.m17_control.specs.Spelled.{packet_said}
-use Rattle.m17_floor.specs.declared.act.ActKind.TheVariants as act
 use Rattle.m17_floor.specs.Acts.{is_same, kind_at, moment_before, moment_at}
-use Rattle.m17_floor.specs.Renamed.{IsOneToOne, TakeFreePlaces}
 use Rattle.m17_module.specs.declared.seat.Seat.{Seat}
 use Rattle.m17_module.specs.Events.{kind_of, acts_of}
 use Rattle.m17_module.specs.Seats.{seats_at, members_of, seat_in, seat_of, others_than}
@@ -30,8 +27,8 @@ use Rattle.m17_module.proofs.Acts.{kind_from, kind_at_is, length_acts}
 use Rattle.m17_module.proofs.ItemsMore.{flat_map_same}
 use Rattle.m17_module.proofs.Places.{filter_map-append}
 use Rattle.m17_module.proofs.SeatsMore.{length_seats}
-use Rattle.m17_module.proofs.RenamedEvents.{FloorRenamed, IsRenamedAt, renamed_at, length_renamed, acts_renamed}
-use Rattle.m17_module.proofs.RenamedSeats.{IsLikeSeat, AreLikeSeats, SaySame, members_like, seat_like}
+use Rattle.m17_module.proofs.RenamedEvents.{FloorRenamed, IsRenamedAt, renamed_at, length_renamed, free_acts, acts_renamed}
+use Rattle.m17_module.proofs.RenamedSeats.{AreLikeSeats, members_like, seat_like}
 use Rattle.m17_module.proofs.RenamedEchoes.{admitted_renamed, before_renamed, moment_renamed, AreLikeEchoes, echo_renamed}
 
 -- what reaches these peers of some items
@@ -159,8 +156,8 @@ frames_reach law stands places events others n these name k k' p r h =
 
 says_reach : FloorRenamed → (stands : Member → Member → Bool) (places : ℕ) (events others : List Event) (n : ℕ) (these : Peer → Bool) (name link : ℕ) (a b : Body) → AreFreelyRenamed stands places events others → IsRenamedBody stands a b → kind_at (acts_of events) n ≡ kind_of a → kind_at (acts_of others) n ≡ kind_of b → reaching these name (says (setting_at places events n link) a) ≡ reaching these name (says (setting_at places others n link) b)
 says_reach law stands places events others n these name link (body.Join k x c l after) (body.Join k' x' c' l' after') r h e e' =
-    let below : k.place < length (seats_at places events n) = omega (arith, (r.free n k l e).below, length_seats places events n) in
-    let below' : k'.place < length (seats_at places others n) = omega (arith, (r.free_others n k' l' e').below, length_seats places others n) in
+    let below : k.place < length (seats_at places events n) = omega (arith, (free_acts places events r.free n k l e).below, length_seats places events n) in
+    let below' : k'.place < length (seats_at places others n) = omega (arith, (free_acts places others r.free_others n k' l' e').below, length_seats places others n) in
     greeting these name (seats_at places events n) (record { member = k; link = link; peer = x; listens = l }) after below
     ∙ ap (λ peer. cons_option (cond (these peer) (packet_said (said.Hello after) name) None) []) h.1
     ∙ sym (greeting these name (seats_at places others n) (record { member = k'; link = link; peer = x'; listens = l' }) after' below')

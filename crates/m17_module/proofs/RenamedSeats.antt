@@ -1,5 +1,5 @@
 -- Who is in, where the same events are of other members.
-use Rattle.std.proofs.Common.{◌≡◌, ℕ, zero, suc, ◌<◌, Bool, true, false, cond, List, [], ◌∷◌, slice_get, get_or, is_some, Option, None, Some, refl, ap, sym, ◌∙◌, arith}
+use Rattle.std.proofs.Common.{◌≡◌, ℕ, Bool, true, false, cond, List, slice_get, get_or, is_some, Option, None, Some, refl, ap, sym, ◌∙◌}
 use Rattle.std.specs.List.{count_by}
 use Rattle.std.specs.Option.{option_and_then}
 use Rattle.std.proofs.lemmas.Option.{same_Some, option_and_then_some}
@@ -7,14 +7,14 @@ use Rattle.m17_values.specs.declared.member.Member.{Member}
 use Rattle.m17_control.specs.declared.event.Body.{Body}
 use Rattle.m17_control.specs.declared.event.Body.TheVariants as body
 use Rattle.m17_control.specs.declared.event.Event.{Event}
-use Rattle.m17_control.specs.Renamed.{IsRenamedBody, IsRenamedEvent}
+use Rattle.m17_control.specs.Renamed.{IsRenamedBody}
 use Rattle.m17_floor.specs.Acts.{joined_at}
 use Rattle.m17_module.specs.declared.seat.Seat.{Seat}
 use Rattle.m17_module.specs.Events.{acts_of}
-use Rattle.m17_module.specs.Seats.{seat_joined, seat_from, is_position, if_in_by, last_join, seat_at, seats_at, members_of, seat_in, seat_of}
+use Rattle.m17_module.specs.Seats.{seat_joined, seat_from, is_position, if_in_by, last_join, seat_at, seats_at, members_of, seat_of}
 use Rattle.m17_module.specs.Laws.{AreFreelyRenamed}
 use Rattle.m17_module.proofs.RenamedEvents.{FloorRenamed, IsRenamedAt, renamed_at, acts_renamed}
-use Rattle.m17_module.proofs.SeatCounts.{total, total_same, counted, in_by, members_by_joins}
+use Rattle.m17_module.proofs.SeatCounts.{total_same, counted, in_by, members_by_joins}
 use Rattle.m17_module.proofs.SeatsMore.{if_in_some, joined_has_seat, seats_at_is}
 use Rattle.m17_module.proofs.FramesMine.{seat_of_some, is_in_exactly}
 

@@ -1,10 +1,10 @@
 -- Who is in, counted place by place, or by the positions of their Joins: it comes to the same.
-use Rattle.std.proofs.Common.{◌≡◌, ◌≢◌, ℕ, zero, suc, ◌+◌, ◌<◌, ◌≤◌, Bool, true, false, cond, List, [], ◌∷◌, ◌++◌, map, slice_get, eqb, Option, None, Some, inl, inr, refl, ap, sym, ◌∙◌, arith}
-use Rattle.std.specs.List.{filter_map, cons_option, range_with_len, sum_by, count_by}
-use Rattle.std.specs.Option.{option_and_then, option_map_or}
+use Rattle.std.proofs.Common.{◌≡◌, ◌≢◌, ℕ, zero, suc, ◌+◌, ◌<◌, Bool, true, false, cond, List, [], ◌∷◌, ◌++◌, map, slice_get, eqb, Option, None, Some, inl, inr, refl, ap, sym, ◌∙◌, arith}
+use Rattle.std.specs.List.{range_with_len, count_by}
+use Rattle.std.specs.Option.{option_and_then}
 use Rattle.std.proofs.lemmas.Bool.{cases_eq, ne_eqb, eq-eqb, eqb-true, cond-true, cond-false, cases_Bool}
 use Rattle.std.proofs.lemmas.List.{map-append}
-use Rattle.std.proofs.lemmas.Option.{same_Some, option_and_then_some}
+use Rattle.std.proofs.lemmas.Option.{option_and_then_some}
 use Rattle.std.proofs.lemmas.List.Sums.{sum_by-append}
 use Rattle.m17_values.specs.declared.member.Member.{Member}
 use Rattle.m17_control.specs.declared.event.Event.{Event}
@@ -14,7 +14,7 @@ use Rattle.m17_module.specs.Events.{acts_of}
 use Rattle.m17_module.specs.Seats.{seat_from, is_at, is_position, if_in_by, last_join, seat_at, seats_at, members_of}
 use Rattle.m17_module.proofs.ItemsMore.{range_more}
 use Rattle.m17_module.proofs.Places.{filter_map-append}
-use Rattle.m17_module.proofs.SeatsMore.{if_in_some, joined_has_seat, joined_below, last_join_at, last_join_lt, position_is}
+use Rattle.m17_module.proofs.SeatsMore.{if_in_some, joined_has_seat, last_join_at, last_join_lt, position_is}
 
 -- the sum of what the first n are
 pub total : (ℕ → ℕ) → ℕ → ℕ

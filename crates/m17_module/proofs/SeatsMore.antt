@@ -241,12 +241,12 @@ has_seat places events n k i seat below last is mine joined =
     }
 
 -- the parts of a member's Join
-record JoinParts (places : ℕ) (events : List Event) (n : ℕ) (k : Member) (j : ℕ) : Type 0 where
-  below : nat_lt k.place places ≡ true
-  last : last_below (λ i. settles k (kind_at (acts_of events) i)) n ≡ Some j
-  join : is_join_of k (kind_at (acts_of events) j) ≡ true
+pub record JoinParts (places : ℕ) (events : List Event) (n : ℕ) (k : Member) (j : ℕ) : Type 0 where
+  pub below : nat_lt k.place places ≡ true
+  pub last : last_below (λ i. settles k (kind_at (acts_of events) i)) n ≡ Some j
+  pub join : is_join_of k (kind_at (acts_of events) j) ≡ true
 
-join_parts : (places : ℕ) (events : List Event) (n : ℕ) (k : Member) (j : ℕ) → joined_at places (acts_of events) k n ≡ Some j → JoinParts places events n k j
+pub join_parts : (places : ℕ) (events : List Event) (n : ℕ) (k : Member) (j : ℕ) → joined_at places (acts_of events) k n ≡ Some j → JoinParts places events n k j
 unfolding joined_at
 join_parts places events n k j e =
     let acts : List Act = acts_of events in

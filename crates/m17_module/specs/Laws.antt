@@ -12,10 +12,10 @@ use Rattle.m17_control.specs.declared.item.Said.{Said}
 use Rattle.m17_control.specs.declared.item.Said.TheVariants as said
 use Rattle.m17_floor.specs.declared.verdict.Verdict.{Verdict}
 use Rattle.m17_floor.specs.declared.verdict.Verdict.TheVariants.{Busy, Late}
-use Rattle.m17_control.specs.Renamed.{AreRenamedEvents, packet_reaching}
+use Rattle.m17_control.specs.Renamed.{AreRenamedEvents, TakeFreePlaces, packet_reaching}
 use Rattle.m17_floor.specs.Acts.{is_join_of, settles, kind_at, joined_at}
 use Rattle.m17_floor.specs.Floor.{is_packet_of, admits, verdict_at}
-use Rattle.m17_floor.specs.Renamed.{IsOneToOne, TakeFreePlaces, unnamed_verdict}
+use Rattle.m17_floor.specs.Renamed.{IsOneToOne, unnamed_verdict}
 use Rattle.m17_module.specs.declared.seat.Seat.{Seat}
 use Rattle.m17_module.specs.Events.{acts_of}
 use Rattle.m17_module.specs.Seats.{seats_at, seat_of}
@@ -174,14 +174,14 @@ VerdictsFit =
     All (λ event. IsNumbered event.body) events →
     verdict_at places (acts_of events) n ≡ Some verdict → FitsIn places verdict
 
--- Two lists of events, the same but for the members: one for one, each of whom joins at a place of the module at which
--- nobody is in. This profile.
+-- Two lists of events, the same but for the members: one for one, each of whom joins at a place of the module that
+-- whoever had it before has left. This profile.
 pub record AreFreelyRenamed (stands : Member → Member → Bool) (places : ℕ)
     (events others : List Event) : Type 0 where
   pub one_to_one : IsOneToOne stands
   pub renamed : AreRenamedEvents stands events others
-  pub free : TakeFreePlaces places (acts_of events)
-  pub free_others : TakeFreePlaces places (acts_of others)
+  pub free : TakeFreePlaces places events
+  pub free_others : TakeFreePlaces places others
 
 -- So it doesn't matter which places are given: the same packets, in the same order, reach each peer, or whichever peers
 -- are asked of together, ..
