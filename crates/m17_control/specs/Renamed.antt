@@ -35,32 +35,32 @@ abbrev pub AreRenamedEvents : (Member → Member → Bool) → List Event → Li
 AreRenamedEvents stands events others = AllZip (IsRenamedEvent stands) events others
 
 -- The member, if this is its Join; and its Leave; and the same of the event at a position. This profile.
-abbrev pub joining : Body → Option Member
-joining (Join k x callsign listen after) = Some k
-joining _ = None
+abbrev pub joiner_of : Body → Option Member
+joiner_of (Join k x callsign listen after) = Some k
+joiner_of _ = None
 
-abbrev pub leaving : Body → Option Member
-leaving (Leave k why) = Some k
-leaving _ = None
+abbrev pub leaver_of : Body → Option Member
+leaver_of (Leave k why) = Some k
+leaver_of _ = None
 
-abbrev pub joins_at : List Event → ℕ → Option Member
-joins_at events n = option_and_then (λ (event : Event). joining event.body) (slice_get events n)
+abbrev pub joiner_at : List Event → ℕ → Option Member
+joiner_at events n = option_and_then (λ (event : Event). joiner_of event.body) (slice_get events n)
 
-abbrev pub leaves_at : List Event → ℕ → Option Member
-leaves_at events n = option_and_then (λ (event : Event). leaving event.body) (slice_get events n)
+abbrev pub leaver_at : List Event → ℕ → Option Member
+leaver_at events n = option_and_then (λ (event : Event). leaver_of event.body) (slice_get events n)
 
 -- The member leaves between the two positions. This profile.
 pub record LeavesBetween (events : List Event) (k : Member) (i n : ℕ) : Type 0 where
   pub at : ℕ
   pub behind : i < at
   pub before : at < n
-  pub leaves : leaves_at events at ≡ Some k
+  pub leaves : leaver_at events at ≡ Some k
 
 -- Who joins takes one of the places, and whoever joined at it before has left in between. This profile.
 pub record TakeFreePlaces (places : ℕ) (events : List Event) : Type 0 where
-  pub below : (n : ℕ) (k : Member) → joins_at events n ≡ Some k → k.place < places
-  pub left : (i n : ℕ) (m k : Member) → i < n → joins_at events i ≡ Some m →
-      joins_at events n ≡ Some k → m.place ≡ k.place → LeavesBetween events m i n
+  pub below : (n : ℕ) (k : Member) → joiner_at events n ≡ Some k → k.place < places
+  pub left : (i n : ℕ) (m k : Member) → i < n → joiner_at events i ≡ Some m →
+      joiner_at events n ≡ Some k → m.place ≡ k.place → LeavesBetween events m i n
 
 -- The packet that an item is as it reaches one of these peers, in the name of the reflector. This profile.
 abbrev pub packet_reaching : (Peer → Bool) → ℕ → Item → Option Packet

@@ -44,11 +44,11 @@ as_many entries others same =
     sym (length-map entries (λ (entry : Entry). entry.notice)) ∙ ap length same ∙ length-map others (λ (entry : Entry). entry.notice)
 
 -- nobody has the place
-any_step : (b c : Bool) → (b || c) ≡ false → (b ≡ false) × (c ≡ false)
+pub any_step : (b c : Bool) → (b || c) ≡ false → (b ≡ false) × (c ≡ false)
 any_step true c e = absurd (cc)
 any_step false c e = (refl, e)
 
-none_has : (p : Known → Bool) (rows : List Known) → list_any p rows ≡ false → filter p rows ≡ []
+pub none_has : (p : Known → Bool) (rows : List Known) → list_any p rows ≡ false → filter p rows ≡ []
 none_has p [] e = refl
 none_has p (k ∷ rows) e =
     let parts = any_step (p k) (list_any p rows) e in
@@ -100,7 +100,7 @@ known_view h h' e e' rows y y' p r s =
 others_view : (h h' : Here) (rows : List Known) (y y' : Notice) → h ≡ h' → y ≡ y' → others_than y (still_by h rows y) ≡ others_than y' (still_by h' rows y')
 others_view h h' rows y y' p s = ap (λ x. others_than y (still_by x rows y)) p ∙ ap (λ x. others_than x (still_by h' rows x)) s
 
-settled_view : (past : Past) (claim : Option Claim) (from : Peer) (at : ℕ) (p : Packet) (request : Request) → notice_at past.entries (now past) ≡ Notice.Sent from at p → request_of p ≡ Some request → settled_at past claim ≡ settled (here_of past) (others_at past) from request claim
+pub settled_view : (past : Past) (claim : Option Claim) (from : Peer) (at : ℕ) (p : Packet) (request : Request) → notice_at past.entries (now past) ≡ Notice.Sent from at p → request_of p ≡ Some request → settled_at past claim ≡ settled (here_of past) (others_at past) from request claim
 unfolding settled_at
 settled_view past claim from at p request says wants =
     ap (λ y. settled_by past claim y (request_in y)) says ∙ ap (settled_by past claim (Notice.Sent from at p)) wants

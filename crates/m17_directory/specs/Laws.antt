@@ -13,6 +13,7 @@ use Rattle.m17_control.specs.declared.item.Direct.{Direct}
 use Rattle.m17_control.specs.declared.packet.Control.{Control}
 use Rattle.m17_control.specs.declared.packet.Control.TheVariants.{Nack, Disc}
 use Rattle.m17_control.specs.Modules.{serves, letters_of}
+pub use Rattle.m17_control.specs.Renamed.{joiner_of, leaver_of}
 use Rattle.m17_control.specs.Renamed.{AreRenamedEvents, TakeFreePlaces}
 use Rattle.m17_directory.specs.declared.dispatch.Dispatch.{Dispatch}
 use Rattle.m17_directory.specs.declared.dispatch.Dispatch.TheVariants.{ToModule, ToDoor}
@@ -86,11 +87,7 @@ PacketsAreRouted =
     filter_map packet_letter (posts_at setup entries n)
     ≡ packet_routed (link_verdict setup entries n)
 
--- The member, if this is its Leave. This profile.
-abbrev pub leaver_of : Body → Option Member
-leaver_of (Leave k why) = Some k
-leaver_of _ = None
-
+-- The member, if this is posted as its Leave. This profile.
 abbrev pub left_member : Dispatch → Option Member
 left_member (ToModule letter event) = leaver_of event.body
 left_member (ToDoor direct) = None
@@ -265,11 +262,6 @@ abbrev pub ClaimsAreAsked : Setup → List Entry → Type 0
 ClaimsAreAsked setup entries =
     (n : ℕ) → n < length entries → asks_at (past_at setup entries n) ≡ false →
     claim_at entries n ≡ None
-
--- the member, if this is its Join
-abbrev pub joiner_of : Body → Option Member
-joiner_of (Join k x callsign listen after) = Some k
-joiner_of _ = None
 
 -- how many of the Joins, and of the Leaves, that a module is routed are of such a member
 abbrev pub joined_count : Setup → List Entry → ℕ → (Member → Bool) → ℕ

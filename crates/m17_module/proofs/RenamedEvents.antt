@@ -7,7 +7,7 @@ use Rattle.m17_values.specs.declared.member.Member.{Member}
 use Rattle.m17_control.specs.declared.event.Body.{Body}
 use Rattle.m17_control.specs.declared.event.Body.TheVariants as body
 use Rattle.m17_control.specs.declared.event.Event.{Event}
-use Rattle.m17_control.specs.Renamed.{joining, leaving, joins_at, leaves_at, LeavesBetween, TakeFreePlaces, IsRenamedBody, IsRenamedEvent, AreRenamedEvents}
+use Rattle.m17_control.specs.Renamed.{joiner_of, leaver_of, joiner_at, leaver_at, LeavesBetween, TakeFreePlaces, IsRenamedBody, IsRenamedEvent, AreRenamedEvents}
 use Rattle.m17_floor.specs.declared.act.Act.{Act}
 use Rattle.m17_floor.specs.Renamed as floor
 use Rattle.m17_floor.specs.Renamed.{IsRenamedKind, unnamed_verdict}
@@ -65,7 +65,7 @@ from_renamed stands None (Some b) h = absurd h
 from_renamed stands (Some a) None h = absurd h
 
 -- who joins, and who leaves
-joins_body : (b : Body) (k : Member) (listens : Bool) → kind_of b ≡ act.Join k listens → joining b ≡ Some k
+joins_body : (b : Body) (k : Member) (listens : Bool) → kind_of b ≡ act.Join k listens → joiner_of b ≡ Some k
 joins_body (body.Join m x c l after) k listens e = cc
 joins_body (body.Leave m why) k listens e = cc
 joins_body (body.Packet m p) k listens e = cc
@@ -73,7 +73,7 @@ joins_body (body.Reply m c) k listens e = cc
 joins_body body.Tick k listens e = cc
 joins_body body.Stop k listens e = cc
 
-is_join_body : (b : Body) (k : Member) → is_join_of k (kind_of b) ≡ true → joining b ≡ Some k
+is_join_body : (b : Body) (k : Member) → is_join_of k (kind_of b) ≡ true → joiner_of b ≡ Some k
 is_join_body (body.Join m x c l after) k e = ap Some (same_from_is_same m k e)
 is_join_body (body.Leave m why) k e = cc
 is_join_body (body.Packet m p) k e = cc
@@ -81,7 +81,7 @@ is_join_body (body.Reply m c) k e = cc
 is_join_body body.Tick k e = cc
 is_join_body body.Stop k e = cc
 
-leaves_body : (b : Body) (k : Member) → leaving b ≡ Some k → settles k (kind_of b) ≡ true
+leaves_body : (b : Body) (k : Member) → leaver_of b ≡ Some k → settles k (kind_of b) ≡ true
 leaves_body (body.Join m x c l after) k e = cc
 leaves_body (body.Leave m why) k e = ap (λ x. is_same x k) (same_Some m k e) ∙ is_same_self k
 leaves_body (body.Packet m p) k e = cc
@@ -89,25 +89,25 @@ leaves_body (body.Reply m c) k e = cc
 leaves_body body.Tick k e = cc
 leaves_body body.Stop k e = cc
 
-joins_kind : (o : Option Event) (k : Member) (listens : Bool) → kind_from o ≡ act.Join k listens → option_and_then (λ (event : Event). joining event.body) o ≡ Some k
+joins_kind : (o : Option Event) (k : Member) (listens : Bool) → kind_from o ≡ act.Join k listens → option_and_then (λ (event : Event). joiner_of event.body) o ≡ Some k
 joins_kind None k listens e = cc
 joins_kind (Some event) k listens e = joins_body event.body k listens e
 
-is_join_kind : (o : Option Event) (k : Member) → is_join_of k (kind_from o) ≡ true → option_and_then (λ (event : Event). joining event.body) o ≡ Some k
+is_join_kind : (o : Option Event) (k : Member) → is_join_of k (kind_from o) ≡ true → option_and_then (λ (event : Event). joiner_of event.body) o ≡ Some k
 is_join_kind None k e = cc
 is_join_kind (Some event) k e = is_join_body event.body k e
 
-leaves_kind : (o : Option Event) (k : Member) → option_and_then (λ (event : Event). leaving event.body) o ≡ Some k → settles k (kind_from o) ≡ true
+leaves_kind : (o : Option Event) (k : Member) → option_and_then (λ (event : Event). leaver_of event.body) o ≡ Some k → settles k (kind_from o) ≡ true
 leaves_kind None k e = cc
 leaves_kind (Some event) k e = leaves_body event.body k e
 
 -- Who joins takes a place at which nobody is in.
-nobody_in : (places : ℕ) (events : List Event) (n : ℕ) (k m : Member) (o : Option ℕ) → TakeFreePlaces places events → joins_at events n ≡ Some k → m.place ≡ k.place → joined_at places (acts_of events) m n ≡ o → o ≡ None
+nobody_in : (places : ℕ) (events : List Event) (n : ℕ) (k m : Member) (o : Option ℕ) → TakeFreePlaces places events → joiner_at events n ≡ Some k → m.place ≡ k.place → joined_at places (acts_of events) m n ≡ o → o ≡ None
 nobody_in places events n k m None free e same joined = refl
 nobody_in places events n k m (Some i) free e same joined =
     let parts = join_parts places events n m i joined in
     let below : i < n = joined_below places events n m i joined in
-    let joins : joins_at events i ≡ Some m = is_join_kind (slice_get events i) m (ap (is_join_of m) (sym (kind_at_is events i)) ∙ parts.join) in
+    let joins : joiner_at events i ≡ Some m = is_join_kind (slice_get events i) m (ap (is_join_of m) (sym (kind_at_is events i)) ∙ parts.join) in
     let gone : LeavesBetween events m i n = free.left i n m k below joins e same in
     let settled : settles m (kind_at (acts_of events) gone.at) ≡ true = ap (settles m) (kind_at_is events gone.at) ∙ leaves_kind (slice_get events gone.at) m gone.leaves in
     let late : gone.at ≤ i = last_below_ge (λ j. settles m (kind_at (acts_of events) j)) n i gone.at parts.last settled gone.before in
@@ -115,7 +115,7 @@ nobody_in places events n k m (Some i) free e same joined =
 
 pub free_acts : (places : ℕ) (events : List Event) → TakeFreePlaces places events → floor.TakeFreePlaces places (acts_of events)
 free_acts places events free n k listens e =
-    let joins : joins_at events n ≡ Some k = joins_kind (slice_get events n) k listens (sym (kind_at_is events n) ∙ e) in
+    let joins : joiner_at events n ≡ Some k = joins_kind (slice_get events n) k listens (sym (kind_at_is events n) ∙ e) in
     record {
       below = free.below n k joins;
       free = λ m same. nobody_in places events n k m (joined_at places (acts_of events) m n) free joins same refl;
