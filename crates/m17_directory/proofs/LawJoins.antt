@@ -111,7 +111,7 @@ joins_of_events letter (ToModule to event ∷ posts) = joins_step event (eqb to 
 joins_of_events letter (ToDoor direct ∷ posts) = joins_of_events letter posts
 
 -- an entry posts no Join before its claim
-abbrev JoinsNone : ℕ → Outcome → Type 0
+abbrev pub JoinsNone : ℕ → Outcome → Type 0
 JoinsNone letter o = filter_map (join_for letter) o.posts ≡ []
 
 none_known_asks : (letter : ℕ) (here : Here) (k : Known) (request : Request) → JoinsNone letter (known_asks here k request)
@@ -158,7 +158,7 @@ none_said letter at ends rows still (Notice.Quiet m) = refl
 none_said letter at ends rows still Notice.Fault = either (JoinsNone letter) ends (of_end at rows) (only verdict.Faulted) (none_end letter at rows) refl
 none_said letter at ends rows still Notice.End = none_end letter at rows
 
-none_heard : (letter : ℕ) (past : Past) → JoinsNone letter (heard_at past)
+pub none_heard : (letter : ℕ) (past : Past) → JoinsNone letter (heard_at past)
 none_heard letter past =
     let at : Here = here_of past in
     let ends : Bool = ends_at past.entries (now past) in

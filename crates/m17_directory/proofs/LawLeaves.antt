@@ -91,7 +91,7 @@ joins_none here letter Notice.Fault request = refl
 joins_none here letter Notice.End request = refl
 
 module _ (letter : ℕ) (test : Member → Bool) where
-  abbrev such : Known → Bool
+  abbrev pub such : Known → Bool
   such = is_such letter test
 
   abbrev such_seat : ℕ × Member → Bool
@@ -111,7 +111,7 @@ module _ (letter : ℕ) (test : Member → Bool) where
       ∙ leaver_step to (eqb to letter) (leaver_of event.body) (filter_map leaver (filter_map (event_for letter) posts)) (filter_map left_seat posts) refl (leavers_seats posts)
   leavers_seats (ToDoor direct ∷ posts) = leavers_seats posts
 
-  left_is : (o : Outcome) → Leaves o → count test (filter_map leaver (filter_map (event_for letter) o.posts)) ≡ count such o.left
+  pub left_is : (o : Outcome) → Leaves o → count test (filter_map leaver (filter_map (event_for letter) o.posts)) ≡ count such o.left
   left_is o h = leavers_seats o.posts ∙ ap (count such_seat) h ∙ count_map such_seat such seat_of o.left (λ k. refl)
 
   one_joins : (b : Bool) (event : Event) (k : Member) → joiner event ≡ Some k → count test (filter_map joiner (cond b (event ∷ []) [])) ≡ cond (b && test k) 1 0
@@ -138,13 +138,13 @@ module _ (letter : ℕ) (test : Member → Bool) where
       ∙ joined_if (is_join event.body) event (filter (λ e. is_join e.body) events)
 
   module _ (setup : Setup) (entries : List Entry) where
-    abbrev joined_at : ℕ → ℕ
+    abbrev pub joined_at : ℕ → ℕ
     joined_at n = count test (filter_map joiner (filter_map (event_for letter) (posts_at setup entries n)))
 
-    abbrev left_at : ℕ → ℕ
+    abbrev pub left_at : ℕ → ℕ
     left_at n = count test (filter_map leaver (filter_map (event_for letter) (posts_at setup entries n)))
 
-    abbrev known_count : ℕ → ℕ
+    abbrev pub known_count : ℕ → ℕ
     known_count n = count such (known_at (past_at setup entries n))
 
     abbrev claim_joins : ℕ → Bool → Option Claim → List Event
@@ -205,7 +205,7 @@ module _ (letter : ℕ) (test : Member → Bool) where
     step_by n true None l asks given h = step_none n given
     step_by n false o l asks given h = no_more (known_count (suc n) + count such (heard_at (past_at setup entries n)).left) (known_count n) (none_next n (h refl))
 
-    step : (n : ℕ) → n < length entries → ClaimsAreAsked setup entries → known_count (suc n) + left_at n ≡ known_count n + joined_at n
+    pub step : (n : ℕ) → n < length entries → ClaimsAreAsked setup entries → known_count (suc n) + left_at n ≡ known_count n + joined_at n
     step n l claims =
         let asks : Bool = asks_at (past_at setup entries n) in
         ap (λ m. known_count (suc n) + m) (left_at_is n)

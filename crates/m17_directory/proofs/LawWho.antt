@@ -91,7 +91,7 @@ others_none x rows = all_passed (is_other x) rows
 
 -- an entry of the list, and the list up to it in which it has no claim
 module _ (setup : Setup) (entries : List Entry) (n : ℕ) (within : n < length entries) where
-  abbrev past : Past
+  abbrev pub past : Past
   past = past_at setup entries n
 
   abbrev plain : List Entry
@@ -135,10 +135,10 @@ module _ (setup : Setup) (entries : List Entry) (n : ℕ) (within : n < length e
 
   -- who is known behind an entry that asks and has a claim
   module _ (asks : asks_at past ≡ true) (claim : Claim) (given : claim_at entries n ≡ Some claim) where
-    abbrev one : AsksFor (notice past)
+    abbrev pub one : AsksFor (notice past)
     one = asks_one past asks
 
-    abbrev row : Known
+    abbrev pub row : Known
     row = record {
       peer = one.from;
       member = claim.member;
@@ -148,10 +148,10 @@ module _ (setup : Setup) (entries : List Entry) (n : ℕ) (within : n < length e
       heard_at = moment_at entries (length l);
     }
 
-    abbrev staying : List Known
+    abbrev pub staying : List Known
     staying = filter (λ k. not (has_place claim.member.place k)) (others_at past)
 
-    known_claim : known_at (past_at setup entries (suc n)) ≡ with_row row staying
+    pub known_claim : known_at (past_at setup entries (suc n)) ≡ with_row row staying
     unfolding asked_before
     known_claim =
         known_claimed setup entries plain l (asks_at past) (says_less entries plain (suc n) (suc (length l)) (omega (arith, len)) plain_says) (claims_less entries plain n (length l) (omega (arith, len)) plain_claims)

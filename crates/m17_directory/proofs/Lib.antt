@@ -30,3 +30,7 @@ pub mod Settled
 pub mod Tables
 pub mod Taken
 pub mod Told
+mod Zips
+mod Renamed
+mod Otherwise
+mod Freed

@@ -1,6 +1,6 @@
 -- What follows from the definitions for all that a link may hear. This profile.
 use Rattle.std.specs.Prelude.{◌≡◌, ◌==◌, ◌&&◌, not, ℕ, suc, ◌+◌, ◌<◌, Bool, true, false, List, [], ◌∷◌, ◌++◌, ◌≤◌, length, map, filter, count_by, sum_by, take, is_some, Option, None, Some, option_map, if◌then◌else◌}
-use Rattle.std.specs.List.{filter_map, flat_map, range_with_len, AllByRecursion}
+use Rattle.std.specs.List.{filter_map, flat_map, range_with_len, AllByRecursion, AllZip}
 use Rattle.m17_values.specs.declared.heard.Heard.{Heard}
 use Rattle.m17_values.specs.declared.heard.Heard.TheVariants as heard
 use Rattle.m17_values.specs.declared.member.Member.{Member}
@@ -13,6 +13,8 @@ use Rattle.m17_control.specs.declared.item.Direct.{Direct}
 use Rattle.m17_control.specs.declared.packet.Control.{Control}
 use Rattle.m17_control.specs.declared.packet.Control.TheVariants.{Nack, Disc}
 use Rattle.m17_control.specs.Modules.{serves, letters_of}
+pub use Rattle.m17_control.specs.Renamed.{joiner_of, leaver_of}
+use Rattle.m17_control.specs.Renamed.{AreRenamedEvents, TakeFreePlaces}
 use Rattle.m17_directory.specs.declared.dispatch.Dispatch.{Dispatch}
 use Rattle.m17_directory.specs.declared.dispatch.Dispatch.TheVariants.{ToModule, ToDoor}
 use Rattle.m17_directory.specs.declared.known.Departed.{Departed}
@@ -23,6 +25,7 @@ use Rattle.m17_directory.specs.declared.verdict.LinkVerdict.{LinkVerdict}
 use Rattle.m17_directory.specs.declared.verdict.LinkVerdict.TheVariants.{Routed, Full, Ended}
 use Rattle.m17_directory.specs.Entries.{Notice, Says, Claim, Entry, Setup, notice_at, claim_at, is_peer, is_from, ends_at}
 use Rattle.m17_directory.specs.Known.{Past, request_in, known_at}
+use Rattle.m17_directory.specs.Given.{AreGivenFreely, SayTheSame, stands_for, IsRenamedRow}
 use Rattle.m17_directory.specs.Outcome.{Here}
 use Rattle.m17_directory.specs.Routed.{here_of, heard_at, others_at, settled_at, asks_at, both, past_at, outcome_at, link_verdict, posts_at, posted, event_for, reply_for, routed, direct_replies}
 use Rattle.m17_directory.specs.StandsFor.{departed_of}
@@ -84,11 +87,7 @@ PacketsAreRouted =
     filter_map packet_letter (posts_at setup entries n)
     ≡ packet_routed (link_verdict setup entries n)
 
--- The member, if this is its Leave. This profile.
-abbrev pub leaver_of : Body → Option Member
-leaver_of (Leave k why) = Some k
-leaver_of _ = None
-
+-- The member, if this is posted as its Leave. This profile.
 abbrev pub left_member : Dispatch → Option Member
 left_member (ToModule letter event) = leaver_of event.body
 left_member (ToDoor direct) = None
@@ -264,11 +263,6 @@ ClaimsAreAsked setup entries =
     (n : ℕ) → n < length entries → asks_at (past_at setup entries n) ≡ false →
     claim_at entries n ≡ None
 
--- the member, if this is its Join
-abbrev pub joiner_of : Body → Option Member
-joiner_of (Join k x callsign listen after) = Some k
-joiner_of _ = None
-
 -- how many of the Joins, and of the Leaves, that a module is routed are of such a member
 abbrev pub joined_count : Setup → List Entry → ℕ → (Member → Bool) → ℕ
 joined_count setup entries letter test =
@@ -411,3 +405,35 @@ LeaversWereKnown =
     (setup : Setup) (entries : List Entry) (n : ℕ) (test : Departed → Bool) →
     count_by (λ (k : Known). test (departed_of k)) (outcome_at setup entries n).left
     ≤ count_by (λ (k : Known). test (departed_of k)) (known_at (past_at setup entries n))
+
+-- Two lists of entries that say the same, each with claims that are given freely. This profile.
+pub record AreGivenOtherwise (setup : Setup) (entries others : List Entry) : Type 0 where
+  pub same : SayTheSame entries others
+  pub first : AreGivenFreely setup entries
+  pub second : AreGivenFreely setup others
+
+-- Which free places are given changes no verdict, nor who is known, but for the members, nor what
+-- is answered past all modules; and each module is routed the same events, but for the members and
+-- for how many departed ones a greeting waits for. This profile.
+pub record PlacesChangeNoVerdict : Type 0 where
+  pub verdicts : (setup : Setup) (entries others : List Entry) →
+      AreGivenOtherwise setup entries others → (n : ℕ) → n < length entries →
+      link_verdict setup entries n ≡ link_verdict setup others n
+  pub known : (setup : Setup) (entries others : List Entry) →
+      AreGivenOtherwise setup entries others → (n : ℕ) → n ≤ length entries →
+      AllZip (IsRenamedRow (stands_for entries others)) (known_at (past_at setup entries n))
+      (known_at (past_at setup others n))
+  pub answers : (setup : Setup) (entries others : List Entry) →
+      AreGivenOtherwise setup entries others → (x : Peer) →
+      direct_replies setup entries x ≡ direct_replies setup others x
+  pub routes : (setup : Setup) (entries others : List Entry) →
+      AreGivenOtherwise setup entries others → (letter : ℕ) →
+      AreRenamedEvents (stands_for entries others) (routed setup entries letter)
+      (routed setup others letter)
+
+-- Where places are given freely, who joins a module takes one of the places, and whoever joined the
+-- module at it before has left. This profile.
+abbrev pub JoinsTakeFreePlaces : Type 0
+JoinsTakeFreePlaces =
+    (setup : Setup) (entries : List Entry) (letter : ℕ) → AreGivenFreely setup entries →
+    TakeFreePlaces setup.places (routed setup entries letter)

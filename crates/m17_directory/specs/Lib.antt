@@ -4,6 +4,7 @@ pub mod Entries
 pub mod Known
 pub mod Outcome
 pub mod Routed
+pub mod Given
 pub mod StandsFor
 pub mod Laws
 -- For proofs alone.

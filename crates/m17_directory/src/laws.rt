@@ -134,3 +134,16 @@ pub fn each_claim_joins()
 pub fn leavers_were_known()
     ensures { law.LeaversWereKnown }
 {}
+
+/// Where each entry that asks while a place is free gets some free place, and no member is given twice, it doesn't matter
+/// which places are given, nor their generations, nor how many departed members a greeting waits for: each verdict is
+/// the same, and what is answered past all modules, and who is known and what is routed but for the members. This
+/// profile.
+pub fn members_change_no_verdict()
+    ensures { law.PlacesChangeNoVerdict }
+{}
+
+/// Whoever joins a module so takes one of the places, and whoever joined the module at it before has left. This profile.
+pub fn joins_take_free_places()
+    ensures { law.JoinsTakeFreePlaces }
+{}

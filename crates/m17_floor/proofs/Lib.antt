@@ -10,6 +10,9 @@ mod OneMore
 mod Openings
 mod Positions
 mod Prefix
+mod RenamedFrames
+mod RenamedMembers
+mod RenamedVerdicts
 mod Repeats
 mod Standing
 mod VerdictsSoFar

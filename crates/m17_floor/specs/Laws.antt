@@ -1,6 +1,6 @@
 -- What follows from the floor rule for every list of acts, and what one act more makes of what is
 -- looked up. This profile.
-use Rattle.std.specs.Prelude.{◌≡◌, ◌≢◌, ◌+◌, ℕ, ◌<◌, ◌≤◌, ◌⊎◌, ◌&&◌, Bool, true, false, List, [], ◌++◌, length, max, nat_lt, Option, None, Some, if◌then◌else◌}
+use Rattle.std.specs.Prelude.{◌≡◌, ◌≢◌, ◌+◌, ℕ, ◌<◌, ◌≤◌, ◌⊎◌, ◌&&◌, Bool, true, false, List, [], ◌++◌, length, max, nat_lt, Option, None, Some, is_none, if◌then◌else◌}
 use Rattle.m17_values.specs.declared.member.Member.{Member}
 use Rattle.m17_stream.specs.declared.packet.StreamPacket.{StreamPacket}
 use Rattle.m17_stream.specs.Stream.{steps_ahead, IsAhead}
@@ -8,8 +8,9 @@ use Rattle.m17_floor.specs.declared.act.Act.{Act}
 use Rattle.m17_floor.specs.declared.act.ActKind.TheVariants.{Packet, Other}
 use Rattle.m17_floor.specs.declared.verdict.Verdict.TheVariants.{Opened, NotMember, ListenOnly}
 use Rattle.m17_floor.specs.Acts.{with_act, kind_at, is_packet, moment_before, moment_at, is_join_of, settles, joined_at}
-use Rattle.m17_floor.specs.Rule.{Frame, floor_timeout_ms, stream_memory_ms, late_from}
-use Rattle.m17_floor.specs.Floor.{listens, admits, verdict_at, IsAdmitted, admitted_count}
+use Rattle.m17_floor.specs.Rule.{Frame, floor_timeout_ms, stream_memory_ms, late_from, has_floor, only_if}
+use Rattle.m17_floor.specs.Floor.{floor_frame, listens, admits, past_at, verdict_at, IsAdmitted, admitted_count}
+use Rattle.m17_floor.specs.Renamed.{AreFreelyRenamed, unnamed_verdict}
 use Rattle.m17_floor.specs.StandsFor.{FloorStandsFor, its_join, MaySpeak, join_act, leave_act, packet_act, MemberKeepsStanding, KeepsStanding}
 
 -- What happens later changes no verdict, ..
@@ -257,3 +258,27 @@ RepeatsAreNotAdmitted =
     copied.sid ≡ packet.sid → copied.number ≡ packet.number →
     IsLastOwn places acts n b k last → last.sid ≡ packet.sid → HasPassed last packet.number →
     ¬ IsAdmitted places acts n
+
+-- Where the same acts are of other members, who is in is the same, by the members that stand for
+-- the others, ..
+abbrev pub RenamingChangesNoMembership : Type 0
+RenamingChangesNoMembership =
+    (stands : Member → Member → Bool) (places : ℕ) (acts others : List Act) →
+    AreFreelyRenamed stands places acts others →
+    (k k' : Member) (n : ℕ) → stands k k' ≡ true →
+    joined_at places acts k n ≡ joined_at places others k' n
+
+-- .. and so is each verdict, but for the member that has the floor.
+abbrev pub RenamingChangesNoVerdict : Type 0
+RenamingChangesNoVerdict =
+    (stands : Member → Member → Bool) (places : ℕ) (acts others : List Act) →
+    AreFreelyRenamed stands places acts others → (n : ℕ) →
+    unnamed_verdict (verdict_at places acts n) ≡ unnamed_verdict (verdict_at places others n)
+
+-- .. and whether a frame has the floor.
+abbrev pub RenamingChangesNoFloor : Type 0
+RenamingChangesNoFloor =
+    (stands : Member → Member → Bool) (places : ℕ) (acts others : List Act) →
+    AreFreelyRenamed stands places acts others → (n at : ℕ) → n ≤ length acts →
+    is_none (only_if (has_floor at) (floor_frame (past_at places acts n)))
+    ≡ is_none (only_if (has_floor at) (floor_frame (past_at places others n)))

@@ -1,8 +1,9 @@
--- What callers speak of: what happened and who is in, the rule, the verdict at a position, what is
--- kept, the laws.
+-- What callers speak of: what happened and who is in, the rule, the verdict at a position, the same
+-- acts of other members, what is kept, the laws.
 pub mod Acts
 pub mod Rule
 pub mod Floor
+pub mod Renamed
 pub mod StandsFor
 pub mod Laws
 -- For the code alone: what a kept frame is seen as, and what the plain program has looked up so

@@ -86,3 +86,12 @@ pub fn repeats_are_not_admitted()
     ensures passed { law.PassedNumbersAreNotAdmitted }
     ensures repeats { law.RepeatsAreNotAdmitted }
 {}
+
+/// Where the same acts happen at the same moments, but of other members, one for one, and each Join is at a place of
+/// the module at which nobody is in: who is in is the same, and so are each verdict, but for the member that a busy one
+/// names, and whether a frame has the floor. So it doesn't matter which places are given.
+pub fn renaming_changes_no_verdict()
+    ensures members { law.RenamingChangesNoMembership }
+    ensures verdicts { law.RenamingChangesNoVerdict }
+    ensures floor { law.RenamingChangesNoFloor }
+{}

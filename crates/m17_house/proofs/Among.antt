@@ -28,7 +28,7 @@ use Rattle.m17_house.specs.SoFar.{found_from}
 use Rattle.m17_house.proofs.Lists.{slice_get_before, slice_get_end, length_more}
 use Rattle.m17_house.proofs.Found.{IsFound, found_none, found_one}
 
-last_same : (p q : ℕ → Bool) (n : ℕ) → ((m : ℕ) → m < n → p m ≡ q m) → last_below p n ≡ last_below q n
+pub last_same : (p q : ℕ → Bool) (n : ℕ) → ((m : ℕ) → m < n → p m ≡ q m) → last_below p n ≡ last_below q n
 unfolding last_below
 last_same p q zero h = refl
 last_same p q (suc n) h =
@@ -64,7 +64,7 @@ lt_from_cond : (b : Bool) (n a : ℕ) (o : Option ℕ) → (o ≡ Some a → a <
 lt_from_cond true n a o h e = omega (arith, same_Some n a e)
 lt_from_cond false n a o h e = omega (arith, h e)
 
-last_lt : (test : ℕ → Bool) (n a : ℕ) → last_below test n ≡ Some a → a < n
+pub last_lt : (test : ℕ → Bool) (n a : ℕ) → last_below test n ≡ Some a → a < n
 unfolding last_below
 last_lt test zero a e = cc
 last_lt test (suc n) a e = lt_from_cond (test n) n a (last_below test n) (last_lt test n a) e

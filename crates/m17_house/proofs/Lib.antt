@@ -19,3 +19,6 @@ pub mod EndEnds
 pub mod OneReplay
 pub mod FaultsEnd
 pub mod OneAnswer
+pub mod FreeChoice
+pub mod FreeSame
+pub mod FreeAnswers

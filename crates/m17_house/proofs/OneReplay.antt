@@ -17,20 +17,20 @@ use Rattle.m17_house.specs.Laws.{OneReplay}
 use Rattle.m17_house.proofs.Chosen.{count_range}
 
 -- What was heard says one thing.
-says_one : EachEntrySaysOneThing → (h : Heard) (a b : Notice) → HasBytes h → Says h a → Says h b → a ≡ b
+pub says_one : EachEntrySaysOneThing → (h : Heard) (a b : Notice) → HasBytes h → Says h a → Says h b → a ≡ b
 says_one law h a b is sa sb =
     let one = law h is in
     one.2 a sa ∙ sym (one.2 b sb)
 
 -- what one entry of a replay says, of what was heard
-says_there : (front rest : List Heard) (entries : List Entry) (n : ℕ) → SaysEach front entries → n < length entries → (h : Heard) × (slice_get (front ++ rest) n ≡ Some h) × Says h (notice_at entries n)
+pub says_there : (front rest : List Heard) (entries : List Entry) (n : ℕ) → SaysEach front entries → n < length entries → (h : Heard) × (slice_get (front ++ rest) n ≡ Some h) × Says h (notice_at entries n)
 says_there [] rest [] n each below = absurd (omega arith)
 says_there [] rest (e ∷ entries) n each below = absurd each
 says_there (h ∷ front) rest [] n each below = absurd each
 says_there (h ∷ front) rest (e ∷ entries) zero each below = (h, refl, each.0)
 says_there (h ∷ front) rest (e ∷ entries) (suc n) each below = says_there front rest entries n each.1 (omega arith)
 
-bytes_there : (all : List Heard) (n : ℕ) (h : Heard) → AllByRecursion HasBytes all → slice_get all n ≡ Some h → HasBytes h
+pub bytes_there : (all : List Heard) (n : ℕ) (h : Heard) → AllByRecursion HasBytes all → slice_get all n ≡ Some h → HasBytes h
 bytes_there [] n h are is = cc
 bytes_there (g ∷ all) zero h are is = subst HasBytes (same_Some g h is) are.0
 bytes_there (g ∷ all) (suc n) h are is = bytes_there all n h are.1 is

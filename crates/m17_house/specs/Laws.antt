@@ -13,6 +13,7 @@ use Rattle.m17_directory.specs.Entries.{Entry, most_faults, ends_at, SaysEach}
 use Rattle.m17_directory.specs.Laws.{HasBytes}
 use Rattle.m17_house.specs.declared.plan.Plan.{Plan}
 use Rattle.m17_house.specs.Replay.{EndsSomewhere, IsReplayOf, IsReplayed}
+use Rattle.m17_house.specs.Free.{IsFreeReplayOf, ComeToTheSame}
 
 -- What was heard ends the link, where it has an End. This profile.
 abbrev pub EndEndsIt : Type 0
@@ -56,3 +57,17 @@ abbrev pub OneAnswer : Type 0
 OneAnswer =
     (plan : Plan) (heard : List Heard) (a b : Answers) → AllByRecursion HasBytes heard →
     AreAnswers plan heard a → AreAnswers plan heard b → SayTheSame a b
+
+-- The replay gives places freely: the least free one, with the number of earlier claims of it as generation, is one
+-- choice. This profile.
+abbrev pub ReplaysGiveFreely : Type 0
+ReplaysGiveFreely =
+    (plan : Plan) (heard : List Heard) (entries : List Entry) →
+    IsReplayOf plan heard entries → IsFreeReplayOf plan heard entries
+
+-- Whichever free places are given, with whatever generations, and however many departed members a greeting waits for:
+-- it comes to the same. This profile.
+abbrev pub FreeReplaysComeToTheSame : Type 0
+FreeReplaysComeToTheSame =
+    (plan : Plan) (heard : List Heard) (one other : List Entry) → AllByRecursion HasBytes heard →
+    IsFreeReplayOf plan heard one → IsFreeReplayOf plan heard other → ComeToTheSame plan one other

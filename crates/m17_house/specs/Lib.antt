@@ -1,5 +1,6 @@
 -- What callers speak of: a replay in one thread, as the definitions of directory and modules have it, and its laws.
 pub mod Replay
+pub mod Free
 pub mod Laws
 -- For proofs alone: tallies, what was carried out, and how far a run has come.
 pub mod Tallied

@@ -3,6 +3,7 @@
 ghost use Rattle.m17_house.specs.Laws as law;
 
 use m17_directory::laws as directory_laws;
+use m17_module::laws as module_laws;
 
 /// What was heard ends the link where nothing more comes.
 pub fn an_end_ends_it()
@@ -28,4 +29,17 @@ pub fn one_answer()
     ensures { law.OneAnswer }
 {
     one_replay();
+}
+
+/// What a replay answers is free of places: whichever free place each asking entry is given while the others are fewer
+/// than the places, and no member twice, the verdicts are the same, but for the member that a busy one names, and so is
+/// what is said to each peer. The replay's own choice, the least free place, is one of these.
+pub fn answers_are_free_of_places()
+    ensures given { law.ReplaysGiveFreely }
+    ensures same { law.FreeReplaysComeToTheSame }
+{
+    directory_laws::each_entry_says_one_thing();
+    directory_laws::members_change_no_verdict();
+    directory_laws::joins_take_free_places();
+    module_laws::renaming_changes_nothing_said();
 }

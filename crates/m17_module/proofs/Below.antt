@@ -1,5 +1,6 @@
 -- The last position below a bound that passes a test, and lists that go on.
-use Rattle.std.proofs.Common.{◌≡◌, ℕ, zero, suc, ◌<◌, Bool, true, false, cond, List, [], ◌∷◌, ◌++◌, length, slice_get, Option, None, Some, refl, ap, ◌∙◌, arith}
+use Rattle.std.proofs.Common.{◌≡◌, ℕ, zero, suc, ◌<◌, Bool, true, false, cond, List, [], ◌∷◌, ◌++◌, length, slice_get, Option, None, Some, ◌≤◌, inl, inr, refl, ap, sym, ◌∙◌, arith}
+use Rattle.std.proofs.lemmas.Bool.{cases_eq, false≢true}
 use Rattle.std.proofs.lemmas.Option.{same_Some}
 use Rattle.std.specs.Option.{option_and_then}
 use Rattle.m17_floor.specs.Acts.{last_below}
@@ -70,3 +71,17 @@ last_below_stricter p q (suc n) a h e qa =
 pub and_then_same : {A B : Type 0} (o : Option A) (f g : A → Option B) → ((a : A) → o ≡ Some a → f a ≡ g a) → option_and_then f o ≡ option_and_then g o
 and_then_same None f g h = refl
 and_then_same (Some a) f g h = h a refl
+
+ge_from_cond : (test : ℕ → Bool) (b : Bool) (n a k : ℕ) (o : Option ℕ) → b ≡ test n → (o ≡ Some a → k < n → k ≤ a) → cond b (Some n) o ≡ Some a → test k ≡ true → k < suc n → k ≤ a
+ge_from_cond test true n a k o h r e t l = omega (arith, same_Some n a e)
+ge_from_cond test false n a k o h r e t l =
+    elim (cases_eq k n) [
+      | inl here ↦ absurd (false≢true (h ∙ ap test (sym here) ∙ t))
+      | inr other ↦ r e (omega arith)
+    ]
+
+-- no position above the one that is found passes
+pub last_below_ge : (test : ℕ → Bool) (n a k : ℕ) → last_below test n ≡ Some a → test k ≡ true → k < n → k ≤ a
+unfolding last_below
+last_below_ge test zero a k e t l = absurd (omega arith)
+last_below_ge test (suc n) a k e t l = ge_from_cond test (test n) n a k (last_below test n) refl (λ f m. last_below_ge test n a k f t m) e t l

@@ -65,7 +65,7 @@ closes_same later places acts more o n h =
     ∙ ap (λ kind. (is_admitted_at places acts n && has_end_bit kind) || (nat_lt o n && is_none (holder_at places (acts ++ more) n))) (later.kinds acts more n h)
     ∙ ap (λ holder. (is_admitted_at places acts n && has_end_bit (kind_at acts n)) || (nat_lt o n && is_none holder)) (holder_same later places acts more n h)
 
-find_same : (p q : ℕ → Bool) (from n : ℕ) → ((i : ℕ) → i < from + n → p i ≡ q i) → find p (range_with_len from n) ≡ find q (range_with_len from n)
+pub find_same : (p q : ℕ → Bool) (from n : ℕ) → ((i : ℕ) → i < from + n → p i ≡ q i) → find p (range_with_len from n) ≡ find q (range_with_len from n)
 find_same p q from zero h = refl
 find_same p q from (suc n) h =
     ap (λ b. cond b (Some from) (find p (range_with_len (from + 1) n))) (h from (omega arith))

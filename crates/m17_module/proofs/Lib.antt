@@ -21,3 +21,8 @@ mod ModuleStep
 mod EchoOnce
 mod ItemsHold
 mod VerdictsFit
+mod RenamedEvents
+mod SeatCounts
+mod RenamedSeats
+mod RenamedEchoes
+mod RenamedItems

@@ -46,7 +46,7 @@ if_in_same : (places : ℕ) (old new : List Event) (m n j : ℕ) (o : Option Sea
 if_in_same places old new m n j None h = refl
 if_in_same places old new m n j (Some seat) h = ap (λ i. cond (is_position j i) (Some seat) None) (h seat refl)
 
-position_is : (j : ℕ) (o : Option ℕ) → is_position j o ≡ true → o ≡ Some j
+pub position_is : (j : ℕ) (o : Option ℕ) → is_position j o ≡ true → o ≡ Some j
 position_is j None e = cc
 position_is j (Some i) e = ap Some (eqb-true i j e)
 
@@ -65,11 +65,11 @@ last_join_before : (events more : List Event) (n q : ℕ) → n ≤ length event
 unfolding last_join
 last_join_before events more n q h = last_below_same _ _ n (λ m l. ap (λ o. is_at q (seat_from o)) (slice_get_before events more m (omega arith)))
 
-last_join_lt : (events : List Event) (n q j : ℕ) → last_join events n q ≡ Some j → j < n
+pub last_join_lt : (events : List Event) (n q j : ℕ) → last_join events n q ≡ Some j → j < n
 unfolding last_join
 last_join_lt events n q j e = last_below_lt _ n j e
 
-last_join_at : (events : List Event) (n q j : ℕ) → last_join events n q ≡ Some j → is_at q (seat_from (slice_get events j)) ≡ true
+pub last_join_at : (events : List Event) (n q j : ℕ) → last_join events n q ≡ Some j → is_at q (seat_from (slice_get events j)) ≡ true
 unfolding last_join
 last_join_at events n q j e = last_below_true (λ i. is_at q (seat_from (slice_get events i))) n j e
 
@@ -241,12 +241,12 @@ has_seat places events n k i seat below last is mine joined =
     }
 
 -- the parts of a member's Join
-record JoinParts (places : ℕ) (events : List Event) (n : ℕ) (k : Member) (j : ℕ) : Type 0 where
-  below : nat_lt k.place places ≡ true
-  last : last_below (λ i. settles k (kind_at (acts_of events) i)) n ≡ Some j
-  join : is_join_of k (kind_at (acts_of events) j) ≡ true
+pub record JoinParts (places : ℕ) (events : List Event) (n : ℕ) (k : Member) (j : ℕ) : Type 0 where
+  pub below : nat_lt k.place places ≡ true
+  pub last : last_below (λ i. settles k (kind_at (acts_of events) i)) n ≡ Some j
+  pub join : is_join_of k (kind_at (acts_of events) j) ≡ true
 
-join_parts : (places : ℕ) (events : List Event) (n : ℕ) (k : Member) (j : ℕ) → joined_at places (acts_of events) k n ≡ Some j → JoinParts places events n k j
+pub join_parts : (places : ℕ) (events : List Event) (n : ℕ) (k : Member) (j : ℕ) → joined_at places (acts_of events) k n ≡ Some j → JoinParts places events n k j
 unfolding joined_at
 join_parts places events n k j e =
     let acts : List Act = acts_of events in

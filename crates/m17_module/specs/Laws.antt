@@ -1,7 +1,8 @@
 -- What follows from the definitions for every list of events. This profile.
 use Rattle.std.specs.Prelude.{◌≡◌, ◌↔◌, ℕ, ◌<◌, ◌≤◌, ◌⊎◌, ◌&&◌, Bool, true, false, not, List, [], ◌∷◌, ◌++◌, length, filter, slice_get, is_some, Option, None, Some}
-use Rattle.std.specs.List.{All, flat_map, range_with_len}
+use Rattle.std.specs.List.{All, filter_map, flat_map, range_with_len}
 use Rattle.m17_values.specs.declared.member.Member.{Member}
+use Rattle.m17_values.specs.declared.peer.Peer.{Peer}
 use Rattle.m17_stream.specs.declared.packet.StreamPacket.{StreamPacket}
 use Rattle.m17_control.specs.declared.event.Event.{Event}
 use Rattle.m17_control.specs.declared.event.Body.{Body}
@@ -11,8 +12,10 @@ use Rattle.m17_control.specs.declared.item.Said.{Said}
 use Rattle.m17_control.specs.declared.item.Said.TheVariants as said
 use Rattle.m17_floor.specs.declared.verdict.Verdict.{Verdict}
 use Rattle.m17_floor.specs.declared.verdict.Verdict.TheVariants.{Busy, Late}
+use Rattle.m17_control.specs.Renamed.{AreRenamedEvents, TakeFreePlaces, packet_reaching}
 use Rattle.m17_floor.specs.Acts.{is_join_of, settles, kind_at, joined_at}
 use Rattle.m17_floor.specs.Floor.{is_packet_of, admits, verdict_at}
+use Rattle.m17_floor.specs.Renamed.{IsOneToOne, unnamed_verdict}
 use Rattle.m17_module.specs.declared.seat.Seat.{Seat}
 use Rattle.m17_module.specs.Events.{acts_of}
 use Rattle.m17_module.specs.Seats.{seats_at, seat_of}
@@ -191,3 +194,29 @@ VerdictsFit =
     (places : ℕ) (events : List Event) (n : ℕ) (verdict : Verdict) →
     All (λ event. IsNumbered event.body) events →
     verdict_at places (acts_of events) n ≡ Some verdict → FitsIn places verdict
+
+-- Two lists of events, the same but for the members: one for one, each of whom joins at a place of the module that
+-- whoever had it before has left. This profile.
+pub record AreFreelyRenamed (stands : Member → Member → Bool) (places : ℕ)
+    (events others : List Event) : Type 0 where
+  pub one_to_one : IsOneToOne stands
+  pub renamed : AreRenamedEvents stands events others
+  pub free : TakeFreePlaces places events
+  pub free_others : TakeFreePlaces places others
+
+-- So it doesn't matter which places are given: the same packets, in the same order, reach each peer, or whichever peers
+-- are asked of together, ..
+abbrev pub RenamingChangesNothingSaid : Type 0
+RenamingChangesNothingSaid =
+    (stands : Member → Member → Bool) (setup : Setup) (events others : List Event) →
+    AreFreelyRenamed stands setup.places events others → (these : Peer → Bool) (name : ℕ) →
+    filter_map (packet_reaching these name) (items_given setup events)
+    ≡ filter_map (packet_reaching these name) (items_given setup others)
+
+-- .. and each packet gets the same verdict, but for the member that has the floor. This profile.
+abbrev pub RenamingChangesNoVerdict : Type 0
+RenamingChangesNoVerdict =
+    (stands : Member → Member → Bool) (places : ℕ) (events others : List Event) →
+    AreFreelyRenamed stands places events others → (n : ℕ) →
+    unnamed_verdict (verdict_at places (acts_of events) n)
+    ≡ unnamed_verdict (verdict_at places (acts_of others) n)

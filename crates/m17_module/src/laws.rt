@@ -70,3 +70,14 @@ pub fn items_keep_links()
 pub fn verdicts_fit()
     ensures { law.VerdictsFit }
 {}
+
+/// Where the same events come at the same moments, but of other members, one for one, and each of them joins at a place
+/// of the module that whoever had it before has left: the same packets reach each peer, in the same order, pings, echoes and replies
+/// among them, and each packet gets the same verdict, but for the member that a busy one names. So it doesn't matter
+/// which places are given, nor how many departed members a greeting waits for. This profile.
+pub fn renaming_changes_nothing_said()
+    ensures said { law.RenamingChangesNothingSaid }
+    ensures verdicts { law.RenamingChangesNoVerdict }
+{
+    floor_laws::renaming_changes_no_verdict();
+}

@@ -5,3 +5,4 @@ mod Judged
 mod Ends
 mod OneText
 mod Lost
+mod FreeText

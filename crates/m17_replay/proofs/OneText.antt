@@ -25,7 +25,7 @@ all_bytes : (entries : List Heard) (body : List ℕ) → SpellsEach SpellsEntry 
 all_bytes [] body each = (tt, tt)
 all_bytes (h ∷ entries) body each = (has_bytes h each.2.0, all_bytes entries each.1 each.3)
 
-heard_bytes : (bytes : List ℕ) (heard : List Heard) → IsTrace bytes heard → AllByRecursion HasBytes heard
+pub heard_bytes : (bytes : List ℕ) (heard : List Heard) → IsTrace bytes heard → AllByRecursion HasBytes heard
 heard_bytes bytes heard trace = subst (λ (hs : List Heard). AllByRecursion HasBytes hs) (sym trace.4) (all_bytes trace.1 trace.3.0 trace.3.1)
 
 pub one_text : TracesAreExact → OneReplay → OneReplayText

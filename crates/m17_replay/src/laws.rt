@@ -19,3 +19,13 @@ pub fn lost_by_sixteen_faults()
     book_laws::traces_are_exact();
     house_laws::sixteen_faults_end_it();
 }
+
+/// What `replay` prints, lines or summary, is free of places: whichever free place each asking entry is given while the
+/// others are fewer than the places, with whatever generation, no member twice, and however many departed members a
+/// greeting waits for.
+pub fn replay_text_is_free_of_places()
+    ensures { law.TextIsFreeOfPlaces }
+{
+    book_laws::traces_are_exact();
+    house_laws::answers_are_free_of_places();
+}
