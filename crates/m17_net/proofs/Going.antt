@@ -53,10 +53,10 @@ mapped-back a b four peer is mapped has octets segments =
     let two : length low ≡ 2 = omega (arith, length-drop 6 (ipv6_segments a), is.0) in
     let long : length (octets_of low) ≡ 4 = omega (arith, length-octets low) in
     let small : (k : ℕ) → get_or low k 0 < 2 ^ 16 =
-        λ k. rw (get_or-drop 6 (ipv6_segments a) k 0) (is.1 (6 + k)) in
+    λ k. rw (get_or-drop 6 (ipv6_segments a) k 0) (is.1 (6 + k)) in
     let same : segments_of (ipv4_octets four) ≡ low =
-        ap segments_of (four-back (octets_of low) (ipv4_octets four) peer long has octets)
-        ∙ segments-of-octets low small in
+    ap segments_of (four-back (octets_of low) (ipv4_octets four) peer long has octets)
+    ∙ segments-of-octets low small in
     segments ∙ (λ i. sym mapped i ++ same i) ∙ take-append-drop 6 (ipv6_segments a)
 
 six-back : (a b : Ipv6Addr) (peer : Peer) → IsIpv6Addr a → peer.ip ≡ ipv6_octets a

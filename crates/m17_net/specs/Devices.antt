@@ -78,14 +78,16 @@ TellsTaken (heard.Quiet at) before after = after ≡ before
 TellsTaken heard.Fault before after = TakesUntold before after
 TellsTaken heard.End before after = TakesUntold before after
 
--- what an ear tells at a moment: what its socket took and sent, and the last moment read
+-- what an ear tells at a moment: what its socket took and sent, how often that broke, and the last moment read
 pub record EarTold : Type 0 where
   pub taken : Option (List Sent)
   pub sent : Option (List Sent)
+  pub broken : Option ℕ
   pub last : ℕ
 
-abbrev pub ear_told : Option (List Sent) → Option (List Sent) → ℕ → EarTold
-ear_told taken sent last = record { taken = taken; sent = sent; last = last }
+abbrev pub ear_told : Option (List Sent) → Option (List Sent) → Option ℕ → ℕ → EarTold
+ear_told taken sent broken last =
+    record { taken = taken; sent = sent; broken = broken; last = last }
 
 -- The count rose by one at a Fault, and stands at another answer. One that has come to 2^64 - 1 stays there. This
 -- profile.
@@ -120,3 +122,5 @@ pub record Listens (until : Option ℕ) (before : EarTold) (answer : Heard) (aft
   pub moment : TellsMoment answer after.last
   pub taken : TellsTaken answer before.taken after.taken
   pub nothing_sent : after.sent ≡ before.sent
+  -- a socket that broke is told as a Fault
+  pub sound : answer ≢ heard.Fault → after.broken ≡ before.broken

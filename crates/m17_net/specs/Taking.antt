@@ -1,5 +1,5 @@
 -- What one call of an ear finds on its socket. For proofs alone.
-use Rattle.std.specs.Prelude.{◌≡◌, ◌≢◌, ℕ, ◌≤◌, List, [], ◌∷◌, take, Option, None, Some, Result, Ok, Err}
+use Rattle.std.specs.Prelude.{◌≡◌, ◌≢◌, ℕ, suc, option_map, ◌≤◌, List, [], ◌∷◌, take, Option, None, Some, Result, Ok, Err}
 use Rattle.std.specs.declared.net.socket_addr.SocketAddr.{SocketAddr}
 use Rattle.m17_values.specs.declared.peer.Peer.{Peer}
 use Rattle.m17_values.specs.declared.heard.Heard.{Heard}
@@ -43,3 +43,10 @@ pub record TellsAt (until : Option ℕ) (before : ℕ) (answer : Heard) (after :
   pub goes_on : answer ≢ heard.End → answer ≢ heard.Fault → ¬ (IsOver until after)
   pub forward : before ≤ after
   pub moment : TellsMoment answer after
+
+-- the socket broke where it failed, and only there
+abbrev pub BreaksSo : Taken → Option ℕ → Option ℕ → Type 0
+BreaksSo (taken.Datagram from bytes) before after = after ≡ before
+BreaksSo taken.Nothing before after = after ≡ before
+BreaksSo taken.Noise before after = after ≡ before
+BreaksSo taken.Failed before after = after ≡ option_map suc before

@@ -1,7 +1,12 @@
 -- What a socket for datagrams takes and sends. This profile.
-use Rattle.std.specs.Prelude.{◌≡◌, ℕ, List, [], ◌∷◌, take, Option}
+use Rattle.std.specs.Prelude.{◌≡◌, ℕ, suc, List, [], ◌∷◌, take, Option, option_map, Result, Ok, Err}
+use Rattle.std.specs.IoError.{error_kind}
+use Rattle.std.specs.declared.io.Error.{Error}
 use Rattle.std.specs.declared.net.socket_addr.SocketAddr.{SocketAddr}
 use Rattle.m17_ports.specs.Told.{told_then}
+use Rattle.m17_net.specs.declared.trouble.Trouble.{Trouble}
+use Rattle.m17_net.specs.declared.trouble.Trouble.TheVariants.{Waited, Passing, Broken}
+use Rattle.m17_net.specs.Errors.{meaning_of}
 
 -- A datagram on the network: the address that it comes from or goes to, and its bytes. This profile.
 abbrev pub Sent : Type 0
@@ -21,3 +26,14 @@ found from room bytes = record { from = from; room = room; bytes = bytes }
 abbrev pub HasTaken : Option (List Sent) → Found → Option (List Sent) → Type 0
 HasTaken before f after = (whole : List ℕ)
     × (after ≡ told_then before ((f.from, whole) ∷ [])) × (f.bytes ≡ take f.room whole)
+
+-- how often a socket broke, after an error that means this
+abbrev pub broken_after : Trouble → Option ℕ → Option ℕ
+broken_after Waited n = n
+broken_after Passing n = n
+broken_after Broken n = option_map suc n
+
+-- A call breaks the socket where its error is none that passes. This profile.
+abbrev pub BreaksBy : {T : Type 0} → Result T Error → Option ℕ → Option ℕ → Type 0
+BreaksBy (Ok _) before after = after ≡ before
+BreaksBy (Err e) before after = after ≡ broken_after (meaning_of (error_kind e)) before

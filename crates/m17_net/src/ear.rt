@@ -1,4 +1,4 @@
-ghost use Rattle.std.specs.Prelude.{◌≡◌, ◌≢◌, ℕ, ◌-◌, ◌^◌, ◌≤◌, min, true, [], ◌∷◌, None, Some, ◌↔◌, IfOk, IsErr, OnErr};
+ghost use Rattle.std.specs.Prelude.{◌≡◌, ◌≢◌, ℕ, ◌-◌, ◌^◌, ◌≤◌, min, true, [], ◌∷◌, None, Some, ◌↔◌, IfOk, OnOk, OnErr};
 ghost use Rattle.m17_io.specs.Faults.{HasRisen};
 ghost use Rattle.m17_values.specs.declared.heard.Heard.{Heard};
 ghost use Rattle.m17_ports.specs.Told.{told_then};
@@ -84,6 +84,7 @@ impl<C: Clock + Drop, W: Wire + Drop> UdpEar<C, W> {
     fn take_next(&mut self) -> Result<Option<(Peer, Gram)>, Failed>
         ensures comes { Comes result (W.taken self.old.wire) (W.taken self.new.wire) }
         ensures nothing_sent { W.sent self.new.wire ≡ W.sent self.old.wire }
+        ensures sound { OnOk result (W.broken self.new.wire ≡ W.broken self.old.wire) }
         ensures same { self.new ≡ record self.old { wire = self.new.wire } }
     {
         match take_one(&mut self.wire) {
@@ -178,8 +179,10 @@ impl<C: Clock + Drop, W: Wire + Drop> Ear for UdpEar<C, W> {
 
         // What it says is what its socket took, and when.
         ensures listens { Listens self.old.until
-            (ear_told (W.taken self.old.wire) (W.sent self.old.wire) self.old.last) result
-            (ear_told (W.taken self.new.wire) (W.sent self.new.wire) self.new.last) }
+            (ear_told (W.taken self.old.wire) (W.sent self.old.wire)
+            (W.broken self.old.wire) self.old.last) result
+            (ear_told (W.taken self.new.wire) (W.sent self.new.wire)
+            (W.broken self.new.wire) self.new.last) }
         ensures counted_so { CountsFault result self.old.faults self.new.faults }
         ensures same_end { self.new.until ≡ self.old.until }
     {

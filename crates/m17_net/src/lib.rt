@@ -25,4 +25,6 @@ pub use ports::UdpPorts;
 pub use wire::Wire;
 
 #[cfg(test)]
+mod system_tests;
+#[cfg(test)]
 mod tests;

@@ -12,13 +12,12 @@ use crate::ear::WAIT_MS;
 use crate::{FileBook, UdpEar, UdpMouth};
 use m17_ports::Ports;
 use m17_values::Failed;
-use std::fs;
 use std::fs::File;
-use std::io;
 use std::marker::Model;
 use std::net::{Net, SocketAddr, UdpSocket};
 use std::rt::Files;
 use std::time::{Clock, Duration, Instant};
+use std::{fs, io};
 
 /// Links on UDP sockets, and books in files, of the system that `rt` stands for. Each link and each book has the number
 /// of the call that made it. This profile.
@@ -72,12 +71,7 @@ impl<R: Net + Files<File = File> + Clock + Copy + Drop> UdpPorts<R> {
     }
 
     // A link with this number, bound there.
-    fn open(
-        &self,
-        bind: &str,
-        until: Option<u64>,
-        number: u64,
-    ) -> Option<(UdpEar<R>, UdpMouth)>
+    fn open(&self, bind: &str, until: Option<u64>, number: u64) -> Option<(UdpEar<R>, UdpMouth)>
         ensures { IfSome result (IsNewLink bind.now until number) }
     {
         let start = self.start?;

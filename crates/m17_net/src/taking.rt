@@ -1,6 +1,6 @@
 ghost use Rattle.std.specs.Prelude.{◌≡◌, [], ◌∷◌, OnOk, OnErr};
 ghost use Rattle.m17_ports.specs.Told.{told_then};
-ghost use Rattle.m17_net.specs.Taking.{TakesSo};
+ghost use Rattle.m17_net.specs.Taking.{BreaksSo, TakesSo};
 
 use crate::address::peer_at;
 use crate::trouble::{Trouble, trouble_of};
@@ -31,6 +31,7 @@ pub(crate) enum Taken {
 pub(crate) fn take_one<W: Wire>(wire: &mut W) -> Taken
     ensures taken { TakesSo result (W.taken wire.old) (W.taken wire.new) }
     ensures nothing_sent { W.sent wire.new ≡ W.sent wire.old }
+    ensures broken { BreaksSo result (W.broken wire.old) (W.broken wire.new) }
 {
     let mut bytes = [0u8; ROOM];
     for _ in 0..TRIES {
@@ -57,6 +58,7 @@ pub(crate) fn send_one<W: Wire>(wire: &mut W, bytes: &[u8], to: SocketAddr) -> R
         (W.sent wire.new ≡ told_then (W.sent wire.old) ((to, bytes.now) ∷ [])) }
     ensures nothing_sent { OnErr result (W.sent wire.new ≡ W.sent wire.old) }
     ensures nothing_taken { W.taken wire.new ≡ W.taken wire.old }
+    ensures sound { W.broken wire.new ≡ W.broken wire.old }
 {
     for _ in 0..TRIES {
         match wire.send(bytes, to) {

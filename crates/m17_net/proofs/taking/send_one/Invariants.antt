@@ -6,4 +6,5 @@ abbrev pub invariant-loop : goal.invariant-loop
 invariant-loop g l = record {
   taken : g.W.Wire.taken l.wire ≡ g.W.Wire.taken l.fn.wire;
   sent : g.W.Wire.sent l.wire ≡ g.W.Wire.sent l.fn.wire;
+  broken : g.W.Wire.broken l.wire ≡ g.W.Wire.broken l.fn.wire;
 }
