@@ -154,7 +154,7 @@ closed_pipe() {
 }
 check "a reader that goes away gives 4, and no signal ends the program" closed_pipe
 
-# A client from the shell: its words and its script are judged, and there is no port to open yet.
+# A client from the shell: its words and its script are judged before its port is opened.
 talk_has_no_port() {
     set -- talk --call AB1CD --module A --bind x --to 10.0.0.9:17000
     gives 5 'port failed\n' prog "$@" </dev/null &&
@@ -165,4 +165,4 @@ talk_has_no_port() {
     gives 1 'input refused at 8: field\n' prog "$@" <zeros || return 1
     refused talk && refused "$@" --stay 86400001 && refused "$@" x
 }
-check "a talk from a shell ends with port failed, a wrong script with its refusal" talk_has_no_port
+check "a talk without a port ends with port failed, a wrong script with its refusal" talk_has_no_port

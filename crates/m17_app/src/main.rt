@@ -1,9 +1,9 @@
 //! The program. `run` reads the words, runs their command over any source and sink, writes the last line and answers the
 //! status; it promises what was written for the bytes that came in, the cause of each status, and that the sink holds
-//! nothing back at the end. `main` hands it the standard streams and ends with its answer. `StdIn` and `StdOut` are the
-//! trusted edge: one call of the system each, counted faults, and no content told. What lies between them and `run` is
-//! left to `m17_buffers`, and what the commands print to their own crates. Ports that have devices to hand out are to
-//! come: until then `talk` ends with `port failed`.
+//! nothing back at the end. `main` hands it the standard streams and the ports of the machine (`m17_net`), and ends with
+//! its answer. `StdIn` and `StdOut` are the trusted edge: one call of the system each, counted faults, and no content
+//! told. What lies between them and `run` is left to `m17_buffers`, sockets and files to `m17_net`, and what the commands
+//! print to their own crates.
 #![tactic(auto)]
 
 mod conclude;
@@ -22,6 +22,7 @@ mod words;
 ghost use Rattle.std.specs.Process.{exit_status};
 ghost use Rattle.m17_app.specs.Status.{IsStatus};
 
+use m17_net::UdpPorts;
 use status::Status;
 use std::env;
 use std::io::ErrorKind;
@@ -34,12 +35,13 @@ fn main(rt: HostRuntime) -> ExitCode {
     start(rt, &rt)
 }
 
-// Runs the program on the standard streams. It waits by `waits`, which is the runtime too.
+// Runs the program on the standard streams, over sockets and files. It waits by `waits`, which is the runtime too.
 fn start<W: Wait>(rt: HostRuntime, waits: &W) -> ExitCode
     ensures { IsStatus (exit_status result) }
 {
+    let mut ports = UdpPorts::new(rt);
     let status = match words_of(rt) {
-        Some(words) => run_on(waits, rt.alloc(), &words, rt.stdin(), &rt),
+        Some(words) => run_on(waits, rt.alloc(), &words, &mut ports, rt.stdin(), &rt),
         None => Status::NoMemory.code(),
     };
     ExitCode::from(status)

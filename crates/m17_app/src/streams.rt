@@ -7,17 +7,18 @@ use crate::status::Status;
 use crate::std_in::StdIn;
 use crate::std_out::StdOut;
 use m17_buffers::{BufferedSink, BufferedSource};
-use m17_devices::ScriptPorts;
+use m17_devices::Ports;
 use std::alloc::Global;
 use std::io::Read;
 use std::sync::Wait;
 
-/// Runs the program on a reader and on what prints, both buffered, with ports that have no device to hand out: `talk`
-/// ends with `port failed`. `NoMemory` also where there is none for the buffers.
-pub fn run_on<H: Wait, R: Read + Drop, P: Print>(
+/// Runs the program over these ports, on a reader and on what prints, both buffered. `NoMemory` also where there is none
+/// for the buffers.
+pub fn run_on<H: Wait, Q: Ports, R: Read + Drop, P: Print>(
     rt: &H,
     alloc: Global,
     words: &[String],
+    ports: &mut Q,
     reader: R,
     to: &P,
 ) -> u8
@@ -33,6 +34,5 @@ pub fn run_on<H: Wait, R: Read + Drop, P: Print>(
     let Ok(mut out) = BufferedSink::make(alloc, StdOut::new(to)) else {
         return Status::NoMemory.code();
     };
-    let mut ports = ScriptPorts::new(Vec::new(alloc), Vec::new(alloc), Vec::new(alloc));
-    run(rt, alloc, words, &mut ports, &mut input, &mut out).status
+    run(rt, alloc, words, ports, &mut input, &mut out).status
 }

@@ -1,0 +1,126 @@
+-- What contracts see of an ear, a mouth and a book of a real machine, and of its ports. This profile.
+use Rattle.std.specs.Prelude.{◌≡◌, ◌≢◌, ◌⊎◌, ℕ, ◌≤◌, List, [], ◌∷◌, take, Bool, Option, None, Some}
+use Rattle.std.specs.Net.Addr.{is_ipv6}
+use Rattle.std.specs.Net.Grammar.{IsSocketText}
+use Rattle.std.specs.Net.Socket.{socket_ip}
+use Rattle.std.specs.declared.net.socket_addr.SocketAddr.{SocketAddr}
+use Rattle.m17_values.specs.declared.heard.Heard.{Heard}
+use Rattle.m17_values.specs.declared.heard.Heard.TheVariants as heard
+use Rattle.m17_ports.specs.Told.{told_then}
+use Rattle.m17_ports.specs.Mouth.{Datagram}
+use Rattle.m17_ports.specs.Ports.{next_number}
+use Rattle.m17_net.specs.Address.{IsPeerAt, IsAddressOf}
+use Rattle.m17_net.specs.Wire.{Sent}
+
+-- an ear: its socket, the moment at which it ends, if it does, the last moment that it read, how often it has failed,
+-- and its number
+pub record EarKept (W : Type 0) : Type 0 where
+  pub wire : W
+  pub until : Option ℕ
+  pub last : ℕ
+  pub faults : ℕ
+  pub number : ℕ
+
+-- an ear that has heard nothing
+abbrev pub new_ear : {W : Type 0} → W → Option ℕ → ℕ → EarKept W
+new_ear wire until n = record { wire = wire; until = until; last = 0; faults = 0; number = n }
+
+-- a mouth: its socket, whether that is one of IPv6, how often it has failed, and its number
+pub record MouthKept (W : Type 0) : Type 0 where
+  pub wire : W
+  pub six : Bool
+  pub faults : ℕ
+  pub number : ℕ
+
+-- a mouth that has said nothing
+abbrev pub new_mouth : {W : Type 0} → W → Bool → ℕ → MouthKept W
+new_mouth wire six n = record { wire = wire; six = six; faults = 0; number = n }
+
+-- a book: its file, how often it has failed, and its number
+pub record BookKept (F : Type 0) : Type 0 where
+  pub file : F
+  pub faults : ℕ
+  pub number : ℕ
+
+-- a book in which nothing was written
+abbrev pub new_book : {F : Type 0} → F → ℕ → BookKept F
+new_book file n = record { file = file; faults = 0; number = n }
+
+-- ports: how many calls there were, and how often they have failed
+pub record PortsKept : Type 0 where
+  pub calls : ℕ
+  pub faults : ℕ
+
+-- The ear is over where the last moment that it read is this one. This profile.
+abbrev pub IsOver : Option ℕ → ℕ → Type 0
+IsOver None last = ⊥
+IsOver (Some until) last = until ≤ last
+
+-- the answer tells this moment, if it tells one
+abbrev pub TellsMoment : Heard → ℕ → Type 0
+TellsMoment (heard.Datagram from at bytes) last = at ≡ last
+TellsMoment (heard.Quiet at) last = at ≡ last
+TellsMoment heard.Fault last = Unit {0}
+TellsMoment heard.End last = Unit {0}
+
+-- one datagram was taken at the most, and is not told
+abbrev pub TakesUntold : Option (List Sent) → Option (List Sent) → Type 0
+TakesUntold before after =
+    (after ≡ before) ⊎ ((lost : Sent) × (after ≡ told_then before (lost ∷ [])))
+
+-- What the socket gave, and what the ear says of it: of a datagram its first 64 bytes and the peer at its address;
+-- nothing else was taken. Only at a Fault and at the End a datagram is lost that was taken. This profile.
+abbrev pub TellsTaken : Heard → Option (List Sent) → Option (List Sent) → Type 0
+TellsTaken (heard.Datagram from at bytes) before after = (address : SocketAddr) × (whole : List ℕ)
+    × (after ≡ told_then before ((address, whole) ∷ []))
+    × IsPeerAt address from × (bytes ≡ take 64 whole)
+TellsTaken (heard.Quiet at) before after = after ≡ before
+TellsTaken heard.Fault before after = TakesUntold before after
+TellsTaken heard.End before after = TakesUntold before after
+
+-- what an ear tells at a moment: what its socket took and sent, how often that broke, and the last moment read
+pub record EarTold : Type 0 where
+  pub taken : Option (List Sent)
+  pub sent : Option (List Sent)
+  pub broken : Option ℕ
+  pub last : ℕ
+
+abbrev pub ear_told : Option (List Sent) → Option (List Sent) → Option ℕ → ℕ → EarTold
+ear_told taken sent broken last =
+    record { taken = taken; sent = sent; broken = broken; last = last }
+
+-- The count rose by one at a Fault, and stands at another answer. One that has come to 2^64 - 1 stays there. This
+-- profile.
+pub record CountsFault (answer : Heard) (before after : ℕ) : Type 0 where
+  pub fault : answer ≡ heard.Fault → after ≡ next_number before
+  pub other : answer ≢ heard.Fault → after ≡ before
+
+-- what a mouth's socket sent: one datagram, to the address of its peer
+abbrev pub SendsTo : Bool → Datagram → Option (List Sent) → Option (List Sent) → Type 0
+SendsTo six datagram before after = (address : SocketAddr) × IsAddressOf six datagram.0 address
+    × (after ≡ told_then before ((address, datagram.1) ∷ []))
+
+-- The halves of a link that is new: both have this number, the ear ends at its moment, and the mouth knows whether the
+-- address that was asked for is one of IPv6. This profile.
+pub record IsNewLink {W : Type 0} (bind : List ℕ) (until : Option ℕ) (n : ℕ)
+    (link : EarKept W × MouthKept W) : Type 0 where
+  pub address : SocketAddr
+  pub text : IsSocketText bind address
+  pub ear : link.0 ≡ new_ear link.0.wire until n
+  pub mouth : link.1 ≡ new_mouth link.1.wire (is_ipv6 (socket_ip address)) n
+
+-- What an ear that ends at a moment, or never, does at one call. This profile.
+pub record Listens (until : Option ℕ) (before : EarTold) (answer : Heard) (after : EarTold)
+    : Type 0 where
+  -- an ear that is over leaves its socket alone
+  pub over : IsOver until before.last → (answer ≡ heard.End) × (after ≡ before)
+  -- it ends at the first moment at which it is over, and at no earlier one
+  pub ends : answer ≡ heard.End → IsOver until after.last
+  pub goes_on : answer ≢ heard.End → answer ≢ heard.Fault → ¬ (IsOver until after.last)
+  -- no moment lies before an earlier one
+  pub forward : before.last ≤ after.last
+  pub moment : TellsMoment answer after.last
+  pub taken : TellsTaken answer before.taken after.taken
+  pub nothing_sent : after.sent ≡ before.sent
+  -- a socket that broke is told as a Fault
+  pub sound : answer ≢ heard.Fault → after.broken ≡ before.broken

@@ -1,0 +1,17 @@
+-- What the errors of a socket mean to an ear and a mouth. This profile.
+use Rattle.std.specs.declared.io.ErrorKind.{ErrorKind}
+use Rattle.std.specs.declared.io.ErrorKind.TheVariants.{WouldBlock, TimedOut, Interrupted, ConnectionRefused, ConnectionReset, HostUnreachable, NetworkUnreachable, NetworkDown}
+use Rattle.m17_net.specs.declared.trouble.Trouble.{Trouble}
+use Rattle.m17_net.specs.declared.trouble.Trouble.TheVariants.{Waited, Passing, Broken}
+
+-- what an error of this kind means
+abbrev pub meaning_of : ErrorKind → Trouble
+meaning_of WouldBlock = Waited
+meaning_of TimedOut = Waited
+meaning_of Interrupted = Passing
+meaning_of ConnectionRefused = Passing
+meaning_of ConnectionReset = Passing
+meaning_of HostUnreachable = Passing
+meaning_of NetworkUnreachable = Passing
+meaning_of NetworkDown = Passing
+meaning_of _ = Broken

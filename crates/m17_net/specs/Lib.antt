@@ -1,0 +1,8 @@
+pub mod Address
+pub mod Errors
+pub mod Wire
+pub mod Devices
+pub mod Laws
+-- for proofs alone
+pub mod Taking
+pub mod Untold

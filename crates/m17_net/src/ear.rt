@@ -1,0 +1,197 @@
+ghost use Rattle.std.specs.Prelude.{◌≡◌, ◌≢◌, ℕ, ◌-◌, ◌^◌, ◌≤◌, min, true, [], ◌∷◌, None, Some, ◌↔◌, IfOk, OnOk, OnErr};
+ghost use Rattle.m17_io.specs.Faults.{HasRisen};
+ghost use Rattle.m17_values.specs.declared.heard.Heard.{Heard};
+ghost use Rattle.m17_ports.specs.Told.{told_then};
+ghost use Rattle.m17_ports.specs.Ear.{EndsPastCount};
+ghost use Rattle.m17_ports.specs.Ports.{next_number};
+ghost use Rattle.m17_net.specs.Devices.{ear_told, CountsFault, IsOver, Listens};
+ghost use Rattle.m17_net.specs.Taking.{Comes, SaysWhatCame, TellsAt};
+
+use crate::taking::{Taken, take_one};
+use crate::wire::Wire;
+use m17_ports::Ear;
+use m17_values::{Failed, Gram, Heard, Peer};
+use std::marker::Model;
+use std::net::UdpSocket;
+use std::thread;
+use std::time::{Clock, Duration, Instant};
+
+/// How long an ear waits for a datagram at the most, in milliseconds; and how long it rests after an error, so that
+/// nothing spins.
+pub(crate) const WAIT_MS: u64 = 20;
+
+/// The receiving half of a UDP socket. Moments are milliseconds since the ports were made. This profile.
+#[derive(Drop)]
+pub struct UdpEar<C: Clock + Drop, W: Wire + Drop = UdpSocket> {
+    clock: C,
+    wire: W,
+    start: Instant,
+    until: Option<u64>,
+    last: u64,
+    faults: u64,
+    number: u64,
+}
+
+impl<C: Clock + Drop, W: Wire + Drop> Model for UdpEar<C, W> {
+    ghost use Rattle.m17_net.specs.Devices.{EarKept};
+
+    ghost Value = { EarKept W };
+
+    ghost view = { λ e. record {
+      wire = e.wire;
+      until = e.until;
+      last = e.last;
+      faults = e.faults;
+      number = e.number;
+    } };
+}
+
+impl<C: Clock + Drop, W: Wire + Drop> UdpEar<C, W> {
+    ghost use Rattle.m17_net.specs.Devices.{EarKept, new_ear};
+
+    // An ear on this socket, whose moments are counted from `start`.
+    pub(crate) fn new(
+        clock: C,
+        wire: W,
+        start: Instant,
+        until: Option<u64>,
+        number: u64,
+    ) -> UdpEar<C, W>
+        ensures { result ≡ new_ear wire until number }
+    {
+        UdpEar {
+            clock,
+            wire,
+            start,
+            until,
+            last: 0,
+            faults: 0,
+            number,
+        }
+    }
+
+    // Whether its last moment is one at which it is over.
+    fn is_over(&self) -> bool
+        ensures { result ≡ true ↔ IsOver self.now.until self.now.last }
+    {
+        match self.until {
+            Some(until) => until <= self.last,
+            None => false,
+        }
+    }
+
+    // Takes what comes next, if something does. It rests after errors.
+    fn take_next(&mut self) -> Result<Option<(Peer, Gram)>, Failed>
+        ensures comes { Comes result (W.taken self.old.wire) (W.taken self.new.wire) }
+        ensures nothing_sent { W.sent self.new.wire ≡ W.sent self.old.wire }
+        ensures sound { OnOk result (W.broken self.new.wire ≡ W.broken self.old.wire) }
+        ensures same { self.new ≡ record self.old { wire = self.new.wire } }
+    {
+        match take_one(&mut self.wire) {
+            Taken::Datagram { from, bytes } => Ok(Some((from, bytes))),
+            Taken::Nothing => Ok(None),
+            Taken::Noise => {
+                self.rest();
+                Ok(None)
+            }
+            Taken::Failed => {
+                self.rest();
+                Err(Failed)
+            }
+        }
+    }
+
+    // Rests as long as it would have waited.
+    fn rest(&self) {
+        thread::sleep(&self.clock, Duration::from_millis(WAIT_MS));
+    }
+
+    // Reads the moment.
+    fn read_moment(&mut self) -> Result<u64, Failed>
+        ensures read { IfOk result (λ at. (at ≡ self.new.last) × (self.old.last ≤ at)) }
+        ensures same { self.new ≡ record self.old { last = self.new.last } }
+        ensures failed { OnErr result (self.new ≡ self.old) }
+    {
+        match Instant::now(&self.clock) {
+            Ok(now) => {
+                let since = now.duration_since(self.start).as_millis();
+                let at = u64::try_from(since).unwrap_or(u64::MAX);
+                self.last = at.max(self.last);
+                Ok(self.last)
+            }
+            Err(_) => Err(Failed),
+        }
+    }
+
+    // Counts a fault.
+    fn fault(&mut self) -> Heard
+        ensures counted { self.new ≡ record self.old { faults = next_number self.old.faults } }
+        ensures fault { result ≡ Heard.Fault }
+    {
+        self.faults = self.faults.saturating_add(1);
+        Heard::Fault
+    }
+
+    // What is said of what came, if something did, at the moment that is read now.
+    fn tell(&mut self, came: Option<(Peer, Gram)>) -> Heard
+        ensures at { TellsAt self.old.until self.old.last result self.new.last }
+        ensures came { SaysWhatCame result came }
+        ensures counted_so { CountsFault result self.old.faults self.new.faults }
+        ensures same { self.new ≡ record self.old { last = self.new.last; faults = self.new.faults } }
+    {
+        match self.read_moment() {
+            Ok(_) if self.is_over() => Heard::End,
+            Ok(at) => match came {
+                Some((from, bytes)) => Heard::Datagram { from, at, bytes },
+                None => Heard::Quiet { at },
+            },
+            Err(_) => self.fault(),
+        }
+    }
+}
+
+impl<C: Clock + Drop, W: Wire + Drop> Ear for UdpEar<C, W> {
+    ghost use Rattle.std.proofs.Math.Nat.{min-le_right};
+    ghost use Rattle.m17_net.specs.Untold.{follows_none};
+
+    type Label = ();
+
+    ghost faults = { λ e. min e.faults (2 ^ 64 - 1) };
+
+    ghost heard = { λ _. None };
+
+    ghost mark = { λ e. Some (record { number = e.number; script = None }) };
+
+    ghost label = { λ _. tt };
+
+    ghost faults_fit = { λ e. min-le_right e.faults (2 ^ 64 - 1) };
+
+    ghost follows_script = { λ _ script entries marked _. follows_none script entries marked };
+
+    fn hear(&mut self) -> Heard
+        ensures counted { min self.old.faults (2 ^ 64 - 1) ≤ min self.new.faults (2 ^ 64 - 1) }
+        ensures fault { result ≡ Heard.Fault → HasRisen (min self.old.faults (2 ^ 64 - 1))
+            (min self.new.faults (2 ^ 64 - 1)) }
+        ensures no_fault { result ≢ Heard.Fault
+            → min self.new.faults (2 ^ 64 - 1) ≡ min self.old.faults (2 ^ 64 - 1) }
+        ensures appended { (EndsPastCount None → ⊥) → None ≡ told_then {A = Heard} None (result ∷ []) }
+        ensures same_device { self.new.number ≡ self.old.number }
+
+        // What it says is what its socket took, and when.
+        ensures listens { Listens self.old.until
+            (ear_told (W.taken self.old.wire) (W.sent self.old.wire)
+            (W.broken self.old.wire) self.old.last) result
+            (ear_told (W.taken self.new.wire) (W.sent self.new.wire)
+            (W.broken self.new.wire) self.new.last) }
+        ensures counted_so { CountsFault result self.old.faults self.new.faults }
+        ensures same_end { self.new.until ≡ self.old.until }
+    {
+        if self.is_over() {
+            return Heard::End;
+        }
+        match self.take_next() {
+            Ok(came) => self.tell(came),
+            Err(_) => self.fault(),
+        }
+    }
+}

@@ -1,0 +1,87 @@
+ghost use Rattle.std.specs.Prelude.{◌≡◌, ℕ, ◌-◌, ◌^◌, ◌≤◌, min, None, Some, OnOk, OnErr, take};
+ghost use Rattle.std.specs.Io.KnownBytes.{Appends};
+ghost use Rattle.m17_io.specs.Faults.{HasCause};
+ghost use Rattle.m17_ports.specs.Told.{told_then};
+ghost use Rattle.m17_ports.specs.Ports.{next_number};
+
+use m17_ports::Book;
+use m17_values::Failed;
+use std::fs::File;
+use std::io::Write;
+use std::marker::Model;
+
+/// A book in a file. Each write goes to the file at once, so what stands there ends with a whole record, as far as the
+/// system wrote it whole. This profile.
+#[derive(Drop)]
+pub struct FileBook<F: Write + Drop = File> {
+    file: F,
+    faults: u64,
+    number: u64,
+}
+
+impl<F: Write + Drop> Model for FileBook<F> {
+    ghost use Rattle.m17_net.specs.Devices.{BookKept};
+
+    ghost Value = { BookKept F };
+
+    ghost view = { λ b. record { file = b.file; faults = b.faults; number = b.number } };
+}
+
+impl<F: Write + Drop> FileBook<F> {
+    ghost use Rattle.m17_net.specs.Devices.{BookKept, new_book};
+
+    // A book in this file.
+    pub(crate) fn new(file: F, number: u64) -> FileBook<F>
+        ensures { result ≡ new_book file number }
+    {
+        FileBook {
+            file,
+            faults: 0,
+            number,
+        }
+    }
+}
+
+impl<F: Write + Drop> Book for FileBook<F> {
+    ghost use Rattle.std.proofs.Math.Nat.{min-le_right};
+    ghost use Rattle.m17_net.specs.Devices.{BookKept};
+
+    type Label = ();
+
+    ghost faults = { λ b. min b.faults (2 ^ 64 - 1) };
+
+    ghost written = { λ _. None };
+
+    ghost mark = { λ b. Some b.number };
+
+    ghost label = { λ _. tt };
+
+    ghost faults_fit = { λ b. min-le_right b.faults (2 ^ 64 - 1) };
+
+    fn write(&mut self, bytes: &[u8]) -> Result<(), Failed>
+        ensures cause { HasCause (min self.old.faults (2 ^ 64 - 1))
+            (min self.new.faults (2 ^ 64 - 1)) result }
+        ensures appended { OnOk result (None ≡ told_then {A = ℕ} None bytes.now) }
+        ensures prefix { OnErr result ((n : ℕ) × (None ≡ told_then {A = ℕ} None (take n bytes.now))) }
+        ensures same_device { self.new.number ≡ self.old.number }
+
+        // All of the bytes are appended to its file.
+        ensures whole { OnOk result
+            (Appends (F.contents self.old.file) (F.contents self.new.file) bytes.now) }
+
+        // A failure is counted; the rest stays.
+        ensures written { OnOk result (self.new ≡ record self.old { file = self.new.file }) }
+        ensures failed { OnErr result (self.new ≡ record self.old {
+          file = self.new.file;
+          faults = next_number self.old.faults;
+        }) }
+    {
+        match self.file.write_all(bytes) {
+            Ok(()) => Ok(()),
+            Err(_) => {
+                self.faults = self.faults.saturating_add(1);
+                Err(Failed)
+            }
+        }
+    }
+}

@@ -1,0 +1,59 @@
+ghost use Rattle.std.specs.Prelude.{◌≡◌, ℕ, ◌≤◌, List, [], ◌∷◌, length, take, Option, OnOk, IfOk, OnErr};
+ghost use Rattle.m17_ports.specs.Told.{told_then};
+ghost use Rattle.m17_net.specs.Wire.{Sent, found, BreaksBy, HasTaken};
+
+use std::io;
+use std::io::{Error, ErrorKind};
+use std::net::{SocketAddr, UdpSocket};
+
+/// A socket for datagrams, as an ear and a mouth use it: the system's, or one that a test makes. This profile.
+pub trait Wire {
+    /// The datagrams that it took so far, each with the address that it came from, where the socket tells them.
+    ghost taken: { Self → Option (List Sent) };
+
+    /// The datagrams that it sent so far, each with the address that it went to, where the socket tells them.
+    ghost sent: { Self → Option (List Sent) };
+
+    /// How often it broke at a call of `take`, where the socket tells that.
+    ghost broken: { Self → Option ℕ };
+
+    /// Takes the next datagram, puts as many of its bytes into `into` as there is room for, and answers how many these
+    /// are and where it came from. It may wait for as long as the socket was told to. After an error nothing was taken.
+    fn take(&mut self, into: &mut [u8]) -> io::Result<(usize, SocketAddr)>
+        ensures within { IfOk result (λ r. r.0 ≤ length into.new) }
+        ensures taken { IfOk result (λ r. HasTaken (taken self.old)
+            (found r.1 (length into.new) (take r.0 into.new)) (taken self.new)) }
+        ensures nothing_taken { OnErr result (taken self.new ≡ taken self.old) }
+        ensures nothing_sent { sent self.new ≡ sent self.old }
+        ensures broken { BreaksBy result (broken self.old) (broken self.new) };
+
+    /// Sends a datagram of these bytes to the address. After an error nothing was sent.
+    fn send(&mut self, bytes: &[u8], to: SocketAddr) -> io::Result<()>
+        ensures sent { OnOk result (sent self.new ≡ told_then (sent self.old) ((to, bytes.now) ∷ [])) }
+        ensures nothing_sent { OnErr result (sent self.new ≡ sent self.old) }
+        ensures nothing_taken { taken self.new ≡ taken self.old }
+        ensures sound { broken self.new ≡ broken self.old };
+}
+
+// The trusted edge: one call of the system each, which tells no content.
+impl Wire for UdpSocket {
+    ghost use Rattle.std.specs.Prelude.{None};
+
+    ghost taken = { λ _. None };
+
+    ghost sent = { λ _. None };
+
+    ghost broken = { λ _. None };
+
+    fn take(&mut self, into: &mut [u8]) -> io::Result<(usize, SocketAddr)> {
+        self.recv_from(into)
+    }
+
+    fn send(&mut self, bytes: &[u8], to: SocketAddr) -> io::Result<()> {
+        if self.send_to(bytes, to)? == bytes.len() {
+            Ok(())
+        } else {
+            Err(Error::from(ErrorKind::WriteZero))
+        }
+    }
+}
