@@ -5,3 +5,5 @@
 //! what a peer hears by a link is, membership for membership, in order. Which items there are is left to the modules,
 //! and which members wait for which to the directories.
 #![tactic(auto)]
+
+pub mod laws;
