@@ -1,5 +1,5 @@
 -- One thing at one place of a row, and nothing at the others.
-use Rattle.std.proofs.Common.{◌≡◌, ◌≢◌, ℕ, zero, suc, ◌<◌, cond, List, [], ◌∷◌, map, length, set, get_or, refl, ap, eq-eqb, ne_eqb, arith}
+use Rattle.std.proofs.Common.{◌≡◌, ◌≢◌, ℕ, zero, suc, ◌<◌, cond, List, [], ◌∷◌, map, length, set, get_or, sym, refl, ap, ◌∙◌, eq-eqb, ne_eqb, arith}
 use Rattle.m17_rows.specs.Rows.{only}
 use Rattle.m17_rows.specs.Grids.{only_in}
 
@@ -37,3 +37,10 @@ module _ {A B : Type 0} (f : A → B) where
   pub map_count : (xs : List A) → length (map f xs) ≡ length xs
   map_count [] = refl
   map_count (x ∷ xs) = ap suc (map_count xs)
+
+  -- what f shows of a place stays
+  pub map_kept : (xs : List A) (m : ℕ) (was is : A) → m < length xs → was ≡ get_or xs m was → f is ≡ f was → map f (set xs m is) ≡ map f xs
+  map_kept xs m was is lt at e =
+      let there : f was ≡ get_or (map f xs) m (f was) = ap f at ∙ sym (map_read xs m was) in
+      let long : length (map f xs) ≡ length xs = map_count xs in
+      map_put xs m is ∙ ap (λ (y : B). set (map f xs) m y) (e ∙ there) ∙ same_there (map f xs) m (f was) (omega arith)

@@ -5,7 +5,7 @@ use Rattle.std.specs.Prelude.{slice_get}
 use Rattle.m17_lane.specs.Ends.{PushEnd, PopEnd, pushed_to, refused_by, popped_from}
 use Rattle.m17_rows.specs.Rows.{pushes, grows, pops, push_each, grow_each, pop_each, only, nowhere}
 use Rattle.m17_rows.specs.Grids.{pop_grid, only_in}
-use Rattle.m17_rows.proofs.Places.{same_there, map_put, map_read, map_count}
+use Rattle.m17_rows.proofs.Places.{same_there, map_put, map_read, map_count, map_kept}
 use Rattle.m17_rows.proofs.Pushes.{placed as push_placed}
 use Rattle.m17_rows.proofs.Pops.{placed as pop_placed}
 use Rattle.m17_rows.proofs.Grown.{placed as grow_placed, here, none_here}
@@ -55,11 +55,7 @@ module _ {T : Type 0} where
   pub popped_in : {V : Type 0} (items : V → List (PopEnd T)) (r : Option T) (grid : List V) (m q : ℕ) (was is : V) → m < length grid → was ≡ get_or grid m was
       → MatchOption r (items is ≡ items was) (λ x. items is ≡ pop_each (only q x) 0 (items was))
       → MatchOption r (map items (set grid m is) ≡ map items grid) (λ x. map items (set grid m is) ≡ pop_grid (only_in m q x) 0 (map items grid))
-  popped_in items None grid m q was is lt at e =
-      let there : items was ≡ get_or (map items grid) m (items was) = ap items at ∙ sym (map_read items grid m was) in
-      let long : length (map items grid) ≡ length grid = map_count items grid in
-      map_put items grid m is ∙ ap (λ (l : List (PopEnd T)). set (map items grid) m l) (e ∙ there)
-      ∙ same_there (map items grid) m (items was) (omega arith)
+  popped_in items None grid m q was is lt at e = map_kept items grid m was is lt at e
   popped_in items (Some x) grid m q was is lt at e =
       let there : items was ≡ get_or (map items grid) m (items was) = ap items at ∙ sym (map_read items grid m was) in
       let long : length (map items grid) ≡ length grid = map_count items grid in

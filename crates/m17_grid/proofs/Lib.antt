@@ -1,0 +1,4 @@
+mod Moves
+mod Returns
+pub mod Stands
+pub mod Orders

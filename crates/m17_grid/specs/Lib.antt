@@ -1,0 +1,4 @@
+pub mod Columns
+pub mod Trails
+pub mod Interleavings
+pub mod Laws
