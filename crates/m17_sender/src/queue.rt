@@ -82,6 +82,8 @@ impl<M: Mouth> Sender<M> {
         ensures free { held_at (cells_of self.new) row at ≡ [] }
         ensures none { IfNone result (cells_of self.new ≡ cells_of self.old) }
     {
+        m17_rows::laws::grids_pop::<Item>();
+        m17_rows::laws::rows_pop::<Item>();
         match take_cell(&mut self.held, row, at) {
             Some(item) => Some(item),
             None => pop_in(rt, &mut self.queues, row, at),
@@ -119,19 +121,26 @@ impl<M: Mouth> Sender<M> {
     fn say<R: Wait>(&mut self, rt: &R, noted: &mut [u64; LINKS], item: &Item)
         requires shaped { IsShaped self.old }
         requires there { is_said self.old item.now ≡ true }
+        requires link { item.now.link < 256 }
         requires in_turn { (after : ℕ) → item.now.body ≡ Hello after
             → after ≤ slice_index noted.old item.now.link }
-        ensures goes_on { (m q : ℕ) → GoesOn (told_by M.said M.tallies M.faults M.mark M.label)
+        ensures goes_on { (m q : ℕ) → held_at (cells_of self.old) m q ≡ []
+            → GoesOn (told_by M.said M.tallies M.faults M.mark M.label)
             (with_item self.old noted.old m q (Some item.now))
             (at_rest self.new noted.new) }
     {
+        m17_rows::laws::rows_push::<Member>();
+        m17_ports::laws::mouths_say_in_turn::<M::Label>();
+        m17_turns::laws::turns_grow();
+        m17_turns::laws::spelled_part_by_part();
         say_item(&mut self.mouths, self.name, item);
         note(rt, &mut self.notes, noted, item);
     }
 
     // Whether an item is said: any other is passed over.
     fn is_said(&self, item: &Item) -> bool
-        ensures { result ≡ is_said self.now item.now }
+        ensures there { result ≡ is_said self.now item.now }
+        ensures link { item.now.link < 256 }
     {
         (item.link as usize) < self.mouths.len() && item.member.place < self.places
     }
@@ -160,6 +169,7 @@ fn note<R: Wait>(
     ensures notes { notes.new.items ≡ push_each (λ i. bye_on i item.now) 0 notes.old.items }
     ensures noted { IsNoted item.now noted.old noted.new }
 {
+    m17_rows::laws::rows_push::<Member>();
     if let Said::Bye { .. } = item.body {
         let link = item.link as usize;
         push_at(rt, notes, link, item.member);

@@ -9,6 +9,7 @@ use crate::queue::LINKS;
 use m17_crew::Order;
 use m17_lane::Popper;
 use m17_ports::Mouth;
+use m17_values::Member;
 use std::sync::Wait;
 
 impl<M: Mouth> Sender<M> {
@@ -18,6 +19,9 @@ impl<M: Mouth> Sender<M> {
         ensures { Sent (told_by M.said M.tallies M.faults M.mark M.label) self.old self.new
             self.old.order }
     {
+        m17_rows::laws::rows_push::<Member>();
+        m17_ports::laws::mouths_say_in_turn::<M::Label>();
+        m17_turns::laws::turns_grow();
         let mut noted = [0u64; LINKS];
         self.serve(rt, &mut noted);
         self.finish(rt, &mut noted);

@@ -19,6 +19,7 @@ pub(crate) fn say_item<M: Mouth>(mouths: &mut Vec<M>, name: CallAddress, item: &
         (to_peer item.now.peer (packet_said item.now.body name))
         mouths.old.items mouths.new.items }
 {
+    m17_ports::laws::mouths_say_in_turn::<M::Label>();
     if let Some(datagram) = spell(item, name) {
         say(&mut mouths[item.link as usize], &item.peer, datagram.as_slice());
     }

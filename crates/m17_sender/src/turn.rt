@@ -10,6 +10,7 @@ use crate::queue::{LINKS, Tried};
 use crate::saying::say_reply;
 use m17_control::Direct;
 use m17_ports::Mouth;
+use m17_values::Member;
 use std::sync::Wait;
 
 /// How many replies the door holds.
@@ -167,6 +168,10 @@ impl<M: Mouth> Sender<M> {
             → GoesOn (told_by M.said M.tallies M.faults M.mark M.label)
             (with_reply self.old noted reply.now) (at_rest self.new noted) }
     {
+        m17_rows::laws::rows_push::<Member>();
+        m17_ports::laws::mouths_say_in_turn::<M::Label>();
+        m17_turns::laws::turns_grow();
+        m17_turns::laws::spelled_part_by_part();
         if (reply.link as usize) < self.mouths.len() {
             say_reply(&mut self.mouths, reply);
         }
