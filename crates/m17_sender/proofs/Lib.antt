@@ -6,3 +6,5 @@ mod Mouths
 mod Notes
 mod Queued
 mod Spoken
+mod Rests
+mod Ended

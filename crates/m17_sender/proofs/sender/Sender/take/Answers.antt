@@ -24,4 +24,4 @@ returns-then-waits g c = record {
 }
 
 pub returns-else-waits : goal.returns-else-waits
-returns-else-waits g c = record { goes_on = c.say.ensures c.args.row c.args.at c.requires.free }
+returns-else-waits g c = record { goes_on = c.say.ensures.goes_on c.args.row c.args.at c.requires.free }
