@@ -1,7 +1,7 @@
 -- What a sender has done at its start and at its end, and the orders that it popped.
-use Rattle.std.proofs.Common.{◌≡◌, ◌≢◌, ℕ, ◌<◌, ◌-◌, ◌^◌, min, List, [], ◌∷◌, ◌++◌, length, map, filter, get_or, replicate, slice_index, Option, None, Some, refl, sym, ap, subst, ◌∙◌, arith}
+use Rattle.std.proofs.Common.{◌≡◌, ◌≢◌, ℕ, ◌<◌, List, [], ◌∷◌, ◌++◌, filter, slice_index, Option, None, Some, refl, sym, ap, subst, ◌∙◌, arith}
 use Rattle.std.specs.List.{All, slice_get}
-use Rattle.std.proofs.lemmas.List.{append-nil, append_assoc, get_or-replicate}
+use Rattle.std.proofs.lemmas.List.{append-nil, append_assoc}
 use Rattle.std.proofs.lemmas.List.Elements.{All-append}
 use Rattle.std.proofs.lemmas.Option.{get_or_from_slice_get, slice_get_within}
 use Rattle.m17_values.specs.declared.member.Member.{Member}
@@ -11,7 +11,6 @@ use Rattle.m17_crew.specs.declared.order.Order.{Order}
 use Rattle.m17_crew.specs.declared.order.Order.TheVariants.{Stop}
 use Rattle.m17_lane.specs.Ends.{PopEnd}
 use Rattle.m17_control.specs.declared.item.Item.{Item}
-use Rattle.m17_control.specs.declared.item.Direct.{Direct}
 use Rattle.m17_rows.specs.Grids.{IsNewGrid}
 use Rattle.m17_rows.specs.Laws.{RowsPush}
 use Rattle.m17_rows.specs.Rows.{IsNewPopper, IsNewPopRow, pops}
@@ -19,10 +18,10 @@ use Rattle.m17_turns.specs.Acts.{Act, answers_of, notes_of, things_of}
 use Rattle.m17_turns.specs.Laws.{TurnsGrow}
 use Rattle.m17_sender.specs.declared.sender.Sender.{Sender}
 use Rattle.m17_sender.specs.declared.hint.Hint.{Hint}
-use Rattle.m17_sender.specs.Places.{at_place, cells_of, held_at, held_in, in_row, is_answered, is_said, popped_at, popped_by, queues_of}
+use Rattle.m17_sender.specs.Places.{cells_of, held_at, held_in, in_row, is_answered, is_said, popped_at, popped_by, queues_of}
 use Rattle.m17_sender.specs.Ready.{IsReady}
-use Rattle.m17_sender.specs.Sent.{HasStopped, LanesUsed, Sent, StillWaits}
-use Rattle.m17_sender.specs.SoFar.{at_rest, GoesOn, Grows, HasPassed, RestsAt, SoFar}
+use Rattle.m17_sender.specs.Sent.{HasStopped, Sent}
+use Rattle.m17_sender.specs.SoFar.{at_rest, Grows, HasPassed, RestsAt, SoFar}
 use Rattle.m17_sender.proofs.Mouths.{each_self}
 
 -- orders in turn
@@ -105,23 +104,26 @@ module _ {M L : Type 0} (tells : M → MouthTold L) where
   pub other_order : (s : Sender M) (order : PopEnd Order) (hint : Hint) (noted : List ℕ)
       → Grows tells (at_rest s noted) (at_rest (record s { order = order; hint = hint }) noted)
   other_order s order hint noted = record {
-    on = λ j acts h. ([], subst (λ (l : List Act). SoFar tells j l (at_rest (record s { order = order; hint = hint }) noted))
-        (sym (append-nil acts)) (record {
-          turns = h.turns;
-          noted = h.noted;
-          counts = h.counts;
-          same_queues = h.same_queues;
-          queues = h.queues;
-          held_said = h.held_said;
-          same_door = h.same_door;
-          door = h.door;
-          notes = h.notes;
-          mouths = h.mouths;
-          same_name = h.same_name;
-          same_places = h.same_places;
-          same_cells = h.same_cells;
-          same_links = h.same_links;
-        }));
+    on = λ j acts h. (
+      [],
+      subst (λ (l : List Act). SoFar tells j l (at_rest (record s { order = order; hint = hint }) noted))
+          (sym (append-nil acts)) (record {
+            turns = h.turns;
+            noted = h.noted;
+            counts = h.counts;
+            same_queues = h.same_queues;
+            queues = h.queues;
+            held_said = h.held_said;
+            same_door = h.same_door;
+            door = h.door;
+            notes = h.notes;
+            mouths = h.mouths;
+            same_name = h.same_name;
+            same_places = h.same_places;
+            same_cells = h.same_cells;
+            same_links = h.same_links;
+          }),
+    );
     shaped = λ h. record { links = h.links; modules = h.modules; queues = h.queues; cells = h.cells };
     same_places = refl;
     same_modules = refl;

@@ -1,14 +1,13 @@
 -- One cell more is filled, or one is emptied.
-use Rattle.std.proofs.Common.{◌≡◌, ◌≢◌, ◌⊎◌, inl, inr, ℕ, zero, suc, ◌<◌, List, [], ◌∷◌, ◌++◌, map, length, set, get_or, Option, None, Some, refl, sym, ap, subst, ◌∙◌, arith}
+use Rattle.std.proofs.Common.{◌≡◌, ◌≢◌, ◌⊎◌, inl, inr, ℕ, zero, suc, ◌<◌, List, [], ◌∷◌, ◌++◌, map, length, set, get_or, Option, None, Some, sym, ap, subst, ◌∙◌, arith}
 use Rattle.std.specs.List.{slice_get}
-use Rattle.std.specs.Option.{MatchOption, option_to_list}
 use Rattle.std.proofs.lemmas.List.{append-nil}
 use Rattle.std.proofs.lemmas.Bool.Decides.{eqb_tells}
 use Rattle.m17_control.specs.declared.item.Item.{Item}
 use Rattle.m17_rows.specs.Grids.{only_in}
 use Rattle.m17_sender.specs.Cells.{HasPlace, HoldsMore}
 use Rattle.m17_sender.specs.Places.{at_place, held_at, held_in, in_row}
-use Rattle.m17_sender.proofs.Lists.{set_here, set_else, set_count, found, read_is, map_put, map_get, map_count, map_same, here, at_or_else, other_row, other_place}
+use Rattle.m17_sender.proofs.Lists.{set_here, set_else, set_count, read_is, map_put, map_get, map_count, map_same, here, at_or_else}
 
 module _ {A : Type 0} where
   pub put_here : (rows : List (List A)) (m q : ℕ) (row : List A) (c : A)

@@ -1,5 +1,5 @@
 -- What one mouth more has said, in a row of mouths.
-use Rattle.std.proofs.Common.{◌≡◌, ◌≢◌, ℕ, zero, suc, ◌+◌, ◌<◌, List, [], ◌∷◌, length, set, Some, refl, sym, ap, subst, ◌∙◌, arith}
+use Rattle.std.proofs.Common.{◌≡◌, ◌≢◌, ℕ, zero, suc, ◌+◌, ◌<◌, List, [], ◌∷◌, set, Some, sym, subst, arith}
 use Rattle.std.specs.List.{slice_get}
 use Rattle.m17_sender.specs.Sent.{EachMouth}
 

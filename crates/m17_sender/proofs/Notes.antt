@@ -1,6 +1,5 @@
 -- The notes that follow an item that was said: one for a Bye, and none for anything else.
-use Rattle.std.proofs.Common.{◌≡◌, ◌≢◌, ◌⊎◌, inl, inr, ℕ, ◌<◌, ◌≤◌, ◌+◌, ◌-◌, ◌^◌, min, cond, List, [], ◌∷◌, ◌++◌, length, map, refl, sym, ap, subst, ◌∙◌, eq-eqb, ne_eqb, arith}
-use Rattle.std.specs.List.{flat_map}
+use Rattle.std.proofs.Common.{◌≡◌, ◌≢◌, inl, inr, ℕ, cond, List, [], ◌∷◌, ◌++◌, map, refl, sym, ap, subst, ◌∙◌, eq-eqb, ne_eqb}
 use Rattle.std.proofs.lemmas.Bool.Decides.{eqb_tells}
 use Rattle.std.proofs.lemmas.List.{append-nil, append_assoc}
 use Rattle.std.proofs.lemmas.Grind.{flat_map-append}
@@ -13,7 +12,7 @@ use Rattle.m17_control.specs.declared.item.Said.TheVariants.{Hello, Frame, Echo,
 use Rattle.m17_control.specs.declared.item.Said.TheVariants as said
 use Rattle.m17_turns.specs.Acts.{Act, Saying, answer_of, answers_of, notes_of, note_of, saying_of, sayings, things_of, thing_of}
 use Rattle.m17_turns.specs.Laws.{TurnsGrow}
-use Rattle.m17_turns.specs.Turns.{HasBye, MayFollow, Turns}
+use Rattle.m17_turns.specs.Turns.{MayFollow, Turns}
 use Rattle.m17_sender.specs.Sent.{bye_of, bye_on, bye_to, byes_of}
 
 -- the notes that go to a link

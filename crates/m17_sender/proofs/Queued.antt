@@ -1,5 +1,5 @@
 -- What a sender has done so far, when an item is taken out of a queue, passed over or held back.
-use Rattle.std.proofs.Common.{◌≡◌, ◌≢◌, ◌⊎◌, inl, inr, ℕ, ◌<◌, Bool, true, false, cond, nat_lt, ◌&&◌, List, [], ◌∷◌, ◌++◌, length, map, filter, Option, None, Some, MatchOption, refl, sym, ap, subst, ◌∙◌, arith}
+use Rattle.std.proofs.Common.{◌≡◌, inl, inr, ℕ, Bool, true, false, cond, nat_lt, ◌&&◌, List, [], ◌∷◌, ◌++◌, length, map, filter, Option, None, Some, MatchOption, refl, sym, ap, subst, ◌∙◌}
 use Rattle.std.proofs.lemmas.List.{append-nil, append_assoc}
 use Rattle.std.proofs.lemmas.List.Elements.{filter-append}
 use Rattle.std.specs.List.{All}
@@ -68,7 +68,7 @@ left_is p less more m q x h a b said = elim (at_or_else m q x a b) [
       ap (filter p) none ∙ sym none
   | inr isnt ↦
       let same : held_at less a b ≡ held_at more a b =
-          sym (append-nil (held_at less a b)) ∙ ap (λ (l : List Item). held_at less a b ++ l) (sym isnt.1) ∙ sym (h.each a b) in
+      sym (append-nil (held_at less a b)) ∙ ap (λ (l : List Item). held_at less a b ++ l) (sym isnt.1) ∙ sym (h.each a b) in
       ap (filter p) same ∙ said ∙ sym same
 ]
 

@@ -1,12 +1,11 @@
 -- What a sender has done so far, when the item in hand is said, and when a reply is.
-use Rattle.std.proofs.Common.{◌≡◌, ◌≢◌, ◌⊎◌, inl, inr, ℕ, ◌<◌, ◌≤◌, ◌+◌, ◌-◌, ◌^◌, min, Bool, true, false, cond, ◌&&◌, ◌==◌, List, [], ◌∷◌, ◌++◌, length, map, filter, nat_lt, slice_index, Option, None, Some, refl, sym, ap, subst, ◌∙◌, eq-eqb, ne_eqb, arith}
-use Rattle.std.specs.List.{flat_map, All}
+use Rattle.std.proofs.Common.{◌≡◌, ◌≢◌, inl, inr, ℕ, ◌<◌, ◌≤◌, ◌+◌, ◌-◌, ◌^◌, min, Bool, true, false, cond, ◌&&◌, ◌==◌, List, [], ◌∷◌, ◌++◌, length, map, filter, nat_lt, slice_index, Option, None, Some, refl, sym, ap, subst, ◌∙◌, eq-eqb, ne_eqb, arith}
+use Rattle.std.specs.List.{All}
 use Rattle.std.proofs.lemmas.List.{append-nil, append_assoc, length-append}
 use Rattle.std.proofs.lemmas.List.Elements.{filter-append}
 use Rattle.std.proofs.lemmas.Grind.{flat_map-append}
-use Rattle.m17_lane.specs.Ends.{PopEnd, PushEnd, popped_from}
+use Rattle.m17_lane.specs.Ends.{PopEnd, popped_from}
 use Rattle.m17_values.specs.declared.member.Member.{Member}
-use Rattle.m17_ports.specs.Mouth.{Datagram}
 use Rattle.m17_ports.specs.Said.{MouthTold}
 use Rattle.m17_ports.specs.Laws.{MouthsSayInTurn}
 use Rattle.m17_control.specs.declared.item.Item.{Item}

@@ -1,5 +1,5 @@
 -- For proofs: what a change of one cell comes to for all.
-use Rattle.std.specs.Prelude.{◌≡◌, ℕ, ◌<◌, List, [], ◌∷◌, ◌++◌, map, length, slice_get, Option, None, Some}
+use Rattle.std.specs.Prelude.{◌≡◌, ℕ, ◌<◌, List, [], ◌++◌, map, length, slice_get, Option, Some}
 use Rattle.m17_control.specs.declared.item.Item.{Item}
 use Rattle.m17_rows.specs.Grids.{only_in}
 use Rattle.m17_sender.specs.Places.{held_at}

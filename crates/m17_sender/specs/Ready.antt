@@ -1,5 +1,5 @@
 -- What has to hold of a sender before it goes. This profile.
-use Rattle.std.specs.Prelude.{◌≡◌, ℕ, List, [], length, None}
+use Rattle.std.specs.Prelude.{◌≡◌, [], length, None}
 use Rattle.std.specs.List.{All}
 use Rattle.m17_rows.specs.Grids.{IsNewGrid}
 use Rattle.m17_sender.specs.declared.sender.Sender.{Sender}

@@ -103,9 +103,9 @@ RestsAt s noted m q = (item : Item) → held_at (cells_of s) m q ≡ item ∷ []
 
 -- nothing was said or noted, and what is held back is the same
 pub record IsIdle {M : Type 0} (before after : Sender M) (noted_before noted_after : List ℕ) : Type 0
-    where
-  pub cells : cells_of after ≡ cells_of before
-  pub noted : noted_after ≡ noted_before
+  where
+    pub cells : cells_of after ≡ cells_of before
+    pub noted : noted_after ≡ noted_before
 
 -- the queue was tried in vain
 abbrev pub is_did : Tried → Bool

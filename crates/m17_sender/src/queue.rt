@@ -91,14 +91,7 @@ impl<M: Mouth> Sender<M> {
     }
 
     // Says an item that was taken out of a queue, or holds it back there, or passes it over.
-    fn take<R: Wait>(
-        &mut self,
-        rt: &R,
-        noted: &mut [u64; LINKS],
-        row: usize,
-        at: usize,
-        item: Item,
-    )
+    fn take<R: Wait>(&mut self, rt: &R, noted: &mut [u64; LINKS], row: usize, at: usize, item: Item)
         requires shaped { IsShaped self.old }
         requires row { row < vec_len self.old.queues }
         requires at { at < self.old.places }
@@ -159,12 +152,7 @@ fn waits(item: &Item, noted: &[u64; LINKS]) -> bool
 }
 
 // Notes a Bye that was said, to the link's receiver, and counts it; the count stays at its greatest.
-fn note<R: Wait>(
-    rt: &R,
-    notes: &mut Vec<Pusher<Member>>,
-    noted: &mut [u64; LINKS],
-    item: &Item,
-)
+fn note<R: Wait>(rt: &R, notes: &mut Vec<Pusher<Member>>, noted: &mut [u64; LINKS], item: &Item)
     requires { item.now.link < vec_len notes.old }
     ensures notes { notes.new.items ≡ push_each (λ i. bye_on i item.now) 0 notes.old.items }
     ensures noted { IsNoted item.now noted.old noted.new }

@@ -21,7 +21,11 @@ pub(crate) fn say_item<M: Mouth>(mouths: &mut Vec<M>, name: CallAddress, item: &
 {
     m17_ports::laws::mouths_say_in_turn::<M::Label>();
     if let Some(datagram) = spell(item, name) {
-        say(&mut mouths[item.link as usize], &item.peer, datagram.as_slice());
+        say(
+            &mut mouths[item.link as usize],
+            &item.peer,
+            datagram.as_slice(),
+        );
     }
 }
 
@@ -33,7 +37,11 @@ pub(crate) fn say_reply<M: Mouth>(mouths: &mut Vec<M>, reply: &Direct)
         mouths.old.items mouths.new.items }
 {
     let datagram = write(&reply.control);
-    say(&mut mouths[reply.link as usize], &reply.peer, datagram.as_slice());
+    say(
+        &mut mouths[reply.link as usize],
+        &reply.peer,
+        datagram.as_slice(),
+    );
 }
 
 // Says one datagram; where the mouth fails it is lost.

@@ -1,4 +1,4 @@
-use Rattle.std.proofs.Common.{◌≡◌, ◌∷◌, [], refl, sym, ap, length, ◌∙◌, arith}
+use Rattle.std.proofs.Common.{◌∷◌, [], refl, ap, length, ◌∙◌, arith}
 use Rattle.m17_turns.specs.Acts.{Act}
 use Rattle.m17_sender.specs.Sent.{told_by}
 use Rattle.m17_sender.specs.SoFar.{at_rest, with_reply}

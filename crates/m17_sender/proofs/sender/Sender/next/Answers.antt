@@ -1,4 +1,4 @@
-use Rattle.std.proofs.Common.{◌≡◌, ◌<◌, length, Some, refl, sym, ap, map, arith}
+use Rattle.std.proofs.Common.{refl, ap, map, arith}
 use Rattle.m17_sender.proofs.Queued.{goes_from_cell, goes_from_lane}
 use Rattle.m17_sender.proofs.Shapes.{held_place, queue_at, queue_place}
 use Rattle.m17_sender.specs.Sent.{told_by}

@@ -1,6 +1,6 @@
-use Rattle.std.proofs.Common.{◌≡◌, ◌<◌, refl, sym, subst, ◌∙◌, ℕ, arith}
+use Rattle.std.proofs.Common.{sym, ◌∙◌, arith}
 use Rattle.m17_sender.specs.Sent.{told_by}
-use Rattle.m17_sender.specs.SoFar.{at_rest, RestsAt}
+use Rattle.m17_sender.specs.SoFar.{at_rest}
 use Rattle.m17_sender.proofs.Queued.{goes_on}
 use Rattle.m17_sender.proofs.Rests.{all_rest, rows_rest}
 use Rattle.m17_sender.proofs.sender.Sender.pass_all.Goals.{then-pass_row, else-pass_row}

@@ -1,4 +1,3 @@
-use Rattle.std.proofs.Common.{◌≡◌}
 use Rattle.m17_sender.specs.Sent.{told_by}
 use Rattle.m17_sender.specs.SoFar.{at_rest}
 use Rattle.m17_sender.proofs.Queued.{goes_on}

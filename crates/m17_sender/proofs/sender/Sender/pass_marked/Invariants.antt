@@ -1,4 +1,3 @@
-use Rattle.std.proofs.Common.{ℕ, List}
 use Rattle.m17_sender.specs.Sent.{told_by}
 use Rattle.m17_sender.specs.Ready.{IsShaped}
 use Rattle.m17_sender.specs.SoFar.{at_rest, GoesOn}

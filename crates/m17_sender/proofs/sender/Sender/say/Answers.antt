@@ -1,4 +1,4 @@
-use Rattle.std.proofs.Common.{◌≡◌, ◌∷◌, Some, refl, ap, length, ◌∙◌, arith}
+use Rattle.std.proofs.Common.{Some, refl, ap, length, ◌∙◌}
 use Rattle.m17_sender.specs.Sent.{bye_on, told_by}
 use Rattle.m17_sender.specs.SoFar.{at_rest, with_item}
 use Rattle.m17_sender.proofs.Lists.{set_count}

@@ -1,4 +1,4 @@
-use Rattle.std.proofs.Common.{◌≡◌, [], ◌++◌, replicate, sym, subst}
+use Rattle.std.proofs.Common.{[], ◌++◌, replicate, sym, subst}
 use Rattle.std.proofs.lemmas.List.{get_or-replicate}
 use Rattle.m17_lane.specs.Ends.{PopEnd}
 use Rattle.m17_crew.specs.declared.order.Order.{Order}

@@ -1,4 +1,4 @@
-use Rattle.std.proofs.Common.{◌≡◌, Some, refl, sym, ◌∙◌, arith}
+use Rattle.std.proofs.Common.{refl, sym, ◌∙◌, arith}
 use Rattle.m17_sender.specs.Sent.{told_by}
 use Rattle.m17_sender.proofs.Queued.{goes_back, goes_past}
 use Rattle.m17_sender.proofs.Shapes.{held_place}

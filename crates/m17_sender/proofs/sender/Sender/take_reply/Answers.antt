@@ -1,4 +1,4 @@
-use Rattle.std.proofs.Common.{◌≡◌, refl}
+use Rattle.std.proofs.Common.{refl}
 use Rattle.m17_sender.specs.Sent.{told_by}
 use Rattle.m17_sender.specs.SoFar.{at_rest, with_reply}
 use Rattle.m17_sender.proofs.Queued.{goes_on, goes_same}

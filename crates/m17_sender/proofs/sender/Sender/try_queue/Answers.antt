@@ -1,4 +1,4 @@
-use Rattle.std.proofs.Common.{◌≡◌, ◌<◌, Some, arith}
+use Rattle.std.proofs.Common.{Some, arith}
 use Rattle.m17_sender.specs.Sent.{told_by}
 use Rattle.m17_sender.specs.SoFar.{at_rest, with_item}
 use Rattle.m17_sender.proofs.Queued.{goes_on}
