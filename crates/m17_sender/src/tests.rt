@@ -1,5 +1,5 @@
 //! What no clause says: in which order a sender gets to things, that it ends and sleeps, and what its mouths hold then.
-ghost use Rattle.std.specs.Prelude.{◌≡◌, ◌∷◌, [], IfOk};
+ghost use Rattle.std.specs.Prelude.{◌≡◌, ◌∷◌, [], None, IfOk};
 ghost use Rattle.m17_lane.specs.Ends.{new_popper};
 ghost use Rattle.m17_sender.specs.Ready.{IsReady};
 
@@ -9,7 +9,7 @@ use m17_control::{Control, Direct, Item, Said, Why};
 use m17_crew::{Order, Work};
 use m17_lane::{Bell, Popper, Pusher, make_one, make_one_marked};
 use m17_port_memory::ListMouth;
-use m17_values::{Gram, Member, NoMemory, Peer};
+use m17_values::{Member, NoMemory, Peer};
 use std::alloc::Global;
 use std::sync::Wait;
 use std::test::Fail;
@@ -56,6 +56,13 @@ fn three<T: Drop>(alloc: Global, a: T, b: T, c: T) -> Result<Vec<T>, NoMemory>
     Ok(all)
 }
 
+// Cells in which nothing is held back.
+fn empty_cells<T: Drop>(alloc: Global) -> Result<Vec<Option<T>>, NoMemory>
+    ensures { IfOk result (λ row. row.items ≡ None ∷ None ∷ None ∷ []) }
+{
+    three(alloc, None, None, None)
+}
+
 fn lay(alloc: Global, name: CallAddress, fails: Vec<u64>) -> Result<Laid, NoMemory>
     ensures { IfOk result (λ laid. IsReady laid.sender) }
 {
@@ -67,7 +74,7 @@ fn lay(alloc: Global, name: CallAddress, fails: Vec<u64>) -> Result<Laid, NoMemo
     let (orders, order) = make_one_marked(alloc, &bell, 4, 2)?;
     let (to_notes, notes) = make_one(alloc, 512)?;
     let queues = one(alloc, three(alloc, from_first, from_second, from_third)?)?;
-    let held = one(alloc, three(alloc, None, None, None)?)?;
+    let held = one(alloc, empty_cells(alloc)?)?;
     let mouths = one(alloc, ListMouth::make(alloc, 4000, fails)?)?;
     let sender = Sender {
         name,
@@ -122,11 +129,30 @@ fn item(place: u32, link: u8, body: Said) -> Item {
     }
 }
 
-const BYE: Said = Said::Bye { why: Why::Asked };
+fn ping(place: u32) -> Item {
+    item(place, 0, Said::Ping)
+}
 
-const ANSWER: Said = Said::Reply {
-    control: Control::Nack,
-};
+fn answer(place: u32) -> Item {
+    let control = Control::Nack;
+    item(place, 0, Said::Reply { control })
+}
+
+fn bye(place: u32, link: u8) -> Item {
+    item(place, link, Said::Bye { why: Why::Asked })
+}
+
+fn hello(place: u32, link: u8, after: u64) -> Item {
+    item(place, link, Said::Hello { after })
+}
+
+fn reply(link: u8, port: u16) -> Direct {
+    Direct {
+        link,
+        peer: peer(port),
+        control: Control::Nack,
+    }
+}
 
 // What a sender said by its link: of each datagram the port it went to and how it begins.
 fn said_by(sender: &Sender<ListMouth>, at: usize) -> Option<(u16, [u8; 4])> {
@@ -148,9 +174,9 @@ fn a_bye_is_said_before_the_greeting_that_waits_for_it(rt: HostRuntime) -> Resul
     let Laid { sender, mut far } = lay(rt.alloc(), name, Vec::new(rt.alloc()))?;
     far.orders.push_waiting(&rt, Order::Go);
     far.orders.push_waiting(&rt, Order::Stop);
-    far.first
-        .push_waiting(&rt, item(0, 0, Said::Hello { after: 1 }));
-    far.second.push_waiting(&rt, item(1, 0, BYE));
+    let [waiting, leaving] = [hello(0, 0, 1), bye(1, 0)];
+    far.first.push_waiting(&rt, waiting);
+    far.second.push_waiting(&rt, leaving);
     let sent = done(&rt, sender);
     assert_eq!(rt; said_by(&sent, 0), Some((1, *b"DISC")));
     assert_eq!(rt; said_by(&sent, 1), Some((0, *b"ACKN")));
@@ -166,14 +192,13 @@ fn other_queues_go_on_while_a_greeting_waits(rt: HostRuntime) -> Result<(), Fail
     let Laid { sender, mut far } = lay(rt.alloc(), name, Vec::new(rt.alloc()))?;
     far.orders.push_waiting(&rt, Order::Go);
     far.orders.push_waiting(&rt, Order::Stop);
-    far.first
-        .push_waiting(&rt, item(0, 0, Said::Hello { after: 2 }));
-    far.first.push_waiting(&rt, item(0, 0, Said::Ping));
-    for body in [Said::Ping, ANSWER, BYE] {
-        far.second.push_waiting(&rt, item(1, 0, body));
+    far.first.push_waiting(&rt, hello(0, 0, 2));
+    far.first.push_waiting(&rt, ping(0));
+    for next in [ping(1), answer(1), bye(1, 0)] {
+        far.second.push_waiting(&rt, next);
     }
-    for body in [ANSWER, Said::Ping, Said::Ping, BYE] {
-        far.third.push_waiting(&rt, item(2, 0, body));
+    for next in [answer(2), ping(2), ping(2), bye(2, 0)] {
+        far.third.push_waiting(&rt, next);
     }
     let sent = done(&rt, sender);
     for (at, wanted) in [
@@ -202,11 +227,9 @@ fn a_greeting_that_waits_in_vain_is_handed_back(rt: HostRuntime) -> Result<(), F
     let Laid { sender, mut far } = lay(rt.alloc(), name, Vec::new(rt.alloc()))?;
     far.orders.push_waiting(&rt, Order::Go);
     far.orders.push_waiting(&rt, Order::Stop);
-    far.first
-        .push_waiting(&rt, item(0, 0, Said::Hello { after: 1 }));
-    far.first.push_waiting(&rt, item(0, 0, Said::Ping));
-    far.second
-        .push_waiting(&rt, item(1, 0, Said::Hello { after: 0 }));
+    far.first.push_waiting(&rt, hello(0, 0, 1));
+    far.first.push_waiting(&rt, ping(0));
+    far.second.push_waiting(&rt, hello(1, 0, 0));
     let mut sent = done(&rt, sender);
     assert_eq!(rt; said_by(&sent, 0), Some((1, *b"ACKN")));
     assert_eq!(rt; said_by(&sent, 1), None);
@@ -230,7 +253,9 @@ fn a_sender_that_is_to_quit_touches_nothing(rt: HostRuntime) -> Result<(), Fail>
     let name = callsign().ok_or("no callsign")?;
     let Laid { sender, mut far } = lay(rt.alloc(), name, Vec::new(rt.alloc()))?;
     far.orders.push_waiting(&rt, Order::Quit);
-    far.first.push_waiting(&rt, item(0, 0, Said::Ping));
+    for next in [ping(0), bye(0, 0)] {
+        far.first.push_waiting(&rt, next);
+    }
     let mut left = done(&rt, sender);
     assert_eq!(rt; said_by(&left, 0), None);
     let mut queues = left.queues.pop().expect(&rt, "one module");
@@ -247,8 +272,8 @@ fn a_datagram_that_a_mouth_fails_to_say_is_lost_alone(rt: HostRuntime) -> Result
     let Laid { sender, mut far } = lay(rt.alloc(), name, fails)?;
     far.orders.push_waiting(&rt, Order::Go);
     far.orders.push_waiting(&rt, Order::Stop);
-    for body in [Said::Ping, ANSWER, BYE, Said::Ping] {
-        far.first.push_waiting(&rt, item(0, 0, body));
+    for next in [ping(0), answer(0), bye(0, 0), ping(0)] {
+        far.first.push_waiting(&rt, next);
     }
     let sent = done(&rt, sender);
     assert_eq!(rt; said_by(&sent, 0), Some((0, *b"NACK")));
@@ -267,18 +292,11 @@ fn what_names_no_link_or_place_is_passed_over(rt: HostRuntime) -> Result<(), Fai
     let Laid { sender, mut far } = lay(rt.alloc(), name, Vec::new(rt.alloc()))?;
     far.orders.push_waiting(&rt, Order::Go);
     far.orders.push_waiting(&rt, Order::Stop);
-    far.first.push_waiting(&rt, item(0, 1, BYE));
-    far.first.push_waiting(&rt, item(3, 0, BYE));
-    far.first
-        .push_waiting(&rt, item(0, 255, Said::Hello { after: 9 }));
-    far.first.push_waiting(&rt, item(2, 0, Said::Ping));
+    for next in [bye(0, 1), bye(3, 0), hello(0, 255, 9), ping(2)] {
+        far.first.push_waiting(&rt, next);
+    }
     for (link, port) in [(1, 7), (0, 8), (200, 9)] {
-        let reply = Direct {
-            link,
-            peer: peer(port),
-            control: Control::Nack,
-        };
-        far.door.push_waiting(&rt, reply);
+        far.door.push_waiting(&rt, reply(link, port));
     }
     let sent = done(&rt, sender);
     assert_eq!(rt; said_by(&sent, 0), Some((8, *b"NACK")));
@@ -288,6 +306,14 @@ fn what_names_no_link_or_place_is_passed_over(rt: HostRuntime) -> Result<(), Fai
     Ok(())
 }
 
+// Five items for the member at a place, of which the first is a PING.
+fn push_five<R: Wait>(rt: &R, end: &mut Pusher<Item>, place: u32) {
+    end.push_waiting(rt, ping(place));
+    for _answered in 0..4 {
+        end.push_waiting(rt, answer(place));
+    }
+}
+
 // Pushes bursts to the three queues and the door, each after a rest in which the sender falls asleep, and then the stop
 // order, after one more rest.
 fn feed<R: Wait + Clock>(rt: &R, far: Far, bursts: u32) -> Far {
@@ -295,38 +321,37 @@ fn feed<R: Wait + Clock>(rt: &R, far: Far, bursts: u32) -> Far {
     far.orders.push_waiting(rt, Order::Go);
     for burst in 0..bursts {
         thread::sleep(rt, Duration::from_millis(1));
-        for turn in 0..5u32 {
-            let body = if turn == 0 { Said::Ping } else { ANSWER };
-            far.first.push_waiting(rt, item(0, 0, body));
-            if burst % 2 == 0 {
-                far.second.push_waiting(rt, item(1, 0, body));
-            }
-            if burst % 3 == 0 {
-                far.third.push_waiting(rt, item(2, 0, body));
-            }
+        push_five(rt, &mut far.first, 0);
+        if burst % 2 == 0 {
+            push_five(rt, &mut far.second, 1);
         }
-        let reply = Direct {
-            link: 0,
-            peer: peer(9),
-            control: Control::Nack,
-        };
-        far.door.push_waiting(rt, reply);
+        if burst % 3 == 0 {
+            push_five(rt, &mut far.third, 2);
+        }
+        far.door.push_waiting(rt, reply(0, 9));
     }
     thread::sleep(rt, Duration::from_millis(5));
     far.orders.push_waiting(rt, Order::Stop);
     far
 }
 
-// How many datagrams went to a port, where they are as `feed` gave them: every fifth is a PING; one more where not.
+// Which port a datagram went to, and whether it is a PING.
+fn kind_at(sender: &Sender<ListMouth>, at: usize) -> Option<(u16, bool)> {
+    let mouth = sender.mouths.first()?;
+    let (to, gram) = mouth.list().get(at)?;
+    Some((to.port, matches!(gram.bytes(), [b'P', ..])))
+}
+
+// How many datagrams went to a port, where they are as `feed` gave them: every fifth is a PING, but at port 9 none. A
+// thousand more for each that is not.
 fn count_to(sender: &Sender<ListMouth>, port: u16) -> u32 {
     let mut count = 0u32;
     for at in 0..4000usize {
-        if let Some((to, magic)) = said_by(sender, at)
+        if let Some((to, ping)) = kind_at(sender, at)
             && to == port
         {
-            let ping = count % 5 == 0 && port != 9;
-            let right = if ping { *b"PING" } else { *b"NACK" };
-            count = count.saturating_add(if magic == right { 1 } else { 1000 });
+            let wanted = count % 5 == 0 && port != 9;
+            count = count.saturating_add(if ping == wanted { 1 } else { 1000 });
         }
     }
     count
