@@ -1,0 +1,11 @@
+mod Lists
+mod Filled
+mod Grids
+mod Shapes
+mod Mouths
+mod Notes
+mod Queued
+mod Spoken
+mod Rests
+mod Ended
+mod Few

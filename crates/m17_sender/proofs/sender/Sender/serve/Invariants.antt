@@ -1,0 +1,12 @@
+use Rattle.m17_sender.specs.Sent.{told_by}
+use Rattle.m17_sender.specs.Ready.{IsShaped}
+use Rattle.m17_sender.specs.SoFar.{at_rest, Grows, HasPassed}
+use Rattle.m17_sender.proofs.sender.Sender.serve.Given as goal
+
+abbrev pub invariant-loop : goal.invariant-loop
+invariant-loop g l = record {
+  shaped : IsShaped l.self;
+  grows : Grows (told_by g.M.Mouth.said g.M.Mouth.tallies g.M.Mouth.faults g.M.Mouth.mark g.M.Mouth.label)
+      (at_rest l.initial.self l.initial.noted) (at_rest l.self l.noted);
+  passed : HasPassed l.initial.self.order l.self.order;
+}
