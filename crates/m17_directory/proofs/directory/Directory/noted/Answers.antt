@@ -7,7 +7,7 @@ use Rattle.m17_directory.proofs.directory.Directory.noted.Goals as goal
 
 bounded : (c : goal.After-noted) → IsBounded (kept_of (record c.self.inside { people = c.noted.new.self }))
 bounded c =
-    subst (λ (p : Lists). IsBounded (kept_of (record c.self.inside { people = p }))) (sym c.noted.ensures)
+    subst (λ (p : Lists). IsBounded (kept_of (record c.self.inside { people = p }))) (sym c.noted.ensures.noted)
     (record {
       known = c.self.invariant.bounded.known;
       members = omega (arith, c.self.invariant.bounded.members, filter_le (λ d. not (is_member c.args.m d)) c.self.inside.people.departing);
@@ -24,5 +24,5 @@ returns-clause-bounds c = bounded c
 pub returns-clause-stands : goal.returns-clause-stands
 returns-clause-stands c entries stood =
     let stands = subst (λ (k : Kept). StandsFor k entries) (sym c.self.view_is) stood in
-    subst (λ (p : Lists). StandsFor (kept_of (record c.self.inside { people = p })) entries) (sym c.noted.ensures)
+    subst (λ (p : Lists). StandsFor (kept_of (record c.self.inside { people = p })) entries) (sym c.noted.ensures.noted)
     (record { moment = stands.moment; known = stands.known; asked = stands.asked; faults = stands.faults })
