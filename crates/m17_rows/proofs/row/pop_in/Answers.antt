@@ -1,0 +1,8 @@
+use Rattle.std.proofs.Common.{arith}
+use Rattle.m17_rows.proofs.Steps.{popped_in}
+use Rattle.m17_rows.proofs.row.pop_in.Goals as goal
+
+pub returns-clause-grid : goal.returns-clause-grid
+returns-clause-grid g c =
+    popped_in (λ ends. ends.items) c.pop_at.result c.args.grid.now.items c.args.row c.args.at c.index_mut.result.now c.pop_at.new.row
+    (omega (arith, c.args.grid.now.ok.0, c.requires.row)) c.index_mut.ensures.value c.pop_at.ensures.row
