@@ -6,7 +6,9 @@ use Rattle.m17_values.specs.declared.member.Member.{Member}
 use Rattle.m17_control.specs.declared.modules.Modules.{Modules}
 use Rattle.m17_lane.specs.Ends.{PopEnd}
 use Rattle.m17_roll.specs.Seat.{RollView, IsSameSeat}
+use Rattle.m17_control.specs.declared.event.Event.{Event}
 use Rattle.m17_rows.specs.Rows.{pops, pushes, push_each}
+use Rattle.m17_rows.specs.Laws.{RowsPush}
 use Rattle.m17_directory.specs.declared.dispatch.Dispatch.{Dispatch}
 use Rattle.m17_directory.specs.declared.known.Departed.{Departed}
 use Rattle.m17_directory.specs.declared.verdict.LinkVerdict.{LinkVerdict}
@@ -15,11 +17,23 @@ use Rattle.m17_directory.specs.Entries.{Notice, Entry, Setup, ends_at}
 use Rattle.m17_directory.specs.Known.{Past}
 use Rattle.m17_directory.specs.Routed.{past_at, heard_at, others_at, event_for, link_verdict}
 use Rattle.m17_directory.specs.StandsFor.{Kept, StandsFor, must_wait, unclaimed, departed_of}
-use Rattle.m17_directory.specs.Laws.{direct_of, left_before}
+use Rattle.m17_directory.specs.Laws.{LaterEntriesChangeNothing, OneEntryMore, EntriesBeforeDecide, ClaimsCompleteAskers, DoorCarriesReplies, EndedWhereItEnds, PeersComeAndGo, PeersAreToldApart, direct_of, left_before}
 use Rattle.m17_receiver.specs.Posting.{Outlets, letter_at, posted_to}
 use Rattle.m17_receiver.specs.declared.receiver.Receiver.{Receiver}
 use Rattle.m17_receiver.specs.ReceiverDid.{outlets_of}
 use Rattle.m17_receiver.specs.Claims.{HasClaimed, IsGreetedAfter}
+
+-- the laws that a receiver rests on
+pub record Laws : Type 0 where
+  pub later : LaterEntriesChangeNothing
+  pub more : OneEntryMore
+  pub before : EntriesBeforeDecide
+  pub complete : ClaimsCompleteAskers
+  pub door : DoorCarriesReplies
+  pub ended : EndedWhereItEnds
+  pub people : PeersComeAndGo
+  pub apart : PeersAreToldApart
+  pub rows : RowsPush Event
 
 -- the outlets after these dispatches
 abbrev pub posting : Modules → List Dispatch → Outlets → Outlets

@@ -8,20 +8,12 @@ ghost use Rattle.m17_receiver.specs.SoFar.{Plan, IsPlanOf, IsAsking, IsThrough, 
 
 use crate::Receiver;
 use crate::claim::{claim_once, claim_patiently};
+use crate::laws::known_laws;
 use crate::notes::{pop_notes, pop_until_ready};
 use crate::posting::push_posts;
-use m17_control::Event;
-use m17_directory::{LinkVerdict, laws as directory_laws};
-use m17_ports::{Book, Ear};
+use m17_directory::LinkVerdict;
 use m17_values::{Heard, Member};
 use std::sync::Wait;
-
-// How many entries were heard, and how many notes popped; each counts to 2^64 - 1.
-#[derive(Debug, Drop)]
-pub(crate) struct Counts {
-    pub(crate) index: u64,
-    pub(crate) noted: u64,
-}
 
 impl<E, B> Receiver<E, B> {
     // What becomes of the entry with this index: its verdict.
@@ -44,12 +36,7 @@ impl<E, B> Receiver<E, B> {
             IsSoFar plan entries (parts_of self.old noted.old) →
             IsThrough plan entries notice (parts_of self.new noted.new) result }
     {
-        directory_laws::ended_where_it_ends();
-        directory_laws::entries_before_decide();
-        directory_laws::later_entries_change_nothing();
-        directory_laws::one_entry_more();
-        directory_laws::door_carries_replies();
-        m17_rows::laws::rows_push::<Event>();
+        known_laws();
         pop_notes(rt, &mut self.notes, &mut self.directory, noted);
         let verdict = self.directory.hear(index, entry, &mut self.post);
         push_posts(rt, self.modules, &mut self.post, &mut self.inboxes, &mut self.door);
@@ -72,14 +59,7 @@ impl<E, B> Receiver<E, B> {
             IsAsking plan entries notice (parts_of self.old noted.old) →
             IsThrough plan entries notice (parts_of self.new noted.new) result }
     {
-        directory_laws::ended_where_it_ends();
-        directory_laws::entries_before_decide();
-        directory_laws::later_entries_change_nothing();
-        directory_laws::one_entry_more();
-        directory_laws::door_carries_replies();
-        directory_laws::peers_come_and_go();
-        directory_laws::peers_are_told_apart();
-        m17_rows::laws::rows_push::<Event>();
+        known_laws();
         pop_until_ready(rt, &mut self.notes, &mut self.directory, noted);
         let claimed = self.claim(rt, index, noted);
         let verdict = self.directory.settle(claimed, *noted, &mut self.post);

@@ -10,6 +10,7 @@
 
 mod claim;
 mod entry;
+mod laws;
 mod notes;
 mod posting;
 mod receiver;

@@ -8,6 +8,7 @@ ghost use Rattle.m17_receiver.specs.SoFar.{posting};
 ghost use Rattle.m17_rows.specs.Rows.{push_each};
 ghost use Rattle.std.specs.List.{filter_map};
 
+use crate::laws::known_laws;
 use m17_control::{Direct, Event, ModuleLetter, Modules};
 use m17_directory::{Dispatch, Post};
 use m17_lane::Pusher;
@@ -28,7 +29,7 @@ pub(crate) fn push_posts<R: Wait>(
         ≡ posting modules post.old (record { inboxes = inboxes.old.items; door = door.old }) }
     ensures room { vec_capacity inboxes.new ≡ vec_capacity inboxes.old }
 {
-    m17_rows::laws::rows_push::<Event>();
+    known_laws();
     while let Some(dispatch) = post.take() {
         push_one(rt, modules, dispatch, inboxes, door);
     }
@@ -46,7 +47,7 @@ fn push_one<R: Wait>(
         ≡ posting modules (dispatch ∷ []) (record { inboxes = inboxes.old.items; door = door.old }) }
     ensures room { vec_capacity inboxes.new ≡ vec_capacity inboxes.old }
 {
-    m17_rows::laws::rows_push::<Event>();
+    known_laws();
     match dispatch {
         Dispatch::ToModule { module, event } => push_event(rt, modules, module, event, inboxes),
         Dispatch::ToDoor(direct) => door.push_waiting(rt, direct),
@@ -66,7 +67,7 @@ fn push_event<R: Wait>(
         0 inboxes.old.items }
     ensures room { vec_capacity inboxes.new ≡ vec_capacity inboxes.old }
 {
-    m17_rows::laws::rows_push::<Event>();
+    known_laws();
     if let Some(at) = inbox_of(modules, module.byte()) {
         if at < inboxes.len() {
             push_at(rt, inboxes, at, event);

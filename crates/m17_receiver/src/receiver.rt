@@ -3,11 +3,12 @@ ghost use Rattle.m17_values.specs.declared.heard.Heard.TheVariants.{Fault};
 ghost use Rattle.m17_receiver.specs.Ready.{IsFit, IsReady};
 ghost use Rattle.m17_receiver.specs.ReceiverDid.{HasGone, IsSameReceiver, ReceiverDid};
 
+use crate::laws::known_laws;
 use crate::tape::fill_tape;
 use crate::trace::write_trace;
 use m17_control::{Direct, Event, Modules};
 use m17_crew::{Order, Work};
-use m17_directory::{Directory, LinkVerdict, Post, laws as directory_laws};
+use m17_directory::{Directory, LinkVerdict, Post};
 use m17_lane::{Popper, Pusher};
 use m17_ports::{Book, Ear};
 use m17_roll::RollSeat;
@@ -104,7 +105,7 @@ impl<E: Ear, B: Book> Receiver<E, B> {
         ensures same_trace { (B.mark self.new.trace ≡ B.mark self.old.trace)
             × (B.label self.new.trace ≡ B.label self.old.trace) }
     {
-        directory_laws::later_entries_change_nothing();
+        known_laws();
         let mut index = 0u64;
         let mut noted = 0u64;
         for _ in rt.forever() {

@@ -1,6 +1,6 @@
 use Rattle.std.proofs.Common.{◌≡◌, false, List, length, not, ap, sym, subst, arith}
 use Rattle.m17_directory.specs.declared.known.Departed.{Departed}
-use Rattle.m17_directory.specs.Steps.{lists_wait}
+use Rattle.m17_directory.specs.Steps.{Lists, lists_wait}
 use Rattle.m17_directory.proofs.Waits.{waits_no_more}
 use Rattle.m17_directory.specs.StandsFor.{is_member}
 use Rattle.m17_directory.proofs.Filters.{filter_le}
@@ -13,5 +13,8 @@ invariant_of-self c = record {
 }
 
 pub returns-clause-waits : goal.returns-clause-waits
-returns-clause-waits c = λ free. subst (λ (ds : List Departed). lists_wait (record { known = c.self.inside.known; asked = c.self.inside.asked; departing = ds }) ≡ false) (sym c.noted.ensures)
-    (waits_no_more c.args.m c.self.inside.known c.self.inside.departing c.self.inside.asked c.self.invariant.together free)
+returns-clause-waits c = λ free.
+    let still : lists_wait (record { known = c.self.inside.known; asked = c.self.inside.asked; departing = c.self.inside.departing }) ≡ false =
+    subst (λ (l : Lists). lists_wait l ≡ false) (sym c.self.view_is) free in
+    subst (λ (ds : List Departed). lists_wait (record { known = c.self.inside.known; asked = c.self.inside.asked; departing = ds }) ≡ false) (sym c.noted.ensures)
+    (waits_no_more c.args.m c.self.inside.known c.self.inside.departing c.self.inside.asked c.self.invariant.together still)

@@ -1,0 +1,11 @@
+pub mod Lists
+pub mod Positions
+pub mod Posted
+pub mod Claimed
+pub mod Greeted
+pub mod Noted
+pub mod Entered
+pub mod Traced
+pub mod Heard
+pub mod Taped
+pub mod Letters
