@@ -52,7 +52,7 @@ turned_more law setup entries e =
     (filter_same (λ i. is_full (link_verdict setup longer i)) (λ i. is_full (link_verdict setup entries i)) 0 n
     (λ i l. ap is_full (verdict_before law setup entries e i (omega arith))))
 
-asked_more : Laws → (setup : Setup) (entries : List Entry) (e : Entry) → ClaimsAreAsked setup entries → (asks_at (past_with setup entries e) ≡ false → e.claim ≡ None) → ClaimsAreAsked setup (entries ++ e ∷ [])
+pub asked_more : Laws → (setup : Setup) (entries : List Entry) (e : Entry) → ClaimsAreAsked setup entries → (asks_at (past_with setup entries e) ≡ false → e.claim ≡ None) → ClaimsAreAsked setup (entries ++ e ∷ [])
 asked_more law setup entries e before only n l silent = elim (at_end_or_before entries e n l) [
   | inl earlier ↦ claim_before entries e n earlier ∙ before n earlier (sym (asks_before law setup entries e n earlier) ∙ silent)
   | inr last ↦ ap (claim_at (entries ++ e ∷ [])) last ∙ claim_end entries e ∙ only (ap (λ m. asks_at (past_at setup (entries ++ e ∷ []) m)) (sym last) ∙ silent)

@@ -71,10 +71,13 @@ left_none setup = refl
 count_both : (p : Departed → Bool) (xs ys : List Departed) → count_by p (xs ++ ys) ≡ count_by p xs + count_by p ys
 count_both p xs ys = sum_by-append (λ x. cond (p x) 1 0) xs ys
 
+count_first : (p : Departed → Bool) (y : Departed) (ys : List Departed) → count_by p (y ∷ ys) ≡ cond (p y) 1 0 + count_by p ys
+count_first p y ys = (let e : count_by p ((y ∷ []) ++ ys) ≡ count_by p (y ∷ []) + count_by p ys = count_both p (y ∷ []) ys in e) ∙ ap (λ n. n + count_by p ys) (let one : count_by p (y ∷ []) ≡ cond (p y) 1 0 = omega arith in one)
+
 found_by : (p : Departed → Bool) (y : Departed) (ys : List Departed) (b : Bool) → p y ≡ b → 1 ≤ count_by p (y ∷ ys) → (1 ≤ count_by p ys → (d : Departed) × Contains ys d × (p d ≡ true)) → (d : Departed) × Contains (y ∷ ys) d × (p d ≡ true)
 found_by p y ys true is some rest = (y, Contains-append_left (y ∷ []) ys y (0, omega arith, refl), is)
 found_by p y ys false is some rest =
-    let more : 1 ≤ count_by p ys = subst (λ b. 1 ≤ cond b 1 0 + count_by p ys) is some in
+    let more : 1 ≤ cond false 1 0 + count_by p ys = subst (λ b. 1 ≤ cond b 1 0 + count_by p ys) is (subst (λ n. 1 ≤ n) (count_first p y ys) some) in
     let d = rest (omega (arith, more)) in (d.0, Contains-append_right (y ∷ []) ys d.0 d.1, d.2)
 
 pub found : (p : Departed → Bool) (xs : List Departed) → 1 ≤ count_by p xs → (d : Departed) × Contains xs d × (p d ≡ true)
@@ -87,12 +90,12 @@ right_of false b e = (refl, e)
 
 -- what fails at each of a list fails at one that is in it
 fails_at : (p : Departed → Bool) (xs : List Departed) → list_any p xs ≡ false → (k : ℕ) (d : Departed) → k < length xs → slice_get xs k ≡ Some d → p d ≡ true → ⊥
-fails_at p [] none k d l is yes = absurd (omega arith)
-fails_at p (x ∷ xs) none zero d l is yes = false≢true (sym (right_of (p x) (list_any p xs) none).0 ∙ ap p (same_Some x d is) ∙ yes)
-fails_at p (x ∷ xs) none (suc k) d l is yes = fails_at p xs (right_of (p x) (list_any p xs) none).1 k d (omega arith) is yes
+fails_at p [] none k d l is fits = absurd (omega arith)
+fails_at p (x ∷ xs) none zero d l is fits = false≢true (sym (right_of (p x) (list_any p xs) none).0 ∙ ap p (same_Some x d is) ∙ fits)
+fails_at p (x ∷ xs) none (suc k) d l is fits = fails_at p xs (right_of (p x) (list_any p xs) none).1 k d (omega arith) is fits
 
 not_in : (p : Departed → Bool) (xs : List Departed) → list_any p xs ≡ false → (d : Departed) → Contains xs d → p d ≡ true → ⊥
-not_in p xs none d in_it yes = fails_at p xs none in_it.0 d in_it.1 (slice_get-get_or xs in_it.0 d in_it.1 ∙ ap (λ x. Some x) in_it.2) yes
+not_in p xs none d in_it fits = fails_at p xs none in_it.0 d in_it.1 (slice_get-get_or xs in_it.0 d in_it.1 ∙ ap (λ x. Some x) in_it.2) fits
 
 -- who joined
 joined_more : (setup : Setup) (entries : List Entry) (n : ℕ) → joined_before setup entries (suc n) ≡ joined_before setup entries n ++ cond (asks_at (past_at setup entries n)) (joined_by (notice_at entries n) (claim_at entries n)) []
@@ -100,9 +103,9 @@ unfolding joined_before
 joined_more setup entries n = flat_more (λ i. cond (asks_at (past_at setup entries i)) (joined_by (notice_at entries i) (claim_at entries i)) []) n
 
 joined_here : (setup : Setup) (entries : List Entry) (n : ℕ) (p : Departed → Bool) (d : Departed) → asks_at (past_at setup entries n) ≡ true → joined_by (notice_at entries n) (claim_at entries n) ≡ d ∷ [] → p d ≡ true → 1 ≤ count_by p (joined_before setup entries (suc n))
-joined_here setup entries n p d asks joins yes =
+joined_here setup entries n p d asks joins fits =
     let here : cond (asks_at (past_at setup entries n)) (joined_by (notice_at entries n) (claim_at entries n)) [] ≡ d ∷ [] = ap (λ b. cond b (joined_by (notice_at entries n) (claim_at entries n)) []) asks ∙ joins in
-    let one : count_by p (d ∷ []) ≡ 1 = ap (λ b. cond b 1 0 + 0) yes in
+    let one : count_by p (d ∷ []) ≡ 1 = ap (λ b. 0 + cond b 1 0) fits in
     let all : count_by p (joined_before setup entries (suc n)) ≡ count_by p (joined_before setup entries n) + count_by p (d ∷ []) =
     ap (count_by p) (joined_more setup entries n ∙ ap (λ ds. joined_before setup entries n ++ ds) here) ∙ count_both p (joined_before setup entries n) (d ∷ []) in
     omega (arith, all, one)
@@ -161,8 +164,8 @@ each_noted law setup entries e departing notes x asked asks none gone i first l 
     let p : Departed → Bool = is_of_peer x test in
     let who = joins_as (notice_at longer i) x first from_it in
     let joins : joined_by (notice_at longer i) (claim_at longer i) ≡ who.0 ∷ [] = ap (joined_by (notice_at longer i)) has_it ∙ who.1 in
-    let yes : p who.0 ≡ true = and_from (is_peer x who.0.peer) (test who.0.member) who.3 (ap test who.2 ∙ same_itself first.member) in
-    let joined : 1 ≤ count_by p (joined_before setup longer n) = joined_later setup longer p (suc i) n (joined_here setup longer i p who.0 its_asks joins yes) (omega arith) in
+    let fits : p who.0 ≡ true = and_from (is_peer x who.0.peer) (test who.0.member) who.3 (ap test who.2 ∙ same_itself first.member) in
+    let joined : 1 ≤ count_by p (joined_before setup longer n) = joined_later setup longer p (suc i) n (joined_here setup longer i p who.0 its_asks joins fits) (omega arith) in
     let same : count_by p (joined_before setup longer n) ≡ count_by p (left_before setup longer n ++ map departed_of (heard_at (past_at setup longer n)).left) =
     law.people.asking setup longer n x test asked (omega (arith, size)) asks from_last in
     let left : 1 ≤ count_by p (left_before setup longer n ++ map departed_of (heard_at (past_at setup longer n)).left) = omega (arith, joined, same) in

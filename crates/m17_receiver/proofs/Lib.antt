@@ -4,8 +4,6 @@ pub mod Posted
 pub mod Claimed
 pub mod Greeted
 pub mod Noted
-pub mod Entered
 pub mod Traced
-pub mod Heard
-pub mod Taped
 pub mod Letters
+pub mod Pushed

@@ -15,8 +15,11 @@ use Rattle.m17_directory.specs.Laws.{direct_of, door_replies}
 use Rattle.m17_receiver.specs.Posting.{Outlets, letter_at, posted_to}
 use Rattle.m17_receiver.specs.SoFar.{Laws, posting}
 
-both_same : (a b : List (PushEnd Event)) (c d : PushEnd Direct) → a ≡ b → c ≡ d → record { inboxes = a; door = c } ≡ record { inboxes = b; door = d }
-both_same a b c d e f = ap (λ (x : List (PushEnd Event)). let o : Outlets = record { inboxes = x; door = c } in o) e ∙ ap (λ (x : PushEnd Direct). let o : Outlets = record { inboxes = b; door = x } in o) f
+abbrev outlets : List (PushEnd Event) → PushEnd Direct → Outlets
+outlets inboxes door = record { inboxes = inboxes; door = door }
+
+both_same : (a b : List (PushEnd Event)) (c d : PushEnd Direct) → a ≡ b → c ≡ d → outlets a c ≡ outlets b d
+both_same a b c d e f = ap (λ (x : List (PushEnd Event)). outlets x c) e ∙ ap (λ (x : PushEnd Direct). outlets b x) f
 
 pushes_more : (q : PushEnd Direct) (xs ys zs : List Direct) → xs ++ ys ≡ zs → pushes (pushes q xs) ys ≡ pushes q zs
 pushes_more q xs ys zs e = ap (λ (l : List Direct). record q { pushed = l }) (append_assoc q.pushed xs ys ∙ ap (λ (l : List Direct). q.pushed ++ l) e)

@@ -145,7 +145,7 @@ pub record IsAsking (plan : Plan) (entries : List Entry) (notice : Notice) (p : 
   pub posted : p.out
       ≡ posting plan.setup.modules (heard_at (past_with plan.setup entries (unclaimed notice))).posts
       (posted_to plan.setup entries plan.start)
-  pub open : p.directory.ended ≡ false
+  pub goes_on : p.directory.ended ≡ false
   pub others : p.directory.known ≡ others_at (past_with plan.setup entries (unclaimed notice))
   pub claimed : HasClaimed plan.patient plan.setup entries p.seat
   pub greeted : IsGreetedAfter entries p.notes

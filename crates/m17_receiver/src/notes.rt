@@ -16,7 +16,6 @@ const MOST_NOTES: u32 = 512;
 fn take_note(directory: &mut Directory, noted: &mut u64, member: Member)
     ensures { HasNoted (member ∷ []) (directory.old, noted.old) (directory.new, noted.new) }
 {
-    directory.known();
     directory.noted(member);
     *noted = noted.saturating_add(1);
 }
@@ -30,7 +29,7 @@ pub(crate) fn pop_notes<R: Wait>(
 )
     ensures { HasNotedSome (notes.old, directory.old, noted.old) (notes.new, directory.new, noted.new) }
 {
-    for _note in 0..MOST_NOTES {
+    'notes: for _note in 0..MOST_NOTES {
         match notes.try_pop(rt) {
             Some(member) => take_note(directory, noted, member),
             None => return,

@@ -30,7 +30,7 @@ pub(crate) fn push_posts<R: Wait>(
     ensures room { vec_capacity inboxes.new ≡ vec_capacity inboxes.old }
 {
     known_laws();
-    while let Some(dispatch) = post.take() {
+    'posts: while let Some(dispatch) = post.take() {
         push_one(rt, modules, dispatch, inboxes, door);
     }
 }
@@ -58,17 +58,17 @@ fn push_one<R: Wait>(
 fn push_event<R: Wait>(
     rt: &R,
     modules: Modules,
-    module: ModuleLetter,
+    letter: ModuleLetter,
     event: Event,
     inboxes: &mut Vec<Pusher<Event>>,
 )
     ensures pushed { inboxes.new.items
-        ≡ push_each (λ m. filter_map (event_for (letter_at modules m)) (ToModule module event ∷ []))
+        ≡ push_each (λ m. filter_map (event_for (letter_at modules m)) (ToModule letter event ∷ []))
         0 inboxes.old.items }
     ensures room { vec_capacity inboxes.new ≡ vec_capacity inboxes.old }
 {
     known_laws();
-    if let Some(at) = inbox_of(modules, module.byte()) {
+    if let Some(at) = inbox_of(modules, letter.byte()) {
         if at < inboxes.len() {
             push_at(rt, inboxes, at, event);
         }
@@ -86,7 +86,7 @@ fn inbox_of(modules: Modules, letter: u8) -> Option<usize>
         return None;
     }
     let mut at = 0;
-    for other in b'A'..letter {
+    'letters: for other in b'A'..letter {
         if modules.has(other) {
             at += 1;
         }
