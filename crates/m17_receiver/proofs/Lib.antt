@@ -7,3 +7,5 @@ pub mod Noted
 pub mod Traced
 pub mod Letters
 pub mod Pushed
+pub mod Entered
+pub mod Settled

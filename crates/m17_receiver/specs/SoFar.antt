@@ -17,7 +17,7 @@ use Rattle.m17_directory.specs.Entries.{Notice, Entry, Setup, ends_at}
 use Rattle.m17_directory.specs.Known.{Past}
 use Rattle.m17_directory.specs.Routed.{past_at, heard_at, others_at, event_for, link_verdict}
 use Rattle.m17_directory.specs.StandsFor.{Kept, StandsFor, must_wait, unclaimed, departed_of}
-use Rattle.m17_directory.specs.Laws.{LaterEntriesChangeNothing, OneEntryMore, EntriesBeforeDecide, ClaimsCompleteAskers, DoorCarriesReplies, EndedWhereItEnds, PeersComeAndGo, PeersAreToldApart, direct_of, left_before}
+use Rattle.m17_directory.specs.Laws.{LaterEntriesChangeNothing, OneEntryMore, EntriesBeforeDecide, ClaimsCompleteAskers, DoorCarriesReplies, EndedWhereItEnds, AskersJoinOrAreFull, PeersComeAndGo, PeersAreToldApart, direct_of, left_before}
 use Rattle.m17_receiver.specs.Posting.{Outlets, letter_at, posted_to}
 use Rattle.m17_receiver.specs.declared.receiver.Receiver.{Receiver}
 use Rattle.m17_receiver.specs.ReceiverDid.{outlets_of}
@@ -31,6 +31,7 @@ pub record Laws : Type 0 where
   pub complete : ClaimsCompleteAskers
   pub door : DoorCarriesReplies
   pub ended : EndedWhereItEnds
+  pub askers : AskersJoinOrAreFull
   pub people : PeersComeAndGo
   pub apart : PeersAreToldApart
   pub rows : RowsPush Event

@@ -16,6 +16,7 @@ pub(crate) fn known_laws()
     directory::claims_complete_askers();
     directory::door_carries_replies();
     directory::ended_where_it_ends();
+    directory::askers_join_or_are_full();
     directory::peers_come_and_go();
     directory::peers_are_told_apart();
     rows::rows_push::<Event>();
