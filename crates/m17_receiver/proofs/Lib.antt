@@ -9,3 +9,7 @@ pub mod Letters
 pub mod Pushed
 pub mod Entered
 pub mod Settled
+pub mod Heard
+pub mod Taped
+pub mod Ended
+pub mod Came

@@ -24,6 +24,9 @@ claim_end entries e = ap (option_and_then (λ (entry : Entry). entry.claim)) (ge
 take_before : (entries : List Entry) (e : Entry) (n : ℕ) → n ≤ length entries → take n (entries ++ e ∷ []) ≡ take n entries
 take_before entries e n l = take-append-le n entries (e ∷ []) l
 
+pub heard_before : Laws → (setup : Setup) (entries : List Entry) (e : Entry) (n : ℕ) → n < length entries → heard_at (past_at setup (entries ++ e ∷ []) n) ≡ heard_at (past_at setup entries n)
+heard_before law setup entries e n l = law.before.heard setup (entries ++ e ∷ []) entries n (take_before entries e n (omega arith)) (notice_before entries e n l)
+
 pub asks_before : Laws → (setup : Setup) (entries : List Entry) (e : Entry) (n : ℕ) → n < length entries → asks_at (past_at setup (entries ++ e ∷ []) n) ≡ asks_at (past_at setup entries n)
 asks_before law setup entries e n l =
     ap (λ (o : Outcome). is_asks o.verdict) (law.before.heard setup (entries ++ e ∷ []) entries n (take_before entries e n (omega arith)) (notice_before entries e n l))

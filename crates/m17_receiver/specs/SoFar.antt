@@ -2,6 +2,7 @@
 use Rattle.std.specs.Prelude.{◌≡◌, ◌↔◌, ◌⊎◌, ℕ, Bool, true, false, ◌+◌, ◌-◌, ◌<◌, ◌^◌, min, List, [], ◌∷◌, ◌++◌, length, map, Contains, Option, None, Some, IfSome, vec_capacity}
 use Rattle.std.specs.List.{filter_map}
 use Rattle.std.specs.Option.{option_to_list}
+use Rattle.m17_values.specs.declared.heard.Heard.{Heard}
 use Rattle.m17_values.specs.declared.member.Member.{Member}
 use Rattle.m17_control.specs.declared.modules.Modules.{Modules}
 use Rattle.m17_lane.specs.Ends.{PopEnd}
@@ -13,14 +14,16 @@ use Rattle.m17_directory.specs.declared.dispatch.Dispatch.{Dispatch}
 use Rattle.m17_directory.specs.declared.known.Departed.{Departed}
 use Rattle.m17_directory.specs.declared.verdict.LinkVerdict.{LinkVerdict}
 use Rattle.m17_directory.specs.declared.verdict.LinkVerdict.TheVariants.{Asks}
-use Rattle.m17_directory.specs.Entries.{Notice, Entry, Setup, ends_at}
+use Rattle.m17_directory.specs.Entries.{Notice, Entry, Setup, SaysEach, ends_at}
 use Rattle.m17_directory.specs.Known.{Past}
 use Rattle.m17_directory.specs.Routed.{past_at, heard_at, others_at, event_for, link_verdict}
 use Rattle.m17_directory.specs.StandsFor.{Kept, StandsFor, must_wait, unclaimed, departed_of}
 use Rattle.m17_directory.specs.Laws.{LaterEntriesChangeNothing, OneEntryMore, EntriesBeforeDecide, ClaimsCompleteAskers, DoorCarriesReplies, EndedWhereItEnds, AskersJoinOrAreFull, PeersComeAndGo, PeersAreToldApart, direct_of, left_before}
 use Rattle.m17_receiver.specs.Posting.{Outlets, letter_at, posted_to}
 use Rattle.m17_receiver.specs.declared.receiver.Receiver.{Receiver}
-use Rattle.m17_receiver.specs.ReceiverDid.{outlets_of}
+use Rattle.m17_receiver.specs.Devices.{Words, IsCounted, HasHeard, HasTrace}
+use Rattle.m17_receiver.specs.Tape.{IsTaped}
+use Rattle.m17_receiver.specs.ReceiverDid.{IsSameReceiver, outlets_of}
 use Rattle.m17_receiver.specs.Claims.{HasClaimed, IsGreetedAfter}
 
 -- the laws that a receiver rests on
@@ -163,3 +166,35 @@ pub record IsThrough (plan : Plan) (entries : List Entry) (notice : Notice) (p :
   pub so_far : IsSoFar plan (entries ++ entry ∷ []) p
   pub is_verdict : verdict ≡ link_verdict plan.setup (entries ++ entry ∷ []) (length entries)
   pub ends : p.directory.ended ≡ ends_at (entries ++ entry ∷ []) (length entries)
+
+abbrev pub plan_of : {E B : Type 0} → Receiver E B → Plan
+plan_of j =
+    record { setup = j.directory.setup; patient = j.patient; start = outlets_of j }
+
+-- What became of all that was heard so far, and nothing of it ended the link.
+pub record HasCome {E B : Type 0} (heard : List Heard) (j k : Receiver E B) (noted : ℕ)
+    : Type 0 where
+  pub entries : List Entry
+  pub says : SaysEach heard entries
+  pub goes_on : (n : ℕ) → n < length entries → ends_at entries n ≡ false
+  pub so_far : IsSoFar (plan_of j) entries (parts_of k noted)
+  pub taped : IsTaped j.directory.setup entries j.tape.items k.tape.items
+
+-- The receiver has heard so much, and counted it.
+pub record HasComeBy {E B : Type 0} (words : Words E B) (j k : Receiver E B) (index noted : ℕ)
+    : Type 0 where
+  pub heard : List Heard
+  pub ear : HasHeard (words.heard j.ear, words.ear_faults j.ear) heard
+      (words.heard k.ear, words.ear_faults k.ear)
+  pub trace : HasTrace (words.written j.trace, words.trace_faults j.trace) heard k.trace_failed
+      (words.written k.trace, words.trace_faults k.trace)
+  pub count : index ≡ min (length heard) (2 ^ 64 - 1)
+  pub come : IsCounted heard → HasCome heard j k noted
+
+-- between two entries nothing is asked or posted, and the link goes on
+pub record IsBetween {E B : Type 0} (j k : Receiver E B) : Type 0 where
+  pub same : IsSameReceiver j k
+  pub order : k.order ≡ j.order
+  pub post : k.post ≡ []
+  pub asked : k.directory.asked ≡ None
+  pub goes_on : k.directory.ended ≡ false
