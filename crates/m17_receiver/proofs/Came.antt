@@ -1,5 +1,5 @@
 -- One entry more of a receiver.
-use Rattle.std.proofs.Common.{◌≡◌, ◌==◌, ◌↔◌, ◌⊎◌, ℕ, suc, ◌+◌, ◌-◌, ◌<◌, ◌≤◌, ◌^◌, min, Bool, true, false, List, [], ◌∷◌, ◌++◌, length, set, Contains, IsTrue, refl, ap, sym, subst, ◌∙◌, inl, inr, arith, Option, None, Some}
+use Rattle.std.proofs.Common.{◌≡◌, ◌==◌, ◌↔◌, ℕ, ◌+◌, ◌-◌, ◌^◌, min, Bool, true, false, List, [], ◌∷◌, ◌++◌, length, set, Contains, IsTrue, refl, ap, sym, subst, ◌∙◌, inl, inr, arith, Option, Some}
 use Rattle.std.proofs.lemmas.Bool.{eq-eqb, eqb-true}
 use Rattle.std.proofs.lemmas.List.{length-append}
 use Rattle.m17_values.specs.declared.heard.Heard.{Heard}
@@ -8,14 +8,13 @@ use Rattle.m17_lane.specs.Ends.{PopEnd}
 use Rattle.m17_values.specs.declared.heard.Heard.TheVariants as heard
 use Rattle.m17_directory.specs.declared.known.Departed.{Departed}
 use Rattle.m17_directory.specs.declared.verdict.LinkVerdict.{LinkVerdict}
-use Rattle.m17_directory.specs.Entries.{Entry, Notice, Setup, Says, SaysEach, ends_at}
-use Rattle.m17_directory.specs.Routed.{link_verdict}
+use Rattle.m17_directory.specs.Entries.{Notice, Setup, Says, ends_at}
 use Rattle.m17_receiver.specs.declared.receiver.Receiver.{Receiver}
-use Rattle.m17_receiver.specs.Devices.{Words, Tells, IsCounted, EndsInFaults, HasHeard, HasTrace}
+use Rattle.m17_receiver.specs.Devices.{Words, Tells, IsCounted, HasHeard, HasTrace}
 use Rattle.m17_receiver.specs.Tape.{IsTaped}
 use Rattle.m17_receiver.specs.Ready.{IsFit}
 use Rattle.m17_receiver.specs.ReceiverDid.{IsSameReceiver, HasReceived, outlets_of}
-use Rattle.m17_receiver.specs.SoFar.{Laws, Plan, IsPlanOf, IsKept, IsSoFar, IsThrough, HasCome, HasComeBy, plan_of, parts_of}
+use Rattle.m17_receiver.specs.SoFar.{Laws, IsPlanOf, IsKept, IsThrough, HasCome, HasComeBy, plan_of, parts_of}
 use Rattle.m17_receiver.proofs.Posted.{posted_none}
 use Rattle.m17_receiver.proofs.Heard.{heard_nothing}
 use Rattle.m17_receiver.proofs.Traced.{traced_none}

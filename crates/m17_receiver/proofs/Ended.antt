@@ -1,5 +1,5 @@
 -- Where a link ends, and by what.
-use Rattle.std.proofs.Common.{◌≡◌, ◌↔◌, ◌⊎◌, ℕ, zero, suc, ◌+◌, ◌-◌, ◌<◌, ◌≤◌, Bool, true, false, leb, List, [], ◌∷◌, ◌++◌, length, take, drop, get_or, slice_get, replicate, Option, None, Some, inl, inr, refl, ap, sym, subst, ◌∙◌, length-append, length-drop, arith}
+use Rattle.std.proofs.Common.{◌≡◌, ◌↔◌, ℕ, zero, suc, ◌+◌, ◌-◌, ◌<◌, ◌≤◌, true, false, leb, List, [], ◌∷◌, ◌++◌, length, take, drop, get_or, slice_get, replicate, Some, inl, inr, refl, ap, sym, subst, ◌∙◌, length-append, length-drop, arith}
 use Rattle.std.specs.List.{list_all, range_with_len}
 use Rattle.std.proofs.lemmas.Bool.{and_parts, or_cases, cases_lt, false≢true, leb-true}
 use Rattle.std.proofs.lemmas.List.{length-replicate, take-append-drop}
@@ -8,12 +8,11 @@ use Rattle.m17_values.specs.declared.heard.Heard.{Heard}
 use Rattle.m17_values.specs.declared.heard.Heard.TheVariants as heard
 use Rattle.m17_directory.specs.Entries.{Entry, Notice, Setup, Says, SaysEach, notice_at, ends_at, is_end, is_fault, most_faults}
 use Rattle.m17_directory.specs.Outcome.{Outcome}
-use Rattle.m17_directory.specs.Routed.{past_at, heard_at}
 use Rattle.m17_directory.specs.Laws.{EndsOnce, is_ended}
 use Rattle.m17_receiver.specs.Devices.{EndsInFaults}
 use Rattle.m17_receiver.specs.SoFar.{Laws}
-use Rattle.m17_receiver.proofs.Lists.{get_before, get_end, length_more}
-use Rattle.m17_receiver.proofs.Positions.{notice_before, notice_end, heard_before}
+use Rattle.m17_receiver.proofs.Lists.{get_end, length_more}
+use Rattle.m17_receiver.proofs.Positions.{notice_end, heard_before}
 
 -- lists by their positions
 get_drop : {A : Type 0} (xs : List A) (k i j : ℕ) → j ≡ k + i → slice_get (drop k xs) i ≡ slice_get xs j

@@ -1,33 +1,27 @@
 -- An entry, from before it to behind it.
-use Rattle.std.proofs.Common.{◌≡◌, ◌↔◌, ◌==◌, ◌&&◌, ◌||◌, ◌⊎◌, ℕ, suc, ◌+◌, ◌-◌, ◌<◌, ◌≤◌, ◌^◌, min, Bool, true, false, cond, not, List, [], ◌∷◌, ◌++◌, length, map, take, Contains, refl, ap, sym, subst, ◌∙◌, inl, inr, arith, Option, None, Some, IsSome}
-use Rattle.std.specs.Option.{option_map, option_map_or, option_to_list, is_some}
+use Rattle.std.proofs.Common.{◌≡◌, ◌↔◌, ◌&&◌, ℕ, ◌+◌, ◌-◌, ◌^◌, min, Bool, true, false, cond, not, List, [], ◌∷◌, ◌++◌, length, map, refl, ap, sym, subst, ◌∙◌, arith}
+use Rattle.std.specs.Option.{is_some}
 use Rattle.std.proofs.lemmas.Bool.{false≢true}
-use Rattle.std.proofs.lemmas.List.{append-nil, append_assoc, length-append, take_all}
-use Rattle.std.proofs.lemmas.Option.{none-some, same_Some}
+use Rattle.std.proofs.lemmas.List.{append-nil, length-append}
+use Rattle.std.proofs.lemmas.Option.{none-some}
 use Rattle.m17_values.specs.declared.member.Member.{Member}
-use Rattle.m17_values.specs.declared.peer.Peer.{Peer}
-use Rattle.m17_roll.specs.Seat.{RollView}
-use Rattle.m17_directory.specs.declared.asked.Asked.{Asked}
 use Rattle.m17_directory.specs.declared.dispatch.Dispatch.{Dispatch}
 use Rattle.m17_directory.specs.declared.known.Departed.{Departed}
 use Rattle.m17_directory.specs.declared.known.Known.{Known}
 use Rattle.m17_directory.specs.declared.verdict.LinkVerdict.{LinkVerdict}
 use Rattle.m17_directory.specs.declared.verdict.LinkVerdict.TheVariants as link
-use Rattle.m17_directory.specs.Entries.{Notice, Claim, Entry, Setup, notice_at, claim_at, is_peer, is_from, ends_at}
+use Rattle.m17_directory.specs.Entries.{Notice, Entry, Setup, claim_at}
 use Rattle.m17_directory.specs.Known.{Past}
 use Rattle.m17_directory.specs.Outcome.{Outcome}
-use Rattle.m17_directory.specs.Routed.{past_at, asks_at, is_asks, heard_at, others_at, settled_at, both, outcome_at, link_verdict, posts_at}
-use Rattle.m17_directory.specs.StandsFor.{Kept, StandsFor, IsHeard, IsSettled, IsAsked, unclaimed, claimed, departed_of, must_wait, has_departing, most_members}
-use Rattle.m17_directory.specs.Laws.{ClaimsAreAsked, left_before, is_ended, is_full}
-use Rattle.m17_receiver.specs.Devices.{IsCounted}
-use Rattle.m17_receiver.specs.Posting.{Outlets, posted_to}
-use Rattle.m17_receiver.specs.Claims.{HasClaimed, IsGreetedAfter, AreOfOnePeer}
-use Rattle.m17_receiver.specs.SoFar.{Laws, Plan, Parts, HasNoted, HasTaken, AreGone, IsSoFar, IsAsking, IsThrough, past_with, posting, refused_by}
-use Rattle.m17_receiver.proofs.Lists.{length_more}
-use Rattle.m17_receiver.proofs.Positions.{claim_end, notice_end, heard_same, others_same, unasked_is, asked_is}
-use Rattle.m17_receiver.proofs.Posted.{posting_more, posted_more}
-use Rattle.m17_receiver.proofs.Claimed.{ClaimsOne, asked_more, claimed_more}
-use Rattle.m17_receiver.proofs.Greeted.{greeted_notes, greeted_more, gone_noted, gone_left, left_more, each_noted}
+use Rattle.m17_directory.specs.Routed.{past_at, asks_at, is_asks, heard_at, others_at, outcome_at, link_verdict, posts_at}
+use Rattle.m17_directory.specs.StandsFor.{Kept, StandsFor, IsHeard, unclaimed, departed_of}
+use Rattle.m17_directory.specs.Laws.{left_before, is_ended, is_full}
+use Rattle.m17_receiver.specs.Posting.{Outlets}
+use Rattle.m17_receiver.specs.SoFar.{Laws, Plan, Parts, HasNoted, AreGone, IsSoFar, IsAsking, IsThrough, past_with, posting}
+use Rattle.m17_receiver.proofs.Positions.{unasked_is}
+use Rattle.m17_receiver.proofs.Posted.{posted_more}
+use Rattle.m17_receiver.proofs.Claimed.{claimed_more}
+use Rattle.m17_receiver.proofs.Greeted.{greeted_notes, greeted_more, gone_noted, gone_left, left_more}
 use Rattle.m17_receiver.proofs.Noted.{noted_stands}
 
 -- Notes come.

@@ -1,8 +1,8 @@
 -- Whom a claim waits for: each member that its peer was before has left, and its leaving was noted.
-use Rattle.std.proofs.Common.{◌≡◌, ◌==◌, ◌&&◌, ◌||◌, ◌⊎◌, ℕ, zero, suc, ◌+◌, ◌-◌, ◌<◌, ◌≤◌, ◌^◌, min, Bool, true, false, cond, List, [], ◌∷◌, ◌++◌, length, map, take, count_by, slice_get, Contains, refl, ap, sym, subst, ◌∙◌, inl, inr, arith, Option, None, Some}
+use Rattle.std.proofs.Common.{◌≡◌, ◌==◌, ◌&&◌, ◌||◌, ◌⊎◌, ℕ, zero, suc, ◌+◌, ◌<◌, ◌≤◌, Bool, true, false, cond, List, [], ◌∷◌, ◌++◌, length, map, take, count_by, slice_get, Contains, refl, ap, sym, subst, ◌∙◌, inl, inr, arith, Option, None, Some}
 use Rattle.std.specs.List.{flat_map, list_any, range_with_len}
 use Rattle.std.specs.Option.{option_and_then}
-use Rattle.std.proofs.lemmas.Bool.{and_parts, and_from, cases_Bool, cases_lt, eq-eqb, eqb-true, false≢true}
+use Rattle.std.proofs.lemmas.Bool.{and_parts, and_from, cases_lt, eq-eqb, eqb-true, false≢true}
 use Rattle.std.proofs.lemmas.List.{length-append, take-append-le}
 use Rattle.std.proofs.lemmas.Option.{none-some, same_Some, slice_get-get_or, slice_get_within}
 use Rattle.std.proofs.lemmas.List.Elements.{Contains-append_left, Contains-append_right, Contains-append_cases}
@@ -17,9 +17,8 @@ use Rattle.m17_directory.specs.Laws.{ClaimsAreAsked, joined_by, joined_before, l
 use Rattle.m17_receiver.specs.Devices.{IsCounted}
 use Rattle.m17_receiver.specs.Claims.{IsGreetedAfter, AreOfOnePeer}
 use Rattle.m17_receiver.specs.SoFar.{Laws, AreGone, past_with}
-use Rattle.m17_receiver.proofs.Lists.{length_more, flat_more, flat_map_same, range_more}
-use Rattle.m17_receiver.proofs.Positions.{notice_before, notice_end, claim_before, claim_end, asks_before}
-use Rattle.m17_receiver.proofs.Claimed.{at_end_or_before, asked_more}
+use Rattle.m17_receiver.proofs.Lists.{length_more, flat_more, flat_map_same}
+use Rattle.m17_receiver.proofs.Positions.{notice_before, notice_end, claim_before, claim_end}
 
 -- more notes
 take_kept : (notes more : List Member) (n : ℕ) → n ≤ length notes → take n (notes ++ more) ≡ take n notes
@@ -115,10 +114,10 @@ joined_later setup entries p i zero some l = subst (λ m. 1 ≤ count_by p (join
 joined_later setup entries p i (suc n) some l = elim (cases_lt n i) [
   | inl now ↦ subst (λ m. 1 ≤ count_by p (joined_before setup entries m)) (let e : i ≡ suc n = omega arith in e) some
   | inr later ↦
-    let before = joined_later setup entries p i n some later in
-    let all : count_by p (joined_before setup entries (suc n)) ≡ count_by p (joined_before setup entries n) + count_by p (cond (asks_at (past_at setup entries n)) (joined_by (notice_at entries n) (claim_at entries n)) []) =
-    ap (count_by p) (joined_more setup entries n) ∙ count_both p (joined_before setup entries n) _ in
-    omega (arith, all, before)
+      let before = joined_later setup entries p i n some later in
+      let all : count_by p (joined_before setup entries (suc n)) ≡ count_by p (joined_before setup entries n) + count_by p (cond (asks_at (past_at setup entries n)) (joined_by (notice_at entries n) (claim_at entries n)) []) =
+      ap (count_by p) (joined_more setup entries n) ∙ count_both p (joined_before setup entries n) _ in
+      omega (arith, all, before)
 ]
 
 -- the member
@@ -209,9 +208,9 @@ greeted_more entries e notes was enough earlier = record {
     | inl before ↦ was.earlier counted i n first second l (sym (claim_before entries e i (omega arith)) ∙ has) (sym (claim_before entries e n before) ∙ has')
         (same.0, ap (is_from same.0) (sym (notice_before entries e i (omega arith))) ∙ same.1, ap (is_from same.0) (sym (notice_before entries e n before)) ∙ same.2)
     | inr past ↦
-      let at : length entries ≡ n = omega (arith, past, within entries e n second has') in
-      earlier counted i first second (omega (arith, at, l)) (sym (claim_before entries e i (omega (arith, at, l))) ∙ has)
-      (sym (claim_end entries e) ∙ ap (claim_at (entries ++ e ∷ [])) at ∙ has')
-      (same.0, ap (is_from same.0) (sym (notice_before entries e i (omega (arith, at, l)))) ∙ same.1, ap (is_from same.0) (sym (notice_end entries e) ∙ ap (notice_at (entries ++ e ∷ [])) at) ∙ same.2)
+        let at : length entries ≡ n = omega (arith, past, within entries e n second has') in
+        earlier counted i first second (omega (arith, at, l)) (sym (claim_before entries e i (omega (arith, at, l))) ∙ has)
+        (sym (claim_end entries e) ∙ ap (claim_at (entries ++ e ∷ [])) at ∙ has')
+        (same.0, ap (is_from same.0) (sym (notice_before entries e i (omega (arith, at, l)))) ∙ same.1, ap (is_from same.0) (sym (notice_end entries e) ∙ ap (notice_at (entries ++ e ∷ [])) at) ∙ same.2)
   ];
 }

@@ -1,5 +1,5 @@
 -- One more that was heard.
-use Rattle.std.proofs.Common.{◌≡◌, ◌≢◌, ◌⊎◌, ℕ, suc, zero, ◌+◌, ◌-◌, ◌<◌, ◌≤◌, ◌^◌, List, [], ◌∷◌, ◌++◌, length, replicate, Contains, refl, sym, ap, ◌∙◌, subst, inl, inr, arith, Option, None, Some}
+use Rattle.std.proofs.Common.{◌≡◌, ◌≢◌, ◌-◌, ◌<◌, ◌≤◌, ◌^◌, List, [], ◌∷◌, ◌++◌, length, replicate, Contains, refl, sym, ap, ◌∙◌, subst, inl, inr, arith, Option, None, Some}
 use Rattle.std.proofs.lemmas.List.{append-nil, append_assoc, length-append, length-replicate}
 use Rattle.std.proofs.lemmas.List.Elements.{Contains-append_left, Contains-push, Contains-push_cases}
 use Rattle.std.proofs.lemmas.Option.{none-some, same_Some}
@@ -8,7 +8,7 @@ use Rattle.m17_values.specs.declared.heard.Heard.TheVariants.{Fault, End}
 use Rattle.m17_io.specs.Faults.{HasRisen}
 use Rattle.m17_ports.specs.Told.{told_then, StartsEmpty}
 use Rattle.m17_ports.specs.Ear.{EndsPastCount}
-use Rattle.m17_receiver.specs.Devices.{Tells, IsCounted, HasHeard}
+use Rattle.m17_receiver.specs.Devices.{Tells, HasHeard}
 
 told_more : (told : Option (List Heard)) (xs ys : List Heard) → told_then (told_then told xs) ys ≡ told_then told (xs ++ ys)
 told_more None xs ys = refl

@@ -1,7 +1,7 @@
 -- Where the inbox of a module stands: letters stand in order.
-use Rattle.std.proofs.Common.{◌≡◌, ◌↔◌, ◌==◌, ◌⊎◌, ℕ, zero, suc, ◌+◌, ◌-◌, ◌<◌, ◌≤◌, Bool, true, false, cond, List, [], ◌∷◌, ◌++◌, length, filter, get_or, slice_index, refl, ap, sym, subst, ◌∙◌, inl, inr, arith}
+use Rattle.std.proofs.Common.{◌≡◌, ◌↔◌, ◌==◌, ℕ, zero, suc, ◌+◌, ◌-◌, ◌<◌, ◌≤◌, Bool, true, false, cond, List, [], ◌∷◌, ◌++◌, length, filter, get_or, refl, ap, sym, ◌∙◌, inl, inr, arith}
 use Rattle.std.specs.List.{range_with_len}
-use Rattle.std.proofs.lemmas.Bool.{cases_lt, eqb-true, eq-eqb, ne_eqb, false≢true}
+use Rattle.std.proofs.lemmas.Bool.{cases_lt, eq-eqb, ne_eqb, false≢true}
 use Rattle.std.proofs.lemmas.Bool.Decides.{eqb_tells}
 use Rattle.std.proofs.lemmas.List.{get_or_past, length-append}
 use Rattle.std.proofs.lemmas.List.Elements.{filter-append, filter_passes, All-get_or}
@@ -98,8 +98,8 @@ served_at modules letter at in_range served is m =
 pub unserved_at : (modules : Modules) (letter : ℕ) → IsModule letter → serves modules letter ≡ false → (m : ℕ) → (letter == letter_at modules m) ≡ false
 unserved_at modules letter in_range served m = ne_eqb letter (letter_at modules m) (λ e. elim (cases_lt m (length (letters_of modules))) [
   | inl within ↦
-    let passes : serves modules (get_or (letters_of modules) m 0) ≡ true = All-get_or (λ x. serves modules x ≡ true) (letters_of modules) m 0 within (filter_passes (serves modules) (range_with_len 65 26)) in
-    false≢true (sym served ∙ ap (serves modules) e ∙ passes)
+      let passes : serves modules (get_or (letters_of modules) m 0) ≡ true = All-get_or (λ x. serves modules x ≡ true) (letters_of modules) m 0 within (filter_passes (serves modules) (range_with_len 65 26)) in
+      false≢true (sym served ∙ ap (serves modules) e ∙ passes)
   | inr past ↦ (let none : letter_at modules m ≡ 0 = get_or_past (letters_of modules) m 0 past in omega (arith, none, e, in_range.0))
 ])
 

@@ -1,13 +1,12 @@
 -- What stands at the positions of a list of entries with one more behind.
-use Rattle.std.proofs.Common.{◌≡◌, ℕ, suc, ◌<◌, ◌≤◌, true, false, List, [], ◌∷◌, ◌++◌, length, take, refl, ap, sym, ◌∙◌, arith, Option, None, Some}
+use Rattle.std.proofs.Common.{◌≡◌, ℕ, ◌<◌, ◌≤◌, true, false, List, [], ◌∷◌, ◌++◌, length, take, ap, sym, ◌∙◌, arith}
 use Rattle.std.specs.Option.{option_and_then}
 use Rattle.std.proofs.lemmas.List.{take-append-le}
-use Rattle.m17_directory.specs.declared.verdict.LinkVerdict.{LinkVerdict}
-use Rattle.m17_directory.specs.Entries.{Claim, Entry, Setup, notice_of, notice_at, claim_at}
+use Rattle.m17_directory.specs.Entries.{Entry, Setup, notice_of, notice_at, claim_at}
 use Rattle.m17_directory.specs.Outcome.{Outcome}
-use Rattle.m17_directory.specs.Routed.{past_at, asks_at, is_asks, heard_at, others_at, settled_at, both, outcome_at, link_verdict, posts_at}
+use Rattle.m17_directory.specs.Routed.{past_at, asks_at, is_asks, heard_at, others_at, settled_at, both, outcome_at, link_verdict}
 use Rattle.m17_receiver.specs.SoFar.{Laws, past_with}
-use Rattle.m17_receiver.proofs.Lists.{get_before, get_end, length_more}
+use Rattle.m17_receiver.proofs.Lists.{get_before, get_end}
 
 pub notice_before : (entries : List Entry) (e : Entry) (n : ℕ) → n < length entries → notice_at (entries ++ e ∷ []) n ≡ notice_at entries n
 notice_before entries e n l = ap notice_of (get_before entries (e ∷ []) n l)

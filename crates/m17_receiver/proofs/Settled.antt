@@ -1,5 +1,5 @@
 -- A request, settled by a claim.
-use Rattle.std.proofs.Common.{◌≡◌, ◌↔◌, ◌==◌, ◌&&◌, ◌||◌, ◌⊎◌, ℕ, suc, ◌+◌, ◌-◌, ◌<◌, ◌≤◌, ◌^◌, min, Bool, true, false, cond, not, List, [], ◌∷◌, ◌++◌, length, map, take, Contains, refl, ap, sym, subst, ◌∙◌, inl, inr, arith, Option, None, Some, IsSome}
+use Rattle.std.proofs.Common.{◌≡◌, ◌↔◌, ◌==◌, ◌&&◌, ◌||◌, ℕ, ◌+◌, ◌-◌, ◌^◌, min, Bool, true, false, cond, not, List, [], ◌∷◌, ◌++◌, length, map, take, Contains, refl, ap, sym, subst, ◌∙◌, arith, Option, None, Some, IsSome}
 use Rattle.std.specs.Option.{option_map, option_map_or, option_to_list, is_some}
 use Rattle.std.proofs.lemmas.Bool.{false≢true}
 use Rattle.std.proofs.lemmas.List.{append_assoc, take_all}
@@ -12,21 +12,19 @@ use Rattle.m17_directory.specs.declared.dispatch.Dispatch.{Dispatch}
 use Rattle.m17_directory.specs.declared.known.Departed.{Departed}
 use Rattle.m17_directory.specs.declared.known.Known.{Known}
 use Rattle.m17_directory.specs.declared.verdict.LinkVerdict.{LinkVerdict}
-use Rattle.m17_directory.specs.declared.verdict.LinkVerdict.TheVariants as link
-use Rattle.m17_directory.specs.Entries.{Notice, Claim, Entry, Setup, notice_at, claim_at, is_peer, is_from, ends_at}
+use Rattle.m17_directory.specs.Entries.{Notice, Claim, Entry, Setup, notice_at, claim_at, is_peer, is_from}
 use Rattle.m17_directory.specs.Known.{Past}
 use Rattle.m17_directory.specs.Outcome.{Outcome}
-use Rattle.m17_directory.specs.Routed.{past_at, asks_at, is_asks, heard_at, others_at, settled_at, both, outcome_at, link_verdict, posts_at}
+use Rattle.m17_directory.specs.Routed.{asks_at, is_asks, heard_at, others_at, settled_at, both, outcome_at, link_verdict, posts_at}
 use Rattle.m17_directory.specs.StandsFor.{Kept, StandsFor, IsSettled, IsAsked, unclaimed, claimed, departed_of, must_wait, has_departing, most_members}
-use Rattle.m17_directory.specs.Laws.{ClaimsAreAsked, left_before, is_ended, is_full}
+use Rattle.m17_directory.specs.Laws.{left_before, is_ended, is_full}
 use Rattle.m17_receiver.specs.Devices.{IsCounted}
 use Rattle.m17_receiver.specs.Posting.{Outlets, posted_to}
-use Rattle.m17_receiver.specs.Claims.{IsPatientAt, AreOfOnePeer}
-use Rattle.m17_receiver.specs.SoFar.{Laws, Plan, Parts, HasTaken, AreGone, IsSoFar, IsAsking, IsThrough, past_with, posting, refused_by}
+use Rattle.m17_receiver.specs.SoFar.{Laws, Plan, Parts, HasTaken, AreGone, IsAsking, IsThrough, past_with, posting, refused_by}
 use Rattle.m17_receiver.proofs.Lists.{length_more}
 use Rattle.m17_receiver.proofs.Positions.{claim_end, notice_end, heard_same, others_same, asked_is}
 use Rattle.m17_receiver.proofs.Posted.{posting_more, posted_more}
-use Rattle.m17_receiver.proofs.Claimed.{ClaimsOne, asked_more, claimed_more}
+use Rattle.m17_receiver.proofs.Claimed.{asked_more, claimed_more}
 use Rattle.m17_receiver.proofs.Greeted.{greeted_more, gone_left, left_more, each_noted}
 use Rattle.m17_receiver.proofs.Entered.{outcome_posts, outcome_verdict}
 

@@ -1,5 +1,5 @@
 -- One cell more of a tape.
-use Rattle.std.proofs.Common.{◌≡◌, ◌≢◌, ◌⊎◌, ℕ, suc, zero, ◌<◌, ◌≤◌, List, [], ◌∷◌, ◌++◌, length, set, slice_get, refl, sym, ap, ◌∙◌, subst, inl, inr, arith, Option, Some, length-set}
+use Rattle.std.proofs.Common.{◌≡◌, ◌≢◌, ℕ, suc, zero, ◌<◌, List, [], ◌∷◌, ◌++◌, length, set, slice_get, refl, sym, ap, ◌∙◌, inl, inr, arith, Option, Some, length-set}
 use Rattle.std.proofs.lemmas.Bool.{cases_lt}
 use Rattle.m17_directory.specs.declared.verdict.LinkVerdict.{LinkVerdict}
 use Rattle.m17_directory.specs.Entries.{Entry, Setup}
@@ -30,9 +30,9 @@ taped_more law setup entries e before tape verdict was is = record {
     | inl earlier ↦ get_other tape (length entries) n (Some verdict) (λ same. omega (arith, same, earlier)) ∙ was.filled n earlier within
         ∙ ap (λ (v : LinkVerdict). Some (Some v)) (sym (verdict_before law setup entries e n earlier))
     | inr past ↦
-      let at : length entries ≡ n = omega (arith, l, past, length_more entries e) in
-      ap (slice_get (set tape (length entries) (Some verdict))) (sym at) ∙ get_set tape (length entries) (Some verdict) (omega (arith, within, at, was.cells))
-      ∙ ap (λ (v : LinkVerdict). Some (Some v)) is ∙ ap (λ m. Some (Some (link_verdict setup (entries ++ e ∷ []) m))) at
+        let at : length entries ≡ n = omega (arith, l, past, length_more entries e) in
+        ap (slice_get (set tape (length entries) (Some verdict))) (sym at) ∙ get_set tape (length entries) (Some verdict) (omega (arith, within, at, was.cells))
+        ∙ ap (λ (v : LinkVerdict). Some (Some v)) is ∙ ap (λ m. Some (Some (link_verdict setup (entries ++ e ∷ []) m))) at
   ];
   others = λ n past. get_other tape (length entries) n (Some verdict) (λ same. omega (arith, same, past, length_more entries e)) ∙ was.others n (omega (arith, past, length_more entries e));
 }

@@ -1,11 +1,11 @@
 -- One entry more in a trace.
-use Rattle.std.proofs.Common.{◌≡◌, ◌↔◌, ◌⊎◌, inl, inr, ℕ, suc, ◌+◌, ◌-◌, ◌<◌, ◌≤◌, ◌^◌, min, Bool, true, false, cond, List, [], ◌∷◌, ◌++◌, length, take, refl, ap, sym, subst, ◌∙◌, arith, Option, None, Some, Result, Ok, Err, OnOk, OnErr, is_err}
+use Rattle.std.proofs.Common.{◌≡◌, ◌↔◌, inl, inr, ℕ, suc, ◌+◌, Bool, true, false, cond, List, [], ◌∷◌, ◌++◌, length, take, refl, ap, sym, subst, ◌∙◌, arith, Option, None, Some, Result, Ok, Err, OnOk, OnErr, is_err}
 use Rattle.std.specs.List.{flat_map}
 use Rattle.std.proofs.lemmas.Bool.{cases_lt, false≢true}
-use Rattle.std.proofs.lemmas.List.{append-nil, append_assoc, length-append, take-append-le, take_all}
+use Rattle.std.proofs.lemmas.List.{append-nil, append_assoc, take-append-le, take_all}
 use Rattle.std.proofs.lemmas.Grind.{flat_map-append}
 use Rattle.m17_values.specs.declared.heard.Heard.{Heard}
-use Rattle.m17_io.specs.Faults.{HasCause, HasRisen}
+use Rattle.m17_io.specs.Faults.{HasCause}
 use Rattle.m17_ports.specs.Told.{told_then}
 use Rattle.m17_book.specs.Book.{trace_magic}
 use Rattle.m17_book.specs.Entries.{entry_bytes}

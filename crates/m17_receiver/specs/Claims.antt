@@ -1,5 +1,5 @@
 -- The claims that a receiver makes for those who ask, and when their peers may be greeted.
-use Rattle.std.specs.Prelude.{◌≡◌, ◌↔◌, ℕ, Bool, true, false, ◌<◌, ◌≤◌, ◌^◌, List, [], length, take, filter, Contains, Option, None, Some}
+use Rattle.std.specs.Prelude.{◌≡◌, ◌↔◌, ℕ, Bool, true, false, ◌<◌, ◌≤◌, List, [], length, take, filter, Contains, None, Some}
 use Rattle.std.specs.List.{range_with_len}
 use Rattle.m17_values.specs.declared.member.Member.{Member}
 use Rattle.m17_values.specs.declared.peer.Peer.{Peer}

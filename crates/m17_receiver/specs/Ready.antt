@@ -1,10 +1,10 @@
 -- What a receiver begins with.
-use Rattle.std.specs.Prelude.{◌≡◌, ℕ, ◌<◌, ◌≤◌, false, List, [], All, length, Option, None}
+use Rattle.std.specs.Prelude.{◌≡◌, ◌<◌, ◌≤◌, false, [], All, length, None}
 use Rattle.m17_control.specs.Modules.{letters_of}
 use Rattle.m17_ports.specs.Told.{StartsEmpty}
 use Rattle.m17_roll.specs.Seat.{HasLists}
 use Rattle.m17_rows.specs.Rows.{IsNewRow, IsNewPusher, IsNewPopper}
-use Rattle.m17_directory.specs.StandsFor.{Kept, StandsFor}
+use Rattle.m17_directory.specs.StandsFor.{StandsFor}
 use Rattle.m17_receiver.specs.declared.receiver.Receiver.{Receiver}
 use Rattle.m17_receiver.specs.Devices.{Words}
 

@@ -1,9 +1,8 @@
 -- What a receiver did, between the job before and after.
-use Rattle.std.specs.Prelude.{◌≡◌, ◌↔◌, ℕ, Bool, true, false, IsTrue, List, length, vec_capacity}
+use Rattle.std.specs.Prelude.{◌≡◌, ◌↔◌, Bool, true, false, IsTrue, List, vec_capacity}
 use Rattle.m17_values.specs.declared.heard.Heard.{Heard}
 use Rattle.m17_io.specs.Faults.{HasRisen}
 use Rattle.m17_roll.specs.Seat.{IsSameSeat}
-use Rattle.m17_rows.specs.Rows.{pops}
 use Rattle.m17_rows.specs.Starts.{HasStarted}
 use Rattle.m17_directory.specs.Entries.{Entry, SaysEach}
 use Rattle.m17_directory.specs.Laws.{EndsOnce}

@@ -39,7 +39,13 @@ impl<E, B> Receiver<E, B> {
         known_laws();
         pop_notes(rt, &mut self.notes, &mut self.directory, noted);
         let verdict = self.directory.hear(index, entry, &mut self.post);
-        push_posts(rt, self.modules, &mut self.post, &mut self.inboxes, &mut self.door);
+        push_posts(
+            rt,
+            self.modules,
+            &mut self.post,
+            &mut self.inboxes,
+            &mut self.door,
+        );
         match verdict {
             LinkVerdict::Asks => self.answer(rt, index, noted),
             _ => verdict,
@@ -63,7 +69,13 @@ impl<E, B> Receiver<E, B> {
         pop_until_ready(rt, &mut self.notes, &mut self.directory, noted);
         let claimed = self.claim(rt, index, noted);
         let verdict = self.directory.settle(claimed, *noted, &mut self.post);
-        push_posts(rt, self.modules, &mut self.post, &mut self.inboxes, &mut self.door);
+        push_posts(
+            rt,
+            self.modules,
+            &mut self.post,
+            &mut self.inboxes,
+            &mut self.door,
+        );
         verdict
     }
 

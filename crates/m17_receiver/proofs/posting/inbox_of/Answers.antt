@@ -1,4 +1,4 @@
-use Rattle.std.proofs.Common.{◌≡◌, ◌+◌, ◌-◌, ◌≤◌, true, false, length, sym, ap, ◌∙◌, arith}
+use Rattle.std.proofs.Common.{◌≡◌, ◌-◌, ◌≤◌, true, false, length, sym, ap, ◌∙◌, arith}
 use Rattle.m17_receiver.proofs.Letters.{letters_before, served_at, unserved_at, before_first, before_more, few_before}
 use Rattle.m17_receiver.proofs.posting.inbox_of.Goals as goal
 use Rattle.m17_receiver.proofs.posting.inbox_of.Goals.{then-has, else-has}
@@ -23,9 +23,9 @@ overflow_add-at c =
 pub letters-preserved : goal.letters-preserved
 letters-preserved c = elim c.if-has.branch [
   | then-has w ↦
-    let more = before_more c.args.modules c.letters.other true c.letters.auto.other (sym c.has-in-letters.ensures ∙ w.if-has.true) in
-    omega (arith, more, w.at-is, c.letters.invariant)
+      let more = before_more c.args.modules c.letters.other true c.letters.auto.other (sym c.has-in-letters.ensures ∙ w.if-has.true) in
+      omega (arith, more, w.at-is, c.letters.invariant)
   | else-has w ↦
-    let more = before_more c.args.modules c.letters.other false c.letters.auto.other (sym c.has-in-letters.ensures ∙ w.if-has.false) in
-    omega (arith, more, w.at-is, c.letters.invariant)
+      let more = before_more c.args.modules c.letters.other false c.letters.auto.other (sym c.has-in-letters.ensures ∙ w.if-has.false) in
+      omega (arith, more, w.at-is, c.letters.invariant)
 ]

@@ -1,4 +1,4 @@
-use Rattle.std.proofs.Common.{◌≡◌, ◌==◌, ap, sym, ◌∙◌, arith}
+use Rattle.std.proofs.Common.{◌==◌, ap, sym, ◌∙◌, arith}
 use Rattle.m17_receiver.specs.Posting.{letter_at}
 use Rattle.m17_receiver.proofs.Pushed.{pushed_there, pushed_past, pushed_nowhere}
 use Rattle.m17_receiver.proofs.posting.push_event.Goals as goal

@@ -1,7 +1,7 @@
-use Rattle.std.proofs.Common.{◌≡◌, [], ◌∷◌, refl, sym, ap, subst, ◌∙◌, arith}
+use Rattle.std.proofs.Common.{[], ◌∷◌, sym, ap, ◌∙◌}
 use Rattle.m17_receiver.specs.Posting.{Outlets}
 use Rattle.m17_receiver.specs.SoFar.{posting}
-use Rattle.m17_receiver.proofs.Posted.{posting_more, posting_nothing}
+use Rattle.m17_receiver.proofs.Posted.{posting_more}
 use Rattle.m17_receiver.proofs.posting.push_posts.Goals as goal
 
 pub posts-preserved : goal.posts-preserved

@@ -1,6 +1,6 @@
-use Rattle.std.proofs.Common.{◌≡◌, true, false, ◌++◌, ◌∷◌, [], sym, subst}
+use Rattle.std.proofs.Common.{◌++◌, ◌∷◌, [], sym, subst}
 use Rattle.m17_receiver.specs.Devices.{HasTrace}
-use Rattle.m17_receiver.proofs.Traced.{stays_failed, writes_nothing, writes_more}
+use Rattle.m17_receiver.proofs.Traced.{stays_failed, writes_more}
 use Rattle.m17_receiver.proofs.trace.write_trace.Goals as goal
 
 pub returns-then-failed-clause-traced : goal.returns-then-failed-clause-traced

@@ -1,13 +1,9 @@
-use Rattle.std.proofs.Common.{◌≡◌, ◌↔◌, ℕ, false, true, List, length, Option, None, IsSome, sym, ap, subst, ◌∙◌, refl}
+use Rattle.std.proofs.Common.{◌≡◌, ◌↔◌, ℕ, true, length, None, IsSome, sym, ap, subst, ◌∙◌}
 use Rattle.m17_values.specs.declared.member.Member.{Member}
 use Rattle.m17_lane.specs.Ends.{PopEnd}
-use Rattle.m17_roll.specs.Seat.{RollView}
-use Rattle.m17_directory.specs.declared.asked.Asked.{Asked}
-use Rattle.m17_directory.specs.StandsFor.{Kept, must_wait}
-use Rattle.m17_receiver.specs.declared.receiver.Receiver.{Receiver}
-use Rattle.m17_receiver.specs.Posting.{Outlets}
+use Rattle.m17_directory.specs.StandsFor.{Kept}
 use Rattle.m17_receiver.specs.ReceiverDid.{outlets_of}
-use Rattle.m17_receiver.specs.SoFar.{Plan, Parts, HasTaken, IsAsking, parts_of, posting}
+use Rattle.m17_receiver.specs.SoFar.{Parts, HasTaken, IsAsking, parts_of, posting}
 use Rattle.m17_receiver.proofs.Entered.{asking_noted}
 use Rattle.m17_receiver.proofs.Settled.{through_asked}
 use Rattle.m17_receiver.proofs.receiver.Receiver.answer.Goals as goal
@@ -46,7 +42,7 @@ returns-clause-through g c = λ plan entries notice is_plan index asking.
     (subst (λ b. HasTaken b c.args.index c.claim-claimed.result old.seat c.claim-claimed.new.self.seat) (sym is_plan.patient) c.claim-claimed.ensures.taken) in
     let full : plan.patient ≡ true → (c.claim-claimed.result ≡ None) ↔ (length c.claim-claimed.new.self.directory.known ≡ plan.setup.places) =
     λ patient. let iff = c.claim-claimed.ensures.full (sym is_plan.patient ∙ patient) in
-        (λ none. known ∙ iff.0 none ∙ sym is_plan.places, λ all. iff.1 (sym known ∙ all ∙ is_plan.places)) in
+    (λ none. known ∙ iff.0 none ∙ sym is_plan.places, λ all. iff.1 (sym known ∙ all ∙ is_plan.places)) in
     let modules : c.claim-claimed.new.self.modules ≡ plan.setup.modules = ap (λ r. r.modules) c.claim-claimed.ensures.rest ∙ sym is_plan.modules in
     let outlets : outlets_of c.claim-claimed.new.self ≡ outlets_of old = ap outlets_of c.claim-claimed.ensures.rest in
     through_asked c.known_laws.ensures plan entries notice p₂ c.settle-verdict.new.self c.claim-claimed.new.self.seat c.claim-claimed.result

@@ -1,11 +1,8 @@
-use Rattle.std.proofs.Common.{◌≡◌, ◌↔◌, ℕ, false, true, List, length, sym, ap, subst, ◌∙◌, refl}
+use Rattle.std.proofs.Common.{sym, ap, ◌∙◌}
 use Rattle.m17_values.specs.declared.member.Member.{Member}
 use Rattle.m17_lane.specs.Ends.{PopEnd}
-use Rattle.m17_directory.specs.StandsFor.{Kept}
-use Rattle.m17_directory.specs.declared.verdict.LinkVerdict.TheVariants as link
-use Rattle.m17_receiver.specs.Posting.{Outlets}
 use Rattle.m17_receiver.specs.ReceiverDid.{outlets_of}
-use Rattle.m17_receiver.specs.SoFar.{Plan, Parts, IsSoFar, parts_of, posting}
+use Rattle.m17_receiver.specs.SoFar.{Parts, IsSoFar, parts_of, posting}
 use Rattle.m17_receiver.proofs.Entered.{so_far_noted, asks_now, through_unasked}
 use Rattle.m17_receiver.proofs.receiver.Receiver.enter.Goals as goal
 

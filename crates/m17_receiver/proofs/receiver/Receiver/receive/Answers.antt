@@ -1,9 +1,6 @@
-use Rattle.std.proofs.Common.{◌≡◌, ◌==◌, ◌↔◌, ℕ, false, true, List, ◌∷◌, [], ◌++◌, length, IsTrue, refl, sym, ap, subst, ◌∙◌, arith}
-use Rattle.m17_values.specs.declared.heard.Heard.{Heard}
-use Rattle.m17_values.specs.declared.heard.Heard.TheVariants.{Fault}
-use Rattle.m17_io.specs.Faults.{HasRisen}
+use Rattle.std.proofs.Common.{◌∷◌, [], ◌++◌, length, refl, sym, ap, ◌∙◌, arith}
 use Rattle.m17_receiver.specs.declared.receiver.Receiver.{Receiver}
-use Rattle.m17_receiver.specs.Devices.{Words, IsCounted, HasHeard, HasTrace}
+use Rattle.m17_receiver.specs.Devices.{Words, HasHeard, HasTrace}
 use Rattle.m17_receiver.specs.SoFar.{plan_of}
 use Rattle.m17_receiver.proofs.Came.{same_devices, same_taped, come_none, come_on, come_end, same_kept, same_itself, plan_is, first_is, next_index, fewer, index_is, trace_stays, ear_stays, faults_stay, cell_put}
 use Rattle.m17_receiver.proofs.Heard.{hears_one}

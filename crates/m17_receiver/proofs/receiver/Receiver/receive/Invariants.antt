@@ -1,5 +1,4 @@
 use Rattle.std.proofs.Common.{◌≡◌}
-use Rattle.m17_receiver.specs.Devices.{Words}
 use Rattle.m17_receiver.specs.SoFar.{IsBetween, HasComeBy}
 use Rattle.m17_receiver.proofs.receiver.Receiver.receive.Given as goal
 
