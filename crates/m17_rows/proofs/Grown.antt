@@ -1,9 +1,11 @@
 -- What pushes and refusals at the ends of a row come to, one lot after another and place by place.
 use Rattle.std.proofs.Common.{◌≡◌, ℕ, zero, suc, ◌+◌, ◌<◌, ◌≤◌, List, [], ◌∷◌, ◌++◌, map, length, set, get_or, Some, sym, refl, ap, ◌∙◌, append_assoc, append-nil, arith}
-use Rattle.std.proofs.lemmas.Option.{slice_get_within, get_or_from_slice_get}
+use Rattle.std.proofs.lemmas.Option.{same_Some, none-some, slice_get_within, get_or_from_slice_get}
+use Rattle.std.proofs.lemmas.List.Elements.{recursion_from_All}
+use Rattle.std.specs.List.{AllByRecursion}
 use Rattle.std.specs.Prelude.{slice_get, option_map}
 use Rattle.m17_lane.specs.Ends.{PushEnd}
-use Rattle.m17_rows.specs.Rows.{grows, grow_each, push_each, pushes, only, nowhere, as_new}
+use Rattle.m17_rows.specs.Rows.{grows, grow_each, push_each, pushes, only, nowhere, IsNewPusher, as_new}
 use Rattle.m17_rows.specs.Laws.{RowsGrow}
 use Rattle.m17_rows.proofs.Places.{only_here, only_else}
 
@@ -92,6 +94,15 @@ module _ {T : Type 0} where
       let first : grows p (f k) [] ≡ pushes p (f k) = ap (λ (l : List T). record p { pushed = p.pushed ++ f k; refused = l }) (append-nil p.refused) in
       let rest = pushed_alone f (suc k) ps in λ i. first i ∷ rest i
 
+  new_from : (f g : ℕ → List T) (k : ℕ) (ps : List (PushEnd T)) (m n : ℕ) (q : PushEnd T) → AllByRecursion IsNewPusher ps → n ≡ k + m → slice_get (grow_each f g k ps) m ≡ Some q → (q.pushed ≡ f n) × (q.refused ≡ g n)
+  new_from f g k [] m n q h is e = absurd (none-some q e)
+  new_from f g k (p ∷ ps) zero n q h is e =
+      let at : k ≡ n = omega arith in let same = same_Some (grows p (f k) (g k)) q e in (
+        sym (ap (λ (r : PushEnd T). r.pushed) same) ∙ ap (λ (l : List T). l ++ f k) h.0.0 ∙ ap f at,
+        sym (ap (λ (r : PushEnd T). r.refused) same) ∙ ap (λ (l : List T). l ++ g k) h.0.1 ∙ ap g at,
+      )
+  new_from f g k (p ∷ ps) (suc m) n q h is e = new_from f g (suc k) ps m n q h.1 (omega arith) e
+
   pub law : RowsGrow T
   law = record {
     none = none;
@@ -102,5 +113,6 @@ module _ {T : Type 0} where
     count = count;
     at = λ f g ps m. at_from f g 0 ps m m (omega arith);
     kept = kept;
+    from_new = λ f g ps m q h e. new_from f g 0 ps m m q (recursion_from_All IsNewPusher ps h) (omega arith) e;
     pushed_alone = pushed_alone;
   }

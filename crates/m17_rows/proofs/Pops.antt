@@ -1,9 +1,11 @@
 -- What pops at the ends of a row come to, one lot after another and place by place.
 use Rattle.std.proofs.Common.{◌≡◌, ℕ, zero, suc, ◌+◌, ◌<◌, ◌≤◌, List, [], ◌∷◌, ◌++◌, map, length, set, get_or, Some, sym, refl, ap, ◌∙◌, append_assoc, append-nil, arith}
-use Rattle.std.proofs.lemmas.Option.{slice_get_within, get_or_from_slice_get}
+use Rattle.std.proofs.lemmas.Option.{same_Some, none-some, slice_get_within, get_or_from_slice_get}
+use Rattle.std.proofs.lemmas.List.Elements.{recursion_from_All}
+use Rattle.std.specs.List.{AllByRecursion}
 use Rattle.std.specs.Prelude.{slice_get, option_map}
 use Rattle.m17_lane.specs.Ends.{PopEnd}
-use Rattle.m17_rows.specs.Rows.{pops, pop_each, only, as_new_popper}
+use Rattle.m17_rows.specs.Rows.{pops, pop_each, only, IsNewPopper, as_new_popper}
 use Rattle.m17_rows.specs.Laws.{RowsPop}
 use Rattle.m17_rows.proofs.Places.{only_here, only_else}
 
@@ -66,6 +68,21 @@ module _ {T : Type 0} where
   kept f k [] = refl
   kept f k (p ∷ ps) = ap (λ (l : List (PopEnd T)). as_new_popper p ∷ l) (kept f (suc k) ps)
 
+  new_from : (f : ℕ → List T) (k : ℕ) (ps : List (PopEnd T)) (m n : ℕ) (q : PopEnd T) → AllByRecursion IsNewPopper ps → n ≡ k + m → slice_get (pop_each f k ps) m ≡ Some q → q.popped ≡ f n
+  new_from f k [] m n q h is e = absurd (none-some q e)
+  new_from f k (p ∷ ps) zero n q h is e =
+      let at : k ≡ n = omega arith in
+      sym (ap (λ (r : PopEnd T). r.popped) (same_Some (pops p (f k)) q e)) ∙ ap (λ (l : List T). l ++ f k) h.0 ∙ ap f at
+  new_from f k (p ∷ ps) (suc m) n q h is e = new_from f (suc k) ps m n q h.1 (omega arith) e
+
+  by_place : (f : ℕ → List T) (k : ℕ) (ps qs : List (PopEnd T)) → length qs ≡ length ps → ((m n : ℕ) (p q : PopEnd T) → n ≡ k + m → slice_get ps m ≡ Some p → slice_get qs m ≡ Some q → q ≡ pops p (f n)) → qs ≡ pop_each f k ps
+  by_place f k [] [] long h = refl
+  by_place f k [] (q ∷ qs) long h = absurd (omega arith)
+  by_place f k (p ∷ ps) [] long h = absurd (omega arith)
+  by_place f k (p ∷ ps) (q ∷ qs) long h =
+      let first = h 0 k p q (omega arith) refl refl in
+      let rest = by_place f (suc k) ps qs (omega arith) (λ m n r s is e d. h (suc m) n r s (omega arith) e d) in λ i. first i ∷ rest i
+
   pub law : RowsPop T
   law = record {
     none = none;
@@ -74,5 +91,7 @@ module _ {T : Type 0} where
     same = same;
     count = count;
     at = λ f ps m. at_from f 0 ps m m (omega arith);
+    by_place = λ f ps qs long h. by_place f 0 ps qs long (λ m n p q is e d. let at : m ≡ n = omega arith in h m p q e d ∙ ap (λ (j : ℕ). pops p (f j)) at);
     kept = kept;
+    from_new = λ f ps m q h e. new_from f 0 ps m m q (recursion_from_All IsNewPopper ps h) (omega arith) e;
   }

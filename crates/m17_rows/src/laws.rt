@@ -1,6 +1,6 @@
-//! How what came to a row composes. Each function has no body: its clause is the law, for ends of lanes of any items.
-//! This profile.
-ghost use Rattle.m17_rows.specs.Laws.{RowsPush, RowsGrow, RowsPop, GridsPop};
+//! How what came to a row composes, and which order a job obeys. Each function has no body: its clause is the law, for
+//! ends of lanes of any items. This profile.
+ghost use Rattle.m17_rows.specs.Laws.{RowsPush, RowsGrow, RowsPop, GridsPop, FirstOrderDecides};
 
 /// Pushes at a row's ends.
 pub fn rows_push<T>()
@@ -20,4 +20,9 @@ pub fn rows_pop<T>()
 /// Pops at a grid's ends.
 pub fn grids_pop<T>()
     ensures { GridsPop T }
+{}
+
+/// A job obeys the first order of its lane.
+pub fn first_order_decides()
+    ensures { FirstOrderDecides }
 {}

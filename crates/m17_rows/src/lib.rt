@@ -11,6 +11,8 @@
 pub mod laws;
 mod row;
 mod start;
+#[cfg(test)]
+mod tests;
 
 pub use row::{pop_at, pop_in, push_at, try_push_at};
 pub use start::starts;
