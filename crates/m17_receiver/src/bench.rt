@@ -1,5 +1,5 @@
 //! A receiver for tests, with the other ends of its lanes.
-ghost use Rattle.std.specs.Prelude.{◌≡◌, ◌<◌, ◌≤◌, [], All, IfOk, length};
+ghost use Rattle.std.specs.Prelude.{◌≡◌, ◌<◌, ◌≤◌, [], All, IfOk, None, length};
 ghost use Rattle.m17_lane.specs.Ends.{PushEnd};
 ghost use Rattle.m17_ports.specs.Told.{StartsEmpty};
 ghost use Rattle.m17_roll.specs.Seat.{HasLists};
@@ -10,13 +10,13 @@ use crate::Receiver;
 use m17_callsign::{CallAddress, encode};
 use m17_control::{Control, Direct, Event, ModuleLetter, Modules, write};
 use m17_crew::Order;
-use m17_directory::{Directory, Post};
+use m17_directory::{Directory, LinkVerdict, Post};
 use m17_lane::{Popper, Pusher, make_one};
 use m17_ports::{Book, Ear};
 use m17_roll::RollSeat;
 use m17_samples::frame;
 use m17_values::{Gram, Heard, Member, NoMemory, Peer};
-use std::alloc::Global;
+use std::alloc::{AllocError, Global};
 use std::process::Abort;
 use std::test::Fail;
 
@@ -53,12 +53,23 @@ fn inboxes(
 {
     let mut pushers = Vec::new(alloc);
     let mut poppers = Vec::new(alloc);
-    for _inbox in 0..count {
+    'inboxes: for _made in 0..count {
         let (pusher, popper) = make_one(alloc, room)?;
         pushers.push(pusher)?;
         poppers.push(popper)?;
     }
     Ok((pushers, poppers))
+}
+
+// A tape with so many cells.
+fn empty_tape(alloc: Global, cells: usize) -> Result<Vec<Option<LinkVerdict>>, AllocError>
+    ensures { IfOk result (λ tape. All (λ cell. cell ≡ None) tape.items) }
+{
+    let mut tape = Vec::new(alloc);
+    'cells: for _cell in 0..cells {
+        tape.push(None)?;
+    }
+    Ok(tape)
 }
 
 // Two seats at one roll, of which the first has done nothing.
@@ -102,7 +113,7 @@ pub(crate) fn make_bench<E: Ear + Drop, B: Book + Drop>(
     let (notes_pusher, notes) = make_one(alloc, 512)?;
     let (orders, order) = make_one(alloc, 2)?;
     let (seat, other) = seats(alloc, plan.places)?;
-    let tape = vec![in alloc; None; plan.cells]?;
+    let tape = empty_tape(alloc, plan.cells)?;
     let receiver = Receiver {
         link: 0,
         modules,
