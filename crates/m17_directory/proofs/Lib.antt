@@ -34,3 +34,4 @@ mod Zips
 mod Renamed
 mod Otherwise
 mod Freed
+pub mod Waits

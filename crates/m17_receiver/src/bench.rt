@@ -1,0 +1,203 @@
+//! A receiver for tests, with the other ends of its lanes.
+ghost use Rattle.std.specs.Prelude.{◌≡◌, ◌<◌, ◌≤◌, [], All, IfOk, None, length};
+ghost use Rattle.m17_lane.specs.Ends.{PushEnd};
+ghost use Rattle.m17_ports.specs.Told.{StartsEmpty};
+ghost use Rattle.m17_roll.specs.Seat.{HasLists};
+ghost use Rattle.m17_rows.specs.Rows.{IsNewRow};
+ghost use Rattle.m17_receiver.specs.Ready.{IsReady};
+
+use crate::Receiver;
+use m17_callsign::{CallAddress, encode};
+use m17_control::{Control, Direct, Event, ModuleLetter, Modules, write};
+use m17_crew::Order;
+use m17_directory::{Directory, LinkVerdict, Post};
+use m17_lane::{Popper, Pusher, make_one};
+use m17_ports::{Book, Ear};
+use m17_roll::RollSeat;
+use m17_samples::frame;
+use m17_values::{Gram, Heard, Member, NoMemory, Peer};
+use std::alloc::{AllocError, Global};
+use std::process::Abort;
+use std::test::Fail;
+
+/// What a receiver is made with, the capacity of its inboxes among it.
+#[derive(Drop)]
+pub(crate) struct Plan {
+    pub(crate) letters: &'static str,
+    pub(crate) places: u32,
+    pub(crate) patient: bool,
+    pub(crate) room: u32,
+    pub(crate) cells: usize,
+}
+
+/// A receiver, and the other ends of its lanes, and another seat at its roll.
+#[derive(Drop)]
+pub(crate) struct Bench<E, B> {
+    pub(crate) receiver: Receiver<E, B>,
+    pub(crate) inboxes: Vec<Popper<Event>>,
+    pub(crate) door: Popper<Direct>,
+    pub(crate) notes: Pusher<Member>,
+    pub(crate) orders: Pusher<Order>,
+    pub(crate) other: RollSeat,
+}
+
+// So many inboxes.
+fn inboxes(
+    alloc: Global,
+    count: u32,
+    room: u32,
+) -> Result<(Vec<Pusher<Event>>, Vec<Popper<Event>>), Fail>
+    requires { 0 < room }
+    ensures count { IfOk result (λ r. length r.0.items ≡ count) }
+    ensures unused { IfOk result (λ r. IsNewRow r.0.items) }
+{
+    let mut pushers = Vec::new(alloc);
+    let mut poppers = Vec::new(alloc);
+    'inboxes: for _made in 0..count {
+        let (pusher, popper) = make_one(alloc, room)?;
+        pushers.push(pusher)?;
+        poppers.push(popper)?;
+    }
+    Ok((pushers, poppers))
+}
+
+// A tape with so many cells.
+fn empty_tape(alloc: Global, cells: usize) -> Result<Vec<Option<LinkVerdict>>, AllocError>
+    ensures { IfOk result (λ tape. All (λ cell. cell ≡ None) tape.items) }
+{
+    let mut tape = Vec::new(alloc);
+    'cells: for _cell in 0..cells {
+        tape.push(None)?;
+    }
+    Ok(tape)
+}
+
+// Two seats at one roll, of which the first has done nothing.
+fn seats(alloc: Global, places: u32) -> Result<(RollSeat, RollSeat), NoMemory>
+    requires { (0 < places) × (places ≤ 256) }
+    ensures places { IfOk result (λ r. r.0.places ≡ places) }
+    ensures unused { IfOk result (λ r. HasLists [] [] [] r.0) }
+{
+    let mut all = m17_roll::make(alloc, places, 2)?;
+    match (all.pop(), all.pop()) {
+        (Some(first), Some(second)) => Ok((first, second)),
+        _ => Err(NoMemory),
+    }
+}
+
+/// A receiver that can be started.
+pub(crate) fn make_bench<E: Ear + Drop, B: Book + Drop>(
+    alloc: Global,
+    plan: &Plan,
+    ear: E,
+    trace: B,
+) -> Result<Bench<E, B>, Fail>
+    requires ear { StartsEmpty (E.heard ear) }
+    requires trace { StartsEmpty (B.written trace) }
+    requires places { (0 < plan.now.places) × (plan.now.places ≤ 256) }
+    requires room { 0 < plan.now.room }
+    ensures { IfOk result (λ b. IsReady (record {
+      heard = E.heard;
+      ear_faults = E.faults;
+      written = B.written;
+      trace_faults = B.faults;
+    }) b.receiver) }
+{
+    let modules = Modules::read(plan.letters).ok().ok_or("no modules")?;
+    let name = CallAddress::new(encode("M17-TST").ok().ok_or("no address")?);
+    let name = name.ok_or("no callsign")?;
+    let directory = Directory::make(alloc, 0, name, plan.places, modules)?;
+    let post = Post::make(alloc)?;
+    let (pushers, poppers) = inboxes(alloc, modules.count(), plan.room)?;
+    let (door, door_popper) = make_one(alloc, 256)?;
+    let (notes_pusher, notes) = make_one(alloc, 512)?;
+    let (orders, order) = make_one(alloc, 2)?;
+    let (seat, other) = seats(alloc, plan.places)?;
+    let tape = empty_tape(alloc, plan.cells)?;
+    let receiver = Receiver {
+        link: 0,
+        modules,
+        places: plan.places,
+        patient: plan.patient,
+        ear,
+        trace,
+        directory,
+        post,
+        inboxes: pushers,
+        door,
+        notes,
+        order,
+        seat,
+        tape,
+        lost: false,
+        trace_failed: false,
+    };
+    Ok(Bench {
+        receiver,
+        inboxes: poppers,
+        door: door_popper,
+        notes: notes_pusher,
+        orders,
+        other,
+    })
+}
+
+/// A peer of the tests.
+pub(crate) fn peer(host: u8) -> Peer {
+    let mut ip = [0; 16];
+    ip[0] = 10;
+    ip[3] = host;
+    Peer {
+        six: false,
+        ip,
+        port: 17_000,
+    }
+}
+
+fn call(rt: &impl Abort) -> CallAddress {
+    let address = encode("AB1CD").ok().expect(rt, "an address");
+    CallAddress::new(address).expect(rt, "a callsign")
+}
+
+fn said(from: Peer, at: u64, control: &Control) -> Heard {
+    Heard::Datagram {
+        from,
+        at,
+        bytes: Gram::of(write(control).as_slice()),
+    }
+}
+
+/// It asks for a module.
+pub(crate) fn conn(rt: &impl Abort, from: Peer, at: u64, letter: u8) -> Heard {
+    let module = ModuleLetter::new(letter).expect(rt, "a module");
+    let control = Control::Conn {
+        from: call(rt),
+        module,
+    };
+    said(from, at, &control)
+}
+
+/// It asks whether the reflector is there.
+pub(crate) fn ping(rt: &impl Abort, from: Peer, at: u64) -> Heard {
+    said(from, at, &Control::Ping { from: call(rt) })
+}
+
+/// It leaves.
+pub(crate) fn disc(rt: &impl Abort, from: Peer, at: u64) -> Heard {
+    said(
+        from,
+        at,
+        &Control::Disc {
+            from: Some(call(rt)),
+        },
+    )
+}
+
+/// It says a voice frame.
+pub(crate) fn voice(from: Peer, at: u64, number: u16) -> Heard {
+    Heard::Datagram {
+        from,
+        at,
+        bytes: Gram::of(&m17_stream::write(&frame(1, number, false))),
+    }
+}
