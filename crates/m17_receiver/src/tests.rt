@@ -1,7 +1,7 @@
 //! What no clause says: that a receiver goes through with ample memory, that it ends by itself, what it does in the order
 //! that its documents say, and that a wait for a note, for a place and for room in an inbox is one that ends.
 
-use crate::bench::{Plan, make_bench, conn, disc, peer, ping, voice};
+use crate::bench::{Plan, conn, disc, make_bench, peer, ping, voice};
 use m17_control::{Body, Control, ModuleLetter};
 use m17_crew::{Order, Work};
 use m17_directory::{Act, LinkVerdict};

@@ -1,6 +1,6 @@
 //! Waits of a receiver, each with the one who ends it in another thread.
 
-use crate::bench::{Plan, make_bench, conn, disc, peer, voice};
+use crate::bench::{Plan, conn, disc, make_bench, peer, voice};
 use m17_control::Body;
 use m17_crew::{Crew, Order, StdCrew};
 use m17_directory::LinkVerdict;

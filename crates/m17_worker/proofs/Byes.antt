@@ -91,10 +91,10 @@ few_said now (Join k peer callsign listens after) =
     (one_bye Replaced (seat_in now.seats k.place)))
 few_said now (Leave k why) = one_bye why (seat_of now.seats k)
 few_said now (Packet k p) = (
-    None,
-    no_byes_if now.admitted (map (item_to (said.Frame now.position p)) (others_than k now.seats))
-    (no_byes_all (said.Frame now.position p) refl (others_than k now.seats)),
-  )
+  None,
+  no_byes_if now.admitted (map (item_to (said.Frame now.position p)) (others_than k now.seats))
+      (no_byes_all (said.Frame now.position p) refl (others_than k now.seats)),
+)
 few_said now (Reply k control) = (None, no_byes_one (said.Reply control) refl (seat_of now.seats k))
 few_said now Tick = (None, refl)
 few_said now Stop = (None, refl)

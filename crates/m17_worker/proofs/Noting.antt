@@ -32,7 +32,8 @@ own_writable : (now : Noted) (what : Body) → now.tag.link < 4 → ForSome (pla
     → IfSome (own_record now what) IsWritable
 own_writable now (body.Join k peer callsign listen after) link place low =
     elim (nat_lt k.place now.places) as (λ b. IfSome (cond b (Some (Join now.tag now.moment k listen callsign)) None) IsWritable) [
-      true ↦ (link, place k.place refl) | false ↦ tt
+      | true ↦ (link, place k.place refl)
+      | false ↦ tt
     ]
 own_writable now (body.Leave k why) link place low = tt
 own_writable now (body.Packet k packet) link place low =

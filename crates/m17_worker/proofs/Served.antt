@@ -133,10 +133,10 @@ pub seen_after : {B : Type 0} (words : Words B) (events : List Event) (s : Seen)
     → GaveBack k.seat (gifts_by (not (leaves_replaced s.event.body)) s.items) mid.seat
     → IsTheBye s.bye s.items
     → ((start : Tells) (text : List ℕ) (places : ℕ)
-      → option_map_or (λ place. nat_lt place places) (place_of s.event.body) true ≡ true
-      → HasText start text k.book_failed (words.written k.book, words.faults k.book)
-      → HasText start (noted_text text mid.module.moment (record { event = s.event; verdict = s.verdict; bye = s.bye; places = places }))
-      n.book_failed (words.written n.book, words.faults n.book))
+    → option_map_or (λ place. nat_lt place places) (place_of s.event.body) true ≡ true
+    → HasText start text k.book_failed (words.written k.book, words.faults k.book)
+    → HasText start (noted_text text mid.module.moment (record { event = s.event; verdict = s.verdict; bye = s.bye; places = places }))
+    n.book_failed (words.written n.book, words.faults n.book))
     → n.tape.items ≡ filled k.tape.items s.event s.verdict
     → IsSeen words events s k n
 seen_after {B} words events s k mid n rest step answer offered gave the_bye text tape =
@@ -151,9 +151,9 @@ seen_after {B} words events s k mid n rest step answer offered gave the_bye text
       gave = subst G (sym (ap (λ (w : Worker B). w.seat) rest)) gave;
       the_bye = the_bye;
       text = λ start before places fits h.
-        let T : ℕ → Type 0 = λ m. HasText start (noted_text before m (record { event = s.event; verdict = s.verdict; bye = s.bye; places = places }))
-            n.book_failed (words.written n.book, words.faults n.book) in
-        subst T (sym (ap (λ (m : Kept). m.moment) module_is)) (text start before places fits h);
+          let T : ℕ → Type 0 = λ m. HasText start (noted_text before m (record { event = s.event; verdict = s.verdict; bye = s.bye; places = places }))
+          n.book_failed (words.written n.book, words.faults n.book) in
+          subst T (sym (ap (λ (m : Kept). m.moment) module_is)) (text start before places fits h);
       tape = tape;
     }
 

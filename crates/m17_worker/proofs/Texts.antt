@@ -18,9 +18,9 @@ text_none nothing book = record {
 -- a beginning of a text is one of what goes on with it
 beginning : (text more : List ℕ) (n : ℕ) → (m : ℕ) × (take n text ≡ take m (text ++ more))
 beginning text more n = elim (cases_lt n (length text)) [
-    inl lt ↦ (n, sym (take-append-le n text more (omega (arith, lt))))
+  | inl lt ↦ (n, sym (take-append-le n text more (omega (arith, lt))))
   | inr ge ↦ (length text, take_all n text ge ∙ sym (take_all (length text) text (omega arith)) ∙ sym (take-append-le (length text) text more (omega arith)))
-  ]
+]
 
 -- a book that failed is written no more
 pub text_failed : (start book : Tells) (text more : List ℕ) → HasText start text true book → HasText start (text ++ more) true book

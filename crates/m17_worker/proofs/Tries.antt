@@ -157,12 +157,12 @@ left_then : (ts us : List Try) (a b c : LaneOffers) → RowsGrow Item → AreTri
 left_then ts us a b c law first second n t at off =
     let P : List Try → Type 0 = λ l. IsLeftOut a l t.item in
     elim (cases_lt n (length ts)) as (λ _. IsLeftOut a (take n (ts ++ us)) t.item) [
-      inl lt ↦ subst P (sym (take-append-le n ts us (omega (arith, lt)))) (first.left_out n t (sym (slice_get_before ts us n lt) ∙ at) off)
-    | inr ge ↦
-      let is : n ≡ length ts + (n - length ts) = omega (arith, ge) in
-      subst P (sym (take_behind ts us n (n - length ts) is))
-      (left_behind ts (take (n - length ts) us) a b t.item law first
-        (second.left_out (n - length ts) t (sym (slice_get_behind ts us n (n - length ts) is) ∙ at) off))
+      | inl lt ↦ subst P (sym (take-append-le n ts us (omega (arith, lt)))) (first.left_out n t (sym (slice_get_before ts us n lt) ∙ at) off)
+      | inr ge ↦
+          let is : n ≡ length ts + (n - length ts) = omega (arith, ge) in
+          subst P (sym (take_behind ts us n (n - length ts) is))
+          (left_behind ts (take (n - length ts) us) a b t.item law first
+          (second.left_out (n - length ts) t (sym (slice_get_behind ts us n (n - length ts) is) ∙ at) off))
     ]
 
 tried_then : (ts us : List Try) (a b c : LaneOffers) → RowsGrow Item → AreTried ts a b → AreTried us b c → AreTried (ts ++ us) a c

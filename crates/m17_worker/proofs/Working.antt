@@ -131,9 +131,9 @@ pub ends_at : (links : ℕ) (before after : PopEnd Event) (event : Event) → af
 ends_at links before after event is going each = record {
   each = each;
   at_the_last = λ front last at h.
-    let same : before.popped ≡ front = (same_from_push before.popped front event last (sym is ∙ at)).0 in
-    let P : List Event → Type 0 = λ l. HasStops links l in
-    going (subst P (sym same) h);
+      let same : before.popped ≡ front = (same_from_push before.popped front event last (sym is ∙ at)).0 in
+      let P : List Event → Type 0 = λ l. HasStops links l in
+      going (subst P (sym same) h);
 }
 
 pub has_worked : {B : Type 0} (words : Words B) (j k n : Worker B) (served : ℕ) (flags : List Bool) (event : Event) → j.links ≤ 4

@@ -17,10 +17,12 @@ serve-requires g c =
     let there : is_there before.links before.module.setup.places event ≡ true = sym c.if-not-has.ensures in
     let j = c.requires.at.0 in
     let events : List Event = taken j.links j.module.setup.places before.inbox.popped in
-    let P : PopEnd Event → Type 0 = λ q. CanServe events event (record before { inbox = q }) in
-    (events, subst P (sym c.pop_waiting-event.ensures)
-      (can_serve words j before event there c.args.served c.args.stopped.now
-      (omega (arith, c.count_one-more.ensures, c.count_one-more.type_inv)) c.requires.at.1))
+    let P : PopEnd Event → Type 0 = λ q. CanServe events event (record before { inbox = q }) in (
+      events,
+      subst P (sym c.pop_waiting-event.ensures)
+          (can_serve words j before event there c.args.served c.args.stopped.now
+          (omega (arith, c.count_one-more.ensures, c.count_one-more.type_inv)) c.requires.at.1),
+    )
 
 pub returns-then-not-has-clause-at : goal.returns-then-not-has-clause-at
 returns-then-not-has-clause-at g c = λ j h.
@@ -46,9 +48,9 @@ returns-clause-at g c = λ j h.
     c.count_one-more.ensures (c.note_stop.ensures before.inbox.popped h.flagged) c.serve.ensures.room
     (subst W c.pop_waiting-event.ensures c.serve.ensures.same)
     (c.serve.ensures.served j events
-      (subst P (sym c.pop_waiting-event.ensures)
-        (can_serve words j before event there c.args.served c.args.stopped.now
-        (omega (arith, c.count_one-more.ensures, c.count_one-more.type_inv)) h))
-      h.same.setup
-      (subst S (sym c.pop_waiting-event.ensures) (was_served words j before event there c.args.served c.args.stopped.now h)))
+    (subst P (sym c.pop_waiting-event.ensures)
+    (can_serve words j before event there c.args.served c.args.stopped.now
+    (omega (arith, c.count_one-more.ensures, c.count_one-more.type_inv)) h))
+    h.same.setup
+    (subst S (sym c.pop_waiting-event.ensures) (was_served words j before event there c.args.served c.args.stopped.now h)))
     h
