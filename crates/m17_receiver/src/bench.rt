@@ -9,16 +9,19 @@ ghost use Rattle.m17_receiver.specs.Ready.{IsReady};
 use crate::Receiver;
 use m17_callsign::{CallAddress, encode};
 use m17_control::{Control, Direct, Event, ModuleLetter, Modules, write};
-use m17_crew::Order;
+use m17_crew::{Crew, Order, Running, StdCrew, Work};
 use m17_directory::{Directory, LinkVerdict, Post};
 use m17_lane::{Popper, Pusher, make_one};
+use m17_port_memory::{ListBook, ScriptEar};
 use m17_ports::{Book, Ear};
 use m17_roll::RollSeat;
 use m17_samples::frame;
 use m17_values::{Gram, Heard, Member, NoMemory, Peer};
 use std::alloc::{AllocError, Global};
 use std::process::Abort;
+use std::sync::Wait;
 use std::test::Fail;
+use std::thread::Threads;
 
 /// What a receiver is made with, the capacity of its inboxes among it.
 #[derive(Drop)]
@@ -140,6 +143,87 @@ pub(crate) fn make_bench<E: Ear + Drop, B: Book + Drop>(
         orders,
         other,
     })
+}
+
+/// A trace of the tests has room for so many bytes.
+const ROOM: usize = 65_536;
+
+/// A receiver that has gone over what was heard, with the write of its trace that is to fail.
+pub(crate) fn run_through<R: Wait>(
+    rt: &R,
+    alloc: Global,
+    plan: &Plan,
+    heard: Vec<Heard>,
+    fails: Vec<u64>,
+) -> Result<Bench<ScriptEar, ListBook>, Fail> {
+    run_by(rt, alloc, plan, heard, fails, Order::Go)
+}
+
+/// The same with this order, behind a Stop.
+pub(crate) fn run_by<R: Wait>(
+    rt: &R,
+    alloc: Global,
+    plan: &Plan,
+    heard: Vec<Heard>,
+    fails: Vec<u64>,
+    order: Order,
+) -> Result<Bench<ScriptEar, ListBook>, Fail> {
+    if plan.places == 0 || plan.places > 256 || plan.room == 0 {
+        return Err("no plan".into());
+    }
+    let ear = ScriptEar::new(heard);
+    let trace = ListBook::make(alloc, ROOM, fails)?;
+    let mut b = make_bench(alloc, plan, ear, trace)?;
+    b.notes.push_waiting(rt, member(9, 9));
+    b.orders.push_waiting(rt, Order::Stop);
+    b.orders.push_waiting(rt, order);
+    b.receiver.go(rt);
+    Ok(b)
+}
+
+/// A receiver in a thread of its own, and what the test has of it: one inbox, the notes, another seat at its roll, and
+/// the place that this seat holds.
+#[derive(Drop)]
+pub(crate) struct Started {
+    pub(crate) running: Running<Receiver<ScriptEar, ListBook>>,
+    pub(crate) inbox: Popper<Event>,
+    pub(crate) notes: Pusher<Member>,
+    pub(crate) other: RollSeat,
+    pub(crate) held: Option<Member>,
+}
+
+/// Starts a receiver over what is heard, after the other seat has claimed, where it is to.
+pub(crate) fn start_over<R: Threads + Wait + Copy + Send + 'static>(
+    rt: &R,
+    alloc: Global,
+    plan: &Plan,
+    heard: Vec<Heard>,
+    claims: bool,
+) -> Result<Started, Fail> {
+    if plan.places == 0 || plan.places > 256 || plan.room == 0 {
+        return Err("no plan".into());
+    }
+    let ear = ScriptEar::new(heard);
+    let trace = ListBook::make(alloc, ROOM, Vec::new(alloc))?;
+    let mut b = make_bench(alloc, plan, ear, trace)?;
+    b.orders.push_waiting(rt, Order::Go);
+    let inbox = b.inboxes.pop().ok_or("no inbox")?;
+    let held = if claims { b.other.claim(99) } else { None };
+    let mut crew = StdCrew::new();
+    let started = crew.start(rt, alloc, b.receiver);
+    let running = started.ok().ok_or("refused")?;
+    Ok(Started {
+        running,
+        inbox,
+        notes: b.notes,
+        other: b.other,
+        held,
+    })
+}
+
+/// A member.
+pub(crate) fn member(place: u32, generation: u64) -> Member {
+    Member { place, generation }
 }
 
 /// A peer of the tests.
