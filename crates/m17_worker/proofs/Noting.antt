@@ -1,5 +1,5 @@
 -- The records of one event, written.
-use Rattle.std.proofs.Common.{◌≡◌, ℕ, ◌<◌, Bool, true, false, cond, List, ◌++◌, nat_lt, Option, None, Some, IfSome, refl, ap, sym, subst, ◌∙◌, arith}
+use Rattle.std.proofs.Common.{◌≡◌, ℕ, ◌<◌, Bool, true, false, cond, List, ◌++◌, nat_lt, Option, None, Some, IfSome, refl, ap, sym, subst, ◌∙◌}
 use Rattle.std.specs.Prelude.{option_and_then}
 use Rattle.std.specs.Option.{ForSome, option_map, option_map_or, option_to_list}
 use Rattle.std.specs.List.{flat_map}
@@ -7,12 +7,10 @@ use Rattle.std.proofs.lemmas.Bool.{lt-ltb}
 use Rattle.m17_control.specs.declared.event.Tag.{Tag}
 use Rattle.m17_control.specs.declared.event.Body.{Body}
 use Rattle.m17_control.specs.declared.event.Body.TheVariants as body
-use Rattle.m17_control.specs.declared.event.Event.{Event}
-use Rattle.m17_control.specs.declared.item.Item.{Item}
 use Rattle.m17_floor.specs.declared.verdict.Verdict.{Verdict}
 use Rattle.m17_book.specs.Records.{IsWritable, IsLowVerdict, record_bytes}
 use Rattle.m17_book.specs.declared.record.Record.{Record}
-use Rattle.m17_book.specs.declared.record.Record.TheVariants.{Join, Leave, Packet}
+use Rattle.m17_book.specs.declared.record.Record.TheVariants.{Join, Packet}
 use Rattle.m17_worker.specs.Taken.{place_of}
 use Rattle.m17_worker.specs.Records.{leave_record, Noted, own_record}
 use Rattle.m17_worker.specs.Written.{Tells, HasText}

@@ -1,9 +1,9 @@
 -- One event more is served.
-use Rattle.std.proofs.Common.{◌≡◌, ℕ, ◌-◌, ◌^◌, ◌<◌, ◌≤◌, Bool, true, false, not, ◌&&◌, List, [], ◌∷◌, ◌++◌, length, take, nat_lt, Option, None, Some, refl, ap, sym, subst, ◌∙◌, arith}
+use Rattle.std.proofs.Common.{◌≡◌, ℕ, ◌≤◌, true, not, List, [], ◌∷◌, ◌++◌, length, take, nat_lt, Option, ap, sym, subst, ◌∙◌, arith}
 use Rattle.std.specs.Prelude.{is_some, filter, option_and_then, slice_index_or}
 use Rattle.std.specs.Option.{ForSome, option_map_or, option_to_list}
 use Rattle.std.specs.List.{All, flat_map, filter_map}
-use Rattle.std.proofs.lemmas.Bool.{and_parts, ltb-true}
+use Rattle.std.proofs.lemmas.Bool.{and_parts}
 use Rattle.m17_values.specs.declared.member.Member.{Member}
 use Rattle.m17_control.specs.declared.event.Event.{Event}
 use Rattle.m17_control.specs.declared.event.Body.{Body}
@@ -12,14 +12,12 @@ use Rattle.m17_control.specs.declared.item.Item.{Item}
 use Rattle.m17_floor.specs.declared.verdict.Verdict.{Verdict}
 use Rattle.m17_floor.specs.declared.verdict.Verdict.TheVariants.{Opened, Continued, Busy, Repeat, Late, AfterEnd, NotMember, ListenOnly}
 use Rattle.m17_floor.specs.Acts.{moment_at, greatest_moment, is_packet}
-use Rattle.m17_floor.specs.Floor.{verdict_at}
 use Rattle.m17_floor.specs.Laws.{LaterActsChangeNoVerdict, LaterActsChangeNoMoment}
 use Rattle.m17_module.specs.Events.{acts_of, kind_of}
 use Rattle.m17_module.specs.Items.{Setup, items_at, items_given}
-use Rattle.m17_module.specs.StandsFor.{Kept, StandsFor, IsStep, stepped}
-use Rattle.m17_module.specs.Laws.{LaterEventsChangeNoItems, OneEventMoreGives, ItemsAreAtPlaces, VerdictsFit, FitsIn, IsNumbered}
+use Rattle.m17_module.specs.StandsFor.{Kept, IsStep, stepped}
+use Rattle.m17_module.specs.Laws.{LaterEventsChangeNoItems, OneEventMoreGives, VerdictsFit, FitsIn, IsNumbered}
 use Rattle.m17_book.specs.Records.{record_bytes, IsLowVerdict}
-use Rattle.m17_book.specs.declared.record.Record.{Record}
 use Rattle.m17_rows.specs.Laws.{RowsGrow}
 use Rattle.m17_worker.specs.declared.worker.Worker.{Worker}
 use Rattle.m17_worker.specs.Taken.{is_there, place_of}
@@ -30,14 +28,14 @@ use Rattle.m17_worker.specs.Written.{Tells, HasText}
 use Rattle.m17_worker.specs.Tape.{IsTaped}
 use Rattle.m17_worker.specs.Ready.{Words}
 use Rattle.m17_worker.specs.WorkerDid.{HasServed}
-use Rattle.m17_worker.specs.Underway.{Note, noted_text, filled, HasRoom}
+use Rattle.m17_worker.specs.Underway.{noted_text, filled, HasRoom}
 use Rattle.m17_worker.specs.declared.offers.LaneOffers.{LaneOffers}
 use Rattle.m17_roll.specs.Seat.{RollView}
 use Rattle.m17_worker.proofs.Lists.{length_more}
 use Rattle.m17_worker.proofs.Tries.{offered_then, queues_stay, as_many}
 use Rattle.m17_worker.proofs.Giving.{gave_then, IsTheBye}
 use Rattle.m17_worker.proofs.Byes.{few_byes, leaves_are}
-use Rattle.m17_worker.proofs.Gathered.{gifts_more, records_more, last_records, text_goes_on}
+use Rattle.m17_worker.proofs.Gathered.{gifts_more, records_more, text_goes_on}
 use Rattle.m17_worker.proofs.Tapes.{taped_more}
 
 -- the laws of the crates below

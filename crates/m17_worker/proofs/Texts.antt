@@ -1,7 +1,7 @@
 -- What a book holds after more was to be written.
-use Rattle.std.proofs.Common.{◌≡◌, ℕ, ◌≤◌, min, Bool, true, false, List, [], ◌∷◌, ◌++◌, length, take, Option, None, Some, Result, Ok, Err, OnOk, OnErr, is_err, inl, inr, refl, ap, sym, subst, ◌+◌, ◌∙◌, arith}
+use Rattle.std.proofs.Common.{◌≡◌, ℕ, Bool, true, false, List, [], ◌++◌, length, take, Result, Ok, Err, OnOk, OnErr, is_err, inl, inr, refl, ap, sym, subst, ◌+◌, ◌∙◌, arith}
 use Rattle.std.proofs.lemmas.Bool.{true≢false, cases_lt}
-use Rattle.std.proofs.lemmas.List.{append-nil, append_assoc, take-append-le, take_all}
+use Rattle.std.proofs.lemmas.List.{append-nil, take-append-le, take_all}
 use Rattle.m17_io.specs.Faults.{HasCause, HasRisen}
 use Rattle.m17_ports.specs.Told.{told_then}
 use Rattle.m17_ports.specs.Laws.{ToldInTurn, NothingMoreIsTold}

@@ -1,5 +1,5 @@
 -- From the first event to the last.
-use Rattle.std.proofs.Common.{◌≡◌, ℕ, zero, suc, ◌<◌, ◌≤◌, Bool, true, false, List, [], ◌∷◌, ◌++◌, length, slice_get, Option, None, Some, refl, ap, sym, subst, ◌∙◌, arith}
+use Rattle.std.proofs.Common.{◌≡◌, ℕ, ◌<◌, ◌≤◌, Bool, true, false, List, [], ◌∷◌, ◌++◌, length, slice_get, Option, None, Some, refl, ap, sym, subst, ◌∙◌, arith}
 use Rattle.std.specs.List.{All, list_any}
 use Rattle.std.proofs.lemmas.Bool.{false≢true}
 use Rattle.std.proofs.lemmas.Option.{slice_get-get_or}
@@ -22,7 +22,7 @@ use Rattle.m17_worker.specs.Offers.{AreOffered, IsQueue}
 use Rattle.m17_worker.specs.Gifts.{gifts, GaveBack}
 use Rattle.m17_worker.specs.Records.{records_of, book_text}
 use Rattle.m17_worker.specs.Written.{Tells, HasText}
-use Rattle.m17_worker.specs.Tape.{IsTaped, verdict_on}
+use Rattle.m17_worker.specs.Tape.{IsTaped}
 use Rattle.m17_worker.specs.Ready.{Words, IsFit}
 use Rattle.m17_worker.specs.WorkerDid.{HasServed, HasWorked}
 use Rattle.m17_worker.specs.Underway.{AreFlags, IsAt}

@@ -1,9 +1,7 @@
-use Rattle.std.proofs.Common.{◌≡◌, ◌<◌, List, [], ◌∷◌, ◌++◌, length, subst, refl, sym, ap, ◌∙◌, arith}
-use Rattle.std.proofs.lemmas.List.{append-nil}
-use Rattle.m17_control.specs.declared.item.Item.{Item}
+use Rattle.std.proofs.Common.{[], ◌∷◌, ◌++◌, refl, sym, arith}
 use Rattle.m17_worker.proofs.Tries.{queue_at}
 use Rattle.m17_worker.proofs.Giving.{other_item, bye_item}
-use Rattle.m17_worker.proofs.Handing.{Hands, Handed, handed_none, handed_more, first_place, goes_over}
+use Rattle.m17_worker.proofs.Handing.{handed_none, handed_more, first_place, goes_over}
 use Rattle.m17_worker.proofs.gifts.hand_out.Goals as goal
 
 pub loop-item-init : goal.loop-item-init

@@ -1,7 +1,6 @@
-use Rattle.std.proofs.Common.{◌≡◌, true, false, List, [], ◌∷◌, ◌++◌, refl, sym, subst, ◌∙◌, arith}
+use Rattle.std.proofs.Common.{◌≡◌, true, List, sym, subst, arith}
 use Rattle.m17_control.specs.declared.event.Event.{Event}
-use Rattle.m17_lane.specs.Ends.{PopEnd, popped_from}
-use Rattle.m17_worker.specs.declared.worker.Worker.{Worker}
+use Rattle.m17_lane.specs.Ends.{PopEnd}
 use Rattle.m17_worker.specs.Taken.{taken, is_there}
 use Rattle.m17_worker.specs.WorkerDid.{HasServed}
 use Rattle.m17_worker.specs.Ready.{Words}
