@@ -13,6 +13,8 @@ mod bell;
 mod lane;
 pub mod laws;
 mod making;
+#[cfg(test)]
+mod mark_tests;
 mod marks;
 mod popper;
 mod pusher;

@@ -105,7 +105,7 @@ pub fn make_one_with<T: Drop>(
 
 /// `make_one_with` whose pushes also set a mark of the bell, after the item is in the queue, so that a consumer of very
 /// many lanes knows where to look. The mark is to be below the number of lanes that the bell was made for, and no other
-/// lane's; where it is not below it, the push rings the bell and sets nothing. This profile.
+/// lane's: else the marks tell the wrong lane, or none, and nothing more. This profile.
 pub fn make_one_marked<T: Drop>(
     alloc: Global,
     bell: &Bell,

@@ -1,0 +1,94 @@
+//! What no clause says of marks: that a push sets its own and no other, that a mark is taken once, and that a push with a
+//! mark ends a rest.
+use super::*;
+use std::sync::Wait;
+use std::test::Fail;
+use std::thread;
+use std::time::{Clock, Duration};
+
+#[test]
+fn marks_tell_which_lanes_were_pushed_to(rt: HostRuntime) -> Result<(), Fail> {
+    let bell = Bell::make_marked(rt.alloc(), 200)?;
+    let (mut low, _from_low) = make_one_marked(rt.alloc(), &bell, 3, 2)?;
+    let (mut high, _from_high) = make_one_marked(rt.alloc(), &bell, 130, 2)?;
+    let (mut plain, _from_plain) = make_one_with(rt.alloc(), &bell, 2)?;
+    assert_eq!(rt; (bell.groups(), bell.marked_words(0)), (1, 0));
+    assert_eq!(rt; plain.try_push(&rt, 1u8), Ok(()));
+    assert_eq!(rt; bell.marked_words(0), 0, "a lane without a mark sets none");
+    assert_eq!(rt; low.try_push(&rt, 2u8), Ok(()));
+    assert_eq!(rt; high.try_push(&rt, 3u8), Ok(()));
+    assert_eq!(rt; high.try_push(&rt, 4u8), Ok(()));
+    bell.rest(&rt);
+    assert_eq!(rt; (bell.marked_words(0), bell.marked_words(0)), (0b101, 0));
+    assert_eq!(rt; (bell.take_marks(0), bell.take_marks(0)), (0b1000, 0));
+    assert_eq!(rt; (bell.take_marks(2), bell.take_marks(2)), (0b100, 0));
+    assert_eq!(rt; (bell.take_marks(1), bell.take_marks(3)), (0, 0));
+    assert_eq!(rt; (bell.marked_words(1), bell.take_marks(99)), (0, 0));
+    assert_eq!(rt; high.try_push(&rt, 5u8), Err(5));
+    assert_eq!(rt; bell.marked_words(0), 0, "a refused push sets none");
+    Ok(())
+}
+
+// Pushes a number by each end in turn, with a rest before each, so that the consumer is asleep when it comes.
+fn push_in_turn<R: Wait + Clock>(rt: &R, ends: (Pusher<u32>, Pusher<u32>), rounds: u32) {
+    let (mut a, mut b) = ends;
+    for i in 0..rounds {
+        thread::sleep(rt, Duration::from_millis(1));
+        a.push_waiting(rt, i);
+        thread::sleep(rt, Duration::from_millis(1));
+        b.push_waiting(rt, i);
+        b.push_waiting(rt, i);
+    }
+}
+
+// Pops until the lane is empty, and says how many it got.
+fn pop_all<R: Wait>(rt: &R, end: &mut Popper<u32>) -> u32 {
+    let mut taken = 0u32;
+    for _ in rt.forever() {
+        if end.try_pop(rt).is_none() {
+            return taken;
+        }
+        taken = taken.saturating_add(1);
+    }
+    unreachable!()
+}
+
+// Takes `count` numbers from two lanes with the marks 5 and 70, asleep while no mark is set.
+fn take_marked<R: Wait>(rt: &R, bell: &Bell, ends: (Popper<u32>, Popper<u32>), count: u32) -> u32 {
+    let (mut a, mut b) = ends;
+    let mut taken = 0u32;
+    for _ in rt.forever() {
+        if taken >= count {
+            return taken;
+        }
+        let words = bell.marked_words(0);
+        if words & 1 != 0 && bell.take_marks(0) == 1 << 5 {
+            taken = taken.saturating_add(pop_all(rt, &mut a));
+        }
+        if words & 2 != 0 && bell.take_marks(1) == 1 << 6 {
+            taken = taken.saturating_add(pop_all(rt, &mut b));
+        }
+        if taken < count {
+            bell.rest(rt);
+        }
+    }
+    unreachable!()
+}
+
+#[test]
+fn a_push_with_a_mark_ends_a_rest(rt: HostRuntime) -> Result<(), Fail> {
+    let bell = Bell::make_marked(rt.alloc(), 71)?;
+    let (a, from_a) = make_one_marked(rt.alloc(), &bell, 5, 1)?;
+    let (b, from_b) = make_one_marked(rt.alloc(), &bell, 70, 1)?;
+    let ends = (a, b);
+    let poppers = (from_a, from_b);
+    let shared = &bell;
+    let lend = &rt;
+    let (_, taken) = thread::join(
+        lend,
+        move || push_in_turn(lend, ends, 200),
+        move || take_marked(lend, shared, poppers, 600),
+    );
+    assert_eq!(rt; taken, 600);
+    Ok(())
+}
