@@ -1,24 +1,23 @@
 -- Where places are given freely, who joins a module takes a place that whoever had it before has left.
-use Rattle.std.proofs.Common.{◌≡◌, ◌≢◌, ◌⊎◌, ℕ, zero, suc, ◌+◌, ◌-◌, ◌<◌, ◌≤◌, ◌==◌, ◌&&◌, ◌||◌, Bool, true, false, not, cond, eqb, List, [], ◌∷◌, ◌++◌, length, map, drop, filter, filter_map, slice_get, nat_lt, option_and_then, MatchBool, Option, None, Some, inl, inr, refl, ap, sym, subst, ◌∙◌, arith}
+use Rattle.std.proofs.Common.{◌≡◌, ◌⊎◌, ℕ, zero, suc, ◌+◌, ◌-◌, ◌<◌, ◌≤◌, ◌==◌, ◌&&◌, Bool, true, false, cond, eqb, List, [], ◌∷◌, ◌++◌, length, map, drop, filter, filter_map, slice_get, nat_lt, option_and_then, MatchBool, Option, None, Some, inl, inr, refl, ap, sym, subst, ◌∙◌, arith}
 use Rattle.std.specs.List.{list_any, cons_option, flat_map, range_with_len}
-use Rattle.std.proofs.lemmas.Bool.{cases_Bool, cases_lt, cases_eq, and_from, and_parts, eq-eqb, eqb-true, ne_eqb, and_left, cond-true, cond-false, false≢true}
-use Rattle.std.proofs.lemmas.List.{append-nil, append_assoc, drop-append-le, length-append}
+use Rattle.std.proofs.lemmas.Bool.{cases_Bool, cases_lt, and_from, and_parts, eq-eqb, eqb-true, false≢true}
+use Rattle.std.proofs.lemmas.List.{append-nil, append_assoc, drop-append-le}
 use Rattle.std.proofs.lemmas.List.Elements.{filter_map-append}
-use Rattle.std.proofs.lemmas.Option.{same_Some, slice_get_past, slice_get_within}
+use Rattle.std.proofs.lemmas.Option.{same_Some, slice_get_within}
 use Rattle.m17_values.specs.declared.member.Member.{Member}
 use Rattle.m17_control.specs.declared.event.Body.{Body}
 use Rattle.m17_control.specs.declared.event.Body.TheVariants as body
 use Rattle.m17_control.specs.declared.event.Event.{Event}
 use Rattle.m17_control.specs.Renamed.{joiner_of, leaver_of, joiner_at, leaver_at, LeavesBetween, TakeFreePlaces}
 use Rattle.m17_directory.specs.declared.dispatch.Dispatch.{Dispatch}
-use Rattle.m17_directory.specs.declared.dispatch.Dispatch.TheVariants.{ToModule, ToDoor}
+use Rattle.m17_directory.specs.declared.dispatch.Dispatch.TheVariants.{ToModule}
 use Rattle.m17_directory.specs.declared.known.Known.{Known}
-use Rattle.m17_directory.specs.declared.known.Request.{Request}
-use Rattle.m17_directory.specs.Entries.{Notice, Claim, Entry, Setup, notice_at, claim_at}
+use Rattle.m17_directory.specs.Entries.{Claim, Entry, Setup, notice_at, claim_at}
 use Rattle.m17_directory.specs.Known.{Past, now, known_at}
-use Rattle.m17_directory.specs.Given.{IsOfFreePlace, IsGivenAt, AreGivenFreely}
-use Rattle.m17_directory.specs.Outcome.{Here, Outcome, leave, has_place, settled}
-use Rattle.m17_directory.specs.Routed.{here_of, heard_at, others_at, settled_at, is_asks, asks_at, both, comes_to, past_at, outcome_at, posts_at, posted, event_for, routed}
+use Rattle.m17_directory.specs.Given.{IsOfFreePlace, AreGivenFreely}
+use Rattle.m17_directory.specs.Outcome.{Outcome, leave, has_place}
+use Rattle.m17_directory.specs.Routed.{here_of, heard_at, others_at, settled_at, asks_at, both, past_at, posts_at, posted, event_for, routed}
 use Rattle.m17_control.specs.declared.event.Why.TheVariants.{Replaced}
 use Rattle.m17_directory.specs.Laws.{is_join, join_event, ClaimsAreAsked, JoinsTakeFreePlaces}
 use Rattle.m17_directory.proofs.Same.{length_asked, length_more}
@@ -27,8 +26,8 @@ use Rattle.m17_directory.proofs.LawMore.{posted_upto}
 use Rattle.m17_directory.proofs.LawPosts.{leaves_heard}
 use Rattle.m17_directory.proofs.LawJoins.{none_heard, joins_of_events}
 use Rattle.m17_directory.proofs.LawCounts.{count, count_append, is_such, such_heard}
-use Rattle.m17_directory.proofs.LawWho.{AsksFor, asks_one, heard_count, others_are, known_next}
-use Rattle.m17_directory.proofs.LawLeaves.{joiner, leaver, left_is, joined_at, left_at, known_count, step}
+use Rattle.m17_directory.proofs.LawWho.{AsksFor, asks_one, heard_count, others_are}
+use Rattle.m17_directory.proofs.LawLeaves.{joiner, leaver, left_is, step}
 use Rattle.m17_directory.proofs.Otherwise.{any_step, none_has, settled_view}
 
 -- this member

@@ -1,7 +1,7 @@
 -- Two lists that say the same, each with claims given freely: position by position the same, but for the members.
-use Rattle.std.proofs.Common.{◌≡◌, ◌≢◌, ◌⊎◌, ℕ, zero, suc, ◌+◌, ◌<◌, ◌≤◌, ◌==◌, ◌&&◌, ◌||◌, Bool, true, false, not, cond, List, [], ◌∷◌, ◌++◌, length, map, slice_get, nat_lt, eqb, option_and_then, option_map, is_some, MatchBool, Option, None, Some, inl, inr, refl, ap, sym, subst, ◌∙◌, arith}
-use Rattle.std.specs.List.{AllZip, filter, filter_map, list_any, flat_map, range_with_len}
-use Rattle.std.proofs.lemmas.Bool.{cases_eq, cases_Bool, and_from, eq-eqb, cond-true, cond-false, false≢true}
+use Rattle.std.proofs.Common.{◌≡◌, ◌⊎◌, ℕ, zero, suc, ◌+◌, ◌<◌, ◌≤◌, ◌==◌, ◌&&◌, ◌||◌, Bool, true, false, not, cond, List, [], ◌∷◌, length, slice_get, nat_lt, eqb, option_map, MatchBool, Option, None, Some, inl, inr, refl, ap, sym, subst, ◌∙◌, arith}
+use Rattle.std.specs.List.{AllZip, filter, list_any, flat_map, range_with_len}
+use Rattle.std.proofs.lemmas.Bool.{cases_eq, and_from, eq-eqb, cond-true, cond-false, false≢true}
 use Rattle.std.proofs.lemmas.List.{length-map}
 use Rattle.std.proofs.lemmas.Option.{slice_get-map}
 use Rattle.m17_values.specs.declared.member.Member.{Member}
@@ -16,16 +16,16 @@ use Rattle.m17_directory.specs.declared.known.Known.{Known}
 use Rattle.m17_directory.specs.declared.known.Request.{Request}
 use Rattle.m17_directory.specs.Entries.{Notice, Claim, Entry, Setup, notice_of, notice_at, claim_at, moment_before, moment_at, is_peer, ends_at, peers_named}
 use Rattle.m17_directory.specs.Known.{Past, now, request_of, request_in, known_at}
-use Rattle.m17_directory.specs.Given.{IsOfFreePlace, IsGivenAt, AreGivenFreely, SayTheSame, gives, stands_for, IsRenamedRow}
+use Rattle.m17_directory.specs.Given.{IsOfFreePlace, SayTheSame, gives, stands_for}
 use Rattle.m17_directory.specs.Outcome.{Here, Outcome, has_place, settled}
-use Rattle.m17_directory.specs.Routed.{here_of, heard_at, others_than, others_at, settled_by, settled_at, is_asks, asks_at, both, comes_to, asked_before, past_at, outcome_at, link_verdict, posts_at, posted, event_for, reply_for, routed, direct_replies}
+use Rattle.m17_directory.specs.Routed.{here_of, heard_at, others_than, others_at, settled_by, settled_at, is_asks, asks_at, both, asked_before, past_at, outcome_at, link_verdict, posts_at, posted, event_for, reply_for, routed, direct_replies}
 use Rattle.m17_directory.specs.Laws.{AreGivenOtherwise, PlacesChangeNoVerdict}
-use Rattle.m17_directory.specs.Steps.{with_row, still_by, heard_by, known_by}
-use Rattle.m17_directory.proofs.Same.{Says, past_of, says_less, moment_same, ends_same, heard_is, length_asked, length_more}
+use Rattle.m17_directory.specs.Steps.{still_by, heard_by, known_by}
+use Rattle.m17_directory.proofs.Same.{moment_same, ends_same, heard_is, length_asked}
 use Rattle.m17_directory.proofs.LawMore.{others_is}
 use Rattle.m17_directory.proofs.LawWho.{AsksFor, asks_one, known_next, row, staying, known_claim}
-use Rattle.m17_directory.proofs.Zips.{zip_length, zip_same, zip_flat, zip_filter_map, zip_equal, zip_append, BothOr}
-use Rattle.m17_directory.proofs.Renamed.{Row, Rows, Post, Same, Claims, heard_same, still_same, others_same, known_same, put_same, none_settled, some_settled, both_same, choice}
+use Rattle.m17_directory.proofs.Zips.{zip_length, zip_flat, zip_filter_map, zip_equal, BothOr}
+use Rattle.m17_directory.proofs.Renamed.{Row, Rows, Post, Same, heard_same, still_same, others_same, known_same, put_same, none_settled, some_settled, both_same}
 
 -- they say the same at each position
 notice_get : (o : Option Entry) (u : Option Entry) → option_map (λ (entry : Entry). entry.notice) o ≡ option_map (λ (entry : Entry). entry.notice) u → notice_of o ≡ notice_of u

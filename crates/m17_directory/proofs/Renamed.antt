@@ -1,35 +1,32 @@
 -- What an entry comes to, where the same are known by other members.
-use Rattle.std.proofs.Common.{◌≡◌, ℕ, ◌==◌, ◌&&◌, Bool, true, false, not, cond, List, [], ◌∷◌, ◌++◌, map, nat_lt, nat_le, Option, None, Some, refl, ap, sym, subst, ◌∙◌}
-use Rattle.std.specs.List.{AllZip, filter, list_any}
+use Rattle.std.proofs.Common.{◌≡◌, ℕ, Bool, true, false, not, cond, List, [], ◌∷◌, ◌++◌, map, Option, None, Some, refl, ap, sym, subst, ◌∙◌}
+use Rattle.std.specs.List.{AllZip, filter}
 use Rattle.std.specs.declared.cmp.Ordering.{Ordering}
 use Rattle.std.specs.declared.cmp.Ordering.TheVariants.{Less, Equal, Greater}
 use Rattle.std.specs.Ordering.{match_ordering}
 use Rattle.m17_values.specs.declared.member.Member.{Member}
 use Rattle.m17_values.specs.declared.peer.Peer.{Peer}
-use Rattle.m17_control.specs.declared.event.Body.{Body}
 use Rattle.m17_control.specs.declared.event.Body.TheVariants as body
-use Rattle.m17_control.specs.declared.event.Event.{Event}
 use Rattle.m17_control.specs.declared.event.Why.{Why}
-use Rattle.m17_control.specs.declared.event.Why.TheVariants.{Silent, Asked, Moved, Stopped, Replaced}
+use Rattle.m17_control.specs.declared.event.Why.TheVariants.{Silent, Asked, Moved, Stopped}
 use Rattle.m17_control.specs.declared.packet.Control.{Control}
 use Rattle.m17_control.specs.declared.packet.Control.TheVariants as control
 use Rattle.m17_control.specs.declared.packet.Packet.{Packet}
 use Rattle.m17_control.specs.declared.packet.Packet.TheVariants as packets
 use Rattle.m17_control.specs.Modules.{serves, letters_of}
-use Rattle.m17_control.specs.Renamed.{IsRenamedBody, IsRenamedEvent}
+use Rattle.m17_control.specs.Renamed.{IsRenamedEvent}
 use Rattle.m17_directory.specs.declared.dispatch.Dispatch.{Dispatch}
 use Rattle.m17_directory.specs.declared.dispatch.Dispatch.TheVariants.{ToModule, ToDoor}
 use Rattle.m17_directory.specs.declared.known.Known.{Known}
 use Rattle.m17_directory.specs.declared.known.Request.{Request}
 use Rattle.m17_directory.specs.declared.verdict.LinkVerdict.{LinkVerdict}
 use Rattle.m17_directory.specs.declared.verdict.LinkVerdict.TheVariants as link
-use Rattle.m17_directory.specs.declared.verdict.Act.TheVariants as act
 use Rattle.m17_directory.specs.Entries.{Notice, Claim, peer_cmp, is_peer, passes_time}
 use Rattle.m17_directory.specs.Given.{IsRenamedRow}
 use Rattle.m17_directory.specs.Outcome.{Here, Outcome, only, to_module, to_each_module, to_door, leave, posting, leaving, is_what, known_asks, other_asks, of_known, of_other, of_packet, of_end, has_place, settled}
 use Rattle.m17_directory.specs.Routed.{is_silent, row_for, others_than, both}
 use Rattle.m17_directory.specs.Steps.{heard_now, is_other, with_row, ticks_by, silent_by, still_by, said_by, heard_by, rows_by, known_by}
-use Rattle.m17_directory.proofs.Zips.{zip_append, zip_map, zip_filter, zip_same, BothOr}
+use Rattle.m17_directory.proofs.Zips.{zip_append, zip_map, zip_filter, BothOr}
 
 module _ (stands : Member → Member → Bool) where
   abbrev pub Row : Known → Known → Type 0

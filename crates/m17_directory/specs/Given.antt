@@ -3,7 +3,7 @@ use Rattle.std.specs.Prelude.{◌≡◌, ◌==◌, ◌&&◌, ℕ, ◌<◌, Bool,
 use Rattle.std.specs.List.{list_any, range_with_len}
 use Rattle.m17_values.specs.declared.member.Member.{Member}
 use Rattle.m17_directory.specs.declared.known.Known.{Known}
-use Rattle.m17_directory.specs.Entries.{Notice, Claim, Entry, Setup, claim_at}
+use Rattle.m17_directory.specs.Entries.{Claim, Entry, Setup, claim_at}
 use Rattle.m17_directory.specs.Outcome.{has_place}
 use Rattle.m17_directory.specs.Routed.{past_at, asks_at, others_at}
 

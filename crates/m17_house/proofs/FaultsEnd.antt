@@ -1,11 +1,11 @@
 -- Where 16 faults come in a row, the last of them ends the link.
-use Rattle.std.proofs.Common.{◌≡◌, ℕ, zero, suc, ◌+◌, ◌-◌, ◌<◌, ◌≤◌, true, leb, List, [], ◌∷◌, ◌++◌, length, slice_get, replicate, Option, None, Some, refl, ap, subst, ◌∙◌, append_assoc, arith}
+use Rattle.std.proofs.Common.{◌≡◌, ℕ, zero, suc, ◌+◌, ◌-◌, ◌<◌, ◌≤◌, true, leb, List, [], ◌∷◌, ◌++◌, length, slice_get, replicate, Some, refl, ap, subst, ◌∙◌, append_assoc, arith}
 use Rattle.std.specs.List.{list_all, range_with_len}
 use Rattle.std.proofs.lemmas.Bool.{and_from, le-leb, or_right}
 use Rattle.std.proofs.lemmas.Option.{none-some, same_Some, slice_get_within}
 use Rattle.m17_values.specs.declared.heard.Heard.{Heard}
 use Rattle.m17_values.specs.declared.heard.Heard.TheVariants as heard
-use Rattle.m17_directory.specs.Entries.{Entry, Notice, Says, SaysEach, notice_of, notice_at, is_end, is_fault, most_faults, ends_at}
+use Rattle.m17_directory.specs.Entries.{Entry, Says, SaysEach, notice_of, notice_at, is_end, is_fault, most_faults, ends_at}
 use Rattle.m17_house.specs.Laws.{FaultsEndIt, sixteen_faults}
 
 -- what is said of one that was heard

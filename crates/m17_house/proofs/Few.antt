@@ -1,5 +1,5 @@
 -- How much an entry posts: who leaves by it, and little more.
-use Rattle.std.proofs.Common.{◌≡◌, ℕ, ◌+◌, ◌/◌, ◌≤◌, Bool, true, false, not, cond, List, [], ◌∷◌, ◌++◌, length, map, filter, nat_lt, Option, None, Some, ap, arith}
+use Rattle.std.proofs.Common.{ℕ, ◌+◌, ◌/◌, ◌≤◌, Bool, true, false, not, cond, List, [], ◌∷◌, ◌++◌, length, map, filter, nat_lt, Option, None, Some, arith}
 use Rattle.std.specs.List.{range_with_len}
 use Rattle.std.proofs.lemmas.List.{length-append, length-map}
 use Rattle.std.proofs.lemmas.List.Sums.{length-filter, count_by-le-length}
@@ -16,12 +16,11 @@ use Rattle.m17_control.specs.Modules.{serves, letters_of}
 use Rattle.m17_directory.specs.declared.dispatch.Dispatch.{Dispatch}
 use Rattle.m17_directory.specs.declared.known.Known.{Known}
 use Rattle.m17_directory.specs.declared.known.Request.{Request}
-use Rattle.m17_directory.specs.declared.verdict.LinkVerdict.{LinkVerdict}
 use Rattle.m17_directory.specs.declared.verdict.LinkVerdict.TheVariants as link
 use Rattle.m17_directory.specs.declared.verdict.Act.TheVariants as act
 use Rattle.m17_directory.specs.Entries.{Claim, Notice, notice_at, moment_before, moment_at, ends_at}
-use Rattle.m17_directory.specs.Known.{Past, now, known_at, request_in}
-use Rattle.m17_directory.specs.Outcome.{Here, Outcome, only, posting, leaving, leave, to_module, to_door, to_each_module, is_what, known_asks, other_asks, of_known, of_other, of_packet, of_end, has_place, settled}
+use Rattle.m17_directory.specs.Known.{Past, now, known_at}
+use Rattle.m17_directory.specs.Outcome.{Here, Outcome, only, posting, leaving, leave, to_module, to_door, to_each_module, is_what, known_asks, other_asks, of_known, of_other, of_packet, of_end, has_place}
 use Rattle.m17_directory.specs.Routed.{here_of, silent_at, still_at, row_for, said_at, ticks_at, tick_ms, heard_at, others_at, settled_at, settled_by, request_at}
 
 -- there are 26 letters

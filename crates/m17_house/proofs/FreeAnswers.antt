@@ -1,37 +1,33 @@
 -- What is answered where other free places are given.
-use Rattle.std.proofs.Common.{◌≡◌, ℕ, zero, suc, ◌+◌, ◌<◌, ◌≤◌, ◌==◌, ◌&&◌, ◌||◌, Bool, true, false, cond, List, [], ◌∷◌, ◌++◌, length, map, filter_map, slice_get, option_map, option_and_then, Option, None, Some, inl, inr, refl, ap, sym, ◌∙◌, arith}
-use Rattle.std.specs.List.{AllZip, AllByRecursion, list_any, flat_map, range_with_len}
-use Rattle.std.proofs.lemmas.Bool.{cases_Bool, and_from, and_parts, eq-eqb, eqb-true, false≢true}
-use Rattle.std.proofs.lemmas.List.{length-map}
+use Rattle.std.proofs.Common.{◌≡◌, ℕ, zero, suc, ◌+◌, ◌<◌, ◌==◌, ◌&&◌, ◌||◌, Bool, true, false, List, [], ◌∷◌, ◌++◌, length, map, slice_get, option_and_then, Option, None, Some, refl, ap, sym, ◌∙◌}
+use Rattle.std.specs.List.{list_any, flat_map, range_with_len}
+use Rattle.std.proofs.lemmas.Bool.{and_from, and_parts, eq-eqb, eqb-true, false≢true}
 use Rattle.std.proofs.lemmas.Option.{same_Some}
-use Rattle.m17_values.specs.declared.heard.Heard.{Heard}
 use Rattle.m17_values.specs.declared.member.Member.{Member}
 use Rattle.m17_values.specs.declared.peer.Peer.{Peer}
 use Rattle.m17_control.specs.declared.event.Body.{Body}
 use Rattle.m17_control.specs.declared.event.Body.TheVariants as body
 use Rattle.m17_control.specs.declared.event.Event.{Event}
-use Rattle.m17_control.specs.declared.packet.Packet.{Packet}
 use Rattle.m17_control.specs.declared.packet.Packet.TheVariants as packets
 use Rattle.m17_control.specs.Modules.{letters_of}
-use Rattle.m17_control.specs.Renamed.{IsRenamedBody, IsRenamedEvent, AreRenamedEvents}
+use Rattle.m17_control.specs.Renamed.{IsRenamedBody, AreRenamedEvents}
 use Rattle.m17_floor.specs.declared.verdict.Verdict.{Verdict}
 use Rattle.m17_floor.specs.Acts.{is_same}
 use Rattle.m17_floor.specs.Floor.{verdict_at}
 use Rattle.m17_floor.specs.Renamed.{IsOneToOne, unnamed_verdict}
 use Rattle.m17_module.specs.Events.{acts_of}
-use Rattle.m17_module.specs.Items.{items_given}
 use Rattle.m17_module.specs.Laws as module_law
 use Rattle.m17_lookup.specs.Lookup.{last_below}
 use Rattle.m17_directory.specs.declared.verdict.LinkVerdict.{LinkVerdict}
 use Rattle.m17_directory.specs.declared.verdict.LinkVerdict.TheVariants as link
 use Rattle.m17_directory.specs.declared.verdict.Act.TheVariants as act
 use Rattle.m17_directory.specs.Entries.{Claim, Entry, claim_at, is_peer}
-use Rattle.m17_directory.specs.Given.{AreGivenFreely, SayTheSame, gives, stands_for}
-use Rattle.m17_directory.specs.Laws.{EachEntrySaysOneThing, HasBytes, AreGivenOtherwise, PlacesChangeNoVerdict, JoinsTakeFreePlaces}
+use Rattle.m17_directory.specs.Given.{AreGivenFreely, gives, stands_for}
+use Rattle.m17_directory.specs.Laws.{EachEntrySaysOneThing, AreGivenOtherwise, PlacesChangeNoVerdict, JoinsTakeFreePlaces}
 use Rattle.m17_directory.specs.Routed.{link_verdict, routed, direct_replies}
 use Rattle.m17_house.specs.declared.plan.Plan.{Plan}
 use Rattle.m17_house.specs.Replay.{setup_of, module_setup, is_packet_body, is_packet_from, verdict_among, verdict_routed, packet_verdict, said_by_module, said_to}
-use Rattle.m17_house.specs.Free.{IsFreeReplayOf, ComeToTheSame}
+use Rattle.m17_house.specs.Free.{ComeToTheSame}
 use Rattle.m17_house.specs.Laws.{FreeReplaysComeToTheSame}
 use Rattle.m17_house.proofs.Among.{last_same}
 use Rattle.m17_house.proofs.FreeSame.{same_entries}

@@ -1,18 +1,16 @@
 -- The least free place is a free one, and its members are told apart by their generations.
-use Rattle.std.proofs.Common.{◌≡◌, ℕ, zero, suc, ◌+◌, ◌-◌, ◌<◌, ◌≤◌, ◌==◌, ◌&&◌, Bool, true, false, cond, List, [], ◌∷◌, length, nat_lt, count_by, slice_get, option_and_then, MatchBool, Option, None, Some, inl, inr, refl, ap, sym, subst, ◌∙◌, arith}
-use Rattle.std.specs.List.{list_any, range_with_len}
-use Rattle.std.proofs.lemmas.Bool.{cases_lt, cases_Bool, ltb-true, eq-eqb}
+use Rattle.std.proofs.Common.{◌≡◌, ℕ, zero, suc, ◌+◌, ◌<◌, ◌≤◌, ◌&&◌, Bool, true, false, cond, List, [], ◌∷◌, length, nat_lt, count_by, slice_get, option_and_then, MatchBool, Option, None, Some, inl, inr, refl, ap, sym, ◌∙◌, arith}
+use Rattle.std.specs.List.{range_with_len}
+use Rattle.std.proofs.lemmas.Bool.{cases_lt, ltb-true, eq-eqb}
 use Rattle.std.proofs.lemmas.Option.{same_Some, slice_get_within}
 use Rattle.m17_values.specs.declared.member.Member.{Member}
-use Rattle.m17_values.specs.declared.heard.Heard.{Heard}
 use Rattle.m17_directory.specs.declared.known.Known.{Known}
 use Rattle.m17_directory.specs.Entries.{Claim, Entry, Setup, claim_at}
 use Rattle.m17_directory.specs.Known.{is_of_place}
-use Rattle.m17_directory.specs.Given.{IsOfFreePlace, IsGivenAt, AreGivenFreely}
-use Rattle.m17_directory.specs.Outcome.{has_place}
+use Rattle.m17_directory.specs.Given.{IsOfFreePlace, IsGivenAt}
 use Rattle.m17_directory.specs.Routed.{past_at, asks_at, others_at}
 use Rattle.m17_house.specs.declared.plan.Plan.{Plan}
-use Rattle.m17_house.specs.Replay.{IsLeastFree, IsFreeClaim, IsChosenAt, IsReplayOf, setup_of, given_before}
+use Rattle.m17_house.specs.Replay.{IsLeastFree, IsFreeClaim, IsChosenAt, setup_of, given_before}
 use Rattle.m17_house.specs.Laws.{ReplaysGiveFreely}
 use Rattle.m17_house.proofs.Chosen.{range_more}
 use Rattle.m17_house.proofs.Lists.{count_append, count_one}

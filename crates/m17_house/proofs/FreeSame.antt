@@ -1,10 +1,10 @@
 -- The entries of two replays of what was heard say the same, and are as many.
-use Rattle.std.proofs.Common.{◌≡◌, ℕ, zero, suc, ◌+◌, ◌-◌, ◌<◌, ◌≤◌, ◌&&◌, ◌||◌, Bool, true, false, List, [], ◌∷◌, ◌++◌, length, map, slice_get, nat_le, Option, None, Some, inl, inr, refl, ap, sym, subst, ◌∙◌, arith}
+use Rattle.std.proofs.Common.{◌≡◌, ℕ, zero, suc, ◌+◌, ◌-◌, ◌<◌, ◌≤◌, ◌&&◌, ◌||◌, Bool, List, [], ◌∷◌, length, map, slice_get, nat_le, Some, inl, inr, refl, ap, sym, subst, ◌∙◌, arith}
 use Rattle.std.specs.List.{AllByRecursion, list_all, range_with_len}
 use Rattle.std.proofs.lemmas.Bool.{cases_lt, cases_Bool, leb-true, false≢true}
 use Rattle.std.proofs.lemmas.Option.{same_Some}
 use Rattle.m17_values.specs.declared.heard.Heard.{Heard}
-use Rattle.m17_directory.specs.Entries.{Entry, Notice, Says, SaysEach, notice_at, is_fault, is_end, most_faults, ends_at}
+use Rattle.m17_directory.specs.Entries.{Entry, Says, notice_at, is_fault, is_end, most_faults, ends_at}
 use Rattle.m17_directory.specs.Given.{SayTheSame}
 use Rattle.m17_directory.specs.Laws.{EachEntrySaysOneThing, HasBytes}
 use Rattle.m17_house.specs.declared.plan.Plan.{Plan}

@@ -1,5 +1,5 @@
 -- What follows from the definitions for all that a link may hear. This profile.
-use Rattle.std.specs.Prelude.{◌≡◌, ◌+◌, List, ◌∷◌, ◌++◌, length, replicate, Bool, true, Option, Some}
+use Rattle.std.specs.Prelude.{◌≡◌, ◌+◌, List, ◌∷◌, ◌++◌, length, replicate, true, Option, Some}
 use Rattle.std.specs.List.{AllByRecursion}
 use Rattle.m17_values.specs.declared.heard.Heard.{Heard}
 use Rattle.m17_values.specs.declared.heard.Heard.TheVariants as heard

@@ -1,6 +1,6 @@
 -- A replay: what one link heard, judged in one thread, with places given as a patient reflector gives them. This
 -- profile.
-use Rattle.std.specs.Prelude.{◌≡◌, ◌==◌, ◌&&◌, ℕ, ◌-◌, ◌^◌, ◌<◌, Bool, true, false, List, [], ◌∷◌, ◌++◌, length, map, min, count_by, nat_lt, slice_get, Option, None, Some, option_and_then, MatchBool, if◌then◌else◌}
+use Rattle.std.specs.Prelude.{◌≡◌, ◌==◌, ◌&&◌, ℕ, ◌-◌, ◌^◌, ◌<◌, Bool, true, false, List, ◌++◌, length, map, min, count_by, nat_lt, slice_get, Option, None, Some, option_and_then, MatchBool, if◌then◌else◌}
 use Rattle.std.specs.List.{filter_map, flat_map, list_any, range_with_len}
 use Rattle.m17_values.specs.declared.heard.Heard.{Heard}
 use Rattle.m17_values.specs.declared.peer.Peer.{Peer}

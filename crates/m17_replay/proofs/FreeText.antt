@@ -1,13 +1,11 @@
 -- An input has one text, whichever free places are given.
-use Rattle.std.proofs.Common.{◌≡◌, ℕ, zero, suc, ◌+◌, ◌-◌, ◌<◌, ◌≤◌, ◌==◌, Bool, true, false, cond, List, [], ◌∷◌, ◌++◌, length, map, slice_get, count_by, codes, Option, None, Some, option_map, inl, inr, refl, ap, sym, subst, ◌∙◌, arith}
+use Rattle.std.proofs.Common.{◌≡◌, ℕ, zero, suc, ◌+◌, ◌-◌, ◌<◌, ◌≤◌, Bool, true, false, cond, List, [], ◌∷◌, ◌++◌, length, map, slice_get, codes, Option, None, Some, option_map, refl, ap, sym, subst, ◌∙◌, arith}
 use Rattle.std.specs.List.{flat_map, range_with_len}
-use Rattle.std.proofs.lemmas.Bool.{cases_Bool}
 use Rattle.std.proofs.lemmas.List.{length-map}
 use Rattle.std.proofs.lemmas.List.Sums.{sum_by-cons}
 use Rattle.std.proofs.lemmas.Option.{slice_get-map}
 use Rattle.m17_values.specs.declared.heard.Heard.{Heard}
 use Rattle.m17_values.specs.declared.peer.Peer.{Peer}
-use Rattle.m17_ports.specs.declared.tally.Tally.{Tally}
 use Rattle.m17_book.specs.Laws.{TracesAreExact}
 use Rattle.m17_floor.specs.declared.verdict.Verdict.{Verdict}
 use Rattle.m17_floor.specs.declared.verdict.Verdict.TheVariants as floor
@@ -21,11 +19,11 @@ use Rattle.m17_directory.specs.Routed.{link_verdict}
 use Rattle.m17_house.specs.declared.plan.Plan.{Plan}
 use Rattle.m17_house.specs.Free.{IsFreeReplayOf, ComeToTheSame}
 use Rattle.m17_house.specs.Laws.{ReplaysGiveFreely, FreeReplaysComeToTheSame}
-use Rattle.m17_house.specs.Replay.{setup_of, packet_verdict, said_to, tally_of}
+use Rattle.m17_house.specs.Replay.{setup_of, packet_verdict, tally_of}
 use Rattle.m17_report.specs.declared.kind.Kind.{Kind}
 use Rattle.m17_report.specs.Lines.{link_text, line_with, verdict_line}
-use Rattle.m17_report.specs.Summary.{Outcome, kinds, kind_word, kind_place, kind_of, is_kind_at, count_at, count_line, counts_text, peer_line, peers_text}
-use Rattle.m17_replay.specs.Laws.{IsFreeReplayText, TextIsFreeOfPlaces}
+use Rattle.m17_report.specs.Summary.{Outcome, kinds, kind_word, kind_place, kind_of, is_kind_at, count_at, count_line, peer_line, peers_text}
+use Rattle.m17_replay.specs.Laws.{TextIsFreeOfPlaces}
 use Rattle.m17_replay.specs.Replay.{is_lost, heard_count, outcome_of, line_of, lines_text, tally_at, summary_text, replay_text}
 use Rattle.m17_replay.proofs.OneText.{heard_bytes}
 

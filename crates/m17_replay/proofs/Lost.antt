@@ -1,5 +1,5 @@
 -- The link of a trace was lost exactly where 16 faults in a row stand in it.
-use Rattle.std.proofs.Common.{◌≡◌, ◌↔◌, ◌⊎◌, ℕ, zero, suc, ◌+◌, ◌-◌, ◌<◌, ◌≤◌, Bool, true, false, leb, List, [], ◌∷◌, ◌++◌, length, take, drop, get_or, slice_get, replicate, Option, None, Some, inl, inr, refl, ap, sym, subst, ◌∙◌, append_assoc, length-append, length-drop, arith}
+use Rattle.std.proofs.Common.{◌≡◌, ◌⊎◌, ℕ, zero, suc, ◌+◌, ◌-◌, ◌<◌, ◌≤◌, true, false, leb, List, [], ◌∷◌, ◌++◌, length, take, drop, get_or, slice_get, replicate, Some, inl, inr, refl, ap, sym, subst, ◌∙◌, append_assoc, length-append, length-drop, arith}
 use Rattle.std.specs.List.{list_all, range_with_len}
 use Rattle.std.proofs.lemmas.Bool.{and_parts, or_cases, cases_Bool, cases_lt, false≢true, both_ways, leb-true}
 use Rattle.std.proofs.lemmas.List.{append-nil, length-replicate, take-append-drop}

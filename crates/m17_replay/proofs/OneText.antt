@@ -7,7 +7,6 @@ use Rattle.m17_book.specs.Book.{IsTrace}
 use Rattle.m17_book.specs.Entries.{FitsEntry, SpellsEntry}
 use Rattle.m17_book.specs.Laws.{TracesAreExact}
 use Rattle.m17_book.specs.Limits.{SpellsEach}
-use Rattle.m17_directory.specs.Entries.{Entry}
 use Rattle.m17_directory.specs.Laws.{HasBytes}
 use Rattle.m17_house.specs.Laws.{OneReplay}
 use Rattle.m17_house.specs.Replay.{IsReplayOf}
