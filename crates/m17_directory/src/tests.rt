@@ -72,9 +72,9 @@ fn for_good(d: &mut Directory)
     ensures asked { d.new.asked ≡ d.old.asked }
     ensures setup { d.new.setup ≡ d.old.setup }
 {
-    d.noted(member(0, 0));
-    d.noted(member(0, 1));
-    d.noted(member(1, 0));
+    for (place, generation) in [(0, 0), (0, 1), (1, 0)] {
+        d.noted(member(place, generation));
+    }
 }
 
 // Settles what is asked with this member, and takes out what that posts.
@@ -224,14 +224,32 @@ fn hear_rows(rt: &impl Abort, places: u32, d: &mut Directory, post: &mut Post, r
     }
 }
 
-// Hears the rows in a directory of so many places that is new, and says how many are known then.
-fn known_after(rt: &impl Abort, alloc: Global, places: u32, rows: &[Row]) -> u32
+// What is left of a link: how many are known, whether it has ended, and whether places 0, 1 and 2 are held.
+#[derive(Clone, Copy, Debug, PartialEq, Eq)]
+struct Left {
+    known: u32,
+    ended: bool,
+    held: [bool; 3],
+}
+
+// What is left when a new directory of so many places has heard the rows.
+fn left_by(rt: &impl Abort, alloc: Global, places: u32, rows: &[Row]) -> Left
     requires some { (0 < places) × (places ≤ 256) }
 {
     let (mut d, mut post) = start(rt, alloc, places);
     hear_rows(rt, places, &mut d, &mut post, rows);
-    d.known()
+    Left {
+        known: d.known(),
+        ended: d.has_ended(),
+        held: [d.has_place(0), d.has_place(1), d.has_place(2)],
+    }
 }
+
+const NOBODY: Left = Left {
+    known: 0,
+    ended: false,
+    held: [false; 3],
+};
 
 // Hears so many failures in a row, which do not end the link.
 fn hear_faults(rt: &impl Abort, places: u32, d: &mut Directory, post: &mut Post, count: u64)
@@ -306,10 +324,11 @@ fn an_evening_of_two_peers(rt: HostRuntime) -> Result<(), Fail> {
         ),
         (0, 0, Turn::End, None, ENDED, STOPS),
     ];
-    let (mut d, mut post) = start(&rt, rt.alloc(), 64);
-    hear_rows(&rt, 64, &mut d, &mut post, &ROWS);
-    assert!(&rt; d.has_ended());
-    assert_eq!(&rt; d.known(), 0);
+    let left = Left {
+        ended: true,
+        ..NOBODY
+    };
+    assert_eq!(rt; left_by(&rt, rt.alloc(), 64, &ROWS), left);
     Ok(())
 }
 
@@ -329,7 +348,7 @@ fn strangers_and_unserved_modules(rt: HostRuntime) -> Result<(), Fail> {
         (3, 0, Turn::Nack, None, STRAY, QUIET),
         (2, 0, Turn::ShortDisc, None, LEAVES, LEAVE),
     ];
-    assert_eq!(&rt; known_after(&rt, rt.alloc(), 64, &ROWS), 0);
+    assert_eq!(rt; left_by(&rt, rt.alloc(), 64, &ROWS), NOBODY);
     Ok(())
 }
 
@@ -343,12 +362,12 @@ fn a_third_peer_gets_the_place_that_was_left(rt: HostRuntime) -> Result<(), Fail
         (1, 0, Turn::Disc("AB1CD"), None, LEAVES, LEAVE),
         (3, 0, Turn::Conn(b'A'), Some((0, 1)), JOINS, JOIN),
     ];
-    let (mut d, mut post) = start(&rt, rt.alloc(), 2);
-    hear_rows(&rt, 2, &mut d, &mut post, &ROWS);
-    assert_eq!(&rt; d.known(), 2);
-    assert!(&rt; d.has_place(0));
-    assert!(&rt; d.has_place(1));
-    assert!(&rt; !d.has_place(2));
+    let left = Left {
+        known: 2,
+        ended: false,
+        held: [true, true, false],
+    };
+    assert_eq!(rt; left_by(&rt, rt.alloc(), 2, &ROWS), left);
     Ok(())
 }
 
@@ -365,10 +384,12 @@ fn a_peer_moves_and_then_asks_again(rt: HostRuntime) -> Result<(), Fail> {
         (1, 10, Turn::Conn(b'B'), Some((0, 1)), MOVES, LEAVE_AND_JOIN),
         (1, 20, Turn::Conn(b'B'), None, AGAIN, ANSWER),
     ];
-    let (mut d, mut post) = start(&rt, rt.alloc(), 64);
-    hear_rows(&rt, 64, &mut d, &mut post, &ROWS);
-    assert_eq!(&rt; d.known(), 1);
-    assert!(&rt; d.has_place(0));
+    let left = Left {
+        known: 1,
+        ended: false,
+        held: [true, false, false],
+    };
+    assert_eq!(rt; left_by(&rt, rt.alloc(), 64, &ROWS), left);
     Ok(())
 }
 
@@ -379,7 +400,12 @@ fn a_claim_of_a_held_place_replaces_its_peer(rt: HostRuntime) -> Result<(), Fail
         (2, 0, Turn::Conn(b'A'), Some((1, 0)), JOINS, JOIN),
         (3, 15, Turn::Conn(b'A'), Some((1, 1)), JOINS, LEAVE_AND_JOIN),
     ];
-    assert_eq!(&rt; known_after(&rt, rt.alloc(), 64, &ROWS), 2);
+    let left = Left {
+        known: 2,
+        ended: false,
+        held: [true, true, false],
+    };
+    assert_eq!(rt; left_by(&rt, rt.alloc(), 64, &ROWS), left);
     Ok(())
 }
 
@@ -397,7 +423,7 @@ fn three_silent_peers_leave_at_once(rt: HostRuntime) -> Result<(), Fail> {
         (0, 100, Turn::Quiet, None, TIMED, QUIET),
         (0, 30_000, Turn::Quiet, None, TIMED, THREE),
     ];
-    assert_eq!(&rt; known_after(&rt, rt.alloc(), 64, &ROWS), 0);
+    assert_eq!(rt; left_by(&rt, rt.alloc(), 64, &ROWS), NOBODY);
     Ok(())
 }
 
