@@ -4,6 +4,7 @@ use m17_io::{Fault, Outlet, Sink, Source, read_tied};
 use m17_memory::{BytesOutlet, BytesSource, WaitingSource};
 use m17_values::Failed;
 use std::alloc::Global;
+use std::process::Abort;
 use std::test::Fail;
 
 // Bytes that count up from 0 to 250, over and over: 251 divides no size here, so a piece lost or moved shows.
@@ -70,45 +71,73 @@ fn sink(alloc: Global, fails: &[u64]) -> Result<BufferedSink<BytesOutlet>, Fail>
     Ok(BufferedSink::make(alloc, below)?)
 }
 
+// Whether these bytes, and no others, have left by now.
+fn has_sent(out: &BufferedSink<BytesOutlet>, bytes: &[u8]) -> bool {
+    out.outlet().bytes() == bytes
+}
+
+// Writes the bytes line by line, and compares how many have left after each line.
+fn write_lines(rt: &impl Abort, out: &mut BufferedSink<BytesOutlet>, bytes: &[u8]) {
+    for (i, line) in bytes.chunks(100).enumerate() {
+        assert!(rt; out.write(line).is_ok());
+        let gone = if i < 655 { 0 } else { 65_500 };
+        assert_eq!(rt; out.outlet().bytes().len(), gone, "after line {i}");
+    }
+    assert!(rt; out.flush().is_ok());
+    assert!(rt; has_sent(out, bytes));
+}
+
+// What is longer than the buffer, between two short texts.
+fn write_long(rt: &impl Abort, out: &mut BufferedSink<BytesOutlet>, bytes: &[u8]) {
+    assert!(rt; out.write(b"before").is_ok());
+    assert!(rt; out.write(bytes).is_ok());
+    assert!(rt; out.write(b"after").is_ok());
+    assert!(rt; out.flush().is_ok());
+}
+
 // The buffer has room for 655 lines of 100 bytes, and not for the next. What is longer than it keeps its place.
 #[test]
 fn bytes_leave_at_a_full_buffer_and_at_a_flush(rt: HostRuntime) -> Result<(), Fail> {
     let alloc = rt.alloc();
     let bytes = numbered(alloc, 70_000)?;
     let mut out = sink(alloc, &[])?;
-    for (i, line) in bytes.as_slice().chunks(100).enumerate() {
-        out.write(line)?;
-        let gone = if i < 655 { 0 } else { 65_500 };
-        assert_eq!(rt; out.outlet().bytes().len(), gone, "after line {i}");
-    }
-    out.flush()?;
-    assert!(rt; out.outlet().bytes() == bytes.as_slice());
-    out.write(b"before")?;
-    out.write(&bytes)?;
-    out.write(b"after")?;
-    out.flush()?;
-    let mut expected = bytes.to_vec(alloc)?;
-    expected.extend_from_slice(b"before")?;
-    expected.extend_from_slice(&bytes)?;
-    expected.extend_from_slice(b"after")?;
-    assert!(rt; out.outlet().bytes() == expected.as_slice());
+    write_lines(&rt, &mut out, &bytes);
+    write_long(&rt, &mut out, &bytes);
+    let expected = [&bytes, b"before".as_slice(), &bytes, b"after"].concat(alloc)?;
+    assert!(rt; has_sent(&out, &expected));
     Ok(())
+}
+
+// Fails in the middle of a flush, and then in a write that has to wait for room.
+fn fail_twice(rt: &impl Abort, out: &mut BufferedSink<BytesOutlet>, bytes: &[u8]) {
+    assert!(rt; out.write(bytes).is_ok());
+    assert!(rt; out.flush().is_err());
+    assert_eq!(rt; out.outlet().bytes().len(), 40_000);
+    assert!(rt; out.write(bytes).is_err());
+    assert!(rt; out.flush().is_ok());
 }
 
 // The second call of the outlet fails: 40,000 bytes have left then, and the others are still held.
 #[test]
 fn a_failure_loses_no_byte_and_repeats_none(rt: HostRuntime) -> Result<(), Fail> {
-    let alloc = rt.alloc();
-    let bytes = numbered(alloc, 60_000)?;
-    let mut out = sink(alloc, &[1, 2])?;
-    out.write(&bytes)?;
-    assert_eq!(rt; out.flush(), Err(Failed));
-    assert_eq!(rt; out.outlet().bytes().len(), 40_000);
-    // This write has to wait for room, which the third call refuses.
-    assert_eq!(rt; out.write(&bytes), Err(Failed));
-    out.flush()?;
-    assert!(rt; out.outlet().bytes() == bytes.as_slice());
+    let bytes = numbered(rt.alloc(), 60_000)?;
+    let mut out = sink(rt.alloc(), &[1, 2])?;
+    fail_twice(&rt, &mut out, &bytes);
+    assert!(rt; has_sent(&out, &bytes));
     Ok(())
+}
+
+// Reads two bytes at the most, and compares the answer and what has left then.
+fn reads(
+    rt: &impl Abort,
+    input: &mut BufferedSource<WaitingSource>,
+    out: &mut BufferedSink<BytesOutlet>,
+    answer: Result<usize, Fault>,
+    sent: &[u8],
+) {
+    let mut two = [0u8; 2];
+    assert_eq!(rt; read_tied(input, out, &mut two), answer);
+    assert!(rt; has_sent(out, sent));
 }
 
 #[test]
@@ -117,21 +146,14 @@ fn output_has_left_before_a_read_waits(rt: HostRuntime) -> Result<(), Fail> {
     let below = WaitingSource::new(b"abc".to_vec(alloc)?, [2].to_vec(alloc)?);
     let mut input = BufferedSource::make(alloc, below)?;
     let mut out = sink(alloc, &[1])?;
-    let mut two = [0u8; 2];
-    out.write(b"first")?;
-    assert_eq!(rt; read_tied(&mut input, &mut out, &mut two), Ok(2));
-    assert_eq!(rt; out.outlet().bytes(), b"first".as_slice());
+    assert!(rt; out.write(b"first").is_ok());
+    reads(&rt, &mut input, &mut out, Ok(2), b"first");
     // A byte is at hand: nothing waits, and nothing leaves.
-    out.write(b"second")?;
-    assert_eq!(rt; read_tied(&mut input, &mut out, &mut two), Ok(1));
-    assert_eq!(rt; out.outlet().bytes(), b"first".as_slice());
+    assert!(rt; out.write(b"second").is_ok());
+    reads(&rt, &mut input, &mut out, Ok(1), b"first");
     // The sink fails, then the source comes to its end, then the source fails.
-    assert_eq!(rt;
-        read_tied(&mut input, &mut out, &mut two),
-        Err(Fault::Write)
-    );
-    assert_eq!(rt; read_tied(&mut input, &mut out, &mut two), Ok(0));
-    assert_eq!(rt; out.outlet().bytes(), b"firstsecond".as_slice());
-    assert_eq!(rt; read_tied(&mut input, &mut out, &mut two), Err(Fault::Read));
+    reads(&rt, &mut input, &mut out, Err(Fault::Write), b"first");
+    reads(&rt, &mut input, &mut out, Ok(0), b"firstsecond");
+    reads(&rt, &mut input, &mut out, Err(Fault::Read), b"firstsecond");
     Ok(())
 }

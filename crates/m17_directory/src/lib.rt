@@ -36,4 +36,6 @@ mod plain_tests;
 #[cfg(test)]
 mod room_tests;
 #[cfg(test)]
+mod seen;
+#[cfg(test)]
 mod tests;

@@ -1,5 +1,5 @@
-use crate::{Known, Request};
-use m17_control::{Control, Packet, Refusal};
+use crate::{Dispatch, Known, Request};
+use m17_control::{Body, Control, Event, ModuleLetter, Modules, Packet, Refusal, Tag};
 use m17_values::{Member, Peer};
 
 // What an entry says, as it is defined.
@@ -211,5 +211,27 @@ impl Past<'_> {
         } else {
             self.row(x, n)
         }
+    }
+}
+
+// The entry at position n of what a link heard, looked at by the plain program.
+#[derive(Clone, Copy)]
+pub(crate) struct Here<'a> {
+    pub(crate) past: Past<'a>,
+    pub(crate) n: usize,
+    pub(crate) modules: Modules,
+}
+
+impl Here<'_> {
+    pub(crate) fn event(&self, module: ModuleLetter, body: &Body) -> Dispatch {
+        let event = Event {
+            tag: Tag {
+                link: 2,
+                index: self.n as u64,
+            },
+            at: self.past.moment(self.n),
+            body: *body,
+        };
+        Dispatch::ToModule { module, event }
     }
 }

@@ -92,7 +92,7 @@ fn hostile(dice: &mut Dice) -> (Gram, Refusal) {
 }
 
 // An entry at about this moment, from one of the first or of the last peers.
-pub(crate) fn generated(rt: &impl Abort, dice: &mut Dice, at: u64, from: Peer) -> (Notice, Heard) {
+fn generated(rt: &impl Abort, dice: &mut Dice, at: u64, from: Peer) -> (Notice, Heard) {
     match dice.roll(16) {
         0..=9 => {
             let control = generated_control(rt, dice);
@@ -129,7 +129,7 @@ pub(crate) fn moment_after(dice: &mut Dice, at: u64) -> u64 {
 }
 
 // Some lists have 15 or 16 faults in a row, and some an end.
-pub(crate) fn placed(seed: u64, i: usize) -> Option<(Notice, Heard)> {
+fn placed(seed: u64, i: usize) -> Option<(Notice, Heard)> {
     let kind = seed % 4;
     if kind == 1 && i >= 8 && i < 23 || kind == 2 && i >= 20 && i < 36 {
         Some((Notice::Fault, Heard::Fault))
@@ -154,7 +154,22 @@ pub(crate) fn claim_of(dice: &mut Dice, i: usize) -> Option<Member>
 }
 
 // One of 3 to 5 peers, the first or the last of all.
-pub(crate) fn sender(dice: &mut Dice, seed: u64) -> Peer {
+fn sender(dice: &mut Dice, seed: u64) -> Peer {
     let k = dice.roll(3 + seed % 3);
     peer(if seed % 2 == 0 { k } else { 4 - k })
+}
+
+// What is heard at position n, and how the plain program sees it.
+pub(crate) fn entry_at(
+    rt: &impl Abort,
+    dice: &mut Dice,
+    seed: u64,
+    n: usize,
+    at: u64,
+) -> (Notice, Heard) {
+    let from = sender(dice, seed);
+    match placed(seed, n) {
+        Some(both) => both,
+        None => generated(rt, dice, at, from),
+    }
 }

@@ -1,10 +1,10 @@
 ghost use Rattle.std.specs.Prelude.{◌≡◌, ◌↔◌, ◌<◌, true, None, IsSome, IfSome};
 
-use crate::plain::{Line, Notice, Past, request_in};
-use crate::plain_lists::{Dice, claim_of, generated, moment_after, peer, placed, sender};
+use crate::plain::{Here, Line, Notice, Past, request_in};
+use crate::plain_lists::{Dice, claim_of, entry_at, moment_after, peer};
 use crate::tests::{call, letter};
 use crate::{Act, Directory, Dispatch, Known, LinkVerdict, Post, Request};
-use m17_control::{Body, Control, Direct, Event, ModuleLetter, Modules, Packet, Tag, Why};
+use m17_control::{Body, Control, Direct, Modules, Packet, Why};
 use m17_values::{Heard, Peer};
 use std::alloc::Global;
 use std::process::Abort;
@@ -94,28 +94,6 @@ impl Counts {
             LinkVerdict::Ended => more(&mut self.ended),
             LinkVerdict::Asks | LinkVerdict::Routed { .. } => (),
         }
-    }
-}
-
-// The entry at position n of what a link heard, looked at by the plain program.
-#[derive(Clone, Copy)]
-struct Here<'a> {
-    past: Past<'a>,
-    n: usize,
-    modules: Modules,
-}
-
-impl Here<'_> {
-    fn event(&self, module: ModuleLetter, body: &Body) -> Dispatch {
-        let event = Event {
-            tag: Tag {
-                link: 2,
-                index: self.n as u64,
-            },
-            at: self.past.moment(self.n),
-            body: *body,
-        };
-        Dispatch::ToModule { module, event }
     }
 }
 
@@ -400,12 +378,49 @@ fn settle_next(
     assert!(rt; post.is_empty());
 }
 
+// A new directory of eight places, and its post.
+fn start(rt: &impl Abort, alloc: Global, modules: Modules) -> (Directory, Post)
+    ensures asked { result.0.asked ≡ None }
+    ensures places { result.0.setup.places ≡ 8 }
+{
+    let d = Directory::make(alloc, 2, call(rt, "M17-TST"), 8, modules);
+    let d = d.ok().expect(rt, "memory");
+    let post = Post::make(alloc).ok().expect(rt, "memory");
+    (d, post)
+}
+
+// Hears the entry at the position, and settles what it asks: the line that it leaves.
+fn take_entry(
+    rt: &impl Abort,
+    d: &mut Directory,
+    post: &mut Post,
+    counts: &mut Counts,
+    dice: &mut Dice,
+    here: &Here<'_>,
+    entry: &(Notice, Heard),
+) -> Line
+    requires nothing_asked { d.old.asked ≡ None }
+    requires places { d.old.setup.places ≡ 8 }
+    ensures nothing_asked { d.new.asked ≡ None }
+    ensures places { d.new.setup.places ≡ 8 }
+{
+    let (notice, heard) = entry;
+    let mut line = Line {
+        notice: *notice,
+        ..NOTHING
+    };
+    line.asked = hear_next(rt, d, post, counts, here, heard, notice);
+    if line.asked {
+        line.claim = claim_of(dice, here.n);
+        settle_next(rt, d, post, counts, here, &line);
+    }
+    line
+}
+
 // Hears a list of entries that comes of a number, beside the plain program.
 fn run_list(rt: &impl Abort, alloc: Global, seed: u64, counts: &mut Counts) {
     let modules = Modules::read("ZBA").ok().expect(rt, "modules");
-    let d = Directory::make(alloc, 2, call(rt, "M17-TST"), 8, modules);
-    let mut d = d.ok().expect(rt, "memory");
-    let mut post = Post::make(alloc).ok().expect(rt, "memory");
+    let (mut d, mut post) = start(rt, alloc, modules);
     let mut dice = Dice {
         n: seed.wrapping_mul(7_919),
     };
@@ -416,20 +431,14 @@ fn run_list(rt: &impl Abort, alloc: Global, seed: u64, counts: &mut Counts) {
             return;
         }
         at = moment_after(&mut dice, at);
-        let from = sender(&mut dice, seed);
-        let (notice, heard) = match placed(seed, n) {
-            Some(both) => both,
-            None => generated(rt, &mut dice, at, from),
+        let entry = entry_at(rt, &mut dice, seed, n, at);
+        lines[n] = Line {
+            notice: entry.0,
+            ..NOTHING
         };
-        let mut line = Line { notice, ..NOTHING };
-        lines[n] = line;
         let past = Past { lines: &lines };
         let here = Here { past, n, modules };
-        line.asked = hear_next(rt, &mut d, &mut post, counts, &here, &heard, &notice);
-        if line.asked {
-            line.claim = claim_of(&mut dice, n);
-            settle_next(rt, &mut d, &mut post, counts, &here, &line);
-        }
+        let line = take_entry(rt, &mut d, &mut post, counts, &mut dice, &here, &entry);
         lines[n] = line;
         if dice.roll(2) == 0 {
             note_all(&mut d, &lines);

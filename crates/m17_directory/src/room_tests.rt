@@ -64,6 +64,11 @@ fn taken(post: &mut Post) -> Next {
     }
 }
 
+// The next that was posted is this.
+fn comes(rt: &impl Abort, post: &mut Post, next: Next) {
+    assert_eq!(rt; taken(post), next);
+}
+
 // A peer asks at this moment.
 fn asks(rt: &impl Abort, d: &mut Directory, post: &mut Post, index: u64, from: &Peer, at: u64)
     requires nothing_asked { d.old.asked ≡ None }
@@ -95,8 +100,8 @@ fn joins(rt: &impl Abort, d: &mut Directory, post: &mut Post, m: Member)
     };
     let verdict = d.settle(Some(m), 0, post);
     assert_eq!(rt; verdict, joined);
-    assert_eq!(rt; taken(post), Next::Join(m));
-    assert_eq!(rt; taken(post), Next::Nothing);
+    comes(rt, post, Next::Join(m));
+    comes(rt, post, Next::Nothing);
 }
 
 // It gets none.
@@ -110,8 +115,8 @@ fn is_turned_away(rt: &impl Abort, d: &mut Directory, post: &mut Post)
     assert!(rt; post.is_empty());
     let verdict = d.settle(None, 0, post);
     assert_eq!(rt; verdict, LinkVerdict::Full);
-    assert_eq!(rt; taken(post), Next::Nack);
-    assert_eq!(rt; taken(post), Next::Nothing);
+    comes(rt, post, Next::Nack);
+    comes(rt, post, Next::Nothing);
 }
 
 // Peers 255 to 0 of the house get places 0 to 255.
@@ -134,10 +139,10 @@ fn all_join(rt: &impl Abort, d: &mut Directory, post: &mut Post, house: u8, at: 
 fn all_have_left(rt: &impl Abort, post: &mut Post, house: u8) {
     for n in 0..256 {
         let k = member(255 - n, u64::from(house));
-        assert_eq!(rt; taken(post), Next::Silent(k));
+        comes(rt, post, Next::Silent(k));
     }
-    assert_eq!(rt; taken(post), Next::Tick);
-    assert_eq!(rt; taken(post), Next::Nothing);
+    comes(rt, post, Next::Tick);
+    comes(rt, post, Next::Nothing);
 }
 
 // All of the house fall silent in one entry.
@@ -196,9 +201,9 @@ fn all_fall_silent_but_one(rt: &impl Abort, d: &mut Directory, post: &mut Post, 
     assert!(rt; post.is_empty());
     let verdict = d.hear(258, &Heard::Quiet { at }, post);
     assert!(rt; matches!(verdict, LinkVerdict::Timed));
-    assert_eq!(rt; taken(post), Next::Silent(member(255, 2)));
-    assert_eq!(rt; taken(post), Next::Tick);
-    assert_eq!(rt; taken(post), Next::Nothing);
+    comes(rt, post, Next::Silent(member(255, 2)));
+    comes(rt, post, Next::Tick);
+    comes(rt, post, Next::Nothing);
 }
 
 #[test]

@@ -1,38 +1,15 @@
-ghost use Rattle.std.specs.Prelude.{◌≡◌, ◌<◌, ◌≤◌, [], None};
+ghost use Rattle.std.specs.Prelude.{◌≡◌, ◌<◌, ◌≤◌, [], None, IsSome};
 
 use super::*;
+use crate::seen::{QUIET, Seen, both, drain};
 use m17_callsign::{CallAddress, encode};
-use m17_control::{Body, Control, Event, ModuleLetter, Modules, Why, write};
+use m17_control::{Body, Control, Event, ModuleLetter, Modules, Refusal, Why, write};
 use m17_samples::frame;
 use m17_stream::StreamPacket;
 use m17_values::{Gram, Heard, Member, Peer};
 use std::alloc::Global;
 use std::process::Abort;
 use std::test::Fail;
-
-// What an entry posted, as far as the tests look at it: the letters and kinds of events, and the replies to the door.
-#[derive(Clone, Copy, Debug, PartialEq, Eq, Default)]
-struct Seen {
-    ticks: u8,
-    stops: u8,
-    joins: u8,
-    leaves: u8,
-    packets: u8,
-    replies: u8,
-    nacks: u8,
-    discs: u8,
-}
-
-const QUIET: Seen = Seen {
-    ticks: 0,
-    stops: 0,
-    joins: 0,
-    leaves: 0,
-    packets: 0,
-    replies: 0,
-    nacks: 0,
-    discs: 0,
-};
 
 fn peer(host: u8) -> Peer {
     let mut ip = [0; 16];
@@ -82,10 +59,6 @@ fn lstn(rt: &impl Abort, from: &Peer, at: u64, module: u8) -> Heard {
     said(from, at, &control)
 }
 
-fn voice(from: &Peer, at: u64, sid: u16, number: u16) -> Heard {
-    sent(from, at, &frame(sid, number & 0x7fff, false))
-}
-
 fn sent(from: &Peer, at: u64, packet: &StreamPacket) -> Heard {
     Heard::Datagram {
         from: *from,
@@ -94,68 +67,38 @@ fn sent(from: &Peer, at: u64, packet: &StreamPacket) -> Heard {
     }
 }
 
-fn routed(rt: &impl Abort, module: u8, act: Act) -> LinkVerdict {
-    LinkVerdict::Routed {
-        module: letter(rt, module),
-        act,
-    }
-}
-
-fn count_event(body: &Body, seen: &mut Seen) {
-    match body {
-        Body::Tick => seen.ticks = seen.ticks.saturating_add(1),
-        Body::Stop => seen.stops = seen.stops.saturating_add(1),
-        Body::Join { .. } => seen.joins = seen.joins.saturating_add(1),
-        Body::Leave { .. } => seen.leaves = seen.leaves.saturating_add(1),
-        Body::Packet { .. } => seen.packets = seen.packets.saturating_add(1),
-        Body::Reply { .. } => seen.replies = seen.replies.saturating_add(1),
-    }
-}
-
-fn count_reply(control: &Control, seen: &mut Seen) {
-    match control {
-        Control::Nack => seen.nacks = seen.nacks.saturating_add(1),
-        Control::Disc { from: None } => seen.discs = seen.discs.saturating_add(1),
-        _ => (),
-    }
-}
-
-// Takes out all that was posted.
-fn drain(post: &mut Post) -> Seen
-    ensures { post.new ≡ [] }
-{
-    let mut seen = QUIET;
-    while let Some(dispatch) = post.take() {
-        match &dispatch {
-            Dispatch::ToModule { event, .. } => count_event(&event.body, &mut seen),
-            Dispatch::ToDoor(direct) => count_reply(&direct.control, &mut seen),
-        }
-    }
-    seen
-}
-
-// All that was posted for one entry.
-fn both(a: &Seen, b: &Seen) -> Seen {
-    Seen {
-        ticks: a.ticks.saturating_add(b.ticks),
-        stops: a.stops.saturating_add(b.stops),
-        joins: a.joins.saturating_add(b.joins),
-        leaves: a.leaves.saturating_add(b.leaves),
-        packets: a.packets.saturating_add(b.packets),
-        replies: a.replies.saturating_add(b.replies),
-        nacks: a.nacks.saturating_add(b.nacks),
-        discs: a.discs.saturating_add(b.discs),
-    }
-}
-
 // The leaving of the members that the tests use was reported.
 fn for_good(d: &mut Directory)
     ensures asked { d.new.asked ≡ d.old.asked }
     ensures setup { d.new.setup ≡ d.old.setup }
 {
-    d.noted(member(0, 0));
-    d.noted(member(0, 1));
-    d.noted(member(1, 0));
+    for (place, generation) in [(0, 0), (0, 1), (1, 0)] {
+        d.noted(member(place, generation));
+    }
+}
+
+// Settles what is asked with this member, and takes out what that posts.
+fn settles(
+    rt: &impl Abort,
+    places: u32,
+    d: &mut Directory,
+    post: &mut Post,
+    claimed: Option<Member>,
+) -> (LinkVerdict, Seen)
+    requires nothing_posted { post.old ≡ [] }
+    requires asked { IsSome d.old.asked }
+    requires places { d.old.setup.places ≡ places }
+    ensures nothing_posted { post.new ≡ [] }
+    ensures nothing_asked { d.new.asked ≡ None }
+    ensures places { d.new.setup.places ≡ places }
+{
+    for_good(d);
+    assert!(rt; !d.waits());
+    if let Some(member) = claimed {
+        assert!(rt; member.place < places);
+    }
+    let verdict = d.settle(claimed, 0, post);
+    (verdict, drain(post))
 }
 
 // Hears an entry, and settles what it asks with this member.
@@ -176,19 +119,13 @@ fn hears(
     ensures places { d.new.setup.places ≡ places }
 {
     assert!(rt; !d.has_ended());
-    match d.hear(index, h, post) {
-        LinkVerdict::Asks => {
-            let asked = drain(post);
-            for_good(d);
-            assert!(rt; !d.waits());
-            if let Some(member) = claimed {
-                assert!(rt; member.place < places);
-            }
-            let verdict = d.settle(claimed, 0, post);
-            (verdict, both(&asked, &drain(post)))
-        }
-        verdict => (verdict, drain(post)),
+    let verdict = d.hear(index, h, post);
+    let seen = drain(post);
+    if !matches!(verdict, LinkVerdict::Asks) {
+        return (verdict, seen);
     }
+    let (verdict, more) = settles(rt, places, d, post, claimed);
+    (verdict, both(&seen, &more))
 }
 
 fn start(rt: &impl Abort, alloc: Global, places: u32) -> (Directory, Post)
@@ -204,26 +141,73 @@ fn start(rt: &impl Abort, alloc: Global, places: u32) -> (Directory, Post)
     (d, post)
 }
 
-// What is heard, the place that the reflector gives where it asks, and what the entry becomes and posts.
-#[derive(Drop)]
-struct Line {
-    heard: Heard,
-    claimed: Option<Member>,
-    verdict: LinkVerdict,
-    seen: Seen,
+// What the peer of an entry sends, or what else is heard.
+#[derive(Clone, Copy)]
+enum Turn {
+    Conn(u8),
+    Lstn(u8),
+    Voice(u16, u16),
+    LastVoice(u16, u16),
+    Disc(&'static str),
+    ShortDisc,
+    Nack,
+    Hello,
+    Quiet,
+    End,
 }
 
-fn becomes(heard: Heard, claimed: Option<Member>, verdict: &LinkVerdict, seen: Seen) -> Line {
-    Line {
-        heard,
-        claimed,
-        verdict: *verdict,
-        seen,
+// What it becomes.
+#[derive(Clone, Copy)]
+enum Want {
+    Routed(u8, Act),
+    NotServed(u8),
+    Is(LinkVerdict),
+}
+
+// The peer's number, the moment, what is heard, the place and generation that the reflector gives where it asks, what
+// the entry becomes, and what it posts.
+type Row = (u8, u64, Turn, Option<(u32, u64)>, Want, Seen);
+
+// What is heard from this peer: one from 128 on is the one of a number lower by 128, in the other family.
+fn heard(rt: &impl Abort, host: u8, at: u64, turn: Turn) -> Heard {
+    let mut from = peer(host & 0x7f);
+    from.six = host >= 128;
+    match turn {
+        Turn::Conn(module) => conn(rt, &from, at, module),
+        Turn::Lstn(module) => lstn(rt, &from, at, module),
+        Turn::Voice(sid, number) => sent(&from, at, &frame(sid, number & 0x7fff, false)),
+        Turn::LastVoice(sid, number) => sent(&from, at, &frame(sid, number & 0x7fff, true)),
+        Turn::Disc(name) => {
+            let callsign = Some(call(rt, name));
+            said(&from, at, &Control::Disc { from: callsign })
+        }
+        Turn::ShortDisc => said(&from, at, &Control::Disc { from: None }),
+        Turn::Nack => said(&from, at, &Control::Nack),
+        Turn::Hello => Heard::Datagram {
+            from,
+            at,
+            bytes: Gram::of(b"hello"),
+        },
+        Turn::Quiet => Heard::Quiet { at },
+        Turn::End => Heard::End,
     }
 }
 
-// Hears the lines, from index 0 on.
-fn hear_lines(rt: &impl Abort, places: u32, d: &mut Directory, post: &mut Post, lines: &[Line])
+fn wanted(rt: &impl Abort, want: Want) -> LinkVerdict {
+    match want {
+        Want::Routed(module, act) => LinkVerdict::Routed {
+            module: letter(rt, module),
+            act,
+        },
+        Want::NotServed(module) => LinkVerdict::NotServed {
+            module: letter(rt, module),
+        },
+        Want::Is(verdict) => verdict,
+    }
+}
+
+// Hears the rows, from index 0 on.
+fn hear_rows(rt: &impl Abort, places: u32, d: &mut Directory, post: &mut Post, rows: &[Row])
     requires nothing_posted { post.old ≡ [] }
     requires nothing_asked { d.old.asked ≡ None }
     requires places { d.old.setup.places ≡ places }
@@ -231,12 +215,41 @@ fn hear_lines(rt: &impl Abort, places: u32, d: &mut Directory, post: &mut Post, 
     ensures nothing_asked { d.new.asked ≡ None }
     ensures places { d.new.setup.places ≡ places }
 {
-    for (index, line) in lines.iter().enumerate() {
-        let (verdict, seen) = hears(rt, places, d, post, index as u64, &line.heard, line.claimed);
-        assert_eq!(rt; verdict, line.verdict);
-        assert_eq!(rt; seen, line.seen);
+    for (index, &(host, at, turn, place, want, told)) in rows.iter().enumerate() {
+        let claimed = place.map(|(place, generation)| member(place, generation));
+        let h = heard(rt, host, at, turn);
+        let (verdict, seen) = hears(rt, places, d, post, index as u64, &h, claimed);
+        assert_eq!(rt; verdict, wanted(rt, want));
+        assert_eq!(rt; seen, told);
     }
 }
+
+// What is left of a link: how many are known, whether it has ended, and whether places 0, 1 and 2 are held.
+#[derive(Clone, Copy, Debug, PartialEq, Eq)]
+struct Left {
+    known: u32,
+    ended: bool,
+    held: [bool; 3],
+}
+
+// What is left when a new directory of so many places has heard the rows.
+fn left_by(rt: &impl Abort, alloc: Global, places: u32, rows: &[Row]) -> Left
+    requires some { (0 < places) × (places ≤ 256) }
+{
+    let (mut d, mut post) = start(rt, alloc, places);
+    hear_rows(rt, places, &mut d, &mut post, rows);
+    Left {
+        known: d.known(),
+        ended: d.has_ended(),
+        held: [d.has_place(0), d.has_place(1), d.has_place(2)],
+    }
+}
+
+const NOBODY: Left = Left {
+    known: 0,
+    ended: false,
+    held: [false; 3],
+};
 
 // Hears so many failures in a row, which do not end the link.
 fn hear_faults(rt: &impl Abort, places: u32, d: &mut Directory, post: &mut Post, count: u64)
@@ -262,208 +275,155 @@ const FRAME: Seen = Seen {
     ..QUIET
 };
 
+const FRAME_AND_TICKS: Seen = Seen {
+    packets: 1,
+    ..TICKS
+};
+
 const LEAVE: Seen = Seen { leaves: 1, ..QUIET };
+
+const LEAVE_AND_JOIN: Seen = Seen { leaves: 1, ..JOIN };
 
 const NACK: Seen = Seen { nacks: 1, ..QUIET };
 
-fn joins(rt: &impl Abort, host: u8, place: u32) -> Line {
-    let heard = conn(rt, &peer(host), 0, b'A');
-    becomes(
-        heard,
-        Some(member(place, 0)),
-        &routed(rt, b'A', Act::Join),
-        JOIN,
-    )
-}
+const JOINS: Want = Want::Routed(b'A', Act::Join);
 
-fn quiet(at: u64, seen: Seen) -> Line {
-    becomes(Heard::Quiet { at }, None, &LinkVerdict::Timed, seen)
-}
+const PASSES: Want = Want::Routed(b'A', Act::Packet);
+
+const LEAVES: Want = Want::Routed(b'A', Act::Leave);
+
+const STRANGER: Want = Want::Is(LinkVerdict::NotConnected);
+
+const TIMED: Want = Want::Is(LinkVerdict::Timed);
 
 #[test]
 fn an_evening_of_two_peers(rt: HostRuntime) -> Result<(), Fail> {
-    let (mut d, mut post) = start(&rt, rt.alloc(), 64);
-    let (p1, p2) = (peer(1), peer(2));
-    let frame = routed(&rt, b'A', Act::Packet);
-    let disc = Control::Disc {
-        from: Some(call(&rt, "N0CALL")),
-    };
-    let framed = Seen {
-        packets: 1,
-        ..TICKS
-    };
-    let two = Some(member(1, 0));
-    let lines = [
-        joins(&rt, 1, 0),
-        becomes(voice(&p1, 40, 0x1234, 0), None, &frame, framed),
-        becomes(
-            lstn(&rt, &p2, 50, b'A'),
-            two,
-            &routed(&rt, b'A', Act::Join),
-            JOIN,
-        ),
-        becomes(voice(&p1, 80, 0x1234, 1), None, &frame, framed),
-        becomes(voice(&p1, 120, 0x1234, 2), None, &frame, framed),
-        becomes(
-            said(&p2, 130, &disc),
+    const ENDED: Want = Want::Is(LinkVerdict::Ended);
+    const STOPS: Seen = Seen { stops: 3, ..LEAVE };
+    const ROWS: [Row; 8] = [
+        (1, 0, Turn::Conn(b'A'), Some((0, 0)), JOINS, JOIN),
+        (1, 40, Turn::Voice(0x1234, 0), None, PASSES, FRAME_AND_TICKS),
+        (2, 50, Turn::Lstn(b'A'), Some((1, 0)), JOINS, JOIN),
+        (1, 80, Turn::Voice(0x1234, 1), None, PASSES, FRAME_AND_TICKS),
+        (
+            1,
+            120,
+            Turn::Voice(0x1234, 2),
             None,
-            &routed(&rt, b'A', Act::Leave),
-            LEAVE,
+            PASSES,
+            FRAME_AND_TICKS,
         ),
-        becomes(
-            sent(&p1, 160, &m17_samples::frame(0x1234, 3, true)),
+        (2, 130, Turn::Disc("N0CALL"), None, LEAVES, LEAVE),
+        (
+            1,
+            160,
+            Turn::LastVoice(0x1234, 3),
             None,
-            &frame,
-            framed,
+            PASSES,
+            FRAME_AND_TICKS,
         ),
-        becomes(
-            Heard::End,
-            None,
-            &LinkVerdict::Ended,
-            Seen { stops: 3, ..LEAVE },
-        ),
+        (0, 0, Turn::End, None, ENDED, STOPS),
     ];
-    hear_lines(&rt, 64, &mut d, &mut post, &lines);
-    assert!(&rt; d.has_ended());
-    assert_eq!(&rt; d.known(), 0);
+    let left = Left {
+        ended: true,
+        ..NOBODY
+    };
+    assert_eq!(rt; left_by(&rt, rt.alloc(), 64, &ROWS), left);
     Ok(())
 }
 
 #[test]
 fn strangers_and_unserved_modules(rt: HostRuntime) -> Result<(), Fail> {
-    let (mut d, mut post) = start(&rt, rt.alloc(), 64);
-    let (p2, p3) = (peer(2), peer(3));
-    let unserved = LinkVerdict::NotServed {
-        module: letter(&rt, b'D'),
-    };
-    let short = Control::Disc { from: None };
-    let long = Control::Disc {
-        from: Some(call(&rt, "AB1CD")),
-    };
-    let join = routed(&rt, b'A', Act::Join);
-    let frame = routed(&rt, b'A', Act::Packet);
-    let lines = [
-        becomes(lstn(&rt, &p2, 0, b'A'), Some(member(0, 0)), &join, JOIN),
-        becomes(voice(&p2, 0, 1, 0), None, &frame, FRAME),
-        becomes(voice(&p3, 0, 2, 0), None, &LinkVerdict::NotConnected, QUIET),
-        becomes(conn(&rt, &p3, 0, b'D'), None, &unserved, NACK),
-        becomes(conn(&rt, &p2, 0, b'D'), None, &unserved, NACK),
-        becomes(
-            said(&p3, 0, &short),
-            None,
-            &LinkVerdict::NotConnected,
-            QUIET,
-        ),
-        becomes(
-            said(&p3, 0, &long),
-            None,
-            &LinkVerdict::NotConnected,
-            Seen { discs: 1, ..QUIET },
-        ),
-        becomes(
-            said(&p3, 0, &Control::Nack),
-            None,
-            &LinkVerdict::Stray,
-            QUIET,
-        ),
-        becomes(
-            said(&p2, 0, &short),
-            None,
-            &routed(&rt, b'A', Act::Leave),
-            LEAVE,
-        ),
+    const UNSERVED: Want = Want::NotServed(b'D');
+    const STRAY: Want = Want::Is(LinkVerdict::Stray);
+    const DISC: Seen = Seen { discs: 1, ..QUIET };
+    const ROWS: [Row; 9] = [
+        (2, 0, Turn::Lstn(b'A'), Some((0, 0)), JOINS, JOIN),
+        (2, 0, Turn::Voice(1, 0), None, PASSES, FRAME),
+        (3, 0, Turn::Voice(2, 0), None, STRANGER, QUIET),
+        (3, 0, Turn::Conn(b'D'), None, UNSERVED, NACK),
+        (2, 0, Turn::Conn(b'D'), None, UNSERVED, NACK),
+        (3, 0, Turn::ShortDisc, None, STRANGER, QUIET),
+        (3, 0, Turn::Disc("AB1CD"), None, STRANGER, DISC),
+        (3, 0, Turn::Nack, None, STRAY, QUIET),
+        (2, 0, Turn::ShortDisc, None, LEAVES, LEAVE),
     ];
-    hear_lines(&rt, 64, &mut d, &mut post, &lines);
+    assert_eq!(rt; left_by(&rt, rt.alloc(), 64, &ROWS), NOBODY);
     Ok(())
 }
 
 #[test]
 fn a_third_peer_gets_the_place_that_was_left(rt: HostRuntime) -> Result<(), Fail> {
-    let (mut d, mut post) = start(&rt, rt.alloc(), 2);
-    let p3 = peer(3);
-    let disc = Control::Disc {
-        from: Some(call(&rt, "AB1CD")),
-    };
-    let left = routed(&rt, b'A', Act::Leave);
-    let join = routed(&rt, b'A', Act::Join);
-    let lines = [
-        joins(&rt, 1, 0),
-        joins(&rt, 2, 1),
-        becomes(conn(&rt, &p3, 0, b'A'), None, &LinkVerdict::Full, NACK),
-        becomes(said(&peer(1), 0, &disc), None, &left, LEAVE),
-        becomes(conn(&rt, &p3, 0, b'A'), Some(member(0, 1)), &join, JOIN),
+    const FULL: Want = Want::Is(LinkVerdict::Full);
+    const ROWS: [Row; 5] = [
+        (1, 0, Turn::Conn(b'A'), Some((0, 0)), JOINS, JOIN),
+        (2, 0, Turn::Conn(b'A'), Some((1, 0)), JOINS, JOIN),
+        (3, 0, Turn::Conn(b'A'), None, FULL, NACK),
+        (1, 0, Turn::Disc("AB1CD"), None, LEAVES, LEAVE),
+        (3, 0, Turn::Conn(b'A'), Some((0, 1)), JOINS, JOIN),
     ];
-    hear_lines(&rt, 2, &mut d, &mut post, &lines);
-    assert_eq!(&rt; d.known(), 2);
-    assert!(&rt; d.has_place(0));
-    assert!(&rt; d.has_place(1));
-    assert!(&rt; !d.has_place(2));
+    let left = Left {
+        known: 2,
+        ended: false,
+        held: [true, true, false],
+    };
+    assert_eq!(rt; left_by(&rt, rt.alloc(), 2, &ROWS), left);
     Ok(())
 }
 
 #[test]
 fn a_peer_moves_and_then_asks_again(rt: HostRuntime) -> Result<(), Fail> {
-    let (mut d, mut post) = start(&rt, rt.alloc(), 64);
-    let p1 = peer(1);
-    let moved = Seen { leaves: 1, ..JOIN };
-    let answered = Seen {
+    const MOVES: Want = Want::Routed(b'B', Act::Join);
+    const AGAIN: Want = Want::Routed(b'B', Act::Again);
+    const ANSWER: Seen = Seen {
         replies: 1,
         ..TICKS
     };
-    let join = routed(&rt, b'B', Act::Join);
-    let again = routed(&rt, b'B', Act::Again);
-    let lines = [
-        joins(&rt, 1, 0),
-        becomes(conn(&rt, &p1, 10, b'B'), Some(member(0, 1)), &join, moved),
-        becomes(conn(&rt, &p1, 20, b'B'), None, &again, answered),
+    const ROWS: [Row; 3] = [
+        (1, 0, Turn::Conn(b'A'), Some((0, 0)), JOINS, JOIN),
+        (1, 10, Turn::Conn(b'B'), Some((0, 1)), MOVES, LEAVE_AND_JOIN),
+        (1, 20, Turn::Conn(b'B'), None, AGAIN, ANSWER),
     ];
-    hear_lines(&rt, 64, &mut d, &mut post, &lines);
-    assert_eq!(&rt; d.known(), 1);
-    assert!(&rt; d.has_place(0));
+    let left = Left {
+        known: 1,
+        ended: false,
+        held: [true, false, false],
+    };
+    assert_eq!(rt; left_by(&rt, rt.alloc(), 64, &ROWS), left);
     Ok(())
 }
 
 #[test]
 fn a_claim_of_a_held_place_replaces_its_peer(rt: HostRuntime) -> Result<(), Fail> {
-    let (mut d, mut post) = start(&rt, rt.alloc(), 64);
-    let replaces = Seen { leaves: 1, ..JOIN };
-    let join = routed(&rt, b'A', Act::Join);
-    let lines = [
-        joins(&rt, 1, 0),
-        joins(&rt, 2, 1),
-        becomes(
-            conn(&rt, &peer(3), 15, b'A'),
-            Some(member(1, 1)),
-            &join,
-            replaces,
-        ),
+    const ROWS: [Row; 3] = [
+        (1, 0, Turn::Conn(b'A'), Some((0, 0)), JOINS, JOIN),
+        (2, 0, Turn::Conn(b'A'), Some((1, 0)), JOINS, JOIN),
+        (3, 15, Turn::Conn(b'A'), Some((1, 1)), JOINS, LEAVE_AND_JOIN),
     ];
-    hear_lines(&rt, 64, &mut d, &mut post, &lines);
-    assert_eq!(&rt; d.known(), 2);
+    let left = Left {
+        known: 2,
+        ended: false,
+        held: [true, true, false],
+    };
+    assert_eq!(rt; left_by(&rt, rt.alloc(), 64, &ROWS), left);
     Ok(())
 }
 
 #[test]
 fn three_silent_peers_leave_at_once(rt: HostRuntime) -> Result<(), Fail> {
-    let (mut d, mut post) = start(&rt, rt.alloc(), 64);
-    let garbled = Heard::Datagram {
-        from: peer(1),
-        at: 20_000,
-        bytes: Gram::of(b"hello"),
-    };
-    let refused = LinkVerdict::Refused(m17_control::Refusal::Length(5));
-    let lines = [
-        joins(&rt, 1, 0),
-        joins(&rt, 2, 1),
-        joins(&rt, 3, 2),
-        becomes(garbled, None, &refused, TICKS),
-        quiet(19, QUIET),
-        quiet(29_999, TICKS),
-        quiet(100, QUIET),
-        quiet(30_000, Seen { leaves: 3, ..TICKS }),
+    const REFUSED: Want = Want::Is(LinkVerdict::Refused(Refusal::Length(5)));
+    const THREE: Seen = Seen { leaves: 3, ..TICKS };
+    const ROWS: [Row; 8] = [
+        (1, 0, Turn::Conn(b'A'), Some((0, 0)), JOINS, JOIN),
+        (2, 0, Turn::Conn(b'A'), Some((1, 0)), JOINS, JOIN),
+        (3, 0, Turn::Conn(b'A'), Some((2, 0)), JOINS, JOIN),
+        (1, 20_000, Turn::Hello, None, REFUSED, TICKS),
+        (0, 19, Turn::Quiet, None, TIMED, QUIET),
+        (0, 29_999, Turn::Quiet, None, TIMED, TICKS),
+        (0, 100, Turn::Quiet, None, TIMED, QUIET),
+        (0, 30_000, Turn::Quiet, None, TIMED, THREE),
     ];
-    hear_lines(&rt, 64, &mut d, &mut post, &lines);
-    assert_eq!(&rt; d.known(), 0);
+    assert_eq!(rt; left_by(&rt, rt.alloc(), 64, &ROWS), NOBODY);
     Ok(())
 }
 
@@ -507,16 +467,13 @@ fn next_leaves(rt: &impl Abort, post: &mut Post, k: Member, because: Why) {
 
 #[test]
 fn peers_leave_in_order_of_families(rt: HostRuntime) -> Result<(), Fail> {
-    let (mut d, mut post) = start(&rt, rt.alloc(), 64);
-    let mut far = peer(1);
-    far.six = true;
-    let join = routed(&rt, b'A', Act::Join);
-    let lines = [
-        becomes(conn(&rt, &far, 0, b'A'), Some(member(0, 0)), &join, JOIN),
-        joins(&rt, 9, 1),
-        joins(&rt, 4, 2),
+    const ROWS: [Row; 3] = [
+        (129, 0, Turn::Conn(b'A'), Some((0, 0)), JOINS, JOIN),
+        (9, 0, Turn::Conn(b'A'), Some((1, 0)), JOINS, JOIN),
+        (4, 0, Turn::Conn(b'A'), Some((2, 0)), JOINS, JOIN),
     ];
-    hear_lines(&rt, 64, &mut d, &mut post, &lines);
+    let (mut d, mut post) = start(&rt, rt.alloc(), 64);
+    hear_rows(&rt, 64, &mut d, &mut post, &ROWS);
     assert!(&rt; !d.has_ended());
     assert_eq!(&rt; d.hear(3, &Heard::End, &mut post), LinkVerdict::Ended);
     for place in [2, 1, 0] {
