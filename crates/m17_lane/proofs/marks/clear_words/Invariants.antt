@@ -1,4 +1,4 @@
-use Rattle.std.proofs.Common.{◌≡◌, ◌≤◌, ◌+◌, ◌-◌, vec_len, vec_capacity}
+use Rattle.std.proofs.Common.{◌≡◌, vec_len, vec_capacity}
 use Rattle.m17_lane.proofs.marks.clear_words.Given as goal
 
 abbrev pub invariant-loop-cleared : goal.invariant-loop-cleared
