@@ -1,2 +1,4 @@
 pub mod Lists
 pub mod Tries
+pub mod Giving
+pub mod Handing

@@ -15,7 +15,7 @@ use Rattle.m17_rows.specs.Laws.{RowsGrow}
 use Rattle.m17_worker.specs.declared.offers.Offered.{Offered}
 use Rattle.m17_worker.specs.declared.offers.Offered.TheVariants.{Queued, Missed}
 use Rattle.m17_worker.specs.declared.offers.LaneOffers.{LaneOffers}
-use Rattle.m17_worker.specs.Offers.{Try, try_of, is_queued, may_be_missed, queued_for, missed_for, count_missed, IsLeftOut, AreTried, AreOffered, IsQueue}
+use Rattle.m17_worker.specs.Offers.{Try, try_of, is_queued, may_be_missed, queued_for, missed_for, count_missed, counted_on, IsLeftOut, AreTried, AreOffered, IsQueue}
 use Rattle.m17_worker.proofs.Lists.{slice_get_before, slice_get_behind, take_behind}
 
 queued_one : (item : Item) (place : ℕ) → queued_for (try_of item Queued ∷ []) place ≡ only item.member.place item place
@@ -85,21 +85,30 @@ left_out_one : (before : LaneOffers) (item : Item) (answer : Offered) → (answe
 left_out_one before item Queued out = none_left before item
 left_out_one before item Missed out = left_one before item (out refl)
 
-counted_one : (item : Item) (answer : Offered) → count_missed (try_of item answer ∷ []) ≡ cond (is_queued answer) 0 1
-counted_one item Queued = refl
-counted_one item Missed = refl
+counted_one : (item : Item) (answer : Offered) (n m : ℕ) → (answer ≡ Queued → m ≡ n) → (answer ≡ Missed → m ≡ min (n + 1) (2 ^ 64 - 1))
+    → m ≡ counted_on n (count_missed (try_of item answer ∷ []))
+counted_one item Queued n m same more = same refl
+counted_one item Missed n m same more = more refl
+
+counted_both : (n x y : ℕ) → counted_on (counted_on n x) y ≡ counted_on n (x + y)
+counted_both n zero y = let e : y ≡ 0 + y = omega arith in ap (counted_on n) e
+counted_both n (suc x) zero = let e : suc x ≡ suc x + 0 = omega arith in ap (counted_on n) e
+counted_both n (suc x) (suc y) =
+    let e : suc (x + suc y) ≡ suc x + suc y = omega arith in
+    let d : min (min (n + suc x) (2 ^ 64 - 1) + suc y) (2 ^ 64 - 1) ≡ min (n + suc (x + suc y)) (2 ^ 64 - 1) = omega arith in
+    d ∙ ap (counted_on n) e
 
 pub one_tried : (item : Item) (answer : Offered) (before after : LaneOffers)
     → after.queues.items ≡ grow_each (queued_for (try_of item answer ∷ [])) (missed_for (try_of item answer ∷ [])) 0 before.queues.items
     → (answer ≡ Missed → IfSome (slice_get before.queues.items item.member.place) (λ q. 64 ≤ length q.pushed))
     → (answer ≡ Missed → may_be_missed item.body ≡ true) → (answer ≡ Missed → before.patient ≡ false)
-    → after.missed ≡ min (before.missed + cond (is_queued answer) 0 1) (2 ^ 64 - 1)
+    → (answer ≡ Queued → after.missed ≡ before.missed) → (answer ≡ Missed → after.missed ≡ min (before.missed + 1) (2 ^ 64 - 1))
     → after.patient ≡ before.patient → vec_capacity after.queues ≡ vec_capacity before.queues
     → AreTried (try_of item answer ∷ []) before after
-one_tried item answer before after is full may impatient count patient room = record {
+one_tried item answer before after is full may impatient same more patient room = record {
   queues = is;
   left_out = left_out_one before item answer (λ e. record { may_be = may e; impatient = impatient e; full = full_plus _ (full e) });
-  missed = omega (arith, count, counted_one item answer);
+  missed = counted_one item answer before.missed after.missed same more;
   patient = patient;
   room = room;
 }
@@ -166,19 +175,20 @@ tried_then ts us a b c law first second = record {
   left_out = left_then ts us a b c law first second;
   missed =
       let e : count_missed (ts ++ us) ≡ count_missed ts + count_missed us = sum_by-append (λ (t : Try). cond (not t.queued) 1 0) ts us in
-      omega (arith, first.missed, second.missed, e);
+      second.missed ∙ ap (λ n. counted_on n (count_missed us)) first.missed
+      ∙ counted_both a.missed (count_missed ts) (count_missed us) ∙ ap (counted_on a.missed) (sym e);
   patient = second.patient ∙ first.patient;
   room = second.room ∙ first.room;
 }
 
-pub offered_none : (a : LaneOffers) → RowsGrow Item → a.missed ≤ 2 ^ 64 - 1 → AreOffered [] a a
-offered_none a law few = record {
+pub offered_none : (a : LaneOffers) → RowsGrow Item → AreOffered [] a a
+offered_none a law = record {
   tries = [];
   of_all = refl;
   tried = record {
     queues = sym (law.none (queued_for []) (missed_for []) 0 a.queues.items (λ i. refl) (λ i. refl));
     left_out = λ n t at off. absurd (cc at);
-    missed = let e : count_missed [] ≡ 0 = refl in omega (arith, few, e);
+    missed = refl;
     patient = refl;
     room = refl;
   };

@@ -1,5 +1,5 @@
 -- What the queues of a module's places are offered, and what became of it.
-use Rattle.std.specs.Prelude.{◌≡◌, ◌==◌, ◌&&◌, ℕ, ◌+◌, ◌-◌, ◌^◌, ◌≤◌, min, Bool, true, false, not, List, [], ◌∷◌, map, filter, count_by, length, take, slice_get, vec_capacity, Some, IfSome}
+use Rattle.std.specs.Prelude.{◌≡◌, ◌==◌, ◌&&◌, ℕ, zero, suc, ◌+◌, ◌-◌, ◌^◌, ◌≤◌, min, Bool, true, false, not, List, [], ◌∷◌, map, filter, count_by, length, take, slice_get, vec_capacity, Some, IfSome}
 use Rattle.std.specs.List.{All}
 use Rattle.m17_control.specs.declared.item.Item.{Item}
 use Rattle.m17_control.specs.declared.item.Said.{Said}
@@ -46,6 +46,12 @@ missed_for tries place =
 abbrev pub count_missed : List Try → ℕ
 count_missed tries = count_by (λ t. not t.queued) tries
 
+-- A count, and then so many more. One that has come to 2^64 - 1 stays there.
+-- This profile.
+abbrev pub counted_on : ℕ → ℕ → ℕ
+counted_on count zero = count
+counted_on count (suc more) = min (count + suc more) (2 ^ 64 - 1)
+
 -- An item was left out behind these: it may be, the offers aren't patient, and its queue had taken
 -- at least 64 items by then. This profile.
 pub record IsLeftOut (offers : LaneOffers) (earlier : List Try) (item : Item) : Type 0 where
@@ -54,14 +60,14 @@ pub record IsLeftOut (offers : LaneOffers) (earlier : List Try) (item : Item) : 
   pub full : IfSome (slice_get offers.queues.items item.member.place)
       (λ q. 64 ≤ length q.pushed + length (queued_for earlier item.member.place))
 
--- These items were offered, in this order: each was queued, or left out and counted. A count that has
--- come to 2^64 - 1 stays there. This profile.
+-- These items were offered, in this order: each was queued, or left out and counted.
+-- This profile.
 pub record AreTried (tries : List Try) (before after : LaneOffers) : Type 0 where
   pub queues : after.queues.items
       ≡ grow_each (queued_for tries) (missed_for tries) 0 before.queues.items
   pub left_out : (n : ℕ) (t : Try) → slice_get tries n ≡ Some t → t.queued ≡ false →
       IsLeftOut before (take n tries) t.item
-  pub missed : after.missed ≡ min (before.missed + count_missed tries) (2 ^ 64 - 1)
+  pub missed : after.missed ≡ counted_on before.missed (count_missed tries)
   pub patient : after.patient ≡ before.patient
   pub room : vec_capacity after.queues ≡ vec_capacity before.queues
 

@@ -1,5 +1,5 @@
 //! What an event gave, handed out: offered to the queues, and the places of those that left given back.
-ghost use Rattle.std.specs.Prelude.{◌≡◌, ◌<◌, ◌∷◌, [], filter, slice_get, vec_len, Option, IsSomeAnd};
+ghost use Rattle.std.specs.Prelude.{◌≡◌, ◌<◌, ◌∷◌, [], filter, length, slice_get, Option, IfSome, IsSomeAnd};
 ghost use Rattle.std.specs.Option.{option_to_list};
 ghost use Rattle.std.specs.List.{All};
 ghost use Rattle.m17_control.specs.declared.item.Item.{Item};
@@ -24,13 +24,16 @@ pub(crate) fn hand_out<R: Wait>(
     gives: bool,
 ) -> Option<Item>
     requires queues { All IsQueue offers.old.queues.items }
-    requires places { All (λ item. item.member.place < vec_len offers.old.queues) basket.old }
+    requires places { All (λ item. item.member.place < length offers.old.queues.items)
+        basket.old }
     ensures offered { AreOffered basket.old offers.old offers.new }
     ensures gave_back { GaveBack seat.old (gifts_by gives basket.old) seat.new }
     ensures bye { (bye : Option Item) → filter is_bye basket.old ≡ option_to_list bye →
         result ≡ bye }
+    ensures place { IfSome result (λ item. item.member.place < length offers.old.queues.items) }
     ensures empty { basket.new ≡ [] }
 {
+    m17_rows::laws::rows_grow::<Item>();
     let mut bye = None;
     while let Some(item) = basket.take() {
         hand_over(rt, &item, offers, seat, gives);

@@ -1,7 +1,7 @@
 //! The queues of a module's places, and what they are offered.
-ghost use Rattle.std.specs.Prelude.{◌≡◌, ◌≤◌, ◌∷◌, [], false, length, slice_get, vec_capacity, IfSome, IsSomeAnd, if◌then◌else◌};
+ghost use Rattle.std.specs.Prelude.{◌≡◌, ◌≤◌, ◌∷◌, [], false, length, slice_get, vec_capacity, IfSome, IsSomeAnd};
 ghost use Rattle.m17_rows.specs.Rows.{grow_each};
-ghost use Rattle.m17_worker.specs.Offers.{AreTried, IsQueue, is_queued, may_be_missed, missed_for, queued_for, try_of};
+ghost use Rattle.m17_worker.specs.Offers.{AreTried, IsQueue, may_be_missed, missed_for, queued_for, try_of};
 
 use m17_control::{Item, Said};
 use m17_lane::Pusher;
@@ -39,7 +39,9 @@ impl LaneOffers {
     {
         let waits = self.patient || !is_missable(&item.body);
         let answer = put(rt, &mut self.queues, item, waits);
-        self.missed = self.missed.saturating_add(left_out(answer));
+        if answer == Offered::Missed {
+            self.missed = self.missed.saturating_add(1);
+        }
         answer
     }
 }
@@ -64,13 +66,6 @@ fn put<R: Wait>(rt: &R, queues: &mut Vec<Pusher<Item>>, item: Item, waits: bool)
         Ok(()) => Offered::Queued,
         Err(_) => Offered::Missed,
     }
-}
-
-// How many items were left out by this answer.
-fn left_out(answer: Offered) -> u64
-    ensures { result ≡ (if is_queued answer then 0 else 1) }
-{
-    u64::from(matches!(answer, Offered::Missed))
 }
 
 // Whether this is left out where its queue is full.
