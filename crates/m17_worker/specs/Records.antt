@@ -1,5 +1,5 @@
 -- What a module's book says of its events.
-use Rattle.std.specs.Prelude.{ℕ, List, ◌++◌, length, slice_get, nat_lt, Option, None, Some, if◌then◌else◌}
+use Rattle.std.specs.Prelude.{ℕ, List, [], ◌++◌, length, slice_get, nat_lt, Option, None, Some, if◌then◌else◌}
 use Rattle.std.specs.Option.{option_map, option_to_list}
 use Rattle.std.specs.List.{flat_map, filter_map, range_with_len}
 use Rattle.m17_control.specs.declared.event.Tag.{Tag}

@@ -16,6 +16,7 @@ pub(crate) fn write_whole<B: Book>(book: &mut B, failed: &mut bool, bytes: &[u8]
     ensures same_device { (B.mark book.new ≡ B.mark book.old)
         × (B.label book.new ≡ B.label book.old) }
 {
+    m17_ports::laws::told_in_turn::<u8>();
     if !*failed {
         *failed = book.write(bytes).is_err();
     }

@@ -13,13 +13,16 @@ use m17_floor::Verdict;
 pub(crate) fn record_of_bye(tag: Tag, moment: u64, bye: &Option<Item>) -> Option<Record>
     ensures { result ≡ option_and_then (leave_record tag moment) bye.now }
 {
-    let item = (*bye)?;
-    match item.body {
-        Said::Bye { why } => Some(Record::Leave {
+    match bye {
+        Some(Item {
+            member,
+            body: Said::Bye { why },
+            ..
+        }) => Some(Record::Leave {
             tag,
             moment,
-            member: item.member,
-            why,
+            member: *member,
+            why: *why,
         }),
         _ => None,
     }
