@@ -7,3 +7,5 @@ pub mod Byes
 pub mod Gathered
 pub mod Tapes
 pub mod Flags
+pub mod Noting
+pub mod Served

@@ -11,6 +11,7 @@ use Rattle.m17_floor.specs.Acts.{last_below, is_packet}
 use Rattle.m17_floor.specs.Floor.{verdict_at}
 use Rattle.m17_floor.specs.Laws.{LaterActsChangeNoVerdict}
 use Rattle.m17_module.specs.Events.{acts_of, kind_of}
+use Rattle.m17_worker.specs.Underway.{filled}
 use Rattle.m17_worker.specs.Tape.{is_packet_of, position_of, verdict_on, IsTaped}
 use Rattle.m17_worker.proofs.Lists.{slice_get_before, slice_get_end, length_more}
 use Rattle.m17_worker.proofs.Gathered.{acts_append, length_acts}
@@ -93,10 +94,8 @@ set_else (y ∷ xs) zero (suc j) x ne = refl
 set_else (y ∷ xs) (suc i) zero x ne = refl
 set_else (y ∷ xs) (suc i) (suc j) x ne = set_else xs i j x (λ e. ne (ap suc e))
 
--- the tape, where the event is a packet of link 0, and where it is not
-abbrev pub filled : List (Option Verdict) → Event → Option Verdict → List (Option Verdict)
-filled tape event verdict = cond ((event.tag.link == 0) && is_some verdict) (set tape event.tag.index verdict) tape
 
+-- the tape is as long as before
 filled_length : (tape : List (Option Verdict)) (event : Event) (verdict : Option Verdict) (b : Bool)
     → length (cond b (set tape event.tag.index verdict) tape) ≡ length tape
 filled_length tape event verdict true = length-set tape event.tag.index verdict

@@ -1,12 +1,17 @@
 -- How far a worker has come, for the proofs of its steps.
-use Rattle.std.specs.Prelude.{◌≡◌, ℕ, ◌-◌, ◌^◌, ◌<◌, ◌≤◌, Bool, true, List, [], ◌∷◌, ◌++◌, length, slice_get, Some}
-use Rattle.std.specs.List.{All, list_any}
+use Rattle.std.specs.Prelude.{◌≡◌, ◌==◌, ◌&&◌, ℕ, ◌-◌, ◌^◌, ◌<◌, ◌≤◌, Bool, true, List, [], ◌∷◌, ◌++◌, length, slice_get, slice_set, is_some, option_and_then, Option, Some, if◌then◌else◌}
+use Rattle.std.specs.Option.{option_to_list}
+use Rattle.std.specs.List.{All, list_any, flat_map}
 use Rattle.m17_control.specs.declared.event.Event.{Event}
+use Rattle.m17_control.specs.declared.item.Item.{Item}
+use Rattle.m17_floor.specs.declared.verdict.Verdict.{Verdict}
+use Rattle.m17_book.specs.Records.{record_bytes}
 use Rattle.m17_module.specs.Laws.{IsNumbered}
 use Rattle.m17_module.specs.StandsFor.{StandsFor}
 use Rattle.m17_worker.specs.declared.worker.Worker.{Worker}
 use Rattle.m17_worker.specs.Taken.{taken, is_there, is_stop_of}
 use Rattle.m17_worker.specs.Offers.{AreQueues}
+use Rattle.m17_worker.specs.Records.{Noted, leave_record, own_record}
 use Rattle.m17_worker.specs.Ready.{Words}
 use Rattle.m17_worker.specs.WorkerDid.{IsSameWorker, HasServed}
 
@@ -51,3 +56,29 @@ pub record IsServing {B : Type 0} (before after : Worker B) : Type 0 where
   pub inbox : after.inbox ≡ before.inbox
   pub order : after.order ≡ before.order
   pub cells : length after.tape.items ≡ length before.tape.items
+
+-- The tape with the verdict on the event in its cell, where the event is a packet of link 0.
+abbrev pub filled : List (Option Verdict) → Event → Option Verdict → List (Option Verdict)
+filled tape event verdict =
+    if (event.tag.link == 0) && is_some verdict
+    then slice_set tape event.tag.index verdict else tape
+
+-- What is noted of an event: itself, the verdict on it, its Bye, and the number of places.
+pub record Note : Type 0 where
+  pub event : Event
+  pub verdict : Option Verdict
+  pub bye : Option Item
+  pub places : ℕ
+
+-- The text, and then the records of the event, whose moment is this.
+abbrev pub noted_text : List ℕ → ℕ → Note → List ℕ
+noted_text text moment note =
+    let now : Noted = record {
+      tag = note.event.tag;
+      moment = moment;
+      verdict = note.verdict;
+      places = note.places;
+    } in
+    (text ++ flat_map record_bytes
+    (option_to_list (option_and_then (leave_record note.event.tag moment) note.bye)))
+    ++ flat_map record_bytes (option_to_list (own_record now note.event.body))

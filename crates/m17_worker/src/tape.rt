@@ -1,13 +1,13 @@
 //! What a worker keeps of its verdicts.
-ghost use Rattle.std.specs.Prelude.{◌≡◌, ◌==◌, ◌&&◌, slice_set, is_some, if◌then◌else◌};
+ghost use Rattle.std.specs.Prelude.{◌≡◌};
+ghost use Rattle.m17_worker.specs.Underway.{filled};
 
 use m17_control::Event;
 use m17_floor::Verdict;
 
 // Puts the verdict on what came from an entry of link 0 into the entry's cell, if it has one.
 pub(crate) fn fill_tape(tape: &mut Vec<Option<Verdict>>, event: &Event, verdict: Option<Verdict>)
-    ensures { tape.new.items ≡ (if (event.now.tag.link == 0) && is_some verdict
-        then slice_set tape.old.items event.now.tag.index verdict else tape.old.items) }
+    ensures { tape.new.items ≡ filled tape.old.items event.now verdict }
 {
     if event.tag.link != 0 || verdict.is_none() {
         return;

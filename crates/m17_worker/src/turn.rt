@@ -1,11 +1,14 @@
 //! What a worker does for one event.
-ghost use Rattle.std.specs.Prelude.{◌≡◌, ℕ, List, [], ◌∷◌, ◌++◌, Bool, length};
+ghost use Rattle.std.specs.Prelude.{◌≡◌, ◌<◌, ℕ, true, List, [], ◌∷◌, ◌++◌, length, nat_lt};
+ghost use Rattle.std.specs.Option.{ForSome, option_map_or};
 ghost use Rattle.m17_control.specs.declared.event.Event.{Event};
 ghost use Rattle.m17_lane.specs.Ends.{popped_from};
 ghost use Rattle.m17_worker.specs.declared.worker.Worker.{Worker};
-ghost use Rattle.m17_worker.specs.Taken.{is_there};
+ghost use Rattle.m17_book.specs.Records.{IsLowVerdict};
+ghost use Rattle.m17_worker.specs.Taken.{is_there, place_of};
+ghost use Rattle.m17_worker.specs.Written.{Tells, HasText};
 ghost use Rattle.m17_worker.specs.WorkerDid.{HasServed};
-ghost use Rattle.m17_worker.specs.Underway.{CanServe, HasRoom, IsAt, IsServing};
+ghost use Rattle.m17_worker.specs.Underway.{CanServe, HasRoom, IsAt, IsServing, filled, noted_text};
 
 use crate::Worker;
 use crate::book::write_if;
@@ -76,8 +79,7 @@ impl<B: Book> Worker<B> {
     fn serve<R: Wait>(&mut self, rt: &R, event: &Event)
         requires { (events : List Event) × CanServe events event.now self.old }
         ensures served { (j : Worker B) (events : List Event) →
-            CanServe events event.now self.old →
-            j.module.setup ≡ self.old.module.setup → j.letter ≡ self.old.letter →
+            CanServe events event.now self.old → self.old.module.setup ≡ j.module.setup →
             HasServed (record { written = B.written; faults = B.faults; }) events j self.old →
             HasServed (record { written = B.written; faults = B.faults; })
             (events ++ event.now ∷ []) j self.new }
@@ -86,6 +88,13 @@ impl<B: Book> Worker<B> {
         ensures same_device { (B.mark self.new.book ≡ B.mark self.old.book)
             × (B.label self.new.book ≡ B.label self.old.book) }
     {
+        module_laws::later_events_change_no_items();
+        module_laws::one_event_more_gives();
+        module_laws::items_are_at_places();
+        module_laws::verdicts_fit();
+        floor_laws::later_acts_change_no_verdict();
+        floor_laws::later_acts_change_nothing_before();
+        m17_rows::laws::rows_grow::<Item>();
         let verdict = self.module.step(event, &mut self.basket);
         let gives = !is_replaced_leave(event);
         let bye = hand_out(
@@ -100,18 +109,31 @@ impl<B: Book> Worker<B> {
 
     // Writes the records of the event to the book, and its verdict to the tape.
     fn note(&mut self, event: &Event, verdict: Option<Verdict>, bye: &Option<Item>)
+        requires link { event.now.tag.link < 4 }
+        requires place { ForSome (place_of event.now.body) (λ place. place < 256) }
+        requires verdict { ForSome verdict IsLowVerdict }
+        requires bye { ForSome bye.now (λ item. item.member.place < 256) }
+        ensures text { (start : Tells) (text : List ℕ) (places : ℕ) →
+            option_map_or (λ place. nat_lt place places) (place_of event.now.body) true ≡ true →
+            HasText start text self.old.book_failed
+            (B.written self.old.book, B.faults self.old.book) →
+            HasText start (noted_text text self.old.module.moment
+            (record { event = event.now; verdict = verdict; bye = bye.now; places = places; }))
+            self.new.book_failed (B.written self.new.book, B.faults self.new.book) }
+        ensures tape { self.new.tape.items ≡ filled self.old.tape.items event.now verdict }
+        ensures rest { self.new ≡ record self.old {
+          book = self.new.book;
+          book_failed = self.new.book_failed;
+          tape = self.new.tape;
+        } }
+        ensures same_device { (B.mark self.new.book ≡ B.mark self.old.book)
+            × (B.label self.new.book ≡ B.label self.old.book) }
     {
         let moment = self.module.moment();
-        write_if(
-            &mut self.book,
-            &mut self.book_failed,
-            &record_of_bye(event.tag, moment, bye),
-        );
-        write_if(
-            &mut self.book,
-            &mut self.book_failed,
-            &own_record(event, moment, verdict),
-        );
+        let leave = record_of_bye(event.tag, moment, bye);
+        let own = own_record(event, moment, verdict);
+        write_if(&mut self.book, &mut self.book_failed, &leave);
+        write_if(&mut self.book, &mut self.book_failed, &own);
         fill_tape(&mut self.tape, event, verdict);
     }
 }
