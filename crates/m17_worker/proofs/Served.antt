@@ -1,5 +1,5 @@
 -- One event more is served.
-use Rattle.std.proofs.Common.{◌≡◌, ℕ, ◌-◌, ◌^◌, ◌<◌, Bool, true, false, not, ◌&&◌, List, [], ◌∷◌, ◌++◌, length, take, nat_lt, Option, None, Some, refl, ap, sym, subst, ◌∙◌, arith}
+use Rattle.std.proofs.Common.{◌≡◌, ℕ, ◌-◌, ◌^◌, ◌<◌, ◌≤◌, Bool, true, false, not, ◌&&◌, List, [], ◌∷◌, ◌++◌, length, take, nat_lt, Option, None, Some, refl, ap, sym, subst, ◌∙◌, arith}
 use Rattle.std.specs.Prelude.{is_some, filter, option_and_then}
 use Rattle.std.specs.Option.{ForSome, option_map_or, option_to_list}
 use Rattle.std.specs.List.{All, flat_map, filter_map}
@@ -28,9 +28,11 @@ use Rattle.m17_worker.specs.Written.{Tells, HasText}
 use Rattle.m17_worker.specs.Tape.{IsTaped}
 use Rattle.m17_worker.specs.Ready.{Words}
 use Rattle.m17_worker.specs.WorkerDid.{HasServed}
-use Rattle.m17_worker.specs.Underway.{Note, noted_text, filled}
+use Rattle.m17_worker.specs.Underway.{Note, noted_text, filled, HasRoom}
+use Rattle.m17_worker.specs.declared.offers.LaneOffers.{LaneOffers}
+use Rattle.m17_roll.specs.Seat.{RollView}
 use Rattle.m17_worker.proofs.Lists.{length_more}
-use Rattle.m17_worker.proofs.Tries.{offered_then}
+use Rattle.m17_worker.proofs.Tries.{offered_then, queues_stay, as_many}
 use Rattle.m17_worker.proofs.Giving.{gave_then, IsTheBye}
 use Rattle.m17_worker.proofs.Byes.{few_byes, leaves_are}
 use Rattle.m17_worker.proofs.Gathered.{gifts_more, records_more, last_records, text_goes_on}
@@ -118,4 +120,71 @@ served_more words laws events s j k n same there seen h =
           (seen.text (words.written j.book, words.faults j.book) (book_text j.letter (records_of setup events)) setup.places fits h.booked);
       taped = subst C (sym seen.tape)
           (taped_more laws.verdicts setup.places events s.event s.verdict k.tape.items seen.answer step.verdict h.taped);
+    }
+
+-- what was seen of an event, where the last that was done wrote the book and the tape
+pub seen_after : {B : Type 0} (words : Words B) (events : List Event) (s : Seen) (k mid n : Worker B)
+    → n ≡ record mid { book = n.book; book_failed = n.book_failed; tape = n.tape }
+    → IsStep k.module.setup events s.event (stepped s.verdict mid.module s.items)
+    → is_some s.verdict ≡ is_packet (kind_of s.event.body)
+    → AreOffered s.items k.offers mid.offers
+    → GaveBack k.seat (gifts_by (not (leaves_replaced s.event.body)) s.items) mid.seat
+    → IsTheBye s.bye s.items
+    → ((start : Tells) (text : List ℕ) (places : ℕ)
+      → option_map_or (λ place. nat_lt place places) (place_of s.event.body) true ≡ true
+      → HasText start text k.book_failed (words.written k.book, words.faults k.book)
+      → HasText start (noted_text text mid.module.moment (record { event = s.event; verdict = s.verdict; bye = s.bye; places = places }))
+      n.book_failed (words.written n.book, words.faults n.book))
+    → n.tape.items ≡ filled k.tape.items s.event s.verdict
+    → IsSeen words events s k n
+seen_after {B} words events s k mid n rest step answer offered gave the_bye text tape =
+    let module_is : n.module ≡ mid.module = ap (λ (w : Worker B). w.module) rest in
+    let S : Kept → Type 0 = λ m. IsStep k.module.setup events s.event (stepped s.verdict m s.items) in
+    let O : LaneOffers → Type 0 = λ o. AreOffered s.items k.offers o in
+    let G : RollView → Type 0 = λ r. GaveBack k.seat (gifts_by (not (leaves_replaced s.event.body)) s.items) r in
+    record {
+      step = subst S (sym module_is) step;
+      answer = answer;
+      offered = subst O (sym (ap (λ (w : Worker B). w.offers) rest)) offered;
+      gave = subst G (sym (ap (λ (w : Worker B). w.seat) rest)) gave;
+      the_bye = the_bye;
+      text = λ start before places fits h.
+        let T : ℕ → Type 0 = λ m. HasText start (noted_text before m (record { event = s.event; verdict = s.verdict; bye = s.bye; places = places }))
+            n.book_failed (words.written n.book, words.faults n.book) in
+        subst T (sym (ap (λ (m : Kept). m.moment) module_is)) (text start before places fits h);
+      tape = tape;
+    }
+
+-- the value of a verdict fits a book, of at most 256 places
+fits_low : (places : ℕ) (v : Verdict) → places ≤ 256 → FitsIn places v → IsLowVerdict v
+fits_low places Opened few h = tt
+fits_low places Continued few h = tt
+fits_low places (Busy holder) few h = omega (arith, few, h)
+fits_low places Repeat few h = tt
+fits_low places (Late last) few h = h
+fits_low places AfterEnd few h = tt
+fits_low places NotMember few h = tt
+fits_low places ListenOnly few h = tt
+
+pub low_verdict : VerdictsFit → (setup : Setup) (events : List Event) (event : Event) (verdict : Option Verdict) (kept : Kept) (items : List Item)
+    → setup.places ≤ 256 → All (λ e. IsNumbered e.body) (events ++ event ∷ []) → IsStep setup events event (stepped verdict kept items)
+    → ForSome verdict IsLowVerdict
+low_verdict fit setup events event verdict kept items few numbered step v is =
+    fits_low setup.places v few (fit setup.places (events ++ event ∷ []) (length events) v numbered (sym step.verdict ∙ is))
+
+-- room is left by what writes the book and the tape
+pub room_after : {B : Type 0} (mid n : Worker B) → n ≡ record mid { book = n.book; book_failed = n.book_failed; tape = n.tape } → HasRoom mid → HasRoom n
+room_after {B} mid n rest h =
+    let P : Worker B → Type 0 = λ w. HasRoom w in
+    subst P (sym rest) (record { links = h.links; places = h.places; queues = h.queues; basket = h.basket })
+
+pub room_between : {B : Type 0} (k mid : Worker B) (items : List Item) → RowsGrow Item → mid.links ≡ k.links → mid.module.setup ≡ k.module.setup
+    → AreOffered items k.offers mid.offers → mid.basket ≡ [] → HasRoom k → HasRoom mid
+room_between k mid items law links setup offered basket h =
+    let places : mid.module.setup.places ≡ k.module.setup.places = ap (λ (u : Setup). u.places) setup in
+    record {
+      links = omega (arith, links, h.links);
+      places = omega (arith, places, h.places);
+      queues = (as_many items k.offers mid.offers law offered ∙ h.queues.0 ∙ sym places, queues_stay items k.offers mid.offers law offered h.queues.1);
+      basket = basket;
     }
