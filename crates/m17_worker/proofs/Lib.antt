@@ -9,3 +9,4 @@ pub mod Tapes
 pub mod Flags
 pub mod Noting
 pub mod Served
+pub mod Turning

@@ -1,11 +1,13 @@
 -- One event more is served.
 use Rattle.std.proofs.Common.{◌≡◌, ℕ, ◌-◌, ◌^◌, ◌<◌, ◌≤◌, Bool, true, false, not, ◌&&◌, List, [], ◌∷◌, ◌++◌, length, take, nat_lt, Option, None, Some, refl, ap, sym, subst, ◌∙◌, arith}
-use Rattle.std.specs.Prelude.{is_some, filter, option_and_then}
+use Rattle.std.specs.Prelude.{is_some, filter, option_and_then, slice_index_or}
 use Rattle.std.specs.Option.{ForSome, option_map_or, option_to_list}
 use Rattle.std.specs.List.{All, flat_map, filter_map}
 use Rattle.std.proofs.lemmas.Bool.{and_parts, ltb-true}
 use Rattle.m17_values.specs.declared.member.Member.{Member}
 use Rattle.m17_control.specs.declared.event.Event.{Event}
+use Rattle.m17_control.specs.declared.event.Body.{Body}
+use Rattle.m17_control.specs.declared.event.Body.TheVariants as body
 use Rattle.m17_control.specs.declared.item.Item.{Item}
 use Rattle.m17_floor.specs.declared.verdict.Verdict.{Verdict}
 use Rattle.m17_floor.specs.declared.verdict.Verdict.TheVariants.{Opened, Continued, Busy, Repeat, Late, AfterEnd, NotMember, ListenOnly}
@@ -166,11 +168,23 @@ fits_low places AfterEnd few h = tt
 fits_low places NotMember few h = tt
 fits_low places ListenOnly few h = tt
 
+-- each packet's number is below 32,768, by its type
+numbered : (what : Body) → IsNumbered what
+numbered (body.Join k peer callsign listen after) = tt
+numbered (body.Leave k why) = tt
+numbered (body.Packet k packet) = packet.numbered
+numbered (body.Reply k control) = tt
+numbered body.Tick = tt
+numbered body.Stop = tt
+
+all_numbered : (events : List Event) → All (λ e. IsNumbered e.body) events
+all_numbered events n d lt = numbered (slice_index_or events n d).body
+
 pub low_verdict : VerdictsFit → (setup : Setup) (events : List Event) (event : Event) (verdict : Option Verdict) (kept : Kept) (items : List Item)
-    → setup.places ≤ 256 → All (λ e. IsNumbered e.body) (events ++ event ∷ []) → IsStep setup events event (stepped verdict kept items)
+    → setup.places ≤ 256 → IsStep setup events event (stepped verdict kept items)
     → ForSome verdict IsLowVerdict
-low_verdict fit setup events event verdict kept items few numbered step v is =
-    fits_low setup.places v few (fit setup.places (events ++ event ∷ []) (length events) v numbered (sym step.verdict ∙ is))
+low_verdict fit setup events event verdict kept items few step v is =
+    fits_low setup.places v few (fit setup.places (events ++ event ∷ []) (length events) v (all_numbered (events ++ event ∷ [])) (sym step.verdict ∙ is))
 
 -- room is left by what writes the book and the tape
 pub room_after : {B : Type 0} (mid n : Worker B) → n ≡ record mid { book = n.book; book_failed = n.book_failed; tape = n.tape } → HasRoom mid → HasRoom n

@@ -6,7 +6,6 @@ use Rattle.m17_control.specs.declared.event.Event.{Event}
 use Rattle.m17_control.specs.declared.item.Item.{Item}
 use Rattle.m17_floor.specs.declared.verdict.Verdict.{Verdict}
 use Rattle.m17_book.specs.Records.{record_bytes}
-use Rattle.m17_module.specs.Laws.{IsNumbered}
 use Rattle.m17_module.specs.StandsFor.{StandsFor}
 use Rattle.m17_worker.specs.declared.worker.Worker.{Worker}
 use Rattle.m17_worker.specs.Taken.{taken, is_there, is_stop_of}
@@ -33,7 +32,6 @@ pub record CanServe {B : Type 0} (events : List Event) (event : Event) (k : Work
     pub room : HasRoom k
     pub stands : StandsFor k.module events
     pub few : length events < 2 ^ 64 - 1
-    pub numbered : All (λ e. IsNumbered e.body) (events ++ event ∷ [])
     pub there : is_there k.links k.module.setup.places event ≡ true
 
 -- So many events were served of those popped, each link's flag says whether it was stopped, and all
@@ -42,8 +40,6 @@ pub record IsAt {B : Type 0} (words : Words B) (j : Worker B) (served : ℕ) (fl
     (k : Worker B) : Type 0 where
   pub same : IsSameWorker j k
   pub room : HasRoom k
-  pub numbered : All (λ e. IsNumbered e.body)
-      (taken j.links j.module.setup.places k.inbox.popped)
   pub counted : served ≡ length (taken j.links j.module.setup.places k.inbox.popped)
   pub flagged : AreFlags flags k.inbox.popped
   pub all : HasServed words (taken j.links j.module.setup.places k.inbox.popped) j k

@@ -1,4 +1,7 @@
-ghost use Rattle.std.specs.Prelude.{◌≡◌};
+ghost use Rattle.std.specs.Prelude.{◌≡◌, ℕ, List, ◌++◌};
+ghost use Rattle.m17_control.specs.Forms.{IsModule};
+ghost use Rattle.m17_book.specs.Book.{book_header};
+ghost use Rattle.m17_worker.specs.Written.{Tells, HasText};
 ghost use Rattle.m17_worker.specs.Ready.{IsFit, IsReady};
 ghost use Rattle.m17_worker.specs.WorkerDid.{HasWorked, WorkerDid};
 
@@ -86,9 +89,25 @@ impl<B: Book> Worker<B> {
     }
 
     // Writes the book's header.
-    fn begin(&mut self) {
-        if let Some(letter) = ModuleLetter::new(self.letter) {
-            write_whole(&mut self.book, &mut self.book_failed, &write_header(letter));
+    fn begin(&mut self)
+        requires { IsModule self.old.letter }
+        ensures text { (start : Tells) (text : List ℕ) →
+            HasText start text self.old.book_failed
+            (B.written self.old.book, B.faults self.old.book) →
+            HasText start (text ++ book_header self.old.letter) self.new.book_failed
+            (B.written self.new.book, B.faults self.new.book) }
+        ensures rest { self.new ≡ record self.old {
+          book = self.new.book;
+          book_failed = self.new.book_failed;
+        } }
+        ensures same_device { (B.mark self.new.book ≡ B.mark self.old.book)
+            × (B.label self.new.book ≡ B.label self.old.book) }
+    {
+        match ModuleLetter::new(self.letter) {
+            Some(letter) => {
+                write_whole(&mut self.book, &mut self.book_failed, &write_header(letter));
+            }
+            None => unreachable!(),
         }
     }
 }

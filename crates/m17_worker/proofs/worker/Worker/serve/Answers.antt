@@ -11,7 +11,7 @@ note-requires-clause-verdict g c =
     let events : List Event = c.requires.0 in
     let can = c.requires.1 in
     low_verdict c.verdicts_fit.ensures c.args.self.now.module.setup events c.args.event.now c.step-verdict.result
-    c.step-verdict.new.self c.step-verdict.new.out can.room.places can.numbered
+    c.step-verdict.new.self c.step-verdict.new.out can.room.places
     (c.step-verdict.ensures.by_rule events can.stands can.few)
 
 pub returns-clause-room : goal.returns-clause-room
