@@ -10,3 +10,4 @@ pub mod Flags
 pub mod Noting
 pub mod Served
 pub mod Turning
+pub mod Working

@@ -9,7 +9,7 @@ use crate::LaneOffers;
 use crate::book::write_whole;
 use crate::stops::{MOST_LINKS, all_stopped};
 use m17_book::write_header;
-use m17_control::{Event, ModuleLetter};
+use m17_control::{Event, Item, ModuleLetter};
 use m17_crew::{Order, Work};
 use m17_floor::Verdict;
 use m17_lane::Popper;
@@ -76,6 +76,8 @@ impl<B: Book> Worker<B> {
         ensures same_device { (B.mark self.new.book ≡ B.mark self.old.book)
             × (B.label self.new.book ≡ B.label self.old.book) }
     {
+        m17_rows::laws::rows_grow::<Item>();
+        m17_ports::laws::told_in_turn::<u8>();
         self.begin();
         let mut served = 0u64;
         let mut stopped = [false; MOST_LINKS];
