@@ -54,12 +54,12 @@ row_left item before after law is =
     before (λ i lt. refl) (λ i lt. sym (missed_one item i))
 
 pub full_one : (o : Option (PushEnd Item)) → IsSomeAnd o IsQueue → IfSome o (λ q. q.producers ≡ 1 → q.capacity ≤ length q.pushed)
-    → IfSome o (λ q. 64 ≤ length q.pushed)
+    → IsSomeAnd o (λ q. 64 ≤ length q.pushed)
 full_one None fit full = absurd fit
 full_one (Some q) fit full = let h : q.capacity ≤ length q.pushed = full fit.0 in omega (arith, h, fit.1)
 
-full_plus : (o : Option (PushEnd Item)) → IfSome o (λ q. 64 ≤ length q.pushed) → IfSome o (λ q. 64 ≤ length q.pushed + 0)
-full_plus None full = tt
+full_plus : (o : Option (PushEnd Item)) → IsSomeAnd o (λ q. 64 ≤ length q.pushed) → IsSomeAnd o (λ q. 64 ≤ length q.pushed + 0)
+full_plus None full = absurd full
 full_plus (Some q) full = omega (arith, full)
 
 -- one item that was left out
@@ -100,7 +100,7 @@ counted_both n (suc x) (suc y) =
 
 pub one_tried : (item : Item) (answer : Offered) (before after : LaneOffers)
     → after.queues.items ≡ grow_each (queued_for (try_of item answer ∷ [])) (missed_for (try_of item answer ∷ [])) 0 before.queues.items
-    → (answer ≡ Missed → IfSome (slice_get before.queues.items item.member.place) (λ q. 64 ≤ length q.pushed))
+    → (answer ≡ Missed → IsSomeAnd (slice_get before.queues.items item.member.place) (λ q. 64 ≤ length q.pushed))
     → (answer ≡ Missed → may_be_missed item.body ≡ true) → (answer ≡ Missed → before.patient ≡ false)
     → (answer ≡ Queued → after.missed ≡ before.missed) → (answer ≡ Missed → after.missed ≡ min (before.missed + 1) (2 ^ 64 - 1))
     → after.patient ≡ before.patient → vec_capacity after.queues ≡ vec_capacity before.queues
@@ -131,9 +131,9 @@ missed_both ts us place =
     ∙ map-append (λ (t : Try). t.item) (filter (λ (t : Try). not t.queued && (place == t.item.member.place)) ts) (filter (λ (t : Try). not t.queued && (place == t.item.member.place)) us)
 
 full_behind : (o : Option (PushEnd Item)) (xs ys zs : List Item)
-    → IfSome (option_map (λ p. grows p xs ys) o) (λ q. 64 ≤ length q.pushed + length zs)
-    → IfSome o (λ q. 64 ≤ length q.pushed + length (xs ++ zs))
-full_behind None xs ys zs full = tt
+    → IsSomeAnd (option_map (λ p. grows p xs ys) o) (λ q. 64 ≤ length q.pushed + length zs)
+    → IsSomeAnd o (λ q. 64 ≤ length q.pushed + length (xs ++ zs))
+full_behind None xs ys zs full = absurd full
 full_behind (Some q) xs ys zs full = omega (arith, full, length-append q.pushed xs, length-append xs zs)
 
 left_behind : (ts earlier : List Try) (a b : LaneOffers) (item : Item) → RowsGrow Item → AreTried ts a b
@@ -142,8 +142,8 @@ left_behind ts earlier a b item law tried out =
     let place : ℕ = item.member.place in
     let is : slice_get b.queues.items place ≡ option_map (λ p. grows p (queued_for ts place) (missed_for ts place)) (slice_get a.queues.items place) =
     ap (λ qs. slice_get qs place) tried.queues ∙ law.at (queued_for ts) (missed_for ts) a.queues.items place in
-    let P : Option (PushEnd Item) → Type 0 = λ o. IfSome o (λ q. 64 ≤ length q.pushed + length (queued_for earlier place)) in
-    let Q : List Item → Type 0 = λ l. IfSome (slice_get a.queues.items place) (λ q. 64 ≤ length q.pushed + length l) in
+    let P : Option (PushEnd Item) → Type 0 = λ o. IsSomeAnd o (λ q. 64 ≤ length q.pushed + length (queued_for earlier place)) in
+    let Q : List Item → Type 0 = λ l. IsSomeAnd (slice_get a.queues.items place) (λ q. 64 ≤ length q.pushed + length l) in
     record {
       may_be = out.may_be;
       impatient = sym tried.patient ∙ out.impatient;

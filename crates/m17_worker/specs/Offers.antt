@@ -1,5 +1,5 @@
 -- What the queues of a module's places are offered, and what became of it.
-use Rattle.std.specs.Prelude.{◌≡◌, ◌==◌, ◌&&◌, ℕ, zero, suc, ◌+◌, ◌-◌, ◌^◌, ◌≤◌, min, Bool, true, false, not, List, [], ◌∷◌, map, filter, count_by, length, take, slice_get, vec_capacity, Some, IfSome}
+use Rattle.std.specs.Prelude.{◌≡◌, ◌==◌, ◌&&◌, ℕ, zero, suc, ◌+◌, ◌-◌, ◌^◌, ◌≤◌, min, Bool, true, false, not, List, [], ◌∷◌, map, filter, count_by, length, take, slice_get, vec_capacity, Some, IsSomeAnd}
 use Rattle.std.specs.List.{All}
 use Rattle.m17_control.specs.declared.item.Item.{Item}
 use Rattle.m17_control.specs.declared.item.Said.{Said}
@@ -57,7 +57,7 @@ counted_on count (suc more) = min (count + suc more) (2 ^ 64 - 1)
 pub record IsLeftOut (offers : LaneOffers) (earlier : List Try) (item : Item) : Type 0 where
   pub may_be : may_be_missed item.body ≡ true
   pub impatient : offers.patient ≡ false
-  pub full : IfSome (slice_get offers.queues.items item.member.place)
+  pub full : IsSomeAnd (slice_get offers.queues.items item.member.place)
       (λ q. 64 ≤ length q.pushed + length (queued_for earlier item.member.place))
 
 -- These items were offered, in this order: each was queued, or left out and counted.

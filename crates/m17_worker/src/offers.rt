@@ -1,5 +1,5 @@
 //! The queues of a module's places, and what they are offered.
-ghost use Rattle.std.specs.Prelude.{◌≡◌, ◌≤◌, ◌∷◌, [], false, length, slice_get, vec_capacity, IfSome, IsSomeAnd};
+ghost use Rattle.std.specs.Prelude.{◌≡◌, ◌≤◌, ◌∷◌, [], false, length, slice_get, vec_capacity, IsSomeAnd};
 ghost use Rattle.m17_rows.specs.Rows.{grow_each};
 ghost use Rattle.m17_worker.specs.Offers.{AreTried, IsQueue, may_be_missed, missed_for, queued_for, try_of};
 
@@ -52,8 +52,8 @@ fn put<R: Wait>(rt: &R, queues: &mut Vec<Pusher<Item>>, item: Item, waits: bool)
     ensures queues { queues.new.items ≡ grow_each (queued_for (try_of item result ∷ []))
         (missed_for (try_of item result ∷ [])) 0 queues.old.items }
     ensures missed { result ≡ Offered.Missed → waits ≡ false }
-    ensures full { result ≡ Offered.Missed → IfSome (slice_get queues.old.items item.member.place)
-        (λ q. 64 ≤ length q.pushed) }
+    ensures full { result ≡ Offered.Missed →
+        IsSomeAnd (slice_get queues.old.items item.member.place) (λ q. 64 ≤ length q.pushed) }
     ensures room { vec_capacity queues.new ≡ vec_capacity queues.old }
 {
     m17_rows::laws::rows_grow::<Item>();
