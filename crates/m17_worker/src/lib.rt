@@ -10,10 +10,14 @@
 
 mod book;
 mod gifts;
+#[cfg(test)]
+mod offer_tests;
 mod offers;
 mod records;
 mod stops;
 mod tape;
+#[cfg(test)]
+mod tests;
 mod turn;
 mod worker;
 
