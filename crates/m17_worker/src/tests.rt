@@ -26,6 +26,9 @@ use std::alloc::Global;
 use std::process::Abort;
 use std::sync::Wait;
 use std::test::Fail;
+use std::thread;
+use std::thread::Threads;
+use std::time::{Clock, Duration};
 
 fn member(place: u32, generation: u64) -> Member {
     Member { place, generation }
@@ -380,5 +383,67 @@ fn a_worker_that_quits_leaves_all_as_it_was(rt: HostRuntime) -> Result<(), Fail>
     assert_eq!(rt; queued(&rt, alloc, &mut bench.queues, 0)?.len(), 0);
     assert_eq!(rt; bench.other_seat.look(0), Some(1));
     assert_eq!(rt; bench.worker.inbox.try_pop(&rt), Some(join(&rt, 0, 1_000, member(0, 0))));
+    Ok(())
+}
+
+// Rests, and then pops items up to a Bye: how many frames there were.
+fn pop_to_a_bye<R: Wait + Clock>(rt: &R, popper: Popper<Item>) -> u64 {
+    let mut popper = popper;
+    let mut frames = 0u64;
+    thread::sleep(rt, Duration::from_millis(20));
+    for _ in rt.forever() {
+        match popper.pop_waiting(rt).body {
+            Said::Frame { .. } => frames = frames.saturating_add(1),
+            Said::Bye { .. } => return frames,
+            _ => {}
+        }
+    }
+    unreachable!()
+}
+
+// Does the job in one thread, while another pops from the queue.
+fn run_beside<W: Work, R: Threads + Wait + Clock + Sync>(
+    rt: &R,
+    job: W,
+    popper: Popper<Item>,
+) -> (W, u64)
+    requires { W.ready job }
+    ensures { W.does job result.0 }
+{
+    thread::join(
+        rt,
+        move || -> W
+            requires { W.ready job }
+            ensures { W.does job result }
+        { run(rt, job) },
+        move || -> u64 { pop_to_a_bye(rt, popper) },
+    )
+}
+
+#[test]
+fn a_worker_at_a_full_queue_goes_on_when_it_is_emptied(rt: HostRuntime) -> Result<(), Fail> {
+    let alloc = rt.alloc();
+    let bench = lay(alloc, 2, ListBook::make(alloc, 0, Vec::new(alloc))?)?;
+    let Bench {
+        worker,
+        mut queues,
+        mut events,
+        mut orders,
+        mut other_seat,
+    } = bench;
+    let listener = member(1, 0);
+    events.push_waiting(&rt, join(&rt, 0, 1_000, member(0, 0)));
+    events.push_waiting(&rt, join(&rt, 1, 1_000, listener));
+    for number in 0..70u16 {
+        events.push_waiting(&rt, sends(2, 1_000, member(0, 0), number));
+    }
+    events.push_waiting(&rt, leaves(3, 1_000, listener, Why::Asked));
+    events.push_waiting(&rt, event(4, 1_000, Body::Stop));
+    orders.push_waiting(&rt, Order::Go);
+    assert_eq!(rt; (other_seat.claim(0), other_seat.claim(1)), (Some(member(0, 0)), Some(listener)));
+    let popper = queues.pop().expect(&rt, "two queues");
+    let (worker, frames) = run_beside(&rt, worker, popper);
+    assert_eq!(rt; frames.checked_add(worker.offers.missed), Some(70));
+    assert_eq!(rt; other_seat.look(1), Some(2), "it was given back");
     Ok(())
 }
