@@ -8,6 +8,9 @@ use Rattle.std.proofs.lemmas.List.Elements.{filter-append, filter_map-append}
 use Rattle.m17_values.specs.declared.member.Member.{Member}
 use Rattle.m17_control.specs.declared.event.Why.{Why}
 use Rattle.m17_control.specs.declared.item.Item.{Item}
+use Rattle.m17_control.specs.declared.item.Said.{Said}
+use Rattle.m17_control.specs.declared.item.Said.TheVariants as said
+use Rattle.m17_worker.specs.Offers.{may_be_missed}
 use Rattle.m17_roll.specs.Seat.{RollView, IsSameSeat, HasLists, IsNotGiven, with_gift}
 use Rattle.m17_worker.specs.Gifts.{why_left, left_by, is_bye, gifts_by, GaveBack}
 
@@ -123,3 +126,15 @@ hands_bye a b gives item all bye h =
 pub gifts_of_none : (a : RollView) (gives : Bool) → GaveBack a (gifts_by gives []) a
 gifts_of_none a true = gave_none a
 gifts_of_none a false = gave_none a
+
+-- a Bye waits for room
+said_waits : (what : Said) → is_some (why_left what) ≡ true → may_be_missed what ≡ false
+said_waits (said.Hello after) h = refl
+said_waits (said.Frame position packet) h = absurd (cc h)
+said_waits (said.Echo position packet) h = absurd (cc h)
+said_waits (said.Reply control) h = refl
+said_waits said.Ping h = absurd (cc h)
+said_waits (said.Bye why) h = refl
+
+pub bye_waits : (item : Item) → is_bye item ≡ true → may_be_missed item.body ≡ false
+bye_waits item h = said_waits item.body h

@@ -2,8 +2,9 @@
 use Rattle.std.proofs.Common.{◌≡◌, ℕ, zero, suc, ◌+◌, ◌-◌, ◌^◌, ◌<◌, ◌≤◌, min, Bool, true, false, not, ◌&&◌, cond, List, [], ◌∷◌, ◌++◌, map, length, take, slice_get, get_or, Option, None, Some, IfSome, inl, inr, refl, ap, sym, subst, ◌∙◌, arith}
 use Rattle.std.specs.Prelude.{◌==◌, filter, count_by, vec_capacity, IsSomeAnd}
 use Rattle.std.specs.Option.{option_map}
-use Rattle.std.specs.List.{All}
-use Rattle.std.proofs.lemmas.Bool.{cases_lt, true≢false}
+use Rattle.std.specs.List.{All, Contains}
+use Rattle.std.proofs.lemmas.List.Elements.{Contains-push}
+use Rattle.std.proofs.lemmas.Bool.{cases_lt, true≢false, eq-eqb}
 use Rattle.std.proofs.lemmas.Option.{same_Some}
 use Rattle.std.proofs.lemmas.List.{map-append, length-append, take-append-le}
 use Rattle.std.proofs.lemmas.List.Elements.{filter-append}
@@ -223,3 +224,32 @@ pub queue_at : (qs : List (PushEnd Item)) (n : ℕ) → All IsQueue qs → n < l
 queue_at [] n all lt = absurd (omega arith)
 queue_at (q ∷ qs) zero all lt = all zero q (omega arith)
 queue_at (q ∷ qs) (suc n) all lt = queue_at qs n (λ k d l. all (suc k) d (omega arith)) (omega arith)
+
+-- a Bye stands in its queue once it was offered
+not_missed : (item : Item) (answer : Offered) (a b : LaneOffers) → may_be_missed item.body ≡ false → AreTried (try_of item answer ∷ []) a b → answer ≡ Queued
+not_missed item Queued a b waits tried = refl
+not_missed item Missed a b waits tried =
+    let out = tried.left_out 0 (try_of item Missed) refl refl in
+    absurd (true≢false (sym out.may_be ∙ waits))
+
+grown_contains : (o : Option (PushEnd Item)) (xs ys : List Item) (item : Item) → xs ≡ item ∷ [] → IsSomeAnd o IsQueue
+    → IsSomeAnd (option_map (λ p. grows p xs ys) o) (λ q. Contains q.pushed item)
+grown_contains None xs ys item is fit = absurd fit
+grown_contains (Some q) xs ys item is fit =
+    let P : List Item → Type 0 = λ l. Contains (q.pushed ++ l) item in subst P (sym is) (Contains-push q.pushed item)
+
+only_there : (item : Item) (place : ℕ) → only place item place ≡ item ∷ []
+only_there item place = ap (λ b. cond b (item ∷ []) []) (eq-eqb place place refl)
+
+pub stands_in_queue : (item : Item) (answer : Offered) (a b : LaneOffers) → RowsGrow Item → may_be_missed item.body ≡ false
+    → IsSomeAnd (slice_get a.queues.items item.member.place) IsQueue → AreTried (try_of item answer ∷ []) a b
+    → IsSomeAnd (slice_get b.queues.items item.member.place) (λ q. Contains q.pushed item)
+stands_in_queue item answer a b law waits fit tried =
+    let place : ℕ = item.member.place in
+    let ts : List Try = try_of item answer ∷ [] in
+    let is : slice_get b.queues.items place ≡ option_map (λ p. grows p (queued_for ts place) (missed_for ts place)) (slice_get a.queues.items place) =
+    ap (λ qs. slice_get qs place) tried.queues ∙ law.at (queued_for ts) (missed_for ts) a.queues.items place in
+    let queued : queued_for ts place ≡ item ∷ [] =
+    ap (λ (r : Offered). queued_for (try_of item r ∷ []) place) (not_missed item answer a b waits tried) ∙ queued_one item place ∙ only_there item place in
+    let P : Option (PushEnd Item) → Type 0 = λ o. IsSomeAnd o (λ q. Contains q.pushed item) in
+    subst P (sym is) (grown_contains (slice_get a.queues.items place) (queued_for ts place) (missed_for ts place) item queued fit)

@@ -1,5 +1,5 @@
 //! What an event gave, handed out: offered to the queues, and the places of those that left given back.
-ghost use Rattle.std.specs.Prelude.{◌≡◌, ◌<◌, ◌∷◌, [], filter, length, slice_get, Option, IfSome, IsSomeAnd};
+ghost use Rattle.std.specs.Prelude.{◌≡◌, ◌<◌, ◌∷◌, [], filter, length, slice_get, Contains, Option, IfSome, IsSomeAnd};
 ghost use Rattle.std.specs.Option.{option_to_list};
 ghost use Rattle.std.specs.List.{All};
 ghost use Rattle.m17_control.specs.declared.item.Item.{Item};
@@ -11,7 +11,6 @@ use crossbeam_utils::Backoff;
 use m17_control::{Item, Said};
 use m17_module::Basket;
 use m17_roll::RollSeat;
-use m17_values::Member;
 use std::sync::Wait;
 
 // Hands out what is in the basket, in order. Each Bye is followed by giving its member's place back, where `gives` says
@@ -56,19 +55,24 @@ fn hand_over<R: Wait>(
     ensures offered { AreOffered (item.now ∷ []) offers.old offers.new }
     ensures gave_back { GaveBack seat.old (gifts_by gives (item.now ∷ [])) seat.new }
 {
+    m17_rows::laws::rows_grow::<Item>();
     let _ = offers.offer(rt, *item);
     if gives && is_farewell(item) {
-        give_back(rt, seat, item.member);
+        give_back(rt, offers, seat, item);
     }
 }
 
-// Gives the member's place back, again until the roll takes it. It rests between the tries.
-fn give_back<R: Wait>(rt: &R, seat: &mut RollSeat, member: Member)
-    ensures { GaveBack seat.old (member ∷ []) seat.new }
+// Gives the place of the member back to whom this was said, again until the roll takes it. It rests between the tries. It
+// is handed the queues because the Bye has to stand in one of them first.
+fn give_back<R: Wait>(rt: &R, offers: &LaneOffers, seat: &mut RollSeat, bye: &Item)
+    requires said { IsSomeAnd (slice_get offers.now.queues.items bye.now.member.place)
+        (λ q. Contains q.pushed bye.now) }
+    ensures { GaveBack seat.old (bye.now.member ∷ []) seat.new }
 {
+    let _ = offers;
     let backoff = Backoff::new();
     for _ in rt.forever() {
-        if seat.give(member) {
+        if seat.give(bye.member) {
             return;
         }
         backoff.snooze();

@@ -8,9 +8,9 @@ loop-init g c = gave_none c.args.seat.now
 pub loop-preserved : goal.loop-preserved
 loop-preserved g c =
     gave_then c.args.seat.now c.loop.seat c.give.new.self [] [] c.loop.invariant
-    (gave_not c.loop.seat c.give.new.self c.args.member c.if-give.ensures.refused c.if-give.ensures.lists c.if-give.ensures.seat)
+    (gave_not c.loop.seat c.give.new.self c.args.bye.now.member c.if-give.ensures.refused c.if-give.ensures.lists c.if-give.ensures.seat)
 
 pub returns-then-give : goal.returns-then-give
 returns-then-give g c =
-    gave_then c.args.seat.now c.loop.seat c.give.new.self [] (c.args.member ∷ []) c.loop.invariant
-    (gave_one c.loop.seat c.give.new.self c.args.member c.if-give.ensures.given)
+    gave_then c.args.seat.now c.loop.seat c.give.new.self [] (c.args.bye.now.member ∷ []) c.loop.invariant
+    (gave_one c.loop.seat c.give.new.self c.args.bye.now.member c.if-give.ensures.given)
