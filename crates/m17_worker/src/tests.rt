@@ -240,16 +240,16 @@ fn is_low(tag: Tag, member: Member) -> bool
 }
 
 // The bytes of a record of low links and places, whose verdict has no value.
-fn spell(record: &Record) -> Option<ArrayVec<u8, 97>> {
-    match *record {
-        Record::Join { tag, member, .. } if is_low(tag, member) => Some(write_record(record)),
-        Record::Leave { tag, member, .. } if is_low(tag, member) => Some(write_record(record)),
+fn spell(line: &Record) -> Option<ArrayVec<u8, 97>> {
+    match *line {
+        Record::Join { tag, member, .. } if is_low(tag, member) => Some(write_record(line)),
+        Record::Leave { tag, member, .. } if is_low(tag, member) => Some(write_record(line)),
         Record::Packet {
             tag,
             member,
             verdict: Verdict::Opened | Verdict::NotMember,
             ..
-        } if is_low(tag, member) => Some(write_record(record)),
+        } if is_low(tag, member) => Some(write_record(line)),
         _ => None,
     }
 }
@@ -262,9 +262,9 @@ fn written(rt: &impl Abort, alloc: Global, writes: usize) -> Result<Vec<u8>, Fai
     }
     let letter = ModuleLetter::new(b'A').expect(rt, "a letter");
     bytes.extend_from_slice(&write_header(letter))?;
-    for record in records(rt).iter().take(writes - 1) {
-        let record = spell(record).expect(rt, "a record of low places");
-        bytes.extend_from_slice(record.as_slice())?;
+    for line in records(rt).iter().take(writes - 1) {
+        let bytes_of = spell(line).expect(rt, "a record of low places");
+        bytes.extend_from_slice(bytes_of.as_slice())?;
     }
     Ok(bytes)
 }
