@@ -316,19 +316,33 @@ fn queued<R: Wait + Abort>(
     Ok(all)
 }
 
-#[test]
-fn a_worker_serves_what_names_a_link_and_a_place_that_are_there(
-    rt: HostRuntime,
-) -> Result<(), Fail> {
-    let alloc = rt.alloc();
+// The bench after its worker did its job.
+fn served<R: Wait + Abort>(rt: &R, alloc: Global) -> Result<Bench<ListBook>, Fail> {
     let bench = lay(alloc, 2, ListBook::make(alloc, 2_000, Vec::new(alloc))?)?;
-    let mut bench = go(&rt, bench, Order::Go);
-    let worker = &bench.worker;
-    assert_eq!(rt; worker.book.bytes(), written(&rt, alloc, 9)?.as_slice());
+    Ok(go(rt, bench, Order::Go))
+}
+
+#[test]
+fn book_and_tape_hold_what_was_decided(rt: HostRuntime) -> Result<(), Fail> {
+    let worker = served(&rt, rt.alloc())?.worker;
+    assert_eq!(rt; worker.book.bytes(), written(&rt, rt.alloc(), 9)?.as_slice());
     assert_eq!(rt; (worker.book_failed, worker.module.admitted()), (false, 2));
     let opened = Some(Verdict::Opened);
     let stranger = Some(Verdict::NotMember);
     assert_eq!(rt; worker.tape.as_slice(), [None, opened, stranger, opened].as_slice());
+    Ok(())
+}
+
+fn a_frame(position: u64, number: u16) -> Said {
+    Said::Frame {
+        position,
+        packet: frame(7, number, false),
+    }
+}
+
+#[test]
+fn queues_hold_what_was_given(rt: HostRuntime) -> Result<(), Fail> {
+    let mut queues = served(&rt, rt.alloc())?.queues;
     let bye = Said::Bye { why: Why::Replaced };
     let hello = Said::Hello { after: 0 };
     let first = [
@@ -337,17 +351,19 @@ fn a_worker_serves_what_names_a_link_and_a_place_that_are_there(
         (member(0, 1), hello),
         (member(0, 1), bye),
     ];
-    assert_eq!(rt; queued(&rt, alloc, &mut bench.queues, 0)?.as_slice(), first.as_slice());
-    let frame_at = |position, number| Said::Frame {
-        position,
-        packet: frame(7, number, false),
-    };
+    assert_eq!(rt; queued(&rt, rt.alloc(), &mut queues, 0)?.as_slice(), first.as_slice());
     let second = [
         (member(1, 0), hello),
-        (member(1, 0), frame_at(2, 0)),
-        (member(1, 0), frame_at(7, 1)),
+        (member(1, 0), a_frame(2, 0)),
+        (member(1, 0), a_frame(7, 1)),
     ];
-    assert_eq!(rt; queued(&rt, alloc, &mut bench.queues, 1)?.as_slice(), second.as_slice());
+    assert_eq!(rt; queued(&rt, rt.alloc(), &mut queues, 1)?.as_slice(), second.as_slice());
+    Ok(())
+}
+
+#[test]
+fn a_place_is_given_back_and_what_is_behind_the_stop_stays(rt: HostRuntime) -> Result<(), Fail> {
+    let mut bench = served(&rt, rt.alloc())?;
     assert_eq!(rt; bench.other_seat.look(0), Some(2), "it was given back, once");
     assert_eq!(rt; bench.other_seat.look(1), Some(0), "nothing was claimed");
     let behind = Some(event(6, 1_060, Body::Tick));
@@ -420,29 +436,45 @@ fn run_beside<W: Work, R: Threads + Wait + Clock + Sync>(
     )
 }
 
+// A talker and a listener join, 70 frames come, and the listener leaves; both have their places.
+fn fill<B, R: Wait + Abort>(rt: &R, bench: Bench<B>) -> Bench<B>
+    ensures { result.worker ≡ bench.worker }
+{
+    let mut bench = bench;
+    let talker = member(0, 0);
+    let listener = member(1, 0);
+    bench.events.push_waiting(rt, join(rt, 0, 1_000, talker));
+    bench.events.push_waiting(rt, join(rt, 1, 1_000, listener));
+    for number in 0..70u16 {
+        bench.events.push_waiting(rt, sends(2, 1_000, talker, number));
+    }
+    bench.events.push_waiting(rt, leaves(3, 1_000, listener, Why::Asked));
+    bench.events.push_waiting(rt, event(4, 1_000, Body::Stop));
+    bench.orders.push_waiting(rt, Order::Go);
+    assert_eq!(rt; bench.other_seat.claim(0), Some(talker));
+    assert_eq!(rt; bench.other_seat.claim(1), Some(listener));
+    bench
+}
+
+// Does the job beside a thread that pops from the last queue.
+fn go_beside<B: Book + Drop + Send + 'static, R: Threads + Wait + Clock + Sync>(
+    rt: &R,
+    bench: Bench<B>,
+) -> Option<(Worker<B>, RollSeat, u64)>
+    requires { IsReady (record { written = B.written; faults = B.faults; }) bench.worker }
+{
+    let mut bench = bench;
+    let popper = bench.queues.pop()?;
+    let (worker, frames) = run_beside(rt, bench.worker, popper);
+    Some((worker, bench.other_seat, frames))
+}
+
 #[test]
 fn a_worker_at_a_full_queue_goes_on_when_it_is_emptied(rt: HostRuntime) -> Result<(), Fail> {
     let alloc = rt.alloc();
     let bench = lay(alloc, 2, ListBook::make(alloc, 0, Vec::new(alloc))?)?;
-    let Bench {
-        worker,
-        mut queues,
-        mut events,
-        mut orders,
-        mut other_seat,
-    } = bench;
-    let listener = member(1, 0);
-    events.push_waiting(&rt, join(&rt, 0, 1_000, member(0, 0)));
-    events.push_waiting(&rt, join(&rt, 1, 1_000, listener));
-    for number in 0..70u16 {
-        events.push_waiting(&rt, sends(2, 1_000, member(0, 0), number));
-    }
-    events.push_waiting(&rt, leaves(3, 1_000, listener, Why::Asked));
-    events.push_waiting(&rt, event(4, 1_000, Body::Stop));
-    orders.push_waiting(&rt, Order::Go);
-    assert_eq!(rt; (other_seat.claim(0), other_seat.claim(1)), (Some(member(0, 0)), Some(listener)));
-    let popper = queues.pop().expect(&rt, "two queues");
-    let (worker, frames) = run_beside(&rt, worker, popper);
+    let ended = go_beside(&rt, fill(&rt, bench));
+    let (worker, mut other_seat, frames) = ended.expect(&rt, "two queues");
     assert_eq!(rt; frames.checked_add(worker.offers.missed), Some(70));
     assert_eq!(rt; other_seat.look(1), Some(2), "it was given back");
     Ok(())
