@@ -1,5 +1,5 @@
 -- An event of a module says one Bye at the most, and then its only record of a Leave is of that.
-use Rattle.std.proofs.Common.{◌≡◌, ℕ, ◌/◌, Bool, true, false, cond, List, [], ◌∷◌, ◌++◌, length, map, slice_get, nat_lt, Option, None, Some, refl, ap, sym, subst, ◌∙◌, arith}
+use Rattle.std.proofs.Common.{◌≡◌, ℕ, ◌/◌, Bool, true, false, cond, List, [], ◌∷◌, ◌++◌, length, map, slice_get, nat_lt, Option, None, Some, refl, ap, sym, ◌∙◌}
 use Rattle.std.specs.Prelude.{is_some, filter, option_and_then}
 use Rattle.std.specs.Option.{option_map, option_to_list}
 use Rattle.std.specs.List.{filter_map, cons_option}
@@ -17,12 +17,11 @@ use Rattle.m17_control.specs.declared.item.Item.{Item}
 use Rattle.m17_control.specs.declared.item.Said.{Said}
 use Rattle.m17_control.specs.declared.item.Said.TheVariants as said
 use Rattle.m17_floor.specs.Acts.{moment_before, moment_at}
-use Rattle.m17_floor.specs.Floor.{admits, verdict_at}
 use Rattle.m17_module.specs.declared.seat.Seat.{Seat}
 use Rattle.m17_module.specs.Events.{acts_of}
 use Rattle.m17_module.specs.Seats.{seats_at, members_of, seat_in, seat_of, others_than}
 use Rattle.m17_module.specs.Echoes.{echo_at}
-use Rattle.m17_module.specs.Items.{Setup, Setting, item_to, to_one, says, greets, pings_at, echo_items, echoes_at, said_by, said_at, setting_at, items_at, ping_every_ms}
+use Rattle.m17_module.specs.Items.{Setup, Setting, item_to, to_one, says, pings_at, echo_items, echoes_at, said_by, said_at, setting_at, items_at, ping_every_ms}
 use Rattle.m17_book.specs.declared.record.Record.{Record}
 use Rattle.m17_book.specs.declared.record.Record.TheVariants as records
 use Rattle.m17_worker.specs.Gifts.{why_left, is_bye}
@@ -91,10 +90,10 @@ few_said now (Join k peer callsign listens after) =
     (one_bye Replaced (seat_in now.seats k.place)))
 few_said now (Leave k why) = one_bye why (seat_of now.seats k)
 few_said now (Packet k p) = (
-    None,
-    no_byes_if now.admitted (map (item_to (said.Frame now.position p)) (others_than k now.seats))
-    (no_byes_all (said.Frame now.position p) refl (others_than k now.seats)),
-  )
+  None,
+  no_byes_if now.admitted (map (item_to (said.Frame now.position p)) (others_than k now.seats))
+      (no_byes_all (said.Frame now.position p) refl (others_than k now.seats)),
+)
 few_said now (Reply k control) = (None, no_byes_one (said.Reply control) refl (seat_of now.seats k))
 few_said now Tick = (None, refl)
 few_said now Stop = (None, refl)

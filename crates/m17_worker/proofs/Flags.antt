@@ -1,6 +1,6 @@
 -- Flags of the links, one event after another.
-use Rattle.std.proofs.Common.{◌≡◌, ℕ, zero, suc, ◌<◌, ◌≤◌, Bool, true, false, ◌&&◌, ◌||◌, cond, List, [], ◌∷◌, ◌++◌, length, set, slice_get, Some, inl, inr, refl, ap, sym, ◌∙◌, arith}
-use Rattle.std.specs.Prelude.{◌==◌, slice_set}
+use Rattle.std.proofs.Common.{◌≡◌, ℕ, zero, suc, ◌<◌, ◌≤◌, Bool, true, false, ◌&&◌, ◌||◌, List, [], ◌∷◌, ◌++◌, set, slice_get, Some, inl, inr, refl, ap, sym, ◌∙◌, arith}
+use Rattle.std.specs.Prelude.{◌==◌}
 use Rattle.std.specs.List.{list_any}
 use Rattle.std.proofs.lemmas.Bool.{cases_eq, eq-eqb, ne_eqb, and_left}
 use Rattle.std.proofs.lemmas.Option.{same_Some, slice_get_within}
@@ -43,15 +43,15 @@ pub flags_set : (flags : List Bool) (events : List Event) (event : Event) → is
     → AreFlags flags events → AreFlags (set flags event.tag.link true) (events ++ event ∷ [])
 flags_set flags events event is at h link lt =
     elim (cases_eq link event.tag.link) [
-      inl same ↦
-      let hit : is_stop_of link event ≡ true = ap (λ b. b && is_stop event.body) (eq-eqb event.tag.link link (sym same)) ∙ is in
-      ap (slice_get (set flags event.tag.link true)) same
-      ∙ set_here flags event.tag.link true (slice_get_within flags event.tag.link (list_any (is_stop_of event.tag.link) events) (h event.tag.link at))
-      ∙ ap Some (sym (any_more link events event ∙ ap (λ b. list_any (is_stop_of link) events || b) hit ∙ or_true (list_any (is_stop_of link) events)))
-    | inr ne ↦
-      let miss : is_stop_of link event ≡ false = and_left (event.tag.link == link) (is_stop event.body) (ne_eqb event.tag.link link (λ e. ne (sym e))) in
-      set_else flags event.tag.link link true ne ∙ h link lt
-      ∙ ap Some (sym (any_more link events event ∙ ap (λ b. list_any (is_stop_of link) events || b) miss ∙ or_false (list_any (is_stop_of link) events)))
+      | inl same ↦
+          let hit : is_stop_of link event ≡ true = ap (λ b. b && is_stop event.body) (eq-eqb event.tag.link link (sym same)) ∙ is in
+          ap (slice_get (set flags event.tag.link true)) same
+          ∙ set_here flags event.tag.link true (slice_get_within flags event.tag.link (list_any (is_stop_of event.tag.link) events) (h event.tag.link at))
+          ∙ ap Some (sym (any_more link events event ∙ ap (λ b. list_any (is_stop_of link) events || b) hit ∙ or_true (list_any (is_stop_of link) events)))
+      | inr ne ↦
+          let miss : is_stop_of link event ≡ false = and_left (event.tag.link == link) (is_stop event.body) (ne_eqb event.tag.link link (λ e. ne (sym e))) in
+          set_else flags event.tag.link link true ne ∙ h link lt
+          ∙ ap Some (sym (any_more link events event ∙ ap (λ b. list_any (is_stop_of link) events || b) miss ∙ or_false (list_any (is_stop_of link) events)))
     ]
 
 -- at the beginning

@@ -1,16 +1,16 @@
 -- Handing out, one item after another.
-use Rattle.std.proofs.Common.{◌≡◌, ◌<◌, Bool, List, [], ◌∷◌, ◌++◌, length, Option, None, Some, IfSome, refl, ap, sym, ◌∙◌, arith}
+use Rattle.std.proofs.Common.{◌≡◌, ◌<◌, Bool, List, [], ◌∷◌, ◌++◌, length, Option, None, IfSome, refl, ap, sym, ◌∙◌}
 use Rattle.std.specs.List.{All}
 use Rattle.std.proofs.lemmas.List.{append_assoc}
-use Rattle.std.proofs.lemmas.List.Elements.{All-same, All-head, All-tail, All-weaker}
+use Rattle.std.proofs.lemmas.List.Elements.{All-same, All-head, All-tail}
 use Rattle.m17_control.specs.declared.item.Item.{Item}
 use Rattle.m17_roll.specs.Seat.{RollView}
 use Rattle.m17_rows.specs.Laws.{RowsGrow}
 use Rattle.m17_worker.specs.declared.offers.LaneOffers.{LaneOffers}
 use Rattle.m17_worker.specs.Offers.{AreOffered, IsQueue}
-use Rattle.m17_worker.specs.Gifts.{GaveBack, gifts_by, is_bye}
+use Rattle.m17_worker.specs.Gifts.{GaveBack, gifts_by}
 use Rattle.m17_worker.proofs.Tries.{offered_none, offered_then, queues_stay, as_many}
-use Rattle.m17_worker.proofs.Giving.{IsTheBye, gave_none, given_more, no_bye, gifts_of_none}
+use Rattle.m17_worker.proofs.Giving.{IsTheBye, given_more, no_bye, gifts_of_none}
 
 -- where the items go: the queues and the seat
 pub record Hands : Type 0 where

@@ -1,5 +1,5 @@
 -- The records of one event, written.
-use Rattle.std.proofs.Common.{◌≡◌, ℕ, ◌<◌, Bool, true, false, cond, List, ◌++◌, nat_lt, Option, None, Some, IfSome, refl, ap, sym, subst, ◌∙◌, arith}
+use Rattle.std.proofs.Common.{◌≡◌, ℕ, ◌<◌, Bool, true, false, cond, List, ◌++◌, nat_lt, Option, None, Some, IfSome, refl, ap, sym, subst, ◌∙◌}
 use Rattle.std.specs.Prelude.{option_and_then}
 use Rattle.std.specs.Option.{ForSome, option_map, option_map_or, option_to_list}
 use Rattle.std.specs.List.{flat_map}
@@ -7,12 +7,10 @@ use Rattle.std.proofs.lemmas.Bool.{lt-ltb}
 use Rattle.m17_control.specs.declared.event.Tag.{Tag}
 use Rattle.m17_control.specs.declared.event.Body.{Body}
 use Rattle.m17_control.specs.declared.event.Body.TheVariants as body
-use Rattle.m17_control.specs.declared.event.Event.{Event}
-use Rattle.m17_control.specs.declared.item.Item.{Item}
 use Rattle.m17_floor.specs.declared.verdict.Verdict.{Verdict}
 use Rattle.m17_book.specs.Records.{IsWritable, IsLowVerdict, record_bytes}
 use Rattle.m17_book.specs.declared.record.Record.{Record}
-use Rattle.m17_book.specs.declared.record.Record.TheVariants.{Join, Leave, Packet}
+use Rattle.m17_book.specs.declared.record.Record.TheVariants.{Join, Packet}
 use Rattle.m17_worker.specs.Taken.{place_of}
 use Rattle.m17_worker.specs.Records.{leave_record, Noted, own_record}
 use Rattle.m17_worker.specs.Written.{Tells, HasText}
@@ -32,7 +30,8 @@ own_writable : (now : Noted) (what : Body) → now.tag.link < 4 → ForSome (pla
     → IfSome (own_record now what) IsWritable
 own_writable now (body.Join k peer callsign listen after) link place low =
     elim (nat_lt k.place now.places) as (λ b. IfSome (cond b (Some (Join now.tag now.moment k listen callsign)) None) IsWritable) [
-      true ↦ (link, place k.place refl) | false ↦ tt
+      | true ↦ (link, place k.place refl)
+      | false ↦ tt
     ]
 own_writable now (body.Leave k why) link place low = tt
 own_writable now (body.Packet k packet) link place low =

@@ -1,9 +1,9 @@
 -- One event more is served.
-use Rattle.std.proofs.Common.{◌≡◌, ℕ, ◌-◌, ◌^◌, ◌<◌, ◌≤◌, Bool, true, false, not, ◌&&◌, List, [], ◌∷◌, ◌++◌, length, take, nat_lt, Option, None, Some, refl, ap, sym, subst, ◌∙◌, arith}
+use Rattle.std.proofs.Common.{◌≡◌, ℕ, ◌≤◌, true, not, List, [], ◌∷◌, ◌++◌, length, take, nat_lt, Option, ap, sym, subst, ◌∙◌, arith}
 use Rattle.std.specs.Prelude.{is_some, filter, option_and_then, slice_index_or}
 use Rattle.std.specs.Option.{ForSome, option_map_or, option_to_list}
 use Rattle.std.specs.List.{All, flat_map, filter_map}
-use Rattle.std.proofs.lemmas.Bool.{and_parts, ltb-true}
+use Rattle.std.proofs.lemmas.Bool.{and_parts}
 use Rattle.m17_values.specs.declared.member.Member.{Member}
 use Rattle.m17_control.specs.declared.event.Event.{Event}
 use Rattle.m17_control.specs.declared.event.Body.{Body}
@@ -12,14 +12,12 @@ use Rattle.m17_control.specs.declared.item.Item.{Item}
 use Rattle.m17_floor.specs.declared.verdict.Verdict.{Verdict}
 use Rattle.m17_floor.specs.declared.verdict.Verdict.TheVariants.{Opened, Continued, Busy, Repeat, Late, AfterEnd, NotMember, ListenOnly}
 use Rattle.m17_floor.specs.Acts.{moment_at, greatest_moment, is_packet}
-use Rattle.m17_floor.specs.Floor.{verdict_at}
 use Rattle.m17_floor.specs.Laws.{LaterActsChangeNoVerdict, LaterActsChangeNoMoment}
 use Rattle.m17_module.specs.Events.{acts_of, kind_of}
 use Rattle.m17_module.specs.Items.{Setup, items_at, items_given}
-use Rattle.m17_module.specs.StandsFor.{Kept, StandsFor, IsStep, stepped}
-use Rattle.m17_module.specs.Laws.{LaterEventsChangeNoItems, OneEventMoreGives, ItemsAreAtPlaces, VerdictsFit, FitsIn, IsNumbered}
+use Rattle.m17_module.specs.StandsFor.{Kept, IsStep, stepped}
+use Rattle.m17_module.specs.Laws.{LaterEventsChangeNoItems, OneEventMoreGives, VerdictsFit, FitsIn, IsNumbered}
 use Rattle.m17_book.specs.Records.{record_bytes, IsLowVerdict}
-use Rattle.m17_book.specs.declared.record.Record.{Record}
 use Rattle.m17_rows.specs.Laws.{RowsGrow}
 use Rattle.m17_worker.specs.declared.worker.Worker.{Worker}
 use Rattle.m17_worker.specs.Taken.{is_there, place_of}
@@ -30,14 +28,14 @@ use Rattle.m17_worker.specs.Written.{Tells, HasText}
 use Rattle.m17_worker.specs.Tape.{IsTaped}
 use Rattle.m17_worker.specs.Ready.{Words}
 use Rattle.m17_worker.specs.WorkerDid.{HasServed}
-use Rattle.m17_worker.specs.Underway.{Note, noted_text, filled, HasRoom}
+use Rattle.m17_worker.specs.Underway.{noted_text, filled, HasRoom}
 use Rattle.m17_worker.specs.declared.offers.LaneOffers.{LaneOffers}
 use Rattle.m17_roll.specs.Seat.{RollView}
 use Rattle.m17_worker.proofs.Lists.{length_more}
 use Rattle.m17_worker.proofs.Tries.{offered_then, queues_stay, as_many}
 use Rattle.m17_worker.proofs.Giving.{gave_then, IsTheBye}
 use Rattle.m17_worker.proofs.Byes.{few_byes, leaves_are}
-use Rattle.m17_worker.proofs.Gathered.{gifts_more, records_more, last_records, text_goes_on}
+use Rattle.m17_worker.proofs.Gathered.{gifts_more, records_more, text_goes_on}
 use Rattle.m17_worker.proofs.Tapes.{taped_more}
 
 -- the laws of the crates below
@@ -133,10 +131,10 @@ pub seen_after : {B : Type 0} (words : Words B) (events : List Event) (s : Seen)
     → GaveBack k.seat (gifts_by (not (leaves_replaced s.event.body)) s.items) mid.seat
     → IsTheBye s.bye s.items
     → ((start : Tells) (text : List ℕ) (places : ℕ)
-      → option_map_or (λ place. nat_lt place places) (place_of s.event.body) true ≡ true
-      → HasText start text k.book_failed (words.written k.book, words.faults k.book)
-      → HasText start (noted_text text mid.module.moment (record { event = s.event; verdict = s.verdict; bye = s.bye; places = places }))
-      n.book_failed (words.written n.book, words.faults n.book))
+    → option_map_or (λ place. nat_lt place places) (place_of s.event.body) true ≡ true
+    → HasText start text k.book_failed (words.written k.book, words.faults k.book)
+    → HasText start (noted_text text mid.module.moment (record { event = s.event; verdict = s.verdict; bye = s.bye; places = places }))
+    n.book_failed (words.written n.book, words.faults n.book))
     → n.tape.items ≡ filled k.tape.items s.event s.verdict
     → IsSeen words events s k n
 seen_after {B} words events s k mid n rest step answer offered gave the_bye text tape =
@@ -151,9 +149,9 @@ seen_after {B} words events s k mid n rest step answer offered gave the_bye text
       gave = subst G (sym (ap (λ (w : Worker B). w.seat) rest)) gave;
       the_bye = the_bye;
       text = λ start before places fits h.
-        let T : ℕ → Type 0 = λ m. HasText start (noted_text before m (record { event = s.event; verdict = s.verdict; bye = s.bye; places = places }))
-            n.book_failed (words.written n.book, words.faults n.book) in
-        subst T (sym (ap (λ (m : Kept). m.moment) module_is)) (text start before places fits h);
+          let T : ℕ → Type 0 = λ m. HasText start (noted_text before m (record { event = s.event; verdict = s.verdict; bye = s.bye; places = places }))
+          n.book_failed (words.written n.book, words.faults n.book) in
+          subst T (sym (ap (λ (m : Kept). m.moment) module_is)) (text start before places fits h);
       tape = tape;
     }
 

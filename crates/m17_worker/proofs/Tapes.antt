@@ -1,8 +1,8 @@
 -- The tape after one event more.
-use Rattle.std.proofs.Common.{◌≡◌, ℕ, zero, suc, ◌+◌, ◌<◌, ◌≤◌, Bool, true, false, ◌&&◌, cond, List, [], ◌∷◌, ◌++◌, length, set, slice_get, Option, None, Some, inl, inr, refl, ap, sym, subst, ◌∙◌, arith}
-use Rattle.std.specs.Prelude.{◌==◌, is_some, option_and_then, slice_set}
+use Rattle.std.proofs.Common.{◌≡◌, ℕ, zero, suc, ◌<◌, Bool, true, false, ◌&&◌, cond, List, [], ◌∷◌, ◌++◌, length, set, slice_get, Option, None, Some, inl, inr, refl, ap, sym, ◌∙◌, arith}
+use Rattle.std.specs.Prelude.{◌==◌, is_some, option_and_then}
 use Rattle.std.specs.Option.{option_map_or}
-use Rattle.std.proofs.lemmas.Bool.{cases_Bool, cases_eq, and_parts, eqb-true, eq-eqb, ne_eqb, and_left, and_right, true≢false}
+use Rattle.std.proofs.lemmas.Bool.{cases_eq, and_parts, eq-eqb, ne_eqb, and_left, and_right}
 use Rattle.std.proofs.lemmas.Option.{same_Some}
 use Rattle.std.proofs.lemmas.List.{length-set}
 use Rattle.m17_control.specs.declared.event.Event.{Event}
@@ -94,7 +94,6 @@ set_else (y ∷ xs) zero (suc j) x ne = refl
 set_else (y ∷ xs) (suc i) zero x ne = refl
 set_else (y ∷ xs) (suc i) (suc j) x ne = set_else xs i j x (λ e. ne (ap suc e))
 
-
 -- the tape is as long as before
 filled_length : (tape : List (Option Verdict)) (event : Event) (verdict : Option Verdict) (b : Bool)
     → length (cond b (set tape event.tag.index verdict) tape) ≡ length tape
@@ -117,18 +116,18 @@ cell_is : LaterActsChangeNoVerdict → (places : ℕ) (events : List Event) (eve
 cell_is later places events event verdict tape true is told h index lt =
     let parts = and_parts (event.tag.link == 0) (is_packet (kind_of event.body)) (sym is) in
     elim (cases_eq index event.tag.index) [
-      inl same ↦
-      let hit : is_packet_of index event ≡ true =
-      ap (λ b. b && ((index == event.tag.index) && is_packet (kind_of event.body))) parts.0
-      ∙ ap (λ b. b && is_packet (kind_of event.body)) (eq-eqb index event.tag.index same) ∙ parts.1 in
-      ap (λ i. slice_get (set tape event.tag.index verdict) i) same
-      ∙ set_here tape event.tag.index verdict (omega (arith, lt, same))
-      ∙ ap Some (told ∙ sym (verdict_here places events event index hit))
-    | inr ne ↦
-      let miss : is_packet_of index event ≡ false =
-      and_right (event.tag.link == 0) ((index == event.tag.index) && is_packet (kind_of event.body))
-      (and_left (index == event.tag.index) (is_packet (kind_of event.body)) (ne_eqb index event.tag.index ne)) in
-      set_else tape event.tag.index index verdict ne ∙ h index lt ∙ ap Some (sym (verdict_else later places events event index miss))
+      | inl same ↦
+          let hit : is_packet_of index event ≡ true =
+          ap (λ b. b && ((index == event.tag.index) && is_packet (kind_of event.body))) parts.0
+          ∙ ap (λ b. b && is_packet (kind_of event.body)) (eq-eqb index event.tag.index same) ∙ parts.1 in
+          ap (λ i. slice_get (set tape event.tag.index verdict) i) same
+          ∙ set_here tape event.tag.index verdict (omega (arith, lt, same))
+          ∙ ap Some (told ∙ sym (verdict_here places events event index hit))
+      | inr ne ↦
+          let miss : is_packet_of index event ≡ false =
+          and_right (event.tag.link == 0) ((index == event.tag.index) && is_packet (kind_of event.body))
+          (and_left (index == event.tag.index) (is_packet (kind_of event.body)) (ne_eqb index event.tag.index ne)) in
+          set_else tape event.tag.index index verdict ne ∙ h index lt ∙ ap Some (sym (verdict_else later places events event index miss))
     ]
 cell_is later places events event verdict tape false is told h index lt =
     h index lt ∙ ap Some (sym (verdict_else later places events event index (no_hit (event.tag.link == 0) (index == event.tag.index) (is_packet (kind_of event.body)) (sym is))))

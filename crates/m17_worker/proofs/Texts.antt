@@ -1,7 +1,7 @@
 -- What a book holds after more was to be written.
-use Rattle.std.proofs.Common.{◌≡◌, ℕ, ◌≤◌, min, Bool, true, false, List, [], ◌∷◌, ◌++◌, length, take, Option, None, Some, Result, Ok, Err, OnOk, OnErr, is_err, inl, inr, refl, ap, sym, subst, ◌+◌, ◌∙◌, arith}
+use Rattle.std.proofs.Common.{◌≡◌, ℕ, Bool, true, false, List, [], ◌++◌, length, take, Result, Ok, Err, OnOk, OnErr, is_err, inl, inr, refl, ap, sym, subst, ◌+◌, ◌∙◌, arith}
 use Rattle.std.proofs.lemmas.Bool.{true≢false, cases_lt}
-use Rattle.std.proofs.lemmas.List.{append-nil, append_assoc, take-append-le, take_all}
+use Rattle.std.proofs.lemmas.List.{append-nil, take-append-le, take_all}
 use Rattle.m17_io.specs.Faults.{HasCause, HasRisen}
 use Rattle.m17_ports.specs.Told.{told_then}
 use Rattle.m17_ports.specs.Laws.{ToldInTurn, NothingMoreIsTold}
@@ -18,9 +18,9 @@ text_none nothing book = record {
 -- a beginning of a text is one of what goes on with it
 beginning : (text more : List ℕ) (n : ℕ) → (m : ℕ) × (take n text ≡ take m (text ++ more))
 beginning text more n = elim (cases_lt n (length text)) [
-    inl lt ↦ (n, sym (take-append-le n text more (omega (arith, lt))))
+  | inl lt ↦ (n, sym (take-append-le n text more (omega (arith, lt))))
   | inr ge ↦ (length text, take_all n text ge ∙ sym (take_all (length text) text (omega arith)) ∙ sym (take-append-le (length text) text more (omega arith)))
-  ]
+]
 
 -- a book that failed is written no more
 pub text_failed : (start book : Tells) (text more : List ℕ) → HasText start text true book → HasText start (text ++ more) true book

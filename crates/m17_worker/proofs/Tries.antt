@@ -1,6 +1,6 @@
 -- Offers, one after another.
-use Rattle.std.proofs.Common.{◌≡◌, ℕ, zero, suc, ◌+◌, ◌-◌, ◌^◌, ◌<◌, ◌≤◌, min, Bool, true, false, not, ◌&&◌, cond, List, [], ◌∷◌, ◌++◌, map, length, take, slice_get, get_or, Option, None, Some, IfSome, inl, inr, refl, ap, sym, subst, ◌∙◌, arith}
-use Rattle.std.specs.Prelude.{◌==◌, filter, count_by, vec_capacity, IsSomeAnd}
+use Rattle.std.proofs.Common.{◌≡◌, ℕ, zero, suc, ◌+◌, ◌-◌, ◌^◌, ◌<◌, ◌≤◌, min, true, false, not, ◌&&◌, cond, List, [], ◌∷◌, ◌++◌, map, length, take, slice_get, Option, None, Some, IfSome, inl, inr, refl, ap, sym, subst, ◌∙◌, arith}
+use Rattle.std.specs.Prelude.{◌==◌, filter, vec_capacity, IsSomeAnd}
 use Rattle.std.specs.Option.{option_map}
 use Rattle.std.specs.List.{All, Contains}
 use Rattle.std.proofs.lemmas.List.Elements.{Contains-push}
@@ -16,7 +16,7 @@ use Rattle.m17_rows.specs.Laws.{RowsGrow}
 use Rattle.m17_worker.specs.declared.offers.Offered.{Offered}
 use Rattle.m17_worker.specs.declared.offers.Offered.TheVariants.{Queued, Missed}
 use Rattle.m17_worker.specs.declared.offers.LaneOffers.{LaneOffers}
-use Rattle.m17_worker.specs.Offers.{Try, try_of, is_queued, may_be_missed, queued_for, missed_for, count_missed, counted_on, IsLeftOut, AreTried, AreOffered, IsQueue}
+use Rattle.m17_worker.specs.Offers.{Try, try_of, may_be_missed, queued_for, missed_for, count_missed, counted_on, IsLeftOut, AreTried, AreOffered, IsQueue}
 use Rattle.m17_worker.proofs.Lists.{slice_get_before, slice_get_behind, take_behind}
 
 queued_one : (item : Item) (place : ℕ) → queued_for (try_of item Queued ∷ []) place ≡ only item.member.place item place
@@ -157,12 +157,12 @@ left_then : (ts us : List Try) (a b c : LaneOffers) → RowsGrow Item → AreTri
 left_then ts us a b c law first second n t at off =
     let P : List Try → Type 0 = λ l. IsLeftOut a l t.item in
     elim (cases_lt n (length ts)) as (λ _. IsLeftOut a (take n (ts ++ us)) t.item) [
-      inl lt ↦ subst P (sym (take-append-le n ts us (omega (arith, lt)))) (first.left_out n t (sym (slice_get_before ts us n lt) ∙ at) off)
-    | inr ge ↦
-      let is : n ≡ length ts + (n - length ts) = omega (arith, ge) in
-      subst P (sym (take_behind ts us n (n - length ts) is))
-      (left_behind ts (take (n - length ts) us) a b t.item law first
-        (second.left_out (n - length ts) t (sym (slice_get_behind ts us n (n - length ts) is) ∙ at) off))
+      | inl lt ↦ subst P (sym (take-append-le n ts us (omega (arith, lt)))) (first.left_out n t (sym (slice_get_before ts us n lt) ∙ at) off)
+      | inr ge ↦
+          let is : n ≡ length ts + (n - length ts) = omega (arith, ge) in
+          subst P (sym (take_behind ts us n (n - length ts) is))
+          (left_behind ts (take (n - length ts) us) a b t.item law first
+          (second.left_out (n - length ts) t (sym (slice_get_behind ts us n (n - length ts) is) ∙ at) off))
     ]
 
 tried_then : (ts us : List Try) (a b c : LaneOffers) → RowsGrow Item → AreTried ts a b → AreTried us b c → AreTried (ts ++ us) a c

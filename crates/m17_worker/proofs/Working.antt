@@ -1,5 +1,5 @@
 -- From the first event to the last.
-use Rattle.std.proofs.Common.{◌≡◌, ℕ, zero, suc, ◌<◌, ◌≤◌, Bool, true, false, List, [], ◌∷◌, ◌++◌, length, slice_get, Option, None, Some, refl, ap, sym, subst, ◌∙◌, arith}
+use Rattle.std.proofs.Common.{◌≡◌, ℕ, ◌<◌, ◌≤◌, Bool, true, false, List, [], ◌∷◌, ◌++◌, length, slice_get, Option, None, Some, refl, ap, sym, subst, ◌∙◌, arith}
 use Rattle.std.specs.List.{All, list_any}
 use Rattle.std.proofs.lemmas.Bool.{false≢true}
 use Rattle.std.proofs.lemmas.Option.{slice_get-get_or}
@@ -22,7 +22,7 @@ use Rattle.m17_worker.specs.Offers.{AreOffered, IsQueue}
 use Rattle.m17_worker.specs.Gifts.{gifts, GaveBack}
 use Rattle.m17_worker.specs.Records.{records_of, book_text}
 use Rattle.m17_worker.specs.Written.{Tells, HasText}
-use Rattle.m17_worker.specs.Tape.{IsTaped, verdict_on}
+use Rattle.m17_worker.specs.Tape.{IsTaped}
 use Rattle.m17_worker.specs.Ready.{Words, IsFit}
 use Rattle.m17_worker.specs.WorkerDid.{HasServed, HasWorked}
 use Rattle.m17_worker.specs.Underway.{AreFlags, IsAt}
@@ -131,9 +131,9 @@ pub ends_at : (links : ℕ) (before after : PopEnd Event) (event : Event) → af
 ends_at links before after event is going each = record {
   each = each;
   at_the_last = λ front last at h.
-    let same : before.popped ≡ front = (same_from_push before.popped front event last (sym is ∙ at)).0 in
-    let P : List Event → Type 0 = λ l. HasStops links l in
-    going (subst P (sym same) h);
+      let same : before.popped ≡ front = (same_from_push before.popped front event last (sym is ∙ at)).0 in
+      let P : List Event → Type 0 = λ l. HasStops links l in
+      going (subst P (sym same) h);
 }
 
 pub has_worked : {B : Type 0} (words : Words B) (j k n : Worker B) (served : ℕ) (flags : List Bool) (event : Event) → j.links ≤ 4

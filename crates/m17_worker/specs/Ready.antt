@@ -27,8 +27,8 @@ pub record IsUnused {B : Type 0} (words : Words B) (j : Worker B) : Type 0 where
   pub seat : HasLists [] [] [] j.seat
   pub tape : All (λ cell. cell ≡ None) j.tape.items
 
--- The worker's letter is A to Z, there are 1 to 4 links, its module is as made, of at most 256 places,
--- each with a queue; and it is unused. This profile.
+-- The worker's letter is A to Z, there are 1 to 4 links, its module is as made, of at most 256
+-- places, each with a queue; and it is unused. This profile.
 pub record IsFit {B : Type 0} (words : Words B) (j : Worker B) : Type 0 where
   pub letter : IsModule j.letter
   pub some_link : 0 < j.links

@@ -18,8 +18,8 @@ use Rattle.m17_book.specs.declared.record.Record.{Record}
 use Rattle.m17_book.specs.declared.record.Record.TheVariants.{Join, Leave, Packet}
 use Rattle.m17_worker.specs.Gifts.{why_left}
 
--- What the records of an event are told by: the entry that it comes from, the module's moment at it,
--- the verdict on it, which a packet alone has, and the number of places. This profile.
+-- What the records of an event are told by: the entry that it comes from, the module's moment at
+-- it, the verdict on it, which a packet alone has, and the number of places. This profile.
 pub record Noted : Type 0 where
   pub tag : Tag
   pub moment : ℕ

@@ -1,5 +1,5 @@
 -- The tape of a module: the verdicts on what link 0 sent, by the index of the entry.
-use Rattle.std.specs.Prelude.{◌≡◌, ◌==◌, ◌&&◌, ℕ, ◌<◌, Bool, true, false, List, length, slice_get, Option, None, Some, option_and_then}
+use Rattle.std.specs.Prelude.{◌≡◌, ◌==◌, ◌&&◌, ℕ, ◌<◌, Bool, false, List, length, slice_get, Option, Some, option_and_then}
 use Rattle.std.specs.Option.{option_map_or}
 use Rattle.m17_control.specs.declared.event.Event.{Event}
 use Rattle.m17_floor.specs.declared.verdict.Verdict.{Verdict}

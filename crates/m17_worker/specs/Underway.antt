@@ -1,7 +1,7 @@
 -- How far a worker has come, for the proofs of its steps.
-use Rattle.std.specs.Prelude.{◌≡◌, ◌==◌, ◌&&◌, ℕ, ◌-◌, ◌^◌, ◌<◌, ◌≤◌, Bool, true, List, [], ◌∷◌, ◌++◌, length, slice_get, slice_set, is_some, option_and_then, Option, Some, if◌then◌else◌}
+use Rattle.std.specs.Prelude.{◌≡◌, ◌==◌, ◌&&◌, ℕ, ◌-◌, ◌^◌, ◌<◌, ◌≤◌, Bool, true, List, [], ◌++◌, length, slice_get, slice_set, is_some, option_and_then, Option, Some, if◌then◌else◌}
 use Rattle.std.specs.Option.{option_to_list}
-use Rattle.std.specs.List.{All, list_any, flat_map}
+use Rattle.std.specs.List.{list_any, flat_map}
 use Rattle.m17_control.specs.declared.event.Event.{Event}
 use Rattle.m17_control.specs.declared.item.Item.{Item}
 use Rattle.m17_floor.specs.declared.verdict.Verdict.{Verdict}
@@ -19,7 +19,8 @@ abbrev pub AreFlags : List Bool → List Event → Type 0
 AreFlags flags events =
     (link : ℕ) → link < 4 → slice_get flags link ≡ Some (list_any (is_stop_of link) events)
 
--- There is a queue for each of the module's places, of which there are few, and there are few links.
+-- There is a queue for each of the module's places, of which there are few, and there are few
+-- links.
 pub record HasRoom {B : Type 0} (k : Worker B) : Type 0 where
   pub links : k.links ≤ 4
   pub places : k.module.setup.places ≤ 256

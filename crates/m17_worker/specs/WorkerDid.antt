@@ -13,9 +13,9 @@ use Rattle.m17_worker.specs.Written.{HasText}
 use Rattle.m17_worker.specs.Tape.{IsTaped}
 use Rattle.m17_worker.specs.Ready.{Words}
 
--- What became of these events: the module stands for them; all that they give was offered, in order;
--- the members with a Bye were given back; the book has their records, and the tape their verdicts.
--- This profile.
+-- What became of these events: the module stands for them; all that they give was offered, in
+-- order; the members with a Bye were given back; the book has their records, and the tape their
+-- verdicts. This profile.
 pub record HasServed {B : Type 0} (words : Words B) (events : List Event) (j k : Worker B)
     : Type 0 where
   pub stands : StandsFor k.module events
@@ -26,8 +26,8 @@ pub record HasServed {B : Type 0} (words : Words B) (events : List Event) (j k :
       (words.written k.book, words.faults k.book)
   pub taped : IsTaped j.module.setup.places events k.tape.items
 
--- It is the same worker: what it was made with stays, of its inbox it popped events and nothing else,
--- its tape has as many cells, and nothing is left in its basket. This profile.
+-- It is the same worker: what it was made with stays, of its inbox it popped events and nothing
+-- else, its tape has as many cells, and nothing is left in its basket. This profile.
 pub record IsSameWorker {B : Type 0} (j k : Worker B) : Type 0 where
   pub letter : k.letter ≡ j.letter
   pub links : k.links ≡ j.links
@@ -36,15 +36,15 @@ pub record IsSameWorker {B : Type 0} (j k : Worker B) : Type 0 where
   pub cells : length k.tape.items ≡ length j.tape.items
   pub basket : k.basket ≡ []
 
--- The worker went: it popped up to the event with which each link had had its Stop, and served all of
--- these that name a link and a place that are there. This profile.
+-- The worker went: it popped up to the event with which each link had had its Stop, and served all
+-- of these that name a link and a place that are there. This profile.
 pub record HasWorked {B : Type 0} (words : Words B) (j k : Worker B) : Type 0 where
   pub same : IsSameWorker j k
   pub stops : EndsWithStops j.links k.inbox.popped
   pub served : HasServed words (taken j.links j.module.setup.places k.inbox.popped) j k
 
--- What a worker did: it waited for its order; after Quit all but the popped order is as it was; after
--- Go it worked. This profile.
+-- What a worker did: it waited for its order; after Quit all but the popped order is as it was;
+-- after Go it worked. This profile.
 pub record WorkerDid {B : Type 0} (words : Words B) (j k : Worker B) : Type 0 where
   pub goes : Bool
   pub order : HasStarted j.order goes k.order

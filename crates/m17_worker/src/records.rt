@@ -14,11 +14,13 @@ pub(crate) fn record_of_bye(tag: Tag, moment: u64, bye: &Option<Item>) -> Option
     ensures { result ≡ option_and_then (leave_record tag moment) bye.now }
 {
     match bye {
-        Some(Item {
-            member,
-            body: Said::Bye { why },
-            ..
-        }) => Some(Record::Leave {
+        Some(
+            Item {
+                member,
+                body: Said::Bye { why },
+                ..
+            },
+        ) => Some(Record::Leave {
             tag,
             moment,
             member: *member,

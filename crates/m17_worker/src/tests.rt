@@ -275,7 +275,7 @@ fn go<B: Book + Drop + Send + 'static, R: Wait + Abort>(
     bench: Bench<B>,
     order: Order,
 ) -> Bench<B>
-    requires { IsReady (record { written = B.written; faults = B.faults; }) bench.worker }
+    requires { IsReady (record { written = B.written; faults = B.faults }) bench.worker }
 {
     let mut bench = bench;
     for event in events(rt) {
@@ -325,11 +325,17 @@ fn served<R: Wait + Abort>(rt: &R, alloc: Global) -> Result<Bench<ListBook>, Fai
 #[test]
 fn book_and_tape_hold_what_was_decided(rt: HostRuntime) -> Result<(), Fail> {
     let worker = served(&rt, rt.alloc())?.worker;
-    assert_eq!(rt; worker.book.bytes(), written(&rt, rt.alloc(), 9)?.as_slice());
+    assert_eq!(rt;
+        worker.book.bytes(),
+        written(&rt, rt.alloc(), 9)?.as_slice()
+    );
     assert_eq!(rt; (worker.book_failed, worker.module.admitted()), (false, 2));
     let opened = Some(Verdict::Opened);
     let stranger = Some(Verdict::NotMember);
-    assert_eq!(rt; worker.tape.as_slice(), [None, opened, stranger, opened].as_slice());
+    assert_eq!(rt;
+        worker.tape.as_slice(),
+        [None, opened, stranger, opened].as_slice()
+    );
     Ok(())
 }
 
@@ -351,20 +357,30 @@ fn queues_hold_what_was_given(rt: HostRuntime) -> Result<(), Fail> {
         (member(0, 1), hello),
         (member(0, 1), bye),
     ];
-    assert_eq!(rt; queued(&rt, rt.alloc(), &mut queues, 0)?.as_slice(), first.as_slice());
+    assert_eq!(rt;
+        queued(&rt, rt.alloc(), &mut queues, 0)?.as_slice(),
+        first.as_slice()
+    );
     let second = [
         (member(1, 0), hello),
         (member(1, 0), a_frame(2, 0)),
         (member(1, 0), a_frame(7, 1)),
     ];
-    assert_eq!(rt; queued(&rt, rt.alloc(), &mut queues, 1)?.as_slice(), second.as_slice());
+    assert_eq!(rt;
+        queued(&rt, rt.alloc(), &mut queues, 1)?.as_slice(),
+        second.as_slice()
+    );
     Ok(())
 }
 
 #[test]
 fn a_place_is_given_back_and_what_is_behind_the_stop_stays(rt: HostRuntime) -> Result<(), Fail> {
     let mut bench = served(&rt, rt.alloc())?;
-    assert_eq!(rt; bench.other_seat.look(0), Some(2), "it was given back, once");
+    assert_eq!(rt;
+        bench.other_seat.look(0),
+        Some(2),
+        "it was given back, once"
+    );
     assert_eq!(rt; bench.other_seat.look(1), Some(0), "nothing was claimed");
     let behind = Some(event(6, 1_060, Body::Tick));
     assert_eq!(rt; bench.worker.inbox.try_pop(&rt), behind);
@@ -381,9 +397,17 @@ fn a_book_that_fails_is_written_no_more(rt: HostRuntime) -> Result<(), Fail> {
         let bench = lay(alloc, 2, ListBook::make(alloc, 2_000, fails)?)?;
         let bench = go(&rt, bench, Order::Go);
         let whole = (failing as usize).min(9);
-        assert_eq!(rt; bench.worker.book.bytes(), written(&rt, alloc, whole)?.as_slice(), "{failing}");
+        assert_eq!(rt;
+            bench.worker.book.bytes(),
+            written(&rt, alloc, whole)?.as_slice(),
+            "{failing}"
+        );
         assert_eq!(rt; bench.worker.book_failed, failing < 9, "{failing}");
-        assert_eq!(rt; bench.worker.module.admitted(), 2, "it goes on without its book");
+        assert_eq!(rt;
+            bench.worker.module.admitted(),
+            2,
+            "it goes on without its book"
+        );
     }
     Ok(())
 }
@@ -398,7 +422,10 @@ fn a_worker_that_quits_leaves_all_as_it_was(rt: HostRuntime) -> Result<(), Fail>
     assert_eq!(rt; bench.worker.tape.as_slice(), [None; 4].as_slice());
     assert_eq!(rt; queued(&rt, alloc, &mut bench.queues, 0)?.len(), 0);
     assert_eq!(rt; bench.other_seat.look(0), Some(1));
-    assert_eq!(rt; bench.worker.inbox.try_pop(&rt), Some(join(&rt, 0, 1_000, member(0, 0))));
+    assert_eq!(rt;
+        bench.worker.inbox.try_pop(&rt),
+        Some(join(&rt, 0, 1_000, member(0, 0)))
+    );
     Ok(())
 }
 
@@ -446,9 +473,13 @@ fn fill<B, R: Wait + Abort>(rt: &R, bench: Bench<B>) -> Bench<B>
     bench.events.push_waiting(rt, join(rt, 0, 1_000, talker));
     bench.events.push_waiting(rt, join(rt, 1, 1_000, listener));
     for number in 0..70u16 {
-        bench.events.push_waiting(rt, sends(2, 1_000, talker, number));
+        bench
+            .events
+            .push_waiting(rt, sends(2, 1_000, talker, number));
     }
-    bench.events.push_waiting(rt, leaves(3, 1_000, listener, Why::Asked));
+    bench
+        .events
+        .push_waiting(rt, leaves(3, 1_000, listener, Why::Asked));
     bench.events.push_waiting(rt, event(4, 1_000, Body::Stop));
     bench.orders.push_waiting(rt, Order::Go);
     assert_eq!(rt; bench.other_seat.claim(0), Some(talker));
@@ -461,7 +492,7 @@ fn go_beside<B: Book + Drop + Send + 'static, R: Threads + Wait + Clock + Sync>(
     rt: &R,
     bench: Bench<B>,
 ) -> Option<(Worker<B>, RollSeat, u64)>
-    requires { IsReady (record { written = B.written; faults = B.faults; }) bench.worker }
+    requires { IsReady (record { written = B.written; faults = B.faults }) bench.worker }
 {
     let mut bench = bench;
     let popper = bench.queues.pop()?;

@@ -68,9 +68,7 @@ impl<B: Book> Worker<B> {
             Body::Join { member, .. }
             | Body::Leave { member, .. }
             | Body::Packet { member, .. }
-            | Body::Reply { member, .. } => {
-                (member.place as usize) < self.offers.queues.len()
-            }
+            | Body::Reply { member, .. } => { (member.place as usize) < self.offers.queues.len() }
             Body::Tick | Body::Stop => true,
         }
     }
@@ -80,8 +78,8 @@ impl<B: Book> Worker<B> {
         requires { (events : List Event) × CanServe events event.now self.old }
         ensures served { (j : Worker B) (events : List Event) →
             CanServe events event.now self.old → self.old.module.setup ≡ j.module.setup →
-            HasServed (record { written = B.written; faults = B.faults; }) events j self.old →
-            HasServed (record { written = B.written; faults = B.faults; })
+            HasServed (record { written = B.written; faults = B.faults }) events j self.old →
+            HasServed (record { written = B.written; faults = B.faults })
             (events ++ event.now ∷ []) j self.new }
         ensures room { HasRoom self.new }
         ensures same { IsServing self.old self.new }
@@ -118,7 +116,7 @@ impl<B: Book> Worker<B> {
             HasText start text self.old.book_failed
             (B.written self.old.book, B.faults self.old.book) →
             HasText start (noted_text text self.old.module.moment
-            (record { event = event.now; verdict = verdict; bye = bye.now; places = places; }))
+            (record { event = event.now; verdict = verdict; bye = bye.now; places = places }))
             self.new.book_failed (B.written self.new.book, B.faults self.new.book) }
         ensures tape { self.new.tape.items ≡ filled self.old.tape.items event.now verdict }
         ensures rest { self.new ≡ record self.old {

@@ -54,9 +54,9 @@ pub struct Worker<B> {
 }
 
 impl<B: Book + Drop + Send + 'static> Work for Worker<B> {
-    ghost ready = { IsReady (record { written = B.written; faults = B.faults; }) };
+    ghost ready = { IsReady (record { written = B.written; faults = B.faults }) };
 
-    ghost does = { λ j k. WorkerDid (record { written = B.written; faults = B.faults; }) j k
+    ghost does = { λ j k. WorkerDid (record { written = B.written; faults = B.faults }) j k
         × (B.mark k.book ≡ B.mark j.book) × (B.label k.book ≡ B.label j.book) };
 
     fn go<R: Wait>(&mut self, rt: &R) {
@@ -69,8 +69,8 @@ impl<B: Book + Drop + Send + 'static> Work for Worker<B> {
 impl<B: Book> Worker<B> {
     // Takes event after event, up to the last link's Stop.
     fn work<R: Wait>(&mut self, rt: &R)
-        requires { IsFit (record { written = B.written; faults = B.faults; }) self.old }
-        ensures worked { HasWorked (record { written = B.written; faults = B.faults; })
+        requires { IsFit (record { written = B.written; faults = B.faults }) self.old }
+        ensures worked { HasWorked (record { written = B.written; faults = B.faults })
             self.old self.new }
         ensures order { self.new.order ≡ self.old.order }
         ensures same_device { (B.mark self.new.book ≡ B.mark self.old.book)

@@ -1,4 +1,4 @@
-use Rattle.std.proofs.Common.{◌≡◌, List, ℕ, ◌++◌, true, false, rules}
+use Rattle.std.proofs.Common.{◌≡◌, true, false, rules}
 use Rattle.m17_worker.specs.Written.{Tells, HasText}
 use Rattle.m17_worker.proofs.Texts.{text_more, text_failed}
 use Rattle.m17_worker.proofs.book.write_whole.Goals as goal

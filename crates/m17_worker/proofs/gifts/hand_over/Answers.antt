@@ -1,4 +1,4 @@
-use Rattle.std.proofs.Common.{◌≡◌, true, sym, rules}
+use Rattle.std.proofs.Common.{◌≡◌, true, sym}
 use Rattle.m17_worker.specs.Gifts.{is_bye}
 use Rattle.m17_worker.proofs.Tries.{stands_in_queue}
 use Rattle.m17_worker.proofs.Giving.{bye_waits}

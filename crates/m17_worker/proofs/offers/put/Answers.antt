@@ -1,4 +1,4 @@
-use Rattle.std.proofs.Common.{◌≡◌, ◌<◌, length, true, false, refl, sym, ◌∙◌, rules, arith}
+use Rattle.std.proofs.Common.{◌<◌, length, refl, arith}
 use Rattle.m17_worker.proofs.Tries.{row_took, row_tried, row_left, full_one, within}
 use Rattle.m17_worker.proofs.offers.put.Goals as goal
 

@@ -1,8 +1,6 @@
-use Rattle.std.proofs.Common.{◌≡◌, Bool, not, List, refl, sym, ap, subst, ◌∙◌}
-use Rattle.m17_values.specs.declared.member.Member.{Member}
+use Rattle.std.proofs.Common.{Bool, not, List, refl, subst}
 use Rattle.m17_control.specs.declared.event.Event.{Event}
 use Rattle.m17_worker.specs.Gifts.{gifts_by, GaveBack}
-use Rattle.m17_worker.specs.Underway.{CanServe}
 use Rattle.m17_worker.proofs.Served.{Laws, Seen, served_more, seen_after, low_verdict, room_after, room_between}
 use Rattle.m17_worker.proofs.worker.Worker.serve.Goals as goal
 

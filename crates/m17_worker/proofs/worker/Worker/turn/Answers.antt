@@ -1,7 +1,6 @@
-use Rattle.std.proofs.Common.{◌≡◌, true, false, List, [], ◌∷◌, ◌++◌, refl, sym, subst, ◌∙◌, arith}
+use Rattle.std.proofs.Common.{◌≡◌, true, List, sym, subst, arith}
 use Rattle.m17_control.specs.declared.event.Event.{Event}
-use Rattle.m17_lane.specs.Ends.{PopEnd, popped_from}
-use Rattle.m17_worker.specs.declared.worker.Worker.{Worker}
+use Rattle.m17_lane.specs.Ends.{PopEnd}
 use Rattle.m17_worker.specs.Taken.{taken, is_there}
 use Rattle.m17_worker.specs.WorkerDid.{HasServed}
 use Rattle.m17_worker.specs.Ready.{Words}
@@ -17,10 +16,12 @@ serve-requires g c =
     let there : is_there before.links before.module.setup.places event ≡ true = sym c.if-not-has.ensures in
     let j = c.requires.at.0 in
     let events : List Event = taken j.links j.module.setup.places before.inbox.popped in
-    let P : PopEnd Event → Type 0 = λ q. CanServe events event (record before { inbox = q }) in
-    (events, subst P (sym c.pop_waiting-event.ensures)
-      (can_serve words j before event there c.args.served c.args.stopped.now
-      (omega (arith, c.count_one-more.ensures, c.count_one-more.type_inv)) c.requires.at.1))
+    let P : PopEnd Event → Type 0 = λ q. CanServe events event (record before { inbox = q }) in (
+      events,
+      subst P (sym c.pop_waiting-event.ensures)
+          (can_serve words j before event there c.args.served c.args.stopped.now
+          (omega (arith, c.count_one-more.ensures, c.count_one-more.type_inv)) c.requires.at.1),
+    )
 
 pub returns-then-not-has-clause-at : goal.returns-then-not-has-clause-at
 returns-then-not-has-clause-at g c = λ j h.
@@ -46,9 +47,9 @@ returns-clause-at g c = λ j h.
     c.count_one-more.ensures (c.note_stop.ensures before.inbox.popped h.flagged) c.serve.ensures.room
     (subst W c.pop_waiting-event.ensures c.serve.ensures.same)
     (c.serve.ensures.served j events
-      (subst P (sym c.pop_waiting-event.ensures)
-        (can_serve words j before event there c.args.served c.args.stopped.now
-        (omega (arith, c.count_one-more.ensures, c.count_one-more.type_inv)) h))
-      h.same.setup
-      (subst S (sym c.pop_waiting-event.ensures) (was_served words j before event there c.args.served c.args.stopped.now h)))
+    (subst P (sym c.pop_waiting-event.ensures)
+    (can_serve words j before event there c.args.served c.args.stopped.now
+    (omega (arith, c.count_one-more.ensures, c.count_one-more.type_inv)) h))
+    h.same.setup
+    (subst S (sym c.pop_waiting-event.ensures) (was_served words j before event there c.args.served c.args.stopped.now h)))
     h

@@ -1,5 +1,4 @@
 use Rattle.std.proofs.Common.{◌≡◌}
-use Rattle.m17_worker.specs.Ready.{Words}
 use Rattle.m17_worker.specs.Taken.{HasStops}
 use Rattle.m17_worker.specs.Underway.{IsAt}
 use Rattle.m17_worker.proofs.worker.Worker.work.Given as goal
