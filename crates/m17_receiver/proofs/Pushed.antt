@@ -4,12 +4,17 @@ use Rattle.std.specs.List.{filter_map, cons_option}
 use Rattle.std.proofs.lemmas.Bool.{ne_eqb}
 use Rattle.m17_control.specs.declared.event.Event.{Event}
 use Rattle.m17_control.specs.declared.modules.Modules.{Modules}
-use Rattle.m17_lane.specs.Ends.{PushEnd}
+use Rattle.std.proofs.lemmas.List.{append-nil}
+use Rattle.m17_control.specs.declared.item.Direct.{Direct}
+use Rattle.m17_lane.specs.Ends.{PushEnd, pushed_to}
 use Rattle.m17_rows.specs.Rows.{push_each, only}
-use Rattle.m17_directory.specs.declared.dispatch.Dispatch.TheVariants.{ToModule}
+use Rattle.m17_directory.specs.declared.dispatch.Dispatch.TheVariants.{ToModule, ToDoor}
 use Rattle.m17_directory.specs.Routed.{event_for}
-use Rattle.m17_receiver.specs.Posting.{letter_at}
-use Rattle.m17_receiver.specs.SoFar.{Laws}
+use Rattle.m17_receiver.specs.Posting.{Outlets, letter_at}
+use Rattle.m17_receiver.specs.SoFar.{Laws, posting}
+
+abbrev pub outlets : List (PushEnd Event) → PushEnd Direct → Outlets
+outlets inboxes door = record { inboxes = inboxes; door = door }
 
 -- what is for the module with this letter, of an event for one
 abbrev pub its_part : Modules → ℕ → Event → ℕ → List Event
@@ -37,3 +42,16 @@ pub pushed_nowhere : Laws → (modules : Modules) (letter : ℕ) (event : Event)
     ((m : ℕ) → (letter == letter_at modules m) ≡ false) → ps ≡ push_each (its_part modules letter event) 0 ps
 pushed_nowhere law modules letter event ps is =
     sym (law.rows.none (its_part modules letter event) 0 ps (λ m. part_is modules letter event m false (is m)))
+
+-- one dispatch
+pub one_to_module : (modules : Modules) (letter : ℕ) (event : Event) (o : Outlets) (ps : List (PushEnd Event)) → ps ≡ push_each (its_part modules letter event) 0 o.inboxes →
+    outlets ps o.door ≡ posting modules (ToModule letter event ∷ []) o
+one_to_module modules letter event o ps is =
+    ap (λ (x : List (PushEnd Event)). outlets x o.door) is
+    ∙ ap (λ (l : List Direct). outlets (push_each (its_part modules letter event) 0 o.inboxes) (record o.door { pushed = l })) (sym (append-nil o.door.pushed))
+
+pub one_to_door : Laws → (modules : Modules) (direct : Direct) (o : Outlets) (door : PushEnd Direct) → door ≡ pushed_to o.door direct →
+    outlets o.inboxes door ≡ posting modules (ToDoor direct ∷ []) o
+one_to_door law modules direct o door is =
+    ap (outlets o.inboxes) is
+    ∙ ap (λ (x : List (PushEnd Event)). outlets x (pushed_to o.door direct)) (sym (law.rows.none (λ m. []) 0 o.inboxes (λ m. refl)))

@@ -49,7 +49,10 @@ fn push_one<R: Wait>(
 {
     known_laws();
     match dispatch {
-        Dispatch::ToModule { module, event } => push_event(rt, modules, module, event, inboxes),
+        Dispatch::ToModule {
+            module: letter,
+            event,
+        } => push_event(rt, modules, letter, event, inboxes),
         Dispatch::ToDoor(direct) => door.push_waiting(rt, direct),
     }
 }
