@@ -1,0 +1,5 @@
+mod Moves
+mod Returns
+pub mod Stands
+pub mod Orders
+mod Lays
