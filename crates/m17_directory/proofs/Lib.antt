@@ -30,3 +30,4 @@ pub mod Settled
 pub mod Tables
 pub mod Taken
 pub mod Told
+pub mod Waits

@@ -1,4 +1,4 @@
-ghost use Rattle.std.specs.Prelude.{◌≡◌, ◌<◌, [], ◌∷◌, ◌++◌, length, IfOk};
+ghost use Rattle.std.specs.Prelude.{◌≡◌, ◌<◌, ◌↔◌, [], ◌∷◌, ◌++◌, length, IfOk, IsTrue};
 ghost use Rattle.m17_directory.specs.StandsFor.{departed_of, has_departing, without_member};
 
 use crate::whom::is_same;
@@ -54,6 +54,13 @@ impl Departing {
         ensures { result ≡ length self.now }
     {
         self.members.len()
+    }
+
+    // Whether there is one.
+    pub(crate) fn has_some(&self) -> bool
+        ensures { IsTrue result ↔ (0 < length self.now) }
+    {
+        !self.members.is_empty()
     }
 
     // Whether a member of this peer is among them.

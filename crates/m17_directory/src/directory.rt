@@ -1,4 +1,4 @@
-ghost use Rattle.std.specs.Prelude.{◌≡◌, ◌↔◌, ◌+◌, ◌<◌, ◌≤◌, false, true, List, [], ◌∷◌, ◌++◌, length, map, Some, None, IfOk, IfSome, IsSome, ◌||◌, nat_le, if◌then◌else◌, option_map};
+ghost use Rattle.std.specs.Prelude.{◌≡◌, ◌↔◌, ◌+◌, ◌<◌, ◌≤◌, false, true, List, [], ◌∷◌, ◌++◌, length, map, Some, None, IfOk, IfSome, IsSome, IsTrue, ◌||◌, nat_le, if◌then◌else◌, option_map};
 ghost use Rattle.std.specs.List.{list_any};
 ghost use Rattle.m17_directory.specs.Entries.{Notice, Entry, Claim, Says, is_fault, is_end};
 ghost use Rattle.m17_directory.specs.Entries as entries;
@@ -182,7 +182,8 @@ impl Directory {
     }
 
     /// The member's leaving was reported: it isn't departing any more. Another member is passed over. The directory may
-    /// have come from what it may have come from before. This profile.
+    /// have come from what it may have come from before, and a request that needs to wait no more goes on so. This
+    /// profile.
     pub fn noted(&mut self, m: Member)
         ensures noted { self.new ≡ record {
           setup = self.old.setup;
@@ -195,6 +196,7 @@ impl Directory {
         } }
         ensures stands { (entries : List Entry) → StandsFor self.old entries →
             StandsFor self.new entries }
+        ensures waits { must_wait self.old ≡ false → must_wait self.new ≡ false }
         ensures bounds { IsBounded self.new }
     {
         self.people.noted(m);
@@ -206,6 +208,13 @@ impl Directory {
         ensures bounds { IsBounded self.now }
     {
         self.people.known() as u32
+    }
+
+    /// Whether a member is departing: it has left, and its leaving was not reported yet. This profile.
+    pub fn has_departing(&self) -> bool
+        ensures { IsTrue result ↔ (0 < length self.now.departing) }
+    {
+        self.people.has_departing()
     }
 
     /// Whether a known peer has this place. This profile.

@@ -1,5 +1,5 @@
 //! Who is known to a link and who departs, and what packets, time and the end of the link do to them.
-ghost use Rattle.std.specs.Prelude.{◌≡◌, ◌⊎◌, ◌+◌, ◌<◌, ◌≤◌, ℕ, max, [], ◌∷◌, ◌++◌, length, map, filter, Some, None, IfOk, IsSome, IfSome, not, option_map};
+ghost use Rattle.std.specs.Prelude.{◌≡◌, ◌⊎◌, ◌↔◌, ◌+◌, ◌<◌, ◌≤◌, ℕ, max, false, IsTrue, [], ◌∷◌, ◌++◌, length, map, filter, Some, None, IfOk, IsSome, IfSome, not, option_map};
 ghost use Rattle.std.specs.List.{list_any};
 ghost use Rattle.m17_control.specs.declared.event.Why.TheVariants.{Silent, Stopped};
 ghost use Rattle.m17_directory.specs.Entries.{Notice, Claim, Says, moment_of};
@@ -153,13 +153,21 @@ impl People {
         }
     }
 
+    // Whether a member is departing.
+    pub(crate) fn has_departing(&self) -> bool
+        ensures { IsTrue result ↔ (0 < length self.now.departing) }
+    {
+        self.departing.has_some()
+    }
+
     // The member's leaving was reported.
     pub(crate) fn noted(&mut self, m: Member)
-        ensures { self.new ≡ record {
+        ensures noted { self.new ≡ record {
           known = self.old.known;
           asked = self.old.asked;
           departing = without_member m self.old.departing;
         } }
+        ensures waits { lists_wait self.old ≡ false → lists_wait self.new ≡ false }
     {
         self.departing.noted(m);
     }

@@ -1,0 +1,15 @@
+pub mod Lists
+pub mod Positions
+pub mod Posted
+pub mod Claimed
+pub mod Greeted
+pub mod Noted
+pub mod Traced
+pub mod Letters
+pub mod Pushed
+pub mod Entered
+pub mod Settled
+pub mod Heard
+pub mod Taped
+pub mod Ended
+pub mod Came

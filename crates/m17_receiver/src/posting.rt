@@ -1,0 +1,95 @@
+//! What was posted, pushed to the modules' inboxes and to the door.
+ghost use Rattle.std.specs.Prelude.{◌≡◌, ◌==◌, ◌&&◌, ℕ, [], ◌∷◌, nat_eq, vec_capacity, MatchOption, false};
+ghost use Rattle.m17_control.specs.Forms.{IsModule};
+ghost use Rattle.m17_directory.specs.declared.dispatch.Dispatch.TheVariants.{ToModule};
+ghost use Rattle.m17_directory.specs.Routed.{event_for};
+ghost use Rattle.m17_receiver.specs.Posting.{letter_at};
+ghost use Rattle.m17_receiver.specs.SoFar.{posting};
+ghost use Rattle.m17_rows.specs.Rows.{push_each};
+ghost use Rattle.std.specs.List.{filter_map};
+
+use crate::laws::known_laws;
+use m17_control::{Direct, Event, ModuleLetter, Modules};
+use m17_directory::{Dispatch, Post};
+use m17_lane::Pusher;
+use m17_rows::push_at;
+use std::sync::Wait;
+
+// Takes out all that was posted, and pushes each to the inbox of its module or to the door, in order; it waits where a
+// lane is full.
+pub(crate) fn push_posts<R: Wait>(
+    rt: &R,
+    modules: Modules,
+    post: &mut Post,
+    inboxes: &mut Vec<Pusher<Event>>,
+    door: &mut Pusher<Direct>,
+)
+    ensures post { post.new ≡ [] }
+    ensures pushed { record { inboxes = inboxes.new.items; door = door.new }
+        ≡ posting modules post.old (record { inboxes = inboxes.old.items; door = door.old }) }
+    ensures room { vec_capacity inboxes.new ≡ vec_capacity inboxes.old }
+{
+    known_laws();
+    'posts: while let Some(dispatch) = post.take() {
+        push_one(rt, modules, dispatch, inboxes, door);
+    }
+}
+
+// Pushes one dispatch.
+fn push_one<R: Wait>(
+    rt: &R,
+    modules: Modules,
+    dispatch: Dispatch,
+    inboxes: &mut Vec<Pusher<Event>>,
+    door: &mut Pusher<Direct>,
+)
+    ensures pushed { record { inboxes = inboxes.new.items; door = door.new }
+        ≡ posting modules (dispatch ∷ []) (record { inboxes = inboxes.old.items; door = door.old }) }
+    ensures room { vec_capacity inboxes.new ≡ vec_capacity inboxes.old }
+{
+    known_laws();
+    match dispatch {
+        Dispatch::ToModule { module, event } => push_event(rt, modules, module, event, inboxes),
+        Dispatch::ToDoor(direct) => door.push_waiting(rt, direct),
+    }
+}
+
+// Pushes an event to the inbox of its module, if there is one.
+fn push_event<R: Wait>(
+    rt: &R,
+    modules: Modules,
+    letter: ModuleLetter,
+    event: Event,
+    inboxes: &mut Vec<Pusher<Event>>,
+)
+    ensures pushed { inboxes.new.items
+        ≡ push_each (λ m. filter_map (event_for (letter_at modules m)) (ToModule letter event ∷ []))
+        0 inboxes.old.items }
+    ensures room { vec_capacity inboxes.new ≡ vec_capacity inboxes.old }
+{
+    known_laws();
+    if let Some(at) = inbox_of(modules, letter.byte()) {
+        if at < inboxes.len() {
+            push_at(rt, inboxes, at, event);
+        }
+    }
+}
+
+// The number of the inbox of the module with this letter, if it is served.
+fn inbox_of(modules: Modules, letter: u8) -> Option<usize>
+    requires { IsModule letter }
+    ensures { MatchOption result
+        ((m : ℕ) → (letter == letter_at modules m) ≡ false)
+        (λ at. (m : ℕ) → (letter == letter_at modules m) ≡ (m == at)) }
+{
+    if !modules.has(letter) {
+        return None;
+    }
+    let mut at = 0;
+    'letters: for other in b'A'..letter {
+        if modules.has(other) {
+            at += 1;
+        }
+    }
+    Some(at)
+}

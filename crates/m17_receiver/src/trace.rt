@@ -1,0 +1,58 @@
+//! What a receiver writes to its trace.
+ghost use Rattle.std.specs.Prelude.{◌≡◌, ◌↔◌, ◌+◌, ◌≤◌, true, ℕ, List, [], ◌∷◌, ◌++◌, length, if◌then◌else◌};
+ghost use Rattle.arrayvec.specs.ArrayVec.{array_vec_len};
+ghost use Rattle.m17_values.specs.declared.heard.Heard.{Heard};
+ghost use Rattle.m17_book.specs.Book.{trace_magic};
+ghost use Rattle.m17_book.specs.Entries.{entry_bytes};
+ghost use Rattle.m17_receiver.specs.Devices.{Tells, HasTrace};
+
+use arrayvec::ArrayVec;
+use m17_book::{write_entry, write_trace_header};
+use m17_ports::Book;
+use m17_values::Heard;
+
+/// The header and an entry have so many bytes at the most.
+const SPELLED_BYTES: usize = 101;
+
+// Writes what was heard to the trace, before the first entry its header, in one write. A trace that failed is written
+// no more, and the end has no bytes.
+pub(crate) fn write_trace<B: Book>(trace: &mut B, failed: &mut bool, first: bool, entry: &Heard)
+    ensures traced { (start : Tells ℕ) (heard : List Heard) → (first ≡ true) ↔ (heard ≡ []) →
+        HasTrace start heard failed.old (B.written trace.old, B.faults trace.old) →
+        HasTrace start (heard ++ entry.now ∷ []) failed.new
+        (B.written trace.new, B.faults trace.new) }
+    ensures same_device { (B.mark trace.new ≡ B.mark trace.old)
+        × (B.label trace.new ≡ B.label trace.old) }
+{
+    if *failed {
+        return;
+    }
+    let bytes = spelled(first, entry);
+    if bytes.is_empty() {
+        return;
+    }
+    *failed = trace.write(bytes.as_slice()).is_err();
+}
+
+// The bytes of an entry, behind those of the header where it is the first.
+fn spelled(first: bool, entry: &Heard) -> ArrayVec<u8, SPELLED_BYTES>
+    ensures { result.items ≡ (if first then trace_magic else []) ++ entry_bytes entry.now }
+{
+    let mut bytes = ArrayVec::new();
+    if first {
+        add(&mut bytes, &write_trace_header());
+    }
+    if let Some(more) = write_entry(entry) {
+        add(&mut bytes, more.as_slice());
+    }
+    bytes
+}
+
+// Adds bytes at the end.
+fn add(bytes: &mut ArrayVec<u8, SPELLED_BYTES>, more: &[u8])
+    requires { array_vec_len bytes.old + length more.now ≤ 101 }
+    ensures items { bytes.new.items ≡ bytes.old.items ++ more.now }
+    ensures len { array_vec_len bytes.new ≡ array_vec_len bytes.old + length more.now }
+{
+    bytes.try_extend_from_slice(more).unwrap();
+}
