@@ -1,0 +1,12 @@
+pub mod Lists
+pub mod Tries
+pub mod Giving
+pub mod Handing
+pub mod Texts
+pub mod Byes
+pub mod Gathered
+pub mod Tapes
+pub mod Flags
+pub mod Noting
+pub mod Served
+pub mod Turning

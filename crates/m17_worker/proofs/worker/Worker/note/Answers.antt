@@ -1,0 +1,24 @@
+use Rattle.std.proofs.Common.{◌≡◌, ◌++◌, refl, sym, ◌∙◌}
+use Rattle.std.specs.Option.{option_to_list}
+use Rattle.std.specs.List.{flat_map}
+use Rattle.m17_book.specs.Records.{record_bytes}
+use Rattle.m17_worker.specs.Taken.{place_of}
+use Rattle.m17_worker.proofs.Noting.{place_fits, writes_own, noted_is}
+use Rattle.m17_worker.proofs.worker.Worker.note.Goals as goal
+
+pub write_if-requires-2 : goal.write_if-requires-2
+write_if-requires-2 g c =
+    writes_own (record { tag = c.args.event.now.tag; moment = c.moment-moment.result; verdict = c.args.verdict; places = 256 })
+    c.args.event.now.body c.own_record-own.result
+    (c.own_record-own.ensures 256 (place_fits 256 (place_of c.args.event.now.body) c.requires.place))
+    c.requires.link c.requires.place c.requires.verdict
+
+pub returns-clause-text : goal.returns-clause-text
+returns-clause-text g c = λ start text places fits h.
+    noted_is start (g.B.Book.written c.write_if-2.new.book, g.B.Book.faults c.write_if-2.new.book) text
+    c.args.self.now.module.moment c.moment-moment.result
+    (record { event = c.args.event.now; verdict = c.args.verdict; bye = c.args.bye.now; places = places })
+    c.record_of_bye-leave.result c.own_record-own.result c.write_if-2.new.failed
+    c.moment-moment.ensures c.record_of_bye-leave.ensures (c.own_record-own.ensures places fits)
+    (c.write_if-2.ensures.text start (text ++ flat_map record_bytes (option_to_list c.record_of_bye-leave.result))
+    (c.write_if.ensures.text start text h))

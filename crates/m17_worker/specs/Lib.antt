@@ -1,0 +1,9 @@
+pub mod Taken
+pub mod Offers
+pub mod Gifts
+pub mod Records
+pub mod Written
+pub mod Tape
+pub mod Ready
+pub mod WorkerDid
+pub mod Underway

@@ -1,0 +1,52 @@
+-- What a worker did, between the job before and after.
+use Rattle.std.specs.Prelude.{◌≡◌, Bool, true, false, List, [], length}
+use Rattle.m17_control.specs.declared.event.Event.{Event}
+use Rattle.m17_rows.specs.Starts.{HasStarted}
+use Rattle.m17_module.specs.Items.{items_given}
+use Rattle.m17_module.specs.StandsFor.{StandsFor}
+use Rattle.m17_worker.specs.declared.worker.Worker.{Worker}
+use Rattle.m17_worker.specs.Taken.{taken, EndsWithStops}
+use Rattle.m17_worker.specs.Offers.{AreOffered}
+use Rattle.m17_worker.specs.Gifts.{gifts, GaveBack}
+use Rattle.m17_worker.specs.Records.{records_of, book_text}
+use Rattle.m17_worker.specs.Written.{HasText}
+use Rattle.m17_worker.specs.Tape.{IsTaped}
+use Rattle.m17_worker.specs.Ready.{Words}
+
+-- What became of these events: the module stands for them; all that they give was offered, in order;
+-- the members with a Bye were given back; the book has their records, and the tape their verdicts.
+-- This profile.
+pub record HasServed {B : Type 0} (words : Words B) (events : List Event) (j k : Worker B)
+    : Type 0 where
+  pub stands : StandsFor k.module events
+  pub offered : AreOffered (items_given j.module.setup events) j.offers k.offers
+  pub gave_back : GaveBack j.seat (gifts j.module.setup events) k.seat
+  pub booked : HasText (words.written j.book, words.faults j.book)
+      (book_text j.letter (records_of j.module.setup events)) k.book_failed
+      (words.written k.book, words.faults k.book)
+  pub taped : IsTaped j.module.setup.places events k.tape.items
+
+-- It is the same worker: what it was made with stays, of its inbox it popped events and nothing else,
+-- its tape has as many cells, and nothing is left in its basket. This profile.
+pub record IsSameWorker {B : Type 0} (j k : Worker B) : Type 0 where
+  pub letter : k.letter ≡ j.letter
+  pub links : k.links ≡ j.links
+  pub setup : k.module.setup ≡ j.module.setup
+  pub inbox : k.inbox ≡ record j.inbox { popped = k.inbox.popped }
+  pub cells : length k.tape.items ≡ length j.tape.items
+  pub basket : k.basket ≡ []
+
+-- The worker went: it popped up to the event with which each link had had its Stop, and served all of
+-- these that name a link and a place that are there. This profile.
+pub record HasWorked {B : Type 0} (words : Words B) (j k : Worker B) : Type 0 where
+  pub same : IsSameWorker j k
+  pub stops : EndsWithStops j.links k.inbox.popped
+  pub served : HasServed words (taken j.links j.module.setup.places k.inbox.popped) j k
+
+-- What a worker did: it waited for its order; after Quit all but the popped order is as it was; after
+-- Go it worked. This profile.
+pub record WorkerDid {B : Type 0} (words : Words B) (j k : Worker B) : Type 0 where
+  pub goes : Bool
+  pub order : HasStarted j.order goes k.order
+  pub quit : goes ≡ false → k ≡ record j { order = k.order }
+  pub worked : goes ≡ true → HasWorked words j k

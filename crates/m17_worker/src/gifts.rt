@@ -1,0 +1,84 @@
+//! What an event gave, handed out: offered to the queues, and the places of those that left given back.
+ghost use Rattle.std.specs.Prelude.{◌≡◌, ◌<◌, ◌∷◌, [], filter, length, slice_get, Option, IfSome, IsSomeAnd};
+ghost use Rattle.std.specs.Option.{option_to_list};
+ghost use Rattle.std.specs.List.{All};
+ghost use Rattle.m17_control.specs.declared.item.Item.{Item};
+ghost use Rattle.m17_worker.specs.Offers.{AreOffered, IsQueue};
+ghost use Rattle.m17_worker.specs.Gifts.{GaveBack, gifts_by, is_bye};
+
+use crate::LaneOffers;
+use crossbeam_utils::Backoff;
+use m17_control::{Item, Said};
+use m17_module::Basket;
+use m17_roll::RollSeat;
+use m17_values::Member;
+use std::sync::Wait;
+
+// Hands out what is in the basket, in order. Each Bye is followed by giving its member's place back, where `gives` says
+// so. The answer is the Bye, where there is one and no other.
+pub(crate) fn hand_out<R: Wait>(
+    rt: &R,
+    basket: &mut Basket,
+    offers: &mut LaneOffers,
+    seat: &mut RollSeat,
+    gives: bool,
+) -> Option<Item>
+    requires queues { All IsQueue offers.old.queues.items }
+    requires places { All (λ item. item.member.place < length offers.old.queues.items)
+        basket.old }
+    ensures offered { AreOffered basket.old offers.old offers.new }
+    ensures gave_back { GaveBack seat.old (gifts_by gives basket.old) seat.new }
+    ensures bye { (bye : Option Item) → filter is_bye basket.old ≡ option_to_list bye →
+        result ≡ bye }
+    ensures place { IfSome result (λ item. item.member.place < length offers.old.queues.items) }
+    ensures empty { basket.new ≡ [] }
+{
+    m17_rows::laws::rows_grow::<Item>();
+    let mut bye = None;
+    while let Some(item) = basket.take() {
+        hand_over(rt, &item, offers, seat, gives);
+        if is_farewell(&item) {
+            bye = Some(item);
+        }
+    }
+    bye
+}
+
+// Offers an item, and then, where it is a Bye and `gives` says so, gives its member's place back.
+fn hand_over<R: Wait>(
+    rt: &R,
+    item: &Item,
+    offers: &mut LaneOffers,
+    seat: &mut RollSeat,
+    gives: bool,
+)
+    requires queue { IsSomeAnd (slice_get offers.old.queues.items item.now.member.place) IsQueue }
+    ensures offered { AreOffered (item.now ∷ []) offers.old offers.new }
+    ensures gave_back { GaveBack seat.old (gifts_by gives (item.now ∷ [])) seat.new }
+{
+    let _ = offers.offer(rt, *item);
+    if gives && is_farewell(item) {
+        give_back(rt, seat, item.member);
+    }
+}
+
+// Gives the member's place back, again until the roll takes it. It rests between the tries.
+fn give_back<R: Wait>(rt: &R, seat: &mut RollSeat, member: Member)
+    ensures { GaveBack seat.old (member ∷ []) seat.new }
+{
+    let backoff = Backoff::new();
+    for _ in rt.forever() {
+        if seat.give(member) {
+            return;
+        }
+        backoff.snooze();
+    }
+    unreachable!()
+}
+
+// Whether this says that its member has left.
+fn is_farewell(item: &Item) -> bool
+    ensures { result ≡ is_bye item.now }
+{
+    matches!(item.body, Said::Bye { .. })
+}

@@ -1,0 +1,76 @@
+//! The queues of a module's places, and what they are offered.
+ghost use Rattle.std.specs.Prelude.{◌≡◌, ◌≤◌, ◌∷◌, [], false, length, slice_get, vec_capacity, IfSome, IsSomeAnd};
+ghost use Rattle.m17_rows.specs.Rows.{grow_each};
+ghost use Rattle.m17_worker.specs.Offers.{AreTried, IsQueue, may_be_missed, missed_for, queued_for, try_of};
+
+use m17_control::{Item, Said};
+use m17_lane::Pusher;
+use m17_rows::{push_at, try_push_at};
+use std::sync::Wait;
+
+/// What became of an item that was offered. This profile.
+#[derive(Clone, Copy, Debug, PartialEq, Eq)]
+pub enum Offered {
+    /// The queue of its place took it.
+    Queued,
+    /// It was left out: the queue was full.
+    Missed,
+}
+
+/// Where a module's items go: a queue for each of its places. This profile.
+#[derive(Drop)]
+pub struct LaneOffers {
+    /// The ends of the queues, in order of places.
+    pub queues: Vec<Pusher<Item>>,
+    /// Whether every item waits for room, so that none is left out.
+    pub patient: bool,
+    /// How many items were left out; the count stays at 2^64 - 1.
+    pub missed: u64,
+}
+
+impl LaneOffers {
+    /// Offers the item to the queue of its place, of which there has to be one: a lane of one producer that holds 64
+    /// items. `Missed` comes only where that queue was full, for a Frame, an Echo or a Ping and where the offers aren't
+    /// patient, and is counted; it comes at once. All else is `Queued`, and waits, asleep, while the queue is full: for
+    /// ever, where nobody empties it. The other queues are as they were. This profile.
+    pub fn offer<R: Wait>(&mut self, rt: &R, item: Item) -> Offered
+        requires queue { IsSomeAnd (slice_get self.old.queues.items item.member.place) IsQueue }
+        ensures tried { AreTried (try_of item result ∷ []) self.old self.new }
+    {
+        let waits = self.patient || !is_missable(&item.body);
+        let answer = put(rt, &mut self.queues, item, waits);
+        if answer == Offered::Missed {
+            self.missed = self.missed.saturating_add(1);
+        }
+        answer
+    }
+}
+
+// Pushes the item to the queue of its place, and waits there for room, or else leaves it out where the queue is full.
+fn put<R: Wait>(rt: &R, queues: &mut Vec<Pusher<Item>>, item: Item, waits: bool) -> Offered
+    requires queue { IsSomeAnd (slice_get queues.old.items item.member.place) IsQueue }
+    ensures queues { queues.new.items ≡ grow_each (queued_for (try_of item result ∷ []))
+        (missed_for (try_of item result ∷ [])) 0 queues.old.items }
+    ensures missed { result ≡ Offered.Missed → waits ≡ false }
+    ensures full { result ≡ Offered.Missed → IfSome (slice_get queues.old.items item.member.place)
+        (λ q. 64 ≤ length q.pushed) }
+    ensures room { vec_capacity queues.new ≡ vec_capacity queues.old }
+{
+    m17_rows::laws::rows_grow::<Item>();
+    let at = item.member.place as usize;
+    if waits {
+        push_at(rt, queues, at, item);
+        return Offered::Queued;
+    }
+    match try_push_at(rt, queues, at, item) {
+        Ok(()) => Offered::Queued,
+        Err(_) => Offered::Missed,
+    }
+}
+
+// Whether this is left out where its queue is full.
+fn is_missable(what: &Said) -> bool
+    ensures { result ≡ may_be_missed what.now }
+{
+    matches!(what, Said::Frame { .. } | Said::Echo { .. } | Said::Ping)
+}

@@ -1,0 +1,139 @@
+//! What a worker does for one event.
+ghost use Rattle.std.specs.Prelude.{◌≡◌, ◌<◌, ℕ, true, List, [], ◌∷◌, ◌++◌, length, nat_lt};
+ghost use Rattle.std.specs.Option.{ForSome, option_map_or};
+ghost use Rattle.m17_control.specs.declared.event.Event.{Event};
+ghost use Rattle.m17_lane.specs.Ends.{popped_from};
+ghost use Rattle.m17_worker.specs.declared.worker.Worker.{Worker};
+ghost use Rattle.m17_book.specs.Records.{IsLowVerdict};
+ghost use Rattle.m17_worker.specs.Taken.{is_there, place_of};
+ghost use Rattle.m17_worker.specs.Written.{Tells, HasText};
+ghost use Rattle.m17_worker.specs.WorkerDid.{HasServed};
+ghost use Rattle.m17_worker.specs.Underway.{CanServe, HasRoom, IsAt, IsServing, filled, noted_text};
+
+use crate::Worker;
+use crate::book::write_if;
+use crate::gifts::hand_out;
+use crate::records::{is_replaced_leave, own_record, record_of_bye};
+use crate::stops::{MOST_LINKS, count_one, note_stop};
+use crate::tape::fill_tape;
+use m17_control::{Body, Event, Item};
+use m17_floor::{Verdict, laws as floor_laws};
+use m17_module::laws as module_laws;
+use m17_ports::Book;
+use std::sync::Wait;
+
+impl<B: Book> Worker<B> {
+    // Pops the next event, and serves it where it names a link and a place that are there. Answers how many were served.
+    pub(crate) fn turn<R: Wait>(
+        &mut self,
+        rt: &R,
+        served: u64,
+        stopped: &mut [bool; MOST_LINKS],
+    ) -> u64
+        requires at { (j : Worker B) × IsAt (record {
+          written = B.written;
+          faults = B.faults;
+        }) j served stopped.old self.old }
+        ensures at { (j : Worker B) → IsAt (record {
+          written = B.written;
+          faults = B.faults;
+        }) j served stopped.old self.old → IsAt (record {
+          written = B.written;
+          faults = B.faults;
+        }) j result stopped.new self.new }
+        ensures popped { (event : Event) × (self.new.inbox ≡ popped_from self.old.inbox event) }
+        ensures order { self.new.order ≡ self.old.order }
+        ensures same_device { (B.mark self.new.book ≡ B.mark self.old.book)
+            × (B.label self.new.book ≡ B.label self.old.book) }
+    {
+        let event = self.inbox.pop_waiting(rt);
+        note_stop(stopped, &event);
+        if !self.has(&event) {
+            return served;
+        }
+        let more = count_one(rt, served);
+        self.serve(rt, &event);
+        more
+    }
+
+    // Whether the event's link and the place that it names are there.
+    fn has(&self, event: &Event) -> bool
+        requires { length self.now.offers.queues.items ≡ self.now.module.setup.places }
+        ensures { result ≡ is_there self.now.links self.now.module.setup.places event.now }
+    {
+        if u32::from(event.tag.link) >= self.links {
+            return false;
+        }
+        match event.body {
+            Body::Join { member, .. }
+            | Body::Leave { member, .. }
+            | Body::Packet { member, .. }
+            | Body::Reply { member, .. } => {
+                (member.place as usize) < self.offers.queues.len()
+            }
+            Body::Tick | Body::Stop => true,
+        }
+    }
+
+    // Does what the event asks for: hands out what the module gives, and then writes book and tape.
+    fn serve<R: Wait>(&mut self, rt: &R, event: &Event)
+        requires { (events : List Event) × CanServe events event.now self.old }
+        ensures served { (j : Worker B) (events : List Event) →
+            CanServe events event.now self.old → self.old.module.setup ≡ j.module.setup →
+            HasServed (record { written = B.written; faults = B.faults; }) events j self.old →
+            HasServed (record { written = B.written; faults = B.faults; })
+            (events ++ event.now ∷ []) j self.new }
+        ensures room { HasRoom self.new }
+        ensures same { IsServing self.old self.new }
+        ensures same_device { (B.mark self.new.book ≡ B.mark self.old.book)
+            × (B.label self.new.book ≡ B.label self.old.book) }
+    {
+        module_laws::later_events_change_no_items();
+        module_laws::one_event_more_gives();
+        module_laws::items_are_at_places();
+        module_laws::verdicts_fit();
+        floor_laws::later_acts_change_no_verdict();
+        floor_laws::later_acts_change_nothing_before();
+        m17_rows::laws::rows_grow::<Item>();
+        let verdict = self.module.step(event, &mut self.basket);
+        let gives = !is_replaced_leave(event);
+        let bye = hand_out(
+            rt,
+            &mut self.basket,
+            &mut self.offers,
+            &mut self.seat,
+            gives,
+        );
+        self.note(event, verdict, &bye);
+    }
+
+    // Writes the records of the event to the book, and its verdict to the tape.
+    fn note(&mut self, event: &Event, verdict: Option<Verdict>, bye: &Option<Item>)
+        requires link { event.now.tag.link < 4 }
+        requires place { ForSome (place_of event.now.body) (λ place. place < 256) }
+        requires verdict { ForSome verdict IsLowVerdict }
+        requires bye { ForSome bye.now (λ item. item.member.place < 256) }
+        ensures text { (start : Tells) (text : List ℕ) (places : ℕ) →
+            option_map_or (λ place. nat_lt place places) (place_of event.now.body) true ≡ true →
+            HasText start text self.old.book_failed
+            (B.written self.old.book, B.faults self.old.book) →
+            HasText start (noted_text text self.old.module.moment
+            (record { event = event.now; verdict = verdict; bye = bye.now; places = places; }))
+            self.new.book_failed (B.written self.new.book, B.faults self.new.book) }
+        ensures tape { self.new.tape.items ≡ filled self.old.tape.items event.now verdict }
+        ensures rest { self.new ≡ record self.old {
+          book = self.new.book;
+          book_failed = self.new.book_failed;
+          tape = self.new.tape;
+        } }
+        ensures same_device { (B.mark self.new.book ≡ B.mark self.old.book)
+            × (B.label self.new.book ≡ B.label self.old.book) }
+    {
+        let moment = self.module.moment();
+        let leave = record_of_bye(event.tag, moment, bye);
+        let own = own_record(event, moment, verdict);
+        write_if(&mut self.book, &mut self.book_failed, &leave);
+        write_if(&mut self.book, &mut self.book_failed, &own);
+        fill_tape(&mut self.tape, event, verdict);
+    }
+}
