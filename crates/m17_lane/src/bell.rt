@@ -1,5 +1,6 @@
 //! The bell of a consumer: where it sleeps, and what its producers ring.
 
+use crate::marks::Marks;
 use crossbeam_utils::sync::{EventCount, Key};
 use m17_values::NoMemory;
 use std::alloc::Global;
@@ -17,26 +18,92 @@ use std::sync::{Arc, Wait};
 /// match item { Some(item) => .., None => announced.sleep(rt) }
 /// ```
 ///
+/// A consumer of very many lanes does not try them all: its bell has marks (`make_marked`), and a push on a lane with a
+/// mark (`make_one_marked`) sets it, so that the consumer knows where to look. It takes the marks, pops those lanes until
+/// they are empty, and then rests.
+///
+/// ```text
+/// for group in 0..bell.groups() { for each word in bell.marked_words(group) { .. bell.take_marks(word) .. } }
+/// .. pop each marked lane until it is empty ..
+/// bell.rest(rt);
+/// ```
+///
+/// Where to look is a hint, and no clause of any contract rests on it. `marks.rt` says why no push is missed.
+///
 /// All that is to wake this thread has to come by a lane of this bell. This profile.
 #[derive(Drop)]
 pub struct Bell {
-    count: Arc<EventCount, Global>,
+    rung: Arc<Rung, Global>,
+    // The mark that a push on the lane of this bell sets, if it has one.
+    mark: Option<u32>,
+}
+
+// What all owners of a bell share: the sleep of its consumer, and the marks, of which most bells have none.
+#[derive(Drop)]
+struct Rung {
+    count: EventCount,
+    marks: Marks,
 }
 
 impl Bell {
     /// A new bell, which no lane rings yet. `NoMemory` where there is none for it.
     pub fn make(alloc: Global) -> Result<Bell, NoMemory> {
-        match Arc::new(alloc, EventCount::new()) {
-            Ok(count) => Ok(Bell { count }),
+        Bell::make_marked(alloc, 0)
+    }
+
+    /// A new bell with marks for that many lanes, from 0 on, of which none is set. `NoMemory` where there is none for it.
+    pub fn make_marked(alloc: Global, lanes: u32) -> Result<Bell, NoMemory> {
+        let marks = Marks::make(alloc, lanes)?;
+        let count = EventCount::new();
+        match Arc::new(alloc, Rung { count, marks }) {
+            Ok(rung) => Ok(Bell { rung, mark: None }),
             Err(_) => Err(NoMemory),
         }
     }
 
     /// The same bell once more, for a consumer that keeps one beside its lanes. `NoMemory` where it has too many owners.
     pub fn share(&self) -> Result<Bell, NoMemory> {
-        match Arc::try_clone(&self.count) {
-            Ok(count) => Ok(Bell { count }),
+        match Arc::try_clone(&self.rung) {
+            Ok(rung) => Ok(Bell { rung, mark: None }),
             Err(_) => Err(NoMemory),
+        }
+    }
+
+    // The same bell for a lane whose pushes set this mark.
+    pub(crate) fn share_marked(&self, mark: u32) -> Result<Bell, NoMemory> {
+        match Arc::try_clone(&self.rung) {
+            Ok(rung) => Ok(Bell {
+                rung,
+                mark: Some(mark),
+            }),
+            Err(_) => Err(NoMemory),
+        }
+    }
+
+    /// How many groups of 64 words of 64 marks it has: 0 for a bell without marks.
+    pub fn groups(&self) -> usize {
+        self.rung.marks.groups()
+    }
+
+    /// Which words of a group have marks to take: bit b, from the lowest, stands for word `64 * group + b`. What it
+    /// answers is taken: it is answered again only after another push. 0 for a group that is not there.
+    pub fn marked_words(&self, group: usize) -> u64 {
+        self.rung.marks.take_words(group)
+    }
+
+    /// Which marks of a word are set: bit b, from the lowest, stands for mark `64 * word + b`. What it answers is taken:
+    /// it is answered again only after another push. Pop these lanes after it, and until they are empty, or keep in mind
+    /// which are not. 0 for a word that is not there.
+    pub fn take_marks(&self, word: usize) -> u64 {
+        self.rung.marks.take(word)
+    }
+
+    /// Sleeps until a lane with a mark is pushed to, and not at all where one was pushed to since its mark was taken. It
+    /// may return without a push. A push on a lane of this bell without a mark does not end it for sure.
+    pub fn rest<R: Wait>(&self, rt: &R) {
+        let announced = self.announce();
+        if !self.rung.marks.any() {
+            announced.sleep(rt);
         }
     }
 
@@ -44,14 +111,18 @@ impl Bell {
     /// on in place of sleeping, drop what it answers.
     pub fn announce(&self) -> Announced<'_> {
         Announced {
-            key: self.count.prepare_wait(),
+            key: self.rung.count.prepare_wait(),
         }
     }
 
-    // Wakes all who sleep on the bell, after a push. Where nobody announced a sleep it is one read of a word and no
-    // system call. It wakes all, and not one, since any of the lanes of a bell may be the one that its sleeper waits for.
+    // Sets the lane's mark, if it has one, and wakes all who sleep on the bell, after a push. Where nobody announced a
+    // sleep the waking is one read of a word and no system call. It wakes all, and not one, since any of the lanes of a
+    // bell may be the one that its sleeper waits for.
     pub(crate) fn ring(&self) {
-        self.count.notify_all();
+        if let Some(mark) = self.mark {
+            self.rung.marks.set(mark);
+        }
+        self.rung.count.notify_all();
     }
 }
 

@@ -2,7 +2,8 @@
 //! gives the ends, which may go to other threads; `finish` takes them back, from whichever threads they come.
 //! It promises, for any number of producers and every schedule: each producer's items are its part of one order, in
 //! which it pushed them, what was popped is the first part of that order, and what came back from a full lane is known
-//! too. A wait sleeps until the other end rings (`Bell`), and an end whose partner is awake makes no system call.
+//! too. A wait sleeps until the other end rings (`Bell`), and an end whose partner is awake makes no system call. A bell
+//! of very many lanes has marks, which tell its consumer where to look.
 //! That a wait ends, and what lane a thread waits on, is left to the crates above: no proof sees it.
 //! The rule that each step keeps is `IsLane` in `specs/Rule.antt`; the words of the contracts stand in `specs/Ends.antt`
 //! and `specs/Orders.antt`.
@@ -12,6 +13,7 @@ mod bell;
 mod lane;
 pub mod laws;
 mod making;
+mod marks;
 mod popper;
 mod pusher;
 mod rule;
@@ -20,7 +22,7 @@ mod tests;
 mod trail;
 
 pub use bell::{Announced, Bell};
-pub use making::{make, make_one, make_one_with, make_with};
+pub use making::{make, make_one, make_one_marked, make_one_with, make_with};
 pub use popper::Popper;
 pub use pusher::Pusher;
 pub use trail::{Trail, finish, finish_one};

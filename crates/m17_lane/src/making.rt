@@ -47,7 +47,22 @@ pub fn make_with<T: Drop>(
     ensures popper { IfOk result (λ r. r.1 ≡ new_popper r.1.lane capacity producers) }
     ensures pushers { IfOk result (λ r. r.0.items ≡ new_pushers r.1 producers) }
 {
-    let filled = bell.share()?;
+    make_for(alloc, bell.share()?, producers, capacity)
+}
+
+// A lane whose pushes ring this bell, and set its mark where it has one.
+fn make_for<T: Drop>(
+    alloc: Global,
+    filled: Bell,
+    producers: u32,
+    capacity: u32,
+) -> Result<(Vec<Pusher<T>>, Popper<T>), NoMemory>
+    requires producers { 0 < producers }
+    requires capacity { 0 < capacity }
+    ensures count { IfOk result (λ r. length r.0.items ≡ producers) }
+    ensures popper { IfOk result (λ r. r.1 ≡ new_popper r.1.lane capacity producers) }
+    ensures pushers { IfOk result (λ r. r.0.items ≡ new_pushers r.1 producers) }
+{
     let Ok((line, mut pass)) = Line::ruled(alloc, capacity as usize) else {
         return Err(NoMemory);
     };
@@ -85,7 +100,36 @@ pub fn make_one_with<T: Drop>(
     ensures popper { IfOk result (λ r. r.1 ≡ new_popper r.1.lane capacity 1) }
     ensures pusher { IfOk result (λ r. r.0 ≡ new_pusher r.1 0) }
 {
-    let (mut pushers, popper) = make_with(alloc, bell, 1, capacity)?;
+    make_one_for(alloc, bell.share()?, capacity)
+}
+
+/// `make_one_with` whose pushes also set a mark of the bell, after the item is in the queue, so that a consumer of very
+/// many lanes knows where to look. The mark is to be below the number of lanes that the bell was made for, and no other
+/// lane's; where it is not below it, the push rings the bell and sets nothing. This profile.
+pub fn make_one_marked<T: Drop>(
+    alloc: Global,
+    bell: &Bell,
+    mark: u32,
+    capacity: u32,
+) -> Result<(Pusher<T>, Popper<T>), NoMemory>
+    requires { 0 < capacity }
+    ensures popper { IfOk result (λ r. r.1 ≡ new_popper r.1.lane capacity 1) }
+    ensures pusher { IfOk result (λ r. r.0 ≡ new_pusher r.1 0) }
+{
+    make_one_for(alloc, bell.share_marked(mark)?, capacity)
+}
+
+// A lane of one producer whose pushes ring this bell.
+fn make_one_for<T: Drop>(
+    alloc: Global,
+    filled: Bell,
+    capacity: u32,
+) -> Result<(Pusher<T>, Popper<T>), NoMemory>
+    requires { 0 < capacity }
+    ensures popper { IfOk result (λ r. r.1 ≡ new_popper r.1.lane capacity 1) }
+    ensures pusher { IfOk result (λ r. r.0 ≡ new_pusher r.1 0) }
+{
+    let (mut pushers, popper) = make_for(alloc, filled, 1, capacity)?;
     match pushers.pop() {
         Some(pusher) => Ok((pusher, popper)),
         None => unreachable!(),

@@ -3,6 +3,7 @@ pub mod Marks
 pub mod Ear
 pub mod Tallies
 pub mod Mouth
+pub mod Said
 pub mod Shelf
 pub mod Ports
 pub mod Laws

@@ -14,3 +14,9 @@ pub fn told_in_turn<T>()
     ensures parts { law.ToldInTurn T }
     ensures nothing { law.NothingMoreIsTold T }
 {}
+
+/// What a mouth has said of a list of datagrams, and then of another, is what it has said of both; nothing to say changes
+/// nothing, and one datagram went or was lost. `L` is the kind of the mouth's label.
+pub fn mouths_say_in_turn<L>()
+    ensures { law.MouthsSayInTurn L }
+{}

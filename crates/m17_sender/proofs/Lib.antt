@@ -1,0 +1,8 @@
+mod Lists
+mod Filled
+mod Grids
+mod Shapes
+mod Mouths
+mod Notes
+mod Queued
+mod Spoken

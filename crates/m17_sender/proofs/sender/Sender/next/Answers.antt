@@ -1,0 +1,31 @@
+use Rattle.std.proofs.Common.{◌≡◌, ◌<◌, length, Some, refl, sym, ap, map, arith}
+use Rattle.m17_sender.proofs.Queued.{goes_from_cell, goes_from_lane}
+use Rattle.m17_sender.proofs.Shapes.{held_place, queue_at, queue_place}
+use Rattle.m17_sender.specs.Sent.{told_by}
+use Rattle.m17_sender.proofs.sender.Sender.next.Goals as goal
+
+pub take_cell-requires : goal.take_cell-requires
+take_cell-requires g c =
+    held_place c.args.self.now c.args.row c.args.at c.requires.shaped (omega (arith, c.requires.row, c.args.self.now.queues.ok.0))
+    c.requires.at
+
+pub pop_in-requires-clause-at : goal.pop_in-requires-clause-at
+pop_in-requires-clause-at g c =
+    queue_at c.args.self.now c.args.row c.args.at c.requires.shaped (omega (arith, c.requires.row, c.args.self.now.queues.ok.0))
+    c.requires.at
+
+pub returns-in-Some-clause-goes_on : goal.returns-in-Some-clause-goes_on
+returns-in-Some-clause-goes_on g c = λ noted.
+    goes_from_cell (told_by g.M.Mouth.said g.M.Mouth.tallies g.M.Mouth.faults g.M.Mouth.mark g.M.Mouth.label) c.args.self.now
+    (record c.args.self.now { held = c.take_cell.new.cells }) noted c.args.row c.args.at c.in-Some.item
+    (record { name = refl; places = refl; mouths = refl; notes = refl; door = refl; order = refl }) refl refl c.in-Some.ensures
+
+pub returns-in-None-clause-goes_on : goal.returns-in-None-clause-goes_on
+returns-in-None-clause-goes_on g c = λ noted.
+    goes_from_lane (told_by g.M.Mouth.said g.M.Mouth.tallies g.M.Mouth.faults g.M.Mouth.mark g.M.Mouth.label) c.rows_pop.ensures
+    c.grids_pop.ensures c.pop_in.result c.args.self.now
+    (record c.args.self.now { held = c.take_cell.new.cells; queues = c.pop_in.new.grid }) noted c.args.row c.args.at
+    (record { name = refl; places = refl; mouths = refl; notes = refl; door = refl; order = refl })
+    (queue_place c.args.self.now c.args.row c.args.at c.requires.shaped
+    (omega (arith, c.requires.row, c.args.self.now.queues.ok.0)) c.requires.at)
+    c.pop_in.ensures.grid (ap (λ cells. map (λ row. row.items) cells.items) c.in-None.ensures.1)

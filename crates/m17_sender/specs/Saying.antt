@@ -1,0 +1,16 @@
+-- For proofs: what was said on one mouth of a row.
+use Rattle.std.specs.Prelude.{◌≡◌, ℕ, List, slice_get, slice_set, Some}
+use Rattle.m17_ports.specs.Mouth.{Datagram}
+use Rattle.m17_ports.specs.Said.{MouthTold, SaidOf}
+use Rattle.m17_turns.specs.Acts.{AreSpelled, Saying}
+
+-- on the mouth of this link these were said, or lost, and the others are as they were
+pub record SaysOn {M L : Type 0} (tells : M → MouthTold L) (link : ℕ) (sayings : List Saying)
+    (before after : List M) : Type 0 where
+  pub mouth : M
+  pub now : M
+  pub datagrams : List Datagram
+  pub was : slice_get before link ≡ Some mouth
+  pub is : after ≡ slice_set before link now
+  pub spelled : AreSpelled sayings datagrams
+  pub said : SaidOf (tells mouth) datagrams (tells now)

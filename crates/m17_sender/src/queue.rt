@@ -1,0 +1,178 @@
+//! One queue in its turn: at most one of its items is popped and said, passed over or held back.
+ghost use Rattle.std.specs.Prelude.{◌≡◌, ◌<◌, ◌≤◌, ℕ, List, [], slice_index, true, false, vec_len};
+ghost use Rattle.std.specs.Option.{IfNone};
+ghost use Rattle.m17_control.specs.declared.item.Said.TheVariants.{Hello};
+ghost use Rattle.m17_rows.specs.Rows.{push_each};
+ghost use Rattle.m17_sender.specs.Ready.{IsShaped};
+ghost use Rattle.m17_sender.specs.Places.{cells_of, held_at, is_said, queues_of};
+ghost use Rattle.m17_sender.specs.Sent.{bye_on, told_by};
+ghost use Rattle.m17_sender.specs.SoFar.{at_rest, GoesOn, IsHeldBack, IsIdle, IsNoted, is_did, OnVain, RestsAt, with_item};
+
+use crate::Sender;
+use crate::cells::{cell_at, fill_cell, take_cell};
+use crate::saying::say_item;
+use m17_control::{Item, Said};
+use m17_lane::Pusher;
+use m17_ports::Mouth;
+use m17_rows::{pop_in, push_at};
+use m17_values::Member;
+use std::sync::Wait;
+
+/// How many links a number of 8 bits names.
+pub(crate) const LINKS: usize = 256;
+
+/// How a queue's turn went.
+#[derive(Clone, Copy, Debug, PartialEq, Eq)]
+pub(crate) enum Tried {
+    /// An item was popped or said.
+    Did,
+    /// Its Hello is still held back.
+    Waiting,
+    /// It was empty.
+    Empty,
+}
+
+impl Tried {
+    /// Whether an item was popped or said.
+    pub(crate) fn did(self) -> bool
+        ensures { result ≡ is_did self }
+    {
+        matches!(self, Tried::Did)
+    }
+}
+
+impl<M: Mouth> Sender<M> {
+    /// The turn of queue `at` of module `row`.
+    pub(crate) fn try_queue<R: Wait>(
+        &mut self,
+        rt: &R,
+        noted: &mut [u64; LINKS],
+        row: usize,
+        at: usize,
+    ) -> Tried
+        requires shaped { IsShaped self.old }
+        requires row { row < vec_len self.old.queues }
+        requires at { at < self.old.places }
+        ensures goes_on { GoesOn (told_by M.said M.tallies M.faults M.mark M.label)
+            (at_rest self.old noted.old) (at_rest self.new noted.new) }
+        ensures vain { OnVain result (IsIdle self.old self.new noted.old noted.new
+            × RestsAt self.new noted.new row at) }
+    {
+        if let Some(held) = cell_at(&self.held, row, at)
+            && waits(&held, noted)
+        {
+            return Tried::Waiting;
+        }
+        match self.next(rt, row, at) {
+            Some(item) => {
+                self.take(rt, noted, row, at, item);
+                Tried::Did
+            }
+            None => Tried::Empty,
+        }
+    }
+    // The next item of a queue: the one that is held back, or else the oldest in its lane.
+    fn next<R: Wait>(&mut self, rt: &R, row: usize, at: usize) -> Option<Item>
+        requires shaped { IsShaped self.old }
+        requires row { row < vec_len self.old.queues }
+        requires at { at < self.old.places }
+        ensures goes_on { (noted : List ℕ)
+            → GoesOn (told_by M.said M.tallies M.faults M.mark M.label) (at_rest self.old noted)
+            (with_item self.new noted row at result) }
+        ensures free { held_at (cells_of self.new) row at ≡ [] }
+        ensures none { IfNone result (cells_of self.new ≡ cells_of self.old) }
+    {
+        m17_rows::laws::grids_pop::<Item>();
+        m17_rows::laws::rows_pop::<Item>();
+        match take_cell(&mut self.held, row, at) {
+            Some(item) => Some(item),
+            None => pop_in(rt, &mut self.queues, row, at),
+        }
+    }
+
+    // Says an item that was taken out of a queue, or holds it back there, or passes it over.
+    fn take<R: Wait>(
+        &mut self,
+        rt: &R,
+        noted: &mut [u64; LINKS],
+        row: usize,
+        at: usize,
+        item: Item,
+    )
+        requires shaped { IsShaped self.old }
+        requires row { row < vec_len self.old.queues }
+        requires at { at < self.old.places }
+        requires free { held_at (cells_of self.old) row at ≡ [] }
+        ensures goes_on { GoesOn (told_by M.said M.tallies M.faults M.mark M.label)
+            (with_item self.old noted.old row at (Some item))
+            (at_rest self.new noted.new) }
+    {
+        if !self.is_said(&item) {
+            return;
+        }
+        if waits(&item, noted) {
+            fill_cell(&mut self.held, row, at, item);
+        } else {
+            self.say(rt, noted, &item);
+        }
+    }
+
+    // Says an item, and notes a Bye to its link.
+    fn say<R: Wait>(&mut self, rt: &R, noted: &mut [u64; LINKS], item: &Item)
+        requires shaped { IsShaped self.old }
+        requires there { is_said self.old item.now ≡ true }
+        requires link { item.now.link < 256 }
+        requires in_turn { (after : ℕ) → item.now.body ≡ Hello after
+            → after ≤ slice_index noted.old item.now.link }
+        ensures goes_on { (m q : ℕ) → held_at (cells_of self.old) m q ≡ []
+            → GoesOn (told_by M.said M.tallies M.faults M.mark M.label)
+            (with_item self.old noted.old m q (Some item.now))
+            (at_rest self.new noted.new) }
+    {
+        m17_rows::laws::rows_push::<Member>();
+        m17_ports::laws::mouths_say_in_turn::<M::Label>();
+        m17_turns::laws::turns_grow();
+        m17_turns::laws::spelled_part_by_part();
+        say_item(&mut self.mouths, self.name, item);
+        note(rt, &mut self.notes, noted, item);
+    }
+
+    // Whether an item is said: any other is passed over.
+    fn is_said(&self, item: &Item) -> bool
+        ensures there { result ≡ is_said self.now item.now }
+        ensures link { item.now.link < 256 }
+    {
+        (item.link as usize) < self.mouths.len() && item.member.place < self.places
+    }
+}
+
+// Whether an item is a Hello that waits for more notes to its link than were pushed.
+fn waits(item: &Item, noted: &[u64; LINKS]) -> bool
+    ensures held { result ≡ true → IsHeldBack noted.now item.now }
+    ensures in_turn { result ≡ false → (after : ℕ) → item.now.body ≡ Hello after
+        → after ≤ slice_index noted.now item.now.link }
+{
+    match item.body {
+        Said::Hello { after } => noted[item.link as usize] < after,
+        _ => false,
+    }
+}
+
+// Notes a Bye that was said, to the link's receiver, and counts it; the count stays at its greatest.
+fn note<R: Wait>(
+    rt: &R,
+    notes: &mut Vec<Pusher<Member>>,
+    noted: &mut [u64; LINKS],
+    item: &Item,
+)
+    requires { item.now.link < vec_len notes.old }
+    ensures notes { notes.new.items ≡ push_each (λ i. bye_on i item.now) 0 notes.old.items }
+    ensures noted { IsNoted item.now noted.old noted.new }
+{
+    m17_rows::laws::rows_push::<Member>();
+    if let Said::Bye { .. } = item.body {
+        let link = item.link as usize;
+        push_at(rt, notes, link, item.member);
+        noted[link] = noted[link].saturating_add(1);
+    }
+}

@@ -1,0 +1,79 @@
+//! What the sender does from its order to go to its end.
+ghost use Rattle.std.specs.Prelude.{◌≡◌, ℕ, List, [], ◌∷◌, replicate, MatchBool};
+ghost use Rattle.m17_sender.specs.Ready.{IsReady, IsShaped};
+ghost use Rattle.m17_sender.specs.Sent.{HasStopped, Sent, told_by};
+ghost use Rattle.m17_sender.specs.SoFar.{at_rest, GoesOn, Grows, HasPassed, RestsAt};
+
+use crate::Sender;
+use crate::queue::LINKS;
+use m17_crew::Order;
+use m17_lane::Popper;
+use m17_ports::Mouth;
+use m17_values::Member;
+use std::sync::Wait;
+
+impl<M: Mouth> Sender<M> {
+    /// Says all that comes until the stop order, and after it all that is left.
+    pub(crate) fn send<R: Wait>(&mut self, rt: &R)
+        requires { IsReady self.old }
+        ensures { Sent (told_by M.said M.tallies M.faults M.mark M.label) self.old self.new
+            self.old.order }
+    {
+        m17_rows::laws::rows_push::<Member>();
+        m17_ports::laws::mouths_say_in_turn::<M::Label>();
+        m17_turns::laws::turns_grow();
+        let mut noted = [0u64; LINKS];
+        self.serve(rt, &mut noted);
+        self.finish(rt, &mut noted);
+    }
+
+    // Turn by turn until the stop order; it sleeps where a turn found nothing.
+    fn serve<R: Wait>(&mut self, rt: &R, noted: &mut [u64; LINKS])
+        requires shaped { IsShaped self.old }
+        ensures grows { Grows (told_by M.said M.tallies M.faults M.mark M.label)
+            (at_rest self.old noted.old) (at_rest self.new noted.new) }
+        ensures stopped { HasStopped self.old.order self.new.order }
+    {
+        for _ in rt.forever() {
+            self.hint.look();
+            if hears_stop(rt, &mut self.order) {
+                return;
+            }
+            if !self.turn(rt, noted) {
+                self.hint.rest(rt);
+            }
+        }
+        unreachable!()
+    }
+
+    // Turns over all queues until one finds nothing.
+    fn finish<R: Wait>(&mut self, rt: &R, noted: &mut [u64; LINKS])
+        requires shaped { IsShaped self.old }
+        ensures goes_on { GoesOn (told_by M.said M.tallies M.faults M.mark M.label)
+            (at_rest self.old noted.old) (at_rest self.new noted.new) }
+        ensures rests { (m q : ℕ) → RestsAt self.new noted.new m q }
+    {
+        for _ in rt.forever() {
+            if !self.whole_turn(rt, noted) {
+                return;
+            }
+        }
+        unreachable!()
+    }
+}
+
+// Whether the stop order came; any other order is passed over.
+fn hears_stop<R: Wait>(rt: &R, orders: &mut Popper<Order>) -> bool
+    ensures { MatchBool result (HasStopped orders.old orders.new)
+        (HasPassed orders.old orders.new) }
+{
+    for _ in rt.forever() {
+        match orders.try_pop(rt) {
+            Some(Order::Stop) => return true,
+            Some(Order::Go) => {}
+            Some(Order::Quit) => {}
+            None => return false,
+        }
+    }
+    unreachable!()
+}

@@ -1,0 +1,47 @@
+//! What is said on a mouth, in the name of the reflector.
+ghost use Rattle.std.specs.Prelude.{◌≡◌, ◌<◌, ◌∷◌, [], map, slice_get, slice_set, Some, vec_len};
+ghost use Rattle.m17_control.specs.declared.packet.Packet.TheVariants as packets;
+ghost use Rattle.m17_control.specs.Spelled.{packet_said};
+ghost use Rattle.m17_ports.specs.Said.{SaidOf};
+ghost use Rattle.m17_turns.specs.Acts.{AreSpelled, to_peer};
+ghost use Rattle.m17_sender.specs.Sent.{told_by};
+ghost use Rattle.m17_sender.specs.Saying.{SaysOn};
+
+use m17_callsign::CallAddress;
+use m17_control::{Direct, Item, spell, write};
+use m17_ports::Mouth;
+use m17_values::Peer;
+
+/// Says an item on the mouth of its link, unless it spells nothing.
+pub(crate) fn say_item<M: Mouth>(mouths: &mut Vec<M>, name: CallAddress, item: &Item)
+    requires { item.now.link < vec_len mouths.old }
+    ensures { SaysOn (told_by M.said M.tallies M.faults M.mark M.label) item.now.link
+        (to_peer item.now.peer (packet_said item.now.body name))
+        mouths.old.items mouths.new.items }
+{
+    m17_ports::laws::mouths_say_in_turn::<M::Label>();
+    if let Some(datagram) = spell(item, name) {
+        say(&mut mouths[item.link as usize], &item.peer, datagram.as_slice());
+    }
+}
+
+/// Says a reply on the mouth of its link.
+pub(crate) fn say_reply<M: Mouth>(mouths: &mut Vec<M>, reply: &Direct)
+    requires { reply.now.link < vec_len mouths.old }
+    ensures { SaysOn (told_by M.said M.tallies M.faults M.mark M.label) reply.now.link
+        ((reply.now.peer, packets.Control reply.now.control) ∷ [])
+        mouths.old.items mouths.new.items }
+{
+    let datagram = write(&reply.control);
+    say(&mut mouths[reply.link as usize], &reply.peer, datagram.as_slice());
+}
+
+// Says one datagram; where the mouth fails it is lost.
+fn say<M: Mouth>(mouth: &mut M, to: &Peer, bytes: &[u8])
+    ensures { SaidOf (told_by M.said M.tallies M.faults M.mark M.label mouth.old)
+        ((to.now, bytes.now) ∷ [])
+        (told_by M.said M.tallies M.faults M.mark M.label mouth.new) }
+{
+    m17_ports::laws::mouths_say_in_turn::<M::Label>();
+    let _ = mouth.say(to, bytes);
+}
