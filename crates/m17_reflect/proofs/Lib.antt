@@ -1,0 +1,3 @@
+pub mod Popped
+pub mod Routes
+pub mod OneTrail
