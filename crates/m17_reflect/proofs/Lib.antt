@@ -1,3 +1,9 @@
 pub mod Popped
 pub mod Routes
 pub mod OneTrail
+pub mod Together
+pub mod Came
+pub mod Worked
+pub mod Sums
+pub mod Joining
+pub mod There
