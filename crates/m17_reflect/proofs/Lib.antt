@@ -7,3 +7,4 @@ pub mod Worked
 pub mod Sums
 pub mod Joining
 pub mod There
+pub mod Seats
