@@ -8,3 +8,4 @@ pub mod Sums
 pub mod Joining
 pub mod There
 pub mod Seats
+pub mod Modules
