@@ -9,3 +9,5 @@ pub mod Joining
 pub mod There
 pub mod Seats
 pub mod Modules
+pub mod AllQueues
+pub mod ToPeers
