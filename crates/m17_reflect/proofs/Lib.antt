@@ -11,3 +11,6 @@ pub mod Seats
 pub mod Modules
 pub mod AllQueues
 pub mod ToPeers
+pub mod Lives
+pub mod QueueLives
+pub mod Carried
