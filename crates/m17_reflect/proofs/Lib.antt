@@ -14,3 +14,4 @@ pub mod ToPeers
 pub mod Lives
 pub mod QueueLives
 pub mod Carried
+pub mod Waiting
