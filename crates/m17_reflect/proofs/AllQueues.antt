@@ -1,18 +1,17 @@
 -- The queues of all modules, patient runs, and the causes of what went wrong.
-use Rattle.std.proofs.Common.{◌≡◌, ℕ, zero, suc, ◌+◌, ◌-◌, ◌^◌, ◌<◌, ◌≤◌, Bool, true, false, cond, List, [], ◌∷◌, ◌++◌, map, length, min, Option, None, Some, sym, subst, refl, ap, ◌∙◌, inl, inr, arith}
-use Rattle.std.specs.Prelude.{◌↔◌, ◌⊎◌, ◌||◌, IsTrue, slice_get, count_by, not}
-use Rattle.std.specs.List.{AllZip, AllByRecursion, flat_map, range_with_len, list_any}
+use Rattle.std.proofs.Common.{◌≡◌, ℕ, zero, suc, ◌-◌, ◌^◌, ◌<◌, Bool, true, false, cond, List, [], ◌∷◌, ◌++◌, map, length, min, Some, sym, subst, refl, ap, ◌∙◌, arith}
+use Rattle.std.specs.Prelude.{◌↔◌, ◌||◌, IsTrue, slice_get, not}
+use Rattle.std.specs.List.{AllByRecursion, flat_map, range_with_len, list_any}
 use Rattle.std.proofs.lemmas.Option.{same_Some, none-some}
-use Rattle.std.proofs.lemmas.List.Elements.{recursion_from_All, All-from_recursion}
+use Rattle.std.proofs.lemmas.List.Elements.{recursion_from_All}
 use Rattle.std.proofs.lemmas.List.Sums.{sum_by-cons}
 use Rattle.m17_values.specs.declared.heard.Heard.{Heard}
-use Rattle.m17_io.specs.Faults.{HasRisen}
 use Rattle.m17_control.specs.declared.event.Event.{Event}
 use Rattle.m17_control.specs.declared.item.Item.{Item}
 use Rattle.m17_module.specs.Items.{items_at, items_given}
 use Rattle.m17_module.specs.Items as module_items
 use Rattle.m17_module.specs.Laws.{ItemsAreAtPlaces}
-use Rattle.m17_lane.specs.Ends.{PopEnd, TrailEnd}
+use Rattle.m17_lane.specs.Ends.{TrailEnd}
 use Rattle.m17_lane.specs.Orders.{items_of}
 use Rattle.m17_rows.specs.Laws.{RowsGrow}
 use Rattle.m17_grid.specs.Trails.{AreTrailsOfOnes}
@@ -25,7 +24,6 @@ use Rattle.m17_worker.specs.WorkerDid.{HasServed}
 use Rattle.m17_worker.specs.Offers.{Try, count_missed}
 use Rattle.m17_house.specs.declared.plan.Plan.{Plan}
 use Rattle.m17_reflect.specs.Links.{Link, At, setup_at}
-use Rattle.m17_reflect.specs.Run.{module_count}
 use Rattle.m17_reflect.specs.Trails.{events_of}
 use Rattle.m17_reflect.specs.Queues.{Carriers, Carry}
 use Rattle.m17_reflect.specs.Patience.{SomeLost, SomeRose}
@@ -133,7 +131,8 @@ module _ {E B : Type 0} where
         let inside = below_at links some.number some.link some.there in
         let (j, at_j) = at_below js some.number (omega (arith, lens.1)) in
         let (k, at_k) = at_below ks some.number (omega (arith, lens.0, lens.1)) in
-        at_any lost_of ks some.number k at_k ((zip3_at (Came words) js ks links h some.number j k some.link at_j at_k some.there).lost.1 some.faults))
+        at_any lost_of ks some.number k at_k ((zip3_at (Came words) js ks links h some.number j k some.link at_j at_k some.there).lost.1 some.faults),
+  )
 
   -- and only where the count of some ear rose
   pub lost_only_where : (words : devices.Words E B) (js ks : List (Receiver E B)) (heards : List (List Heard)) → AllZip3 (Heared words) js ks heards → IsTrue (list_any lost_of ks) → SomeRose (map (ear_tells words) js) (map (ear_tells words) ks)

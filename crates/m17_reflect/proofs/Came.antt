@@ -1,7 +1,7 @@
 -- What the receivers of a run have done, link by link.
-use Rattle.std.proofs.Common.{◌≡◌, ℕ, zero, suc, ◌+◌, ◌<◌, ◌≤◌, Bool, true, false, List, [], ◌∷◌, ◌++◌, map, length, All, Option, None, Some, sym, subst, refl, ap, ◌∙◌, arith}
+use Rattle.std.proofs.Common.{◌≡◌, ℕ, zero, suc, ◌+◌, ◌<◌, Bool, true, false, List, [], ◌∷◌, ◌++◌, map, length, All, Option, None, Some, sym, subst, refl, ap, ◌∙◌, arith}
 use Rattle.std.specs.Prelude.{◌↔◌, IsTrue, slice_get}
-use Rattle.std.specs.List.{AllZip, AllByRecursion}
+use Rattle.std.specs.List.{AllByRecursion}
 use Rattle.std.specs.Option.{option_map_or}
 use Rattle.std.proofs.lemmas.Option.{same_Some, none-some}
 use Rattle.std.proofs.lemmas.List.{length-map}
@@ -17,19 +17,18 @@ use Rattle.m17_rows.specs.Starts.{HasStarted}
 use Rattle.m17_rows.specs.Laws.{FirstOrderDecides}
 use Rattle.m17_grid.specs.Columns.{push_grid}
 use Rattle.m17_directory.specs.Entries.{Entry, Setup}
-use Rattle.m17_directory.specs.Routed.{routed, link_verdict}
+use Rattle.m17_directory.specs.Routed.{routed}
 use Rattle.m17_directory.specs.declared.verdict.LinkVerdict.{LinkVerdict}
 use Rattle.m17_receiver.specs.declared.receiver.Receiver.{Receiver}
 use Rattle.m17_receiver.specs.Devices.{Words, Tells, IsCounted, HasHeard, EndsInFaults, HasTrace, trace_text}
 use Rattle.m17_receiver.specs.Posting.{letter_at, posted_to}
 use Rattle.m17_receiver.specs.Claims.{HasClaimed, IsGreetedAfter}
 use Rattle.m17_receiver.specs.Tape.{IsTaped}
-use Rattle.m17_receiver.specs.ReceiverDid.{HasGone, HasReceived, ReceiverDid, outlets_of}
-use Rattle.m17_worker.specs.Written.{HasText}
+use Rattle.m17_receiver.specs.ReceiverDid.{HasGone, HasReceived, outlets_of}
 use Rattle.m17_house.specs.declared.plan.Plan.{Plan}
 use Rattle.m17_reflect.specs.Links.{Link, IsLink, At, link_setup, letter_of}
 use Rattle.m17_reflect.specs.Judged.{IsLinkTape, IsWritten}
-use Rattle.m17_reflect.proofs.Routes.{at_below, below_at, entries_in, route_by}
+use Rattle.m17_reflect.proofs.Routes.{at_below, below_at, route_by}
 use Rattle.m17_reflect.proofs.Together.{AllZip3, zip3_at, zip3_length, unmapped}
 
 -- a job that was told to go has gone
@@ -84,17 +83,20 @@ module _ {E B : Type 0} where
   came : (words : Words E B) (j k : Receiver E B) (heard : List Heard) → Heared words j k heard → IsCounted heard → (link : Link) × Came words j k link × (link.heard ≡ heard)
   came words j k heard g counted =
       let h = g.received counted in
-      let link : Link = record { heard = heard; entries = h.entries } in
-      (link, record {
-        ear = g.ear;
-        trace = g.trace;
-        is_link = record { says = h.says; ends = h.ends };
-        lost = h.lost;
-        posted = h.posted;
-        claimed = h.claimed;
-        greeted = h.greeted;
-        taped = h.taped;
-      }, refl)
+      let link : Link = record { heard = heard; entries = h.entries } in (
+        link,
+        record {
+          ear = g.ear;
+          trace = g.trace;
+          is_link = record { says = h.says; ends = h.ends };
+          lost = h.lost;
+          posted = h.posted;
+          claimed = h.claimed;
+          greeted = h.greeted;
+          taped = h.taped;
+        },
+        refl,
+      )
 
   -- the links of a run, where what each ear heard is counted
   pub all_came : (words : Words E B) (js ks : List (Receiver E B)) (heards : List (List Heard)) → AllZip3 (Heared words) js ks heards → AllByRecursion IsCounted heards → (links : List Link) × AllZip3 (Came words) js ks links × (map (λ (link : Link). link.heard) links ≡ heards)
@@ -189,5 +191,5 @@ module _ {E B : Type 0} where
       ∙ ap (λ (s : Setup). push_each (λ m. routed s link.entries (letter_at s.modules m)) 0 (column_of j)) (are i j at_j).setup
       ∙ ap (λ (x : ℕ). push_each (λ m. routed (link_setup plan x) link.entries (letter_of plan m)) 0 (column_of j)) at
       ∙ ap (λ (es : List Entry). push_each (λ m. routed (link_setup plan n) es (letter_of plan m)) 0 (column_of j))
-          (sym (ap (λ (o : Option Link). option_map_or (λ (link : Link). link.entries) o []) (subst (λ (x : ℕ). slice_get links x ≡ Some link) at at_l)))
+      (sym (ap (λ (o : Option Link). option_map_or (λ (link : Link). link.entries) o []) (subst (λ (x : ℕ). slice_get links x ≡ Some link) at at_l)))
       ∙ ap (push_each (λ m. route_by plan links (letter_of plan m) n) 0) is_j)

@@ -1,8 +1,7 @@
 -- What a queue carries for a member: a life, from the Hello of its Join to its Bye, by the link of that Join.
-use Rattle.std.proofs.Common.{◌≡◌, ℕ, zero, suc, ◌+◌, ◌<◌, Bool, true, false, cond, List, [], ◌∷◌, ◌++◌, map, length, take, All, Some, sym, subst, refl, ap, ◌∙◌, arith}
+use Rattle.std.proofs.Common.{◌≡◌, ℕ, suc, ◌<◌, Bool, true, false, cond, List, [], ◌∷◌, map, Some, sym, subst, refl, ap, ◌∙◌}
 use Rattle.std.specs.Prelude.{◌==◌, ◌&&◌, slice_get, filter}
 use Rattle.std.specs.List.{AllByRecursion}
-use Rattle.std.proofs.lemmas.Option.{same_Some, none-some}
 use Rattle.std.proofs.lemmas.List.Elements.{recursion_from_All, All-from_recursion}
 use Rattle.m17_values.specs.declared.member.Member.{Member}
 use Rattle.m17_values.specs.declared.peer.Peer.{Peer}
@@ -10,12 +9,9 @@ use Rattle.m17_control.specs.declared.event.Body.TheVariants.{Join}
 use Rattle.m17_control.specs.declared.event.Event.{Event}
 use Rattle.m17_control.specs.declared.item.Item.{Item}
 use Rattle.m17_control.specs.declared.item.Said.{Said}
-use Rattle.m17_control.specs.declared.item.Said.TheVariants as said
-use Rattle.m17_floor.specs.Acts.{is_same}
 use Rattle.m17_lane.specs.Ends.{TrailEnd}
 use Rattle.m17_lane.specs.Orders as lane
-use Rattle.m17_module.specs.Items as module_items
-use Rattle.m17_module.specs.Items.{items_given, items_for, is_for}
+use Rattle.m17_module.specs.Items.{items_given, items_for}
 use Rattle.m17_module.specs.Laws.{JoinsOnce, ShareIsALife, FollowsJoin, ItemsFollowTheirJoins}
 use Rattle.m17_turns.specs.Joined.{is_to, IsLifeFrom}
 use Rattle.m17_turns.specs.Laws.{IsHello, LessOfALifeIsALife}
@@ -96,8 +92,8 @@ pub carried_life : Laws → (events : List Event) (c : Carriers) (k : Member) (p
 unfolding items_for
 carried_life laws events c k peer link after queue h e placed j =
     let whole : IsLifeFrom after (filter (is_to k) (map (λ (t : Try). t.item) h.tries)) =
-        subst (λ (items : List Item). IsLifeFrom after (filter (is_to k) items)) (sym h.all_items)
-        (share_from c.setup events k j.position j.event peer j.callsign j.listens after laws.share laws.follow j.once j.there j.body placed) in
+    subst (λ (items : List Item). IsLifeFrom after (filter (is_to k) items)) (sym h.all_items)
+    (share_from c.setup events k j.position j.event peer j.callsign j.listens after laws.share laws.follow j.once j.there j.body placed) in
     subst (λ (items : List Item). IsLifeFrom after (filter (is_to k) items)) (sym (h.each k.place queue e).order)
     (queue_life laws.less after k h.tries whole
     (All-from_recursion (λ (t : Try). t.queued ≡ false → IsHello t.item.body → ⊥) h.tries

@@ -1,7 +1,7 @@
 -- The members that the Joins of all trails name are the claims of all links, each as often.
-use Rattle.std.proofs.Common.{◌≡◌, ℕ, zero, suc, ◌+◌, ◌<◌, Bool, true, false, cond, List, [], ◌∷◌, ◌++◌, map, length, Option, None, Some, sym, subst, refl, ap, ◌∙◌, arith}
+use Rattle.std.proofs.Common.{◌≡◌, ℕ, zero, suc, ◌+◌, Bool, true, false, cond, List, [], ◌∷◌, Option, None, Some, sym, subst, refl, ap, ◌∙◌, arith}
 use Rattle.std.specs.Prelude.{slice_get, slice_index, filter, sum_by, count_by}
-use Rattle.std.specs.List.{enumerate_from, flat_map, filter_map, AllByRecursion}
+use Rattle.std.specs.List.{enumerate_from, flat_map}
 use Rattle.std.specs.Option.{option_map_or}
 use Rattle.std.proofs.lemmas.Option.{same_Some, none-some}
 use Rattle.std.proofs.lemmas.List.Sums.{sum_by-cons, sum_by-append}
@@ -16,8 +16,7 @@ use Rattle.m17_directory.specs.Laws.{JoinsOfAllModules, EachClaimJoins, ClaimsAr
 use Rattle.m17_lane.specs.Ends.{TrailEnd}
 use Rattle.m17_house.specs.declared.plan.Plan.{Plan}
 use Rattle.m17_reflect.specs.Links.{Link, At, link_setup, letter_of, routes, route_of}
-use Rattle.m17_reflect.specs.Run.{module_count}
-use Rattle.m17_reflect.specs.Trails.{events_of, IsTrail, AreTrails}
+use Rattle.m17_reflect.specs.Trails.{events_of, AreTrails}
 use Rattle.m17_reflect.specs.Places.{AreSame, joiners}
 use Rattle.m17_reflect.proofs.OneTrail.{link_of}
 use Rattle.m17_reflect.proofs.Sums.{sum_same, sum_map, swap, sum_flat, hits, count_mapped, sum_beside, interleaved}
@@ -99,13 +98,13 @@ joins_are_claims law each plan links trails are asked test =
     let G : ℕ → ℕ × Link → ℕ = λ letter p. sum_by (weight test) (route_of plan letter p) in
     sum_flat (λ (m : Member). cond (test m) 1 0) (λ (trail : TrailEnd Event). joiners (events_of trail)) trails
     ∙ sum_beside (λ (trail : TrailEnd Event). count_by test (joiners (events_of trail)))
-        (λ letter. sum_by (G letter) (enumerate_from 0 links)) trails (letters_of plan.modules) are.count
-        (λ m trail letter et el.
-        count_mapped test (λ (event : Event). joiner_of event.body) (events_of trail)
-        ∙ interleaved (weight test) link_of (routes plan links (letter_of plan m)) (events_of trail) (are.each m trail et).order
-        ∙ sum_map (sum_by (weight test)) (route_of plan (letter_of plan m)) (enumerate_from 0 links)
-        ∙ ap (λ (l : ℕ). sum_by (G l) (enumerate_from 0 links)) (letter_at_place (letters_of plan.modules) m letter el))
+    (λ letter. sum_by (G letter) (enumerate_from 0 links)) trails (letters_of plan.modules) are.count
+    (λ m trail letter et el.
+    count_mapped test (λ (event : Event). joiner_of event.body) (events_of trail)
+    ∙ interleaved (weight test) link_of (routes plan links (letter_of plan m)) (events_of trail) (are.each m trail et).order
+    ∙ sum_map (sum_by (weight test)) (route_of plan (letter_of plan m)) (enumerate_from 0 links)
+    ∙ ap (λ (l : ℕ). sum_by (G l) (enumerate_from 0 links)) (letter_at_place (letters_of plan.modules) m letter el))
     ∙ swap G (letters_of plan.modules) (enumerate_from 0 links)
     ∙ links_count test (λ p. sum_by (λ letter. G letter p) (letters_of plan.modules)) 0 links
-        (λ i j link is e. link_joins law each test plan j link.entries
-        (asked j link (let at : i ≡ j = omega arith in subst (λ (n : ℕ). slice_get links n ≡ Some link) at e)))
+    (λ i j link is e. link_joins law each test plan j link.entries
+    (asked j link (let at : i ≡ j = omega arith in subst (λ (n : ℕ). slice_get links n ≡ Some link) at e)))

@@ -1,14 +1,12 @@
 -- A member's share is a life that begins with the Hello of its Join.
-use Rattle.std.proofs.Common.{◌≡◌, ℕ, ◌<◌, Bool, true, false, List, [], ◌∷◌, ◌++◌, Option, Some, slice_get, get_or, eqb, zero, suc, refl, ap, sym, ◌∙◌, subst, All}
+use Rattle.std.proofs.Common.{◌≡◌, ℕ, ◌<◌, Bool, true, List, [], ◌∷◌, Some, slice_get, get_or, eqb, zero, suc, refl, ap, sym, ◌∙◌, subst, All}
 use Rattle.std.specs.List.{filter}
 use Rattle.std.proofs.lemmas.Bool.{eqb-true, eq-eqb, and_parts, and_from}
-use Rattle.std.proofs.lemmas.List.Elements.{All-head, All-same, All-filter, All-contains, filter_passes}
+use Rattle.std.proofs.lemmas.List.Elements.{All-head, All-same, All-filter, filter_passes}
 use Rattle.m17_values.specs.declared.member.Member.{Member}
 use Rattle.m17_values.specs.declared.peer.Peer.{Peer}
-use Rattle.m17_control.specs.declared.event.Body.{Body}
 use Rattle.m17_control.specs.declared.event.Body.TheVariants.{Join}
 use Rattle.m17_control.specs.declared.event.Event.{Event}
-use Rattle.m17_control.specs.declared.event.Why.{Why}
 use Rattle.m17_control.specs.declared.item.Item.{Item}
 use Rattle.m17_control.specs.declared.item.Said.{Said}
 use Rattle.m17_control.specs.declared.item.Said.TheVariants as said

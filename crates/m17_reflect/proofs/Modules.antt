@@ -1,21 +1,16 @@
 -- All modules of a run together: one trail each, what was judged, and what the queues carry.
-use Rattle.std.proofs.Common.{◌≡◌, ℕ, zero, suc, ◌+◌, ◌<◌, Bool, true, false, List, [], ◌∷◌, map, length, Option, None, Some, sym, subst, refl, ap, ◌∙◌, arith}
+use Rattle.std.proofs.Common.{◌≡◌, ℕ, suc, ◌<◌, Bool, true, List, [], ◌∷◌, map, length, Option, Some, sym, subst, refl, ap, ◌∙◌, arith}
 use Rattle.std.specs.Prelude.{slice_get}
 use Rattle.std.specs.List.{AllZip, AllByRecursion}
 use Rattle.std.proofs.lemmas.List.{length-map}
-use Rattle.std.proofs.lemmas.List.Elements.{recursion_from_All, All-from_recursion}
 use Rattle.std.proofs.lemmas.Slice.Zip.{AllZip-long}
 use Rattle.m17_control.specs.declared.event.Event.{Event}
-use Rattle.m17_control.specs.declared.item.Item.{Item}
 use Rattle.m17_floor.specs.declared.verdict.Verdict.{Verdict}
 use Rattle.m17_floor.specs.Floor.{admitted_count}
 use Rattle.m17_module.specs.Events.{acts_of}
 use Rattle.m17_module.specs.Items.{items_at, items_given}
 use Rattle.m17_module.specs.Items as module_items
-use Rattle.m17_lane.specs.Ends.{PushEnd, PopEnd, TrailEnd}
-use Rattle.m17_lane.specs.Orders.{items_of}
-use Rattle.m17_rows.specs.Laws.{RowsGrow}
-use Rattle.m17_grid.specs.Columns.{row_at}
+use Rattle.m17_lane.specs.Ends.{PopEnd, TrailEnd}
 use Rattle.m17_grid.specs.Laid.{IsLaid}
 use Rattle.m17_grid.specs.Trails as grid
 use Rattle.m17_grid.specs.Trails.{IsTrailOf, AreTrailsOfOnes}
@@ -29,14 +24,13 @@ use Rattle.m17_worker.specs.Written.{Tells}
 use Rattle.m17_house.specs.declared.plan.Plan.{Plan}
 use Rattle.m17_reflect.specs.Links.{Link, IsLink, At, letter_of, setup_at}
 use Rattle.m17_reflect.specs.Run.{module_count}
-use Rattle.m17_reflect.specs.Trails.{events_of, IsTrail, AreTrails}
+use Rattle.m17_reflect.specs.Trails.{events_of, AreTrails}
 use Rattle.m17_reflect.specs.Judged.{IsModuleTape, IsWritten}
-use Rattle.m17_reflect.specs.Queues.{Carriers, Carry}
 use Rattle.m17_reflect.proofs.OneTrail.{Laws, Inboxes, routed_columns, one_trail}
 use Rattle.m17_reflect.proofs.Routes.{at_below, below_at}
 use Rattle.m17_reflect.proofs.There.{is_at, trail_is_there}
 use Rattle.m17_reflect.proofs.Together.{zip_at, unmapped, mapped_at}
-use Rattle.m17_reflect.proofs.Worked.{IsWorkerOf, book_tells, served, admitted_of, tape_is, book_is, Rows, carries}
+use Rattle.m17_reflect.proofs.Worked.{IsWorkerOf, book_tells, served, admitted_of, tape_is, book_is}
 
 module _ {A B C : Type 0} where
   -- two lists that come to the same, place by place

@@ -1,22 +1,22 @@
 -- One trail for each module: the order of its inbox is one interleaving of what the links route to it, and all of it was popped.
-use Rattle.std.proofs.Common.{◌≡◌, ℕ, zero, suc, ◌+◌, ◌<◌, Bool, true, false, cond, List, [], ◌∷◌, ◌++◌, map, length, All, Option, Some, sym, subst, refl, ap, ◌∙◌, arith}
+use Rattle.std.proofs.Common.{◌≡◌, ℕ, zero, suc, ◌+◌, ◌<◌, Bool, true, false, cond, List, [], ◌∷◌, map, length, All, Some, sym, subst, refl, ap, ◌∙◌, arith}
 use Rattle.std.specs.Prelude.{◌==◌, ◌&&◌, slice_get, slice_index, slice_index_or, filter}
 use Rattle.std.specs.List.{range_with_len, list_any, AllByRecursion}
-use Rattle.std.specs.Option.{option_map, option_map_or}
+use Rattle.std.specs.Option.{option_map}
 use Rattle.std.proofs.lemmas.List.{length-map}
 use Rattle.std.proofs.lemmas.List.Elements.{All-from_recursion}
 use Rattle.std.proofs.lemmas.Option.{same_Some, none-some, slice_get-map}
 use Rattle.m17_control.specs.declared.event.Body.{Body}
 use Rattle.m17_control.specs.declared.event.Body.TheVariants.{Join, Leave, Packet, Reply, Tick, Stop}
 use Rattle.m17_control.specs.declared.event.Event.{Event}
-use Rattle.m17_control.specs.Modules.{serves, letters_of}
+use Rattle.m17_control.specs.Modules.{serves}
 use Rattle.m17_directory.specs.Laws as law
 use Rattle.m17_directory.specs.Routed.{routed}
 use Rattle.m17_directory.specs.Laws.{RouteCarriesLink, RouteEndsInOneStop}
 use Rattle.m17_lane.specs.Ends.{PushEnd, PopEnd, TrailEnd, logs_of, new_pushers}
 use Rattle.m17_lane.specs.Orders.{items_of, picked}
 use Rattle.m17_rows.specs.Rows.{push_each}
-use Rattle.m17_grid.specs.Columns.{row_at, push_grid, lanes_of, lanes_popped, numbered}
+use Rattle.m17_grid.specs.Columns.{row_at, push_grid}
 use Rattle.m17_grid.specs.Laid.{IsLaid}
 use Rattle.m17_grid.specs.Trails.{IsTrailOf}
 use Rattle.m17_grid.specs.Interleavings.{IsInterleaving}
@@ -28,7 +28,7 @@ use Rattle.m17_reflect.specs.Links.{Link, IsLink, At, link_setup, letter_of, rou
 use Rattle.m17_reflect.specs.Run.{module_count}
 use Rattle.m17_reflect.specs.Trails.{IsTrail}
 use Rattle.m17_reflect.proofs.Popped.{EndsInStop, all_popped}
-use Rattle.m17_reflect.proofs.Routes.{by_number, numbered_length, at_below, below_at, entries_in, route_by, routes_by, routes_at}
+use Rattle.m17_reflect.proofs.Routes.{numbered_length, at_below, below_at, entries_in, route_by, routes_by, routes_at}
 
 module _ {T : Type 0} where
   pushed_of_logs : (row : List (PushEnd T)) → map (λ (q : PushEnd T). q.pushed) row ≡ map (λ (l : ℕ × List T). l.1) (logs_of row)

@@ -1,11 +1,10 @@
 -- What a queue took for a member is less of its share, and a life too.
-use Rattle.std.proofs.Common.{◌≡◌, ◌==◌, ◌&&◌, ℕ, ◌<◌, Bool, true, false, cond, eqb, List, [], ◌∷◌, ◌++◌, map, length, get_or, refl, ap, sym, ◌∙◌, subst, All}
+use Rattle.std.proofs.Common.{◌≡◌, ◌==◌, ◌&&◌, ℕ, Bool, true, false, cond, List, [], ◌∷◌, map, refl, ap, sym, ◌∙◌, subst, All}
 use Rattle.std.specs.List.{filter}
-use Rattle.std.proofs.lemmas.Bool.{eqb-true, eq-eqb, and_parts, and_from, and_right, cond-true, cond-false}
+use Rattle.std.proofs.lemmas.Bool.{eq-eqb, cond-true, cond-false}
 use Rattle.std.proofs.lemmas.List.Elements.{All-filter, All-map}
 use Rattle.m17_values.specs.declared.member.Member.{Member}
 use Rattle.m17_control.specs.declared.item.Item.{Item}
-use Rattle.m17_floor.specs.Acts.{is_same}
 use Rattle.m17_turns.specs.Joined.{is_to, IsLifeFrom}
 use Rattle.m17_turns.specs.Laws.{IsHello, LessOfALifeIsALife}
 use Rattle.m17_worker.specs.Offers.{Try, queued_for}

@@ -1,8 +1,7 @@
 -- What the closed roll shows of the links: their claims, and whom their seats refused.
-use Rattle.std.proofs.Common.{◌≡◌, ℕ, zero, suc, ◌+◌, ◌*◌, ◌<◌, ◌≤◌, Bool, true, false, cond, List, [], ◌∷◌, ◌++◌, map, length, nat_lt, Option, None, Some, sym, subst, refl, ap, ◌∙◌, arith}
-use Rattle.std.specs.Prelude.{◌==◌, slice_get, slice_index, slice_index_or, filter, Contains}
-use Rattle.std.specs.List.{AllByRecursion, flat_map, range_with_len}
-use Rattle.std.specs.Option.{option_map}
+use Rattle.std.proofs.Common.{◌≡◌, ℕ, zero, suc, ◌+◌, ◌<◌, ◌≤◌, Bool, true, false, cond, List, [], ◌∷◌, ◌++◌, map, length, nat_lt, Some, sym, subst, refl, ap, ◌∙◌, arith}
+use Rattle.std.specs.Prelude.{◌==◌, slice_get, slice_index_or, filter, Contains}
+use Rattle.std.specs.List.{AllByRecursion, range_with_len}
 use Rattle.std.proofs.lemmas.Bool.{eqb-true}
 use Rattle.std.proofs.lemmas.Bool.Decides.{nat_tests}
 use Rattle.std.proofs.lemmas.Option.{same_Some, none-some}
@@ -11,17 +10,16 @@ use Rattle.m17_values.specs.declared.member.Member.{Member}
 use Rattle.m17_directory.specs.Entries.{Entry, Setup}
 use Rattle.m17_directory.specs.Routed.{link_verdict}
 use Rattle.m17_directory.specs.Laws.{claimed_members, is_full}
-use Rattle.m17_roll.specs.Closing.{EndView, HasRefusal, EveryPlaceStands, IsEnded, claims_of}
+use Rattle.m17_roll.specs.Closing.{EndView, IsEnded, claims_of}
 use Rattle.m17_roll.specs.Run.{IsRollRun}
 use Rattle.m17_roll.specs.Seat.{RollView}
 use Rattle.m17_receiver.specs.declared.receiver.Receiver.{Receiver}
 use Rattle.m17_receiver.specs.Devices.{Words}
 use Rattle.m17_receiver.specs.Claims.{turned_away}
-use Rattle.m17_house.specs.declared.plan.Plan.{Plan}
 use Rattle.m17_reflect.specs.Links.{Link, At, link_setup}
 use Rattle.m17_reflect.specs.Run.{Run}
 use Rattle.m17_reflect.specs.Patience.{AreTurnedAway, IsFullWhenTaken, PlacesAreFull}
-use Rattle.m17_reflect.proofs.Came.{Came, AreReceivers, all_at}
+use Rattle.m17_reflect.proofs.Came.{Came, AreReceivers}
 use Rattle.m17_reflect.proofs.Joining.{claims_in}
 use Rattle.m17_reflect.proofs.Routes.{at_below, below_at}
 use Rattle.m17_reflect.proofs.There.{is_at}

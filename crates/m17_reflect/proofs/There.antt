@@ -1,17 +1,17 @@
 -- Each event of a trail names a link that is there, and a place that is there if it names one; so a worker takes all of them.
-use Rattle.std.proofs.Common.{◌≡◌, ℕ, zero, suc, ◌+◌, ◌<◌, Bool, true, false, cond, List, [], ◌∷◌, ◌++◌, map, length, nat_lt, Option, None, Some, sym, subst, refl, ap, ◌∙◌, arith}
-use Rattle.std.specs.Prelude.{◌==◌, ◌&&◌, slice_get, Contains, option_and_then}
+use Rattle.std.proofs.Common.{◌≡◌, ℕ, zero, suc, ◌<◌, Bool, true, false, cond, List, [], ◌∷◌, length, nat_lt, Option, None, Some, subst, refl, arith}
+use Rattle.std.specs.Prelude.{◌==◌, ◌&&◌}
 use Rattle.std.specs.List.{AllByRecursion, cons_option, filter_map}
 use Rattle.std.specs.Option.{option_map, option_map_or}
 use Rattle.std.proofs.lemmas.Bool.{eq-eqb}
 use Rattle.std.proofs.lemmas.Bool.Decides.{nat_tests}
-use Rattle.std.proofs.lemmas.Option.{same_Some, none-some}
+use Rattle.std.proofs.lemmas.Option.{none-some}
 use Rattle.std.proofs.lemmas.List.Elements.{recursion_from_All}
 use Rattle.m17_values.specs.declared.member.Member.{Member}
 use Rattle.m17_control.specs.declared.event.Body.{Body}
 use Rattle.m17_control.specs.declared.event.Body.TheVariants.{Join, Leave, Packet, Reply, Tick, Stop}
 use Rattle.m17_control.specs.declared.event.Event.{Event}
-use Rattle.m17_directory.specs.Entries.{Claim, Entry, Setup, claim_at}
+use Rattle.m17_directory.specs.Entries.{Claim, Entry, claim_at}
 use Rattle.m17_directory.specs.Routed.{routed}
 use Rattle.m17_directory.specs.Laws.{RouteIsOfClaimed, claimed_members, member_of}
 use Rattle.m17_lane.specs.Ends.{TrailEnd}
@@ -35,9 +35,10 @@ module _ {T : Type 0} where
   -- what holds of each part of an order holds of the order
   pub all_from_parts : (P : T → Type 0) (f : T → ℕ) (n : ℕ) (xs : List T) → AllByRecursion (λ x. f x < n) xs → ((i : ℕ) → i < n → AllByRecursion P (picked f i xs)) → AllByRecursion P xs
   all_from_parts P f n [] below h = tt
-  all_from_parts P f n (x ∷ xs) below h =
-      (head_step P (f x == f x) x (picked f (f x) xs) (eq-eqb (f x) (f x) refl) (h (f x) below.0),
-      all_from_parts P f n xs below.1 (λ i lt. tail_step P (f x == i) x (picked f i xs) (h i lt)))
+  all_from_parts P f n (x ∷ xs) below h = (
+    head_step P (f x == f x) x (picked f (f x) xs) (eq-eqb (f x) (f x) refl) (h (f x) below.0),
+    all_from_parts P f n xs below.1 (λ i lt. tail_step P (f x == i) x (picked f i xs) (h i lt)),
+  )
 
   pub both_hold : (P Q : T → Type 0) (xs : List T) → AllByRecursion P xs → AllByRecursion Q xs → AllByRecursion (λ x. P x × Q x) xs
   both_hold P Q [] p q = tt
@@ -100,10 +101,10 @@ trail_is_there law plan links m trail is claimed =
     let count : length (routes plan links letter) ≡ length links = numbered_length (route_of plan letter) 0 links in
     let below : AllByRecursion (λ (x : Event). link_of x < length links) order = subst (λ (n : ℕ). AllByRecursion (λ (x : Event). link_of x < n) order) count (recursion_from_All (λ (x : Event). link_of x < length (routes plan links letter)) order is.order.known) in
     let placed : AllByRecursion (HasPlace plan.places) order = all_from_parts (HasPlace plan.places) link_of (length links) order below (λ i lt.
-        let (link, at) = at_below links i lt in
-        subst (AllByRecursion (HasPlace plan.places)) (is.order.parts i (routed (link_setup plan i) link.entries letter) (routes_at plan links letter i link at))
-        (events_at plan.places (routed (link_setup plan i) link.entries letter)
-        (law (link_setup plan i) link.entries letter (is_at plan.places) (claims_at (is_at plan.places) link.entries (claimed i link at))))) in
+    let (link, at) = at_below links i lt in
+    subst (AllByRecursion (HasPlace plan.places)) (is.order.parts i (routed (link_setup plan i) link.entries letter) (routes_at plan links letter i link at))
+    (events_at plan.places (routed (link_setup plan i) link.entries letter)
+    (law (link_setup plan i) link.entries letter (is_at plan.places) (claims_at (is_at plan.places) link.entries (claimed i link at))))) in
     weaken (λ x. (link_of x < length links) × HasPlace plan.places x) (λ event. is_there (length links) plan.places event ≡ true)
     (λ x h. there_is (length links) plan.places x h.0 h.1) order
     (both_hold (λ (x : Event). link_of x < length links) (HasPlace plan.places) order below placed)

@@ -1,10 +1,8 @@
 -- What a peer is told by a link, from what the sender and the house behind it have said.
-use Rattle.std.proofs.Common.{◌≡◌, ℕ, zero, suc, ◌+◌, ◌<◌, ◌≤◌, Bool, true, false, cond, List, [], ◌∷◌, ◌++◌, map, length, take, Option, None, Some, sym, subst, refl, ap, ◌∙◌, arith}
+use Rattle.std.proofs.Common.{◌≡◌, ℕ, Bool, true, false, cond, List, [], ◌∷◌, ◌++◌, map, None, Some, sym, subst, refl, ap, ◌∙◌, arith}
 use Rattle.std.specs.Prelude.{◌==◌, ◌&&◌, filter, Contains}
-use Rattle.std.specs.List.{AllByRecursion, AllZip, flat_map, filter_map, cons_option}
-use Rattle.std.proofs.lemmas.Bool.{eq-eqb, eqb-true}
+use Rattle.std.specs.List.{flat_map, filter_map, cons_option}
 use Rattle.std.proofs.lemmas.Bool.Decides.{nat_tests}
-use Rattle.m17_values.specs.declared.member.Member.{Member}
 use Rattle.m17_values.specs.declared.peer.Peer.{Peer}
 use Rattle.m17_ports.specs.Mouth.{Datagram}
 use Rattle.m17_ports.specs.Said.{MouthTold, SaidOf}
@@ -19,7 +17,7 @@ use Rattle.m17_directory.specs.Laws.{DoorCarriesReplies, door_replies, told_to}
 use Rattle.m17_lane.specs.Orders.{picked}
 use Rattle.m17_turns.specs.Acts.{Act, answers_of, notes_of, sayings, AreSpelled}
 use Rattle.m17_turns.specs.Orders.{IsInterleaving}
-use Rattle.m17_turns.specs.Joined.{Queues, SayAll, Joined, items_of, AreInTurn, is_to_any, goes_to, replies_to, packets_to, packets_of}
+use Rattle.m17_turns.specs.Joined.{Queues, SayAll, items_of, AreInTurn, is_to_any, goes_to, replies_to, packets_to, packets_of}
 use Rattle.m17_turns.specs.Laws.{PeersAreToldInOrder, SpelledPartByPart}
 use Rattle.m17_reflect.specs.Sendings.{memberships, IsToldAs, Sends}
 

@@ -1,5 +1,5 @@
 -- The memberships of a peer on a link wait for one another: each later one is greeted behind the notes of all before it.
-use Rattle.std.proofs.Common.{◌≡◌, ℕ, zero, suc, ◌+◌, ◌<◌, ◌≤◌, Bool, true, false, cond, List, [], ◌∷◌, ◌++◌, length, take, All, Option, None, Some, sym, subst, refl, ap, ◌∙◌, inl, inr, arith}
+use Rattle.std.proofs.Common.{◌≡◌, ℕ, zero, suc, ◌+◌, ◌<◌, Bool, true, false, cond, List, [], ◌∷◌, ◌++◌, length, take, Option, None, Some, sym, subst, refl, ap, ◌∙◌, inl, inr, arith}
 use Rattle.std.specs.Prelude.{◌≢◌, ◌⊎◌, AllPairs, Contains}
 use Rattle.std.specs.List.{AllByRecursion, flat_map, range_with_len}
 use Rattle.std.proofs.lemmas.List.{take-append-le}
@@ -114,8 +114,9 @@ waits_at entries x popped rest notes i n a b whole counted greeted differ lt of_
     let stands = greeted.earlier counted i n of_a.claimed of_b.claimed lt of_a.is_claim of_b.is_claim (x, of_a.from, of_b.from) in (
       λ same. differ i n of_a.claimed of_b.claimed lt of_a.is_claim of_b.is_claim (sym of_a.member ∙ same ∙ of_b.member),
       subst (λ (m : ℕ). Contains (take m notes) a.member) (sym of_b.after)
-      (subst (λ (ms : List Member). Contains ms a.member) (sym at)
-      (subst (Contains (take of_b.claimed.after popped)) (sym of_a.member) stands)))
+          (subst (λ (ms : List Member). Contains ms a.member) (sym at)
+          (subst (Contains (take of_b.claimed.after popped)) (sym of_a.member) stands)),
+    )
 
 -- The memberships wait for one another.
 pub memberships_wait : (setup : Setup) (entries : List Entry) (x : Peer) (popped rest notes : List Member) → notes ≡ popped ++ rest → IsCounted popped → IsGreetedAfter entries popped → ClaimsDiffer entries → AllPairs (WaitsFor notes) (memberships setup entries x)

@@ -1,6 +1,6 @@
 -- What the workers of a run have done, module by module.
-use Rattle.std.proofs.Common.{◌≡◌, ℕ, zero, suc, ◌+◌, ◌-◌, ◌^◌, ◌<◌, ◌≤◌, Bool, true, false, cond, List, [], ◌∷◌, ◌++◌, map, length, All, min, take, Option, None, Some, sym, subst, refl, ap, ◌∙◌, arith}
-use Rattle.std.specs.Prelude.{slice_get, filter, IfSome, Contains}
+use Rattle.std.proofs.Common.{◌≡◌, ℕ, zero, suc, ◌+◌, ◌-◌, ◌^◌, ◌<◌, ◌≤◌, Bool, true, false, cond, List, [], ◌∷◌, map, length, min, take, Option, None, Some, sym, subst, refl, ap, ◌∙◌, arith}
+use Rattle.std.specs.Prelude.{slice_get, IfSome}
 use Rattle.std.specs.List.{AllByRecursion}
 use Rattle.std.proofs.lemmas.Option.{same_Some, none-some}
 use Rattle.std.proofs.lemmas.List.Elements.{recursion_from_All}
@@ -16,9 +16,7 @@ use Rattle.m17_rows.specs.Rows.{grow_each, IsNewRow, IsNewPusher}
 use Rattle.m17_rows.specs.Laws.{RowsGrow}
 use Rattle.m17_grid.specs.Trails.{IsTrailOfOne, AreTrailsOfOnes}
 use Rattle.m17_worker.specs.declared.worker.Worker.{Worker}
-use Rattle.m17_worker.specs.declared.offers.LaneOffers.{LaneOffers}
-use Rattle.m17_worker.specs.Offers as offers
-use Rattle.m17_worker.specs.Offers.{Try, AreOffered, AreTried, queued_for, missed_for, count_missed, counted_on}
+use Rattle.m17_worker.specs.Offers.{Try, queued_for, missed_for, count_missed, counted_on}
 use Rattle.m17_worker.specs.Records.{book_text, records_of}
 use Rattle.m17_worker.specs.Ready.{Words}
 use Rattle.m17_worker.specs.Taken.{taken, is_there}
@@ -28,7 +26,7 @@ use Rattle.m17_worker.specs.Written.{Tells}
 use Rattle.m17_house.specs.declared.plan.Plan.{Plan}
 use Rattle.m17_reflect.specs.Links.{At, letter_of, setup_at}
 use Rattle.m17_reflect.specs.Judged.{IsModuleTape, IsWritten}
-use Rattle.m17_reflect.specs.Queues.{IsQueue, IsLeftOut, Carriers, Carry}
+use Rattle.m17_reflect.specs.Queues.{IsQueue, Carry}
 use Rattle.m17_reflect.proofs.Routes.{at_below, below_at}
 use Rattle.m17_reflect.proofs.Came.{all_at}
 

@@ -13,7 +13,6 @@ use Rattle.m17_receiver.specs.Devices.{trace_text}
 use Rattle.m17_worker.specs.Records.{book_text, records_of}
 use Rattle.m17_worker.specs.Tape as worker_tape
 use Rattle.m17_worker.specs.Written.{Tells, HasText}
-use Rattle.m17_house.specs.declared.plan.Plan.{Plan}
 use Rattle.m17_reflect.specs.Links.{Link, At, link_setup, letter_of, setup_at}
 use Rattle.m17_reflect.specs.Run.{Run, module_count}
 use Rattle.m17_reflect.specs.Trails.{events_of}

@@ -8,3 +8,4 @@ pub mod Queues
 pub mod Sendings
 pub mod Patience
 pub mod Headline
+pub mod Views

@@ -1,6 +1,5 @@
 -- When nothing is left out, who found no place, and when a link counts as lost. This profile.
-use Rattle.std.specs.Prelude.{◌≡◌, ◌↔◌, ◌⊎◌, ℕ, ◌<◌, Bool, true, false, IsTrue, List, length, All}
-use Rattle.m17_values.specs.declared.heard.Heard.{Heard}
+use Rattle.std.specs.Prelude.{◌≡◌, ◌⊎◌, ℕ, ◌<◌, true, false, IsTrue, List, length, All}
 use Rattle.m17_directory.specs.Routed.{past_at, asks_at, link_verdict}
 use Rattle.m17_directory.specs.Laws.{is_full}
 use Rattle.m17_io.specs.Faults.{HasRisen}

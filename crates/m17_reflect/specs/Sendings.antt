@@ -1,10 +1,9 @@
 -- What each mouth was to say, peer by peer, and that it said it. This profile.
-use Rattle.std.specs.Prelude.{◌≡◌, ◌==◌, ℕ, Bool, List, [], ◌∷◌, length, map, unwrap_or, Option, None, Some, if◌then◌else◌}
+use Rattle.std.specs.Prelude.{◌≡◌, ◌==◌, ℕ, List, [], ◌∷◌, length, map, unwrap_or, Option, Some, if◌then◌else◌}
 use Rattle.std.specs.List.{AllZip, flat_map, position, range_with_len}
 use Rattle.m17_values.specs.declared.peer.Peer.{Peer}
 use Rattle.m17_ports.specs.Mouth.{Datagram}
 use Rattle.m17_ports.specs.Said.{MouthTold, SaidOf}
-use Rattle.m17_control.specs.declared.item.Item.{Item}
 use Rattle.m17_control.specs.declared.modules.Modules.{Modules}
 use Rattle.m17_control.specs.declared.packet.Packet.{Packet}
 use Rattle.m17_control.specs.declared.packet.Packet.TheVariants as packets
