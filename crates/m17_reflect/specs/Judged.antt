@@ -28,8 +28,8 @@ pub record IsLinkTape (setup : Setup) (entries : List Entry) (cells : ℕ)
 
 -- The tape of a module has so many cells: each has the floor rule's verdict on the packet of link 0
 -- from the entry with its number, or nothing where there is none. This profile.
-pub record IsModuleTape (places : ℕ) (events : List Event) (cells : ℕ) (tape : List (Option Verdict))
-    : Type 0 where
+pub record IsModuleTape (places : ℕ) (events : List Event) (cells : ℕ)
+    (tape : List (Option Verdict)) : Type 0 where
   pub length_is : length tape ≡ cells
   pub verdicts : worker_tape.IsTaped places events tape
 
@@ -47,7 +47,8 @@ pub record AreWritten {L : Type 0} (run : Run L) (links : List Link) : Type 0 wh
       At run.before.traces i before → At run.after.traces i after →
       IsWritten run.handed.book_failed before (trace_text link.heard) after
   pub book_count : length run.after.books ≡ module_count run.plan
-  pub books : (m : ℕ) (trail : TrailEnd Event) (before after : Tells) → At run.handed.trails m trail →
+  pub books : (m : ℕ) (trail : TrailEnd Event) (before after : Tells) →
+      At run.handed.trails m trail →
       At run.before.books m before → At run.after.books m after →
       IsWritten run.handed.book_failed before
       (book_text (letter_of run.plan m) (records_of (setup_at run.plan m) (events_of trail))) after

@@ -29,7 +29,11 @@ number_of modules letter = unwrap_or (position (λ other. other == letter) (lett
 abbrev pub joined_by : Modules → Peer → Notice → Option Request → Option Claim → List Joined
 joined_by modules x (Notice.Sent from at p) (Some request) (Some claim) =
     if is_peer x from
-    then record { m = number_of modules request.letter; member = claim.member; after = claim.after } ∷ []
+    then record {
+      m = number_of modules request.letter;
+      member = claim.member;
+      after = claim.after;
+    } ∷ []
     else []
 joined_by modules x _ _ _ = []
 

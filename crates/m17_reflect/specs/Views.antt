@@ -6,8 +6,8 @@ use Rattle.m17_reflect.specs.declared.returned.Returned.{Returned}
 use Rattle.m17_reflect.specs.declared.returned.Refused.{Refused}
 use Rattle.m17_reflect.specs.Run.{Devices, Handed}
 
--- What is said of the devices of these kinds: what each has heard, said and written, as far as it is
--- told, and how often it has failed. This profile.
+-- What is said of the devices of these kinds: what each has heard, said and written, as far as it
+-- is told, and how often it has failed. This profile.
 pub record Words (E M B L : Type 0) : Type 0 where
   pub heard : E → Option (List Heard)
   pub ear_faults : E → ℕ
