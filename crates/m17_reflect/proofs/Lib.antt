@@ -15,3 +15,4 @@ pub mod Lives
 pub mod QueueLives
 pub mod Carried
 pub mod Waiting
+pub mod Differ
