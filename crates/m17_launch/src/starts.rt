@@ -1,0 +1,115 @@
+//! How all groups are started and joined.
+ghost use Rattle.std.specs.Prelude.{◌≡◌, ◌++◌, [], ◌∷◌, List, MatchResult, OnOk, OnErr, reverse, vec_capacity};
+ghost use Rattle.std.specs.List.{AllZip};
+ghost use Rattle.m17_io.specs.Faults.{HasCause};
+ghost use Rattle.m17_ports.specs.Ports.{next_number};
+ghost use Rattle.m17_crew.specs.declared.order.Order.TheVariants.{Go, Quit, Stop};
+ghost use Rattle.m17_crew.specs.Laws.{Ran};
+ghost use Rattle.m17_rows.specs.Rows.{push_each};
+ghost use Rattle.m17_launch.specs.Groups.{staff, CanStart, IsUnderway, WereTold};
+
+use crate::Group;
+use m17_crew::{Crew, Order, Work};
+use m17_values::Failed;
+use std::alloc::Global;
+use std::sync::Wait;
+use std::thread::Threads;
+
+/// Starts all jobs of three groups, each in a thread of its own. Where that went well, each is told to go; those of the
+/// first two groups are joined, and then those of the third are told to stop, and joined. `Failed` where the crew refused
+/// a start: all are told to quit then, those that were started are joined, and each job is as it was or has only quit.
+/// Each job comes back in its place. It waits for the jobs, and for ever where one doesn't end. This profile.
+pub fn launch<V: Work, W: Work, S: Work, C: Crew, R: Threads + Wait + Copy + Send + 'static>(
+    rt: &R,
+    alloc: Global,
+    crew: &mut C,
+    first: &mut Group<V>,
+    second: &mut Group<W>,
+    last: &mut Group<S>,
+) -> Result<(), Failed>
+    requires first { CanStart V.ready first.old.jobs.items first.old.running.items
+        (vec_capacity first.old.running) }
+    requires second { CanStart W.ready second.old.jobs.items second.old.running.items
+        (vec_capacity second.old.running) }
+    requires last { CanStart S.ready last.old.jobs.items last.old.running.items
+        (vec_capacity last.old.running) }
+    ensures first { let was = staff first.old.jobs.items first.old.orders.items in
+        let is = staff first.new.jobs.items first.new.orders.items in
+        MatchResult result (λ _. WereTold V.does (Go ∷ []) was is)
+        (λ _. WereTold (Ran V.does) (Quit ∷ []) was is) }
+    ensures second { let was = staff second.old.jobs.items second.old.orders.items in
+        let is = staff second.new.jobs.items second.new.orders.items in
+        MatchResult result (λ _. WereTold W.does (Go ∷ []) was is)
+        (λ _. WereTold (Ran W.does) (Quit ∷ []) was is) }
+    ensures last { let was = staff last.old.jobs.items last.old.orders.items in
+        let is = staff last.new.jobs.items last.new.orders.items in
+        MatchResult result (λ _. WereTold S.does (Go ∷ Stop ∷ []) was is)
+        (λ _. WereTold (Ran S.does) (Quit ∷ []) was is) }
+    ensures cause { HasCause (C.refusals crew.old) (C.refusals crew.new) result }
+    ensures once { OnErr result (C.refusals crew.new ≡ next_number (C.refusals crew.old)) }
+{
+    m17_rows::laws::rows_push::<Order>();
+    match start_groups(rt, alloc, crew, first, second, last) {
+        Ok(()) => {
+            first.tell(rt, Order::Go);
+            second.tell(rt, Order::Go);
+            last.tell(rt, Order::Go);
+            first.join(rt);
+            second.join(rt);
+            last.tell(rt, Order::Stop);
+            last.join(rt);
+            Ok(())
+        }
+        Err(Failed) => {
+            quit(rt, first);
+            quit(rt, second);
+            quit(rt, last);
+            Err(Failed)
+        }
+    }
+}
+
+// Starts the jobs of all groups, up to the first that is refused.
+fn start_groups<V: Work, W: Work, S: Work, C: Crew, R: Threads + Wait + Copy + Send + 'static>(
+    rt: &R,
+    alloc: Global,
+    crew: &mut C,
+    first: &mut Group<V>,
+    second: &mut Group<W>,
+    last: &mut Group<S>,
+) -> Result<(), Failed>
+    requires first { CanStart V.ready first.old.jobs.items first.old.running.items
+        (vec_capacity first.old.running) }
+    requires second { CanStart W.ready second.old.jobs.items second.old.running.items
+        (vec_capacity second.old.running) }
+    requires last { CanStart S.ready last.old.jobs.items last.old.running.items
+        (vec_capacity last.old.running) }
+    ensures first { IsUnderway first.old.jobs.items first.new.jobs.items first.new.running.items
+        (vec_capacity first.new.jobs) }
+    ensures second { IsUnderway second.old.jobs.items second.new.jobs.items second.new.running.items
+        (vec_capacity second.new.jobs) }
+    ensures last { IsUnderway last.old.jobs.items last.new.jobs.items last.new.running.items
+        (vec_capacity last.new.jobs) }
+    ensures all { OnOk result ((first.new.jobs.items ≡ []) × (second.new.jobs.items ≡ [])
+        × (last.new.jobs.items ≡ [])) }
+    ensures orders { (first.new.orders ≡ first.old.orders)
+        × (second.new.orders ≡ second.old.orders) × (last.new.orders ≡ last.old.orders) }
+    ensures cause { HasCause (C.refusals crew.old) (C.refusals crew.new) result }
+    ensures once { OnErr result (C.refusals crew.new ≡ next_number (C.refusals crew.old)) }
+{
+    first.start(rt, alloc, crew)?;
+    second.start(rt, alloc, crew)?;
+    last.start(rt, alloc, crew)
+}
+
+// Tells the jobs of a group to quit, and joins those that run.
+fn quit<W: Work, R: Threads + Wait>(rt: &R, group: &mut Group<W>)
+    requires { (jobs : List W) × IsUnderway jobs group.old.jobs.items group.old.running.items
+        (vec_capacity group.old.jobs) }
+    ensures back { (jobs : List W) → jobs ≡ group.old.jobs.items ++ reverse group.old.running.items
+        → AllZip (Ran W.does) jobs group.new.jobs.items }
+    ensures orders { group.new.orders.items ≡ push_each (λ _. Quit ∷ []) 0 group.old.orders.items }
+{
+    group.tell(rt, Order::Quit);
+    group.join(rt);
+}

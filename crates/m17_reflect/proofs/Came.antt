@@ -1,0 +1,195 @@
+-- What the receivers of a run have done, link by link.
+use Rattle.std.proofs.Common.{◌≡◌, ℕ, zero, suc, ◌+◌, ◌<◌, Bool, true, false, List, [], ◌∷◌, ◌++◌, map, length, All, Option, None, Some, sym, subst, refl, ap, ◌∙◌, arith}
+use Rattle.std.specs.Prelude.{◌↔◌, IsTrue, slice_get}
+use Rattle.std.specs.List.{AllByRecursion}
+use Rattle.std.specs.Option.{option_map_or}
+use Rattle.std.proofs.lemmas.Option.{same_Some, none-some}
+use Rattle.std.proofs.lemmas.List.{length-map}
+use Rattle.std.proofs.lemmas.List.Elements.{recursion_from_All}
+use Rattle.m17_values.specs.declared.heard.Heard.{Heard}
+use Rattle.m17_io.specs.Faults.{HasRisen}
+use Rattle.m17_control.specs.declared.event.Event.{Event}
+use Rattle.m17_crew.specs.declared.order.Order.{Order}
+use Rattle.m17_crew.specs.declared.order.Order.TheVariants.{Go, Quit}
+use Rattle.m17_lane.specs.Ends.{PushEnd, PopEnd}
+use Rattle.m17_rows.specs.Rows.{push_each, IsNewPopper}
+use Rattle.m17_rows.specs.Starts.{HasStarted}
+use Rattle.m17_rows.specs.Laws.{FirstOrderDecides}
+use Rattle.m17_grid.specs.Columns.{push_grid}
+use Rattle.m17_directory.specs.Entries.{Entry, Setup}
+use Rattle.m17_directory.specs.Routed.{routed}
+use Rattle.m17_directory.specs.declared.verdict.LinkVerdict.{LinkVerdict}
+use Rattle.m17_receiver.specs.declared.receiver.Receiver.{Receiver}
+use Rattle.m17_receiver.specs.Devices.{Words, Tells, IsCounted, HasHeard, EndsInFaults, HasTrace, trace_text}
+use Rattle.m17_receiver.specs.Posting.{letter_at, posted_to}
+use Rattle.m17_receiver.specs.Claims.{HasClaimed, IsGreetedAfter}
+use Rattle.m17_receiver.specs.Tape.{IsTaped}
+use Rattle.m17_receiver.specs.ReceiverDid.{HasGone, HasReceived, outlets_of}
+use Rattle.m17_house.specs.declared.plan.Plan.{Plan}
+use Rattle.m17_reflect.specs.Links.{Link, IsLink, At, link_setup, letter_of}
+use Rattle.m17_reflect.specs.Judged.{IsLinkTape, IsWritten}
+use Rattle.m17_reflect.proofs.Routes.{at_below, below_at, route_by}
+use Rattle.m17_reflect.proofs.Together.{AllZip3, zip3_at, zip3_length, unmapped}
+
+-- a job that was told to go has gone
+go_not_quit : Go ≡ Quit → ⊥
+go_not_quit e = cc
+
+pub has_gone : FirstOrderDecides → (before after : PopEnd Order) (goes : Bool) (more rest : List Order) → IsNewPopper before → HasStarted before goes after → Go ∷ more ≡ after.popped ++ rest → goes ≡ true
+has_gone law before after true more rest new started e = refl
+has_gone law before after false more rest new started e =
+    absurd (go_not_quit (law before after false Go more rest new started e (λ h. cc)).0)
+
+-- The receiver of a link, before it goes.
+pub record IsReceiverOf {E B : Type 0} (plan : Plan) (i : ℕ) (j : Receiver E B) : Type 0 where
+  pub link : j.link ≡ i
+  pub setup : j.directory.setup ≡ link_setup plan i
+  pub patient : j.patient ≡ plan.patient
+  pub cells : length j.tape.items ≡ plan.entries
+  pub none : All (λ cell. cell ≡ None) j.tape.items
+
+abbrev pub AreReceivers : {E B : Type 0} → Plan → List (Receiver E B) → Type 0
+AreReceivers {E} {B} plan js = (i : ℕ) (j : Receiver E B) → slice_get js i ≡ Some j → IsReceiverOf plan i j
+
+abbrev pub ear_tells : {E B : Type 0} → Words E B → Receiver E B → Tells Heard
+ear_tells words j = (words.heard j.ear, words.ear_faults j.ear)
+
+abbrev pub trace_tells : {E B : Type 0} → Words E B → Receiver E B → Tells ℕ
+trace_tells words j = (words.written j.trace, words.trace_faults j.trace)
+
+-- What a receiver that heard this link has done.
+pub record Came {E B : Type 0} (words : Words E B) (j k : Receiver E B) (link : Link) : Type 0 where
+  pub ear : HasHeard (ear_tells words j) link.heard (ear_tells words k)
+  pub trace : HasTrace (trace_tells words j) link.heard k.trace_failed (trace_tells words k)
+  pub is_link : IsLink link
+  pub lost : IsTrue k.lost ↔ EndsInFaults link.heard
+  pub posted : outlets_of k ≡ posted_to j.directory.setup link.entries (outlets_of j)
+  pub claimed : HasClaimed j.patient j.directory.setup link.entries k.seat
+  pub greeted : IsGreetedAfter link.entries k.notes.popped
+  pub taped : IsTaped j.directory.setup link.entries j.tape.items k.tape.items
+
+-- the receiver went, and its ear heard this
+pub record Heared {E B : Type 0} (words : Words E B) (j k : Receiver E B) (heard : List Heard)
+    : Type 0 where
+  pub ear : HasHeard (ear_tells words j) heard (ear_tells words k)
+  pub lost : IsTrue k.lost → HasRisen (words.ear_faults j.ear) (words.ear_faults k.ear)
+  pub trace : HasTrace (trace_tells words j) heard k.trace_failed (trace_tells words k)
+  pub received : IsCounted heard → HasReceived heard j k
+
+module _ {E B : Type 0} where
+  pub heared : (words : Words E B) (j k : Receiver E B) → HasGone words j k → (heard : List Heard) × Heared words j k heard
+  heared words j k g = (g.heard, record { ear = g.ear; lost = g.lost; trace = g.trace; received = g.received })
+
+  came : (words : Words E B) (j k : Receiver E B) (heard : List Heard) → Heared words j k heard → IsCounted heard → (link : Link) × Came words j k link × (link.heard ≡ heard)
+  came words j k heard g counted =
+      let h = g.received counted in
+      let link : Link = record { heard = heard; entries = h.entries } in (
+        link,
+        record {
+          ear = g.ear;
+          trace = g.trace;
+          is_link = record { says = h.says; ends = h.ends };
+          lost = h.lost;
+          posted = h.posted;
+          claimed = h.claimed;
+          greeted = h.greeted;
+          taped = h.taped;
+        },
+        refl,
+      )
+
+  -- the links of a run, where what each ear heard is counted
+  pub all_came : (words : Words E B) (js ks : List (Receiver E B)) (heards : List (List Heard)) → AllZip3 (Heared words) js ks heards → AllByRecursion IsCounted heards → (links : List Link) × AllZip3 (Came words) js ks links × (map (λ (link : Link). link.heard) links ≡ heards)
+  all_came words [] [] [] h c = ([], tt, refl)
+  all_came words [] [] (z ∷ zs) h c = absurd h
+  all_came words [] (y ∷ ys) zs h c = absurd h
+  all_came words (x ∷ xs) [] zs h c = absurd h
+  all_came words (x ∷ xs) (y ∷ ys) [] h c = absurd h
+  all_came words (x ∷ xs) (y ∷ ys) (z ∷ zs) h c =
+      let (link, here, is) = came words x y z h.0 c.0 in
+      let (links, rest, are) = all_came words xs ys zs h.1 c.1 in
+      (link ∷ links, (here, rest), ap (λ (l : List Heard). l ∷ map (λ (link : Link). link.heard) links) is ∙ ap (λ (ls : List (List Heard)). z ∷ ls) are)
+
+  pub ears_heard : (words : Words E B) (js ks : List (Receiver E B)) (heards : List (List Heard)) → AllZip3 (Heared words) js ks heards → (i : ℕ) (entries : List Heard) (before after : Tells Heard) → At heards i entries → At (map (ear_tells words) js) i before → At (map (ear_tells words) ks) i after → HasHeard before entries after
+  ears_heard words js ks heards h i entries before after e eb ea =
+      let (j, at_j, is_j) = unmapped (ear_tells words) js i before eb in
+      let (k, at_k, is_k) = unmapped (ear_tells words) ks i after ea in
+      subst (λ (b : Tells Heard). HasHeard b entries after) is_j
+      (subst (λ (a : Tells Heard). HasHeard (ear_tells words j) entries a) is_k
+      (zip3_at (Heared words) js ks heards h i j k entries at_j at_k e).ear)
+
+  -- the traces
+  pub traces_written : (words : Words E B) (js ks : List (Receiver E B)) (links : List Link) (failed : Bool) → AllZip3 (Came words) js ks links → ((i : ℕ) (k : Receiver E B) → slice_get ks i ≡ Some k → k.trace_failed ≡ true → failed ≡ true) → (i : ℕ) (link : Link) (before after : Tells ℕ) → At links i link → At (map (trace_tells words) js) i before → At (map (trace_tells words) ks) i after → IsWritten failed before (trace_text link.heard) after
+  traces_written words js ks links failed h flags i link before after e eb ea =
+      let (j, at_j, is_j) = unmapped (trace_tells words) js i before eb in
+      let (k, at_k, is_k) = unmapped (trace_tells words) ks i after ea in
+      let t = (zip3_at (Came words) js ks links h i j k link at_j at_k e).trace in
+      subst (λ (b : Tells ℕ). IsWritten failed b (trace_text link.heard) after) is_j
+      (subst (λ (a : Tells ℕ). IsWritten failed (trace_tells words j) (trace_text link.heard) a) is_k
+      (k.trace_failed, record { whole = t.whole; cut = t.cut }, flags i k at_k))
+
+module _ {A : Type 0} where
+  pub all_at : (P : A → Type 0) (xs : List A) → AllByRecursion P xs → (i : ℕ) (x : A) → slice_get xs i ≡ Some x → P x
+  all_at P [] h i x e = absurd (none-some x e)
+  all_at P (y ∷ xs) h zero x e = subst P (same_Some y x e) h.0
+  all_at P (y ∷ xs) h (suc i) x e = all_at P xs h.1 i x e
+
+-- a cell of an empty tape
+empty_cell : (tape : List (Option LinkVerdict)) (n : ℕ) → All (λ cell. cell ≡ None) tape → n < length tape → slice_get tape n ≡ Some None
+empty_cell tape n none lt =
+    let (cell, at) = at_below tape n lt in
+    at ∙ ap Some (all_at (λ cell. cell ≡ None) tape (recursion_from_All (λ cell. cell ≡ None) tape none) n cell at)
+
+link_tape : (setup : Setup) (entries : List Entry) (cells : ℕ) (before after : List (Option LinkVerdict)) → IsTaped setup entries before after → length before ≡ cells → All (λ cell. cell ≡ None) before → IsLinkTape setup entries cells after
+link_tape setup entries cells before after h long none = record {
+  length_is = h.cells ∙ long;
+  filled = λ n lt less. h.filled n less (omega arith);
+  empty = λ n lt past. h.others n past ∙ empty_cell before n none (omega arith);
+}
+
+abbrev pub tape_of : {E B : Type 0} → Receiver E B → List (Option LinkVerdict)
+tape_of k = k.tape.items
+
+abbrev pub column_of : {E B : Type 0} → Receiver E B → List (PushEnd Event)
+column_of k = k.inboxes.items
+
+module _ {T : Type 0} where
+  -- columns that were pushed to, one by one
+  pub grid_from : (f : ℕ → ℕ → List T) (k : ℕ) (cols now : List (List (PushEnd T))) → length now ≡ length cols → ((i n : ℕ) (c d : List (PushEnd T)) → n ≡ k + i → slice_get cols i ≡ Some c → slice_get now i ≡ Some d → d ≡ push_each (f n) 0 c) → now ≡ push_grid f k cols
+  grid_from f k [] [] e h = refl
+  grid_from f k [] (d ∷ now) e h = absurd (omega arith)
+  grid_from f k (c ∷ cols) [] e h = absurd (omega arith)
+  grid_from f k (c ∷ cols) (d ∷ now) e h =
+      ap (λ (l : List (PushEnd T)). l ∷ now) (h 0 k c d (omega arith) refl refl)
+      ∙ ap (λ (ls : List (List (PushEnd T))). push_each (f k) 0 c ∷ ls) (grid_from f (suc k) cols now (omega arith) (λ i n c d is ec ed. h (suc i) n c d (omega arith) ec ed))
+
+module _ {E B : Type 0} where
+  pub link_tapes : (words : Words E B) (plan : Plan) (js ks : List (Receiver E B)) (links : List Link) → AreReceivers plan js → AllZip3 (Came words) js ks links → (i : ℕ) (link : Link) (tape : List (Option LinkVerdict)) → At links i link → At (map tape_of ks) i tape → IsLinkTape (link_setup plan i) link.entries plan.entries tape
+  link_tapes words plan js ks links are h i link tape e et =
+      let (k, at_k, is_k) = unmapped tape_of ks i tape et in
+      let lens = zip3_length (Came words) js ks links h in
+      let (j, at_j) = at_below js i (omega (arith, lens.0, below_at ks i k at_k)) in
+      let it = are i j at_j in
+      subst (IsLinkTape (link_setup plan i) link.entries plan.entries) is_k
+      (subst (λ (setup : Setup). IsLinkTape setup link.entries plan.entries k.tape.items) it.setup
+      (link_tape j.directory.setup link.entries plan.entries j.tape.items k.tape.items
+      (zip3_at (Came words) js ks links h i j k link at_j at_k e).taped it.cells it.none))
+
+  -- the columns of inboxes when the links have routed
+  pub columns_routed : (words : Words E B) (plan : Plan) (js ks : List (Receiver E B)) (links : List Link) → AreReceivers plan js → AllZip3 (Came words) js ks links → map column_of ks ≡ push_grid (λ i m. route_by plan links (letter_of plan m) i) 0 (map column_of js)
+  columns_routed words plan js ks links are h =
+      let lens = zip3_length (Came words) js ks links h in
+      grid_from (λ i m. route_by plan links (letter_of plan m) i) 0 (map column_of js) (map column_of ks)
+      (omega (arith, lens.0, length-map js column_of, length-map ks column_of))
+      (λ i n c d is ec ed.
+      let (j, at_j, is_j) = unmapped column_of js i c ec in
+      let (k, at_k, is_k) = unmapped column_of ks i d ed in
+      let (link, at_l) = at_below links i (omega (arith, lens.1, below_at js i j at_j)) in
+      let at : i ≡ n = omega arith in
+      let went = ap (λ o. o.inboxes) (zip3_at (Came words) js ks links h i j k link at_j at_k at_l).posted in
+      sym is_k ∙ went
+      ∙ ap (λ (s : Setup). push_each (λ m. routed s link.entries (letter_at s.modules m)) 0 (column_of j)) (are i j at_j).setup
+      ∙ ap (λ (x : ℕ). push_each (λ m. routed (link_setup plan x) link.entries (letter_of plan m)) 0 (column_of j)) at
+      ∙ ap (λ (es : List Entry). push_each (λ m. routed (link_setup plan n) es (letter_of plan m)) 0 (column_of j))
+      (sym (ap (λ (o : Option Link). option_map_or (λ (link : Link). link.entries) o []) (subst (λ (x : ℕ). slice_get links x ≡ Some link) at at_l)))
+      ∙ ap (push_each (λ m. route_by plan links (letter_of plan m) n) 0) is_j)

@@ -1,0 +1,46 @@
+-- The headline: what every run of the reflector that returns comes to, under every interleaving of
+-- its threads. Each module has one trail that holds every event that its links route to it, each
+-- once; a stream packet is admitted exactly where the floor rule of that trail says so; and each
+-- member is sent the others' admitted packets between its join and its leave, in order, each once,
+-- except counted ones that met a full queue. This profile.
+use Rattle.std.specs.Prelude.{◌≡◌, ◌↔◌, ℕ, IsTrue, List, length, map, All}
+use Rattle.m17_values.specs.declared.heard.Heard.{Heard}
+use Rattle.m17_receiver.specs.Devices.{Tells, IsCounted, HasHeard}
+use Rattle.m17_reflect.specs.Links.{Link, IsLink, At}
+use Rattle.m17_reflect.specs.Run.{Run}
+use Rattle.m17_reflect.specs.Trails.{AreTrails}
+use Rattle.m17_reflect.specs.Judged.{IsJudged}
+use Rattle.m17_reflect.specs.Places.{ArePlacesBack}
+use Rattle.m17_reflect.specs.Queues.{QueuesCarry}
+use Rattle.m17_reflect.specs.Sendings.{MouthsSay}
+use Rattle.m17_reflect.specs.Patience.{PlacesAreFull, SomeLost, HasCauses}
+
+-- Each ear heard its list. This profile.
+pub record EarsHeard {L : Type 0} (run : Run L) (heard : List (List Heard)) : Type 0 where
+  pub count : length heard ≡ length run.before.ears
+  pub same_count : length run.after.ears ≡ length run.before.ears
+  pub each : (i : ℕ) (entries : List Heard) (before after : Tells Heard) → At heard i entries →
+      At run.before.ears i before → At run.after.ears i after → HasHeard before entries after
+
+-- What became of all that was heard: the links, each ended once, by its last entry; one trail for
+-- each module; what was decided and written; the places; what each queue carries and each mouth
+-- says; who found no place; and whether a link was lost. This profile.
+pub record IsCarriedOut {L : Type 0} (run : Run L) (heard : List (List Heard)) : Type 0 where
+  pub links : List Link
+  pub of_heard : map (λ (link : Link). link.heard) links ≡ heard
+  pub each : All IsLink links
+  pub trails : AreTrails run.plan links run.handed.trails
+  pub judged : IsJudged run links
+  pub places : ArePlacesBack run.plan.places run.handed.trails run.handed.roll
+  pub queues : QueuesCarry run
+  pub mouths : MouthsSay run links
+  pub full : PlacesAreFull run links
+  pub lost : IsTrue run.handed.lost ↔ SomeLost links
+
+-- The headline. It holds where what each ear heard is counted in 64 bits; a count that has come to
+-- 2^64 - 1 stays there. This profile.
+pub record Headline {L : Type 0} (run : Run L) : Type 0 where
+  pub heard : List (List Heard)
+  pub ears : EarsHeard run heard
+  pub causes : HasCauses run
+  pub carried_out : All IsCounted heard → IsCarriedOut run heard

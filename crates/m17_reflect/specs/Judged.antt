@@ -1,0 +1,69 @@
+-- What was decided, and what was written of it: admitted packets, tapes, traces and books. This
+-- profile.
+use Rattle.std.specs.Prelude.{◌≡◌, ℕ, ◌<◌, ◌≤◌, Bool, true, List, length, map, Option, None, Some}
+use Rattle.m17_control.specs.declared.event.Event.{Event}
+use Rattle.m17_floor.specs.Floor.{admitted_count}
+use Rattle.m17_floor.specs.declared.verdict.Verdict.{Verdict}
+use Rattle.m17_module.specs.Events.{acts_of}
+use Rattle.m17_lane.specs.Ends.{TrailEnd}
+use Rattle.m17_directory.specs.Entries.{Entry, Setup}
+use Rattle.m17_directory.specs.Routed.{link_verdict}
+use Rattle.m17_directory.specs.declared.verdict.LinkVerdict.{LinkVerdict}
+use Rattle.m17_receiver.specs.Devices.{trace_text}
+use Rattle.m17_worker.specs.Records.{book_text, records_of}
+use Rattle.m17_worker.specs.Tape as worker_tape
+use Rattle.m17_worker.specs.Written.{Tells, HasText}
+use Rattle.m17_reflect.specs.Links.{Link, At, link_setup, letter_of, setup_at}
+use Rattle.m17_reflect.specs.Run.{Run, module_count}
+use Rattle.m17_reflect.specs.Trails.{events_of}
+
+-- The tape of a link has so many cells: each has the verdict of the entry with its number, or
+-- nothing where there is none. This profile.
+pub record IsLinkTape (setup : Setup) (entries : List Entry) (cells : ℕ)
+    (tape : List (Option LinkVerdict)) : Type 0 where
+  pub length_is : length tape ≡ cells
+  pub filled : (n : ℕ) → n < cells → n < length entries →
+      At tape n (Some (link_verdict setup entries n))
+  pub empty : (n : ℕ) → n < cells → length entries ≤ n → At tape n None
+
+-- The tape of a module has so many cells: each has the floor rule's verdict on the packet of link 0
+-- from the entry with its number, or nothing where there is none. This profile.
+pub record IsModuleTape (places : ℕ) (events : List Event) (cells : ℕ)
+    (tape : List (Option Verdict)) : Type 0 where
+  pub length_is : length tape ≡ cells
+  pub verdicts : worker_tape.IsTaped places events tape
+
+-- The text was written, all of it; or a write failed, which the run then says, its count rose, and
+-- a beginning was written. This profile.
+abbrev pub IsWritten : Bool → Tells → List ℕ → Tells → Type 0
+IsWritten run_failed before text after =
+    (failed : Bool) × HasText before text failed after × (failed ≡ true → run_failed ≡ true)
+
+-- Each trace has the text of what its link heard, and each book that of its module's trail. This
+-- profile.
+pub record AreWritten {L : Type 0} (run : Run L) (links : List Link) : Type 0 where
+  pub trace_count : length run.after.traces ≡ length links
+  pub traces : (i : ℕ) (link : Link) (before after : Tells) → At links i link →
+      At run.before.traces i before → At run.after.traces i after →
+      IsWritten run.handed.book_failed before (trace_text link.heard) after
+  pub book_count : length run.after.books ≡ module_count run.plan
+  pub books : (m : ℕ) (trail : TrailEnd Event) (before after : Tells) →
+      At run.handed.trails m trail →
+      At run.before.books m before → At run.after.books m after →
+      IsWritten run.handed.book_failed before
+      (book_text (letter_of run.plan m) (records_of (setup_at run.plan m) (events_of trail))) after
+
+-- A packet is admitted exactly where the floor rule of its module's trail says so: so many were,
+-- and the tapes show each verdict; traces and books have all of it. This profile.
+pub record IsJudged {L : Type 0} (run : Run L) (links : List Link) : Type 0 where
+  pub admitted : run.handed.admitted
+      ≡ map (λ trail. admitted_count run.plan.places (acts_of (events_of trail))) run.handed.trails
+  pub link_tape_count : length run.handed.link_tapes ≡ length links
+  pub link_tapes : (i : ℕ) (link : Link) (tape : List (Option LinkVerdict)) → At links i link →
+      At run.handed.link_tapes i tape →
+      IsLinkTape (link_setup run.plan i) link.entries run.plan.entries tape
+  pub tape_count : length run.handed.tapes ≡ module_count run.plan
+  pub tapes : (m : ℕ) (trail : TrailEnd Event) (tape : List (Option Verdict)) →
+      At run.handed.trails m trail → At run.handed.tapes m tape →
+      IsModuleTape run.plan.places (events_of trail) run.plan.entries tape
+  pub written : AreWritten run links

@@ -1,0 +1,11 @@
+-- What callers speak of: links, a run, and the headline by its parts.
+pub mod Links
+pub mod Run
+pub mod Trails
+pub mod Judged
+pub mod Places
+pub mod Queues
+pub mod Sendings
+pub mod Patience
+pub mod Headline
+pub mod Views

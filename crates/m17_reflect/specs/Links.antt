@@ -1,0 +1,46 @@
+-- What each link of a reflector heard, and what it routes to each module. Links and modules are
+-- numbered from 0 in the order of the plan, modules in the order of their letters. This profile.
+use Rattle.std.specs.Prelude.{◌≡◌, ℕ, List, map, slice_get, slice_index, Some}
+use Rattle.std.specs.List.{enumerate_from}
+use Rattle.m17_values.specs.declared.heard.Heard.{Heard}
+use Rattle.m17_control.specs.declared.event.Event.{Event}
+use Rattle.m17_control.specs.Modules.{letters_of}
+use Rattle.m17_directory.specs.Entries.{Entry, Setup, SaysEach}
+use Rattle.m17_directory.specs.Laws.{EndsOnce}
+use Rattle.m17_directory.specs.Routed.{routed}
+use Rattle.m17_module.specs.Items as module_items
+use Rattle.m17_house.specs.declared.plan.Plan.{Plan}
+use Rattle.m17_house.specs.Replay.{setup_of, module_setup}
+
+-- A link: what it heard, and what that says, each entry with the place that it was given. This
+-- profile.
+pub record Link : Type 0 where
+  pub heard : List Heard
+  pub entries : List Entry
+
+-- The entries say what was heard, and exactly one of them ends the link, the last. This profile.
+pub record IsLink (link : Link) : Type 0 where
+  pub says : SaysEach link.heard link.entries
+  pub ends : EndsOnce link.entries
+
+-- The list has this at that place. This profile.
+abbrev pub At : {A : Type 0} → List A → ℕ → A → Type 0
+At xs n x = slice_get xs n ≡ Some x
+
+-- What the directory of the link with this number is made with. This profile.
+abbrev pub link_setup : Plan → ℕ → Setup
+link_setup plan i = record (setup_of plan) { link = i }
+
+-- The letter of the module with this number, and what that module is made with. This profile.
+abbrev pub letter_of : Plan → ℕ → ℕ
+letter_of plan m = slice_index (letters_of plan.modules) m
+
+abbrev pub setup_at : Plan → ℕ → module_items.Setup
+setup_at plan m = module_setup plan (letter_of plan m)
+
+-- What each link routes to the module with this letter, in the order of the links. This profile.
+abbrev pub route_of : Plan → ℕ → ℕ × Link → List Event
+route_of plan letter link = routed (link_setup plan link.0) link.1.entries letter
+
+abbrev pub routes : Plan → List Link → ℕ → List (List Event)
+routes plan links letter = map (route_of plan letter) (enumerate_from 0 links)

@@ -1,0 +1,30 @@
+-- What became of the places: who joined, and what the roll shows in the end. This profile.
+use Rattle.std.specs.Prelude.{◌≡◌, ℕ, ◌<◌, ◌*◌, Bool, List, length, count_by, slice_index, Contains}
+use Rattle.std.specs.List.{flat_map, filter_map}
+use Rattle.m17_values.specs.declared.member.Member.{Member}
+use Rattle.m17_control.specs.declared.event.Event.{Event}
+use Rattle.m17_directory.specs.Laws.{joiner_of}
+use Rattle.m17_lane.specs.Ends.{TrailEnd}
+use Rattle.m17_roll.specs.Closing.{EndView}
+use Rattle.m17_roll.specs.Run.{count_at, IsRollRun}
+use Rattle.m17_reflect.specs.Trails.{events_of}
+
+-- The two lists have the same items, each as often. This profile.
+abbrev pub AreSame : {A : Type 0} → List A → List A → Type 0
+AreSame {A} xs ys = (test : A → Bool) → count_by test xs ≡ count_by test ys
+
+-- The members that the Joins of these events name, in order. This profile.
+abbrev pub joiners : List Event → List Member
+joiners events = filter_map (λ (event : Event). joiner_of event.body) events
+
+-- What was claimed and given back is one run of a roll of so many places: the members of the Joins
+-- in all trails are the claims, each once; each of them was given back, and so in the end each
+-- place is free. This profile.
+pub record ArePlacesBack (places : ℕ) (trails : List (TrailEnd Event)) (roll : EndView) : Type 0
+  where
+    pub count : length roll.words ≡ places
+    pub run : IsRollRun roll.words roll.claimed roll.given
+    pub joins : AreSame (flat_map (λ trail. joiners (events_of trail)) trails) roll.claimed
+    pub given : (m : Member) → Contains roll.claimed m → Contains roll.given m
+    pub free : (q : ℕ) → q < length roll.words →
+        slice_index roll.words q ≡ 2 * count_at q roll.claimed
