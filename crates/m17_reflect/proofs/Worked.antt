@@ -1,6 +1,6 @@
 -- What the workers of a run have done, module by module.
 use Rattle.std.proofs.Common.{◌≡◌, ℕ, zero, suc, ◌+◌, ◌-◌, ◌^◌, ◌<◌, ◌≤◌, Bool, true, false, cond, List, [], ◌∷◌, map, length, min, take, Option, None, Some, sym, subst, refl, ap, ◌∙◌, arith}
-use Rattle.std.specs.Prelude.{slice_get, IfSome}
+use Rattle.std.specs.Prelude.{slice_get, IsSomeAnd}
 use Rattle.std.specs.List.{AllByRecursion}
 use Rattle.std.proofs.lemmas.Option.{same_Some, none-some}
 use Rattle.std.proofs.lemmas.List.Elements.{recursion_from_All}
@@ -89,7 +89,7 @@ tried_item P [] n t h e = absurd (none-some t e)
 tried_item P (u ∷ tries) zero t h e = subst (λ (v : Try). P v.item) (same_Some u t e) h.0
 tried_item P (u ∷ tries) (suc n) t h e = tried_item P tries n t h.1 e
 
-if_some : {A : Type 0} (P : A → Type 0) (o : Option A) (x : A) → o ≡ Some x → IfSome o P → P x
+if_some : {A : Type 0} (P : A → Type 0) (o : Option A) (x : A) → o ≡ Some x → IsSomeAnd o P → P x
 if_some P None x e h = absurd (none-some x e)
 if_some P (Some y) x e h = subst P (same_Some y x e) h
 
