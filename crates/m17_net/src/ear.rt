@@ -137,7 +137,10 @@ impl<C: Clock + Drop, W: Wire + Drop> UdpEar<C, W> {
         ensures at { TellsAt self.old.until self.old.last result self.new.last }
         ensures came { SaysWhatCame result came }
         ensures counted_so { CountsFault result self.old.faults self.new.faults }
-        ensures same { self.new ≡ record self.old { last = self.new.last; faults = self.new.faults } }
+        ensures same { self.new ≡ record self.old {
+          last = self.new.last;
+          faults = self.new.faults;
+        } }
     {
         match self.read_moment() {
             Ok(_) if self.is_over() => Heard::End,
@@ -174,7 +177,8 @@ impl<C: Clock + Drop, W: Wire + Drop> Ear for UdpEar<C, W> {
             (min self.new.faults (2 ^ 64 - 1)) }
         ensures no_fault { result ≢ Heard.Fault
             → min self.new.faults (2 ^ 64 - 1) ≡ min self.old.faults (2 ^ 64 - 1) }
-        ensures appended { (EndsPastCount None → ⊥) → None ≡ told_then {A = Heard} None (result ∷ []) }
+        ensures appended { (EndsPastCount None → ⊥)
+            → None ≡ told_then {A = Heard} None (result ∷ []) }
         ensures same_device { self.new.number ≡ self.old.number }
 
         // What it says is what its socket took, and when.

@@ -62,7 +62,8 @@ impl<F: Write + Drop> Book for FileBook<F> {
         ensures cause { HasCause (min self.old.faults (2 ^ 64 - 1))
             (min self.new.faults (2 ^ 64 - 1)) result }
         ensures appended { OnOk result (None ≡ told_then {A = ℕ} None bytes.now) }
-        ensures prefix { OnErr result ((n : ℕ) × (None ≡ told_then {A = ℕ} None (take n bytes.now))) }
+        ensures prefix { OnErr result
+            ((n : ℕ) × (None ≡ told_then {A = ℕ} None (take n bytes.now))) }
         ensures same_device { self.new.number ≡ self.old.number }
 
         // All of the bytes are appended to its file.

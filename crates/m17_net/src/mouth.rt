@@ -28,7 +28,12 @@ impl<W: Wire + Drop> Model for UdpMouth<W> {
 
     ghost Value = { MouthKept W };
 
-    ghost view = { λ m. record { wire = m.wire; six = m.six; faults = m.faults; number = m.number } };
+    ghost view = { λ m. record {
+      wire = m.wire;
+      six = m.six;
+      faults = m.faults;
+      number = m.number;
+    } };
 }
 
 impl<W: Wire + Drop> UdpMouth<W> {
@@ -71,7 +76,8 @@ impl<W: Wire + Drop> Mouth for UdpMouth<W> {
     fn say(&mut self, to: &Peer, bytes: &[u8]) -> Result<(), Failed>
         ensures cause { HasCause (min self.old.faults (2 ^ 64 - 1))
             (min self.new.faults (2 ^ 64 - 1)) result }
-        ensures appended { OnOk result (None ≡ told_then {A = Datagram} None ((to.now, bytes.now) ∷ [])) }
+        ensures appended { OnOk result
+            (None ≡ told_then {A = Datagram} None ((to.now, bytes.now) ∷ [])) }
         ensures tallied { OnOk result (IsTallied (λ _. None) to.now bytes.now (λ _. None)) }
         ensures same_device { self.new.number ≡ self.old.number }
 

@@ -29,7 +29,8 @@ pub trait Wire {
 
     /// Sends a datagram of these bytes to the address. After an error nothing was sent.
     fn send(&mut self, bytes: &[u8], to: SocketAddr) -> io::Result<()>
-        ensures sent { OnOk result (sent self.new ≡ told_then (sent self.old) ((to, bytes.now) ∷ [])) }
+        ensures sent { OnOk result
+            (sent self.new ≡ told_then (sent self.old) ((to, bytes.now) ∷ [])) }
         ensures nothing_sent { OnErr result (sent self.new ≡ sent self.old) }
         ensures nothing_taken { taken self.new ≡ taken self.old }
         ensures sound { broken self.new ≡ broken self.old };
