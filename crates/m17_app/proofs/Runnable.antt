@@ -3,9 +3,9 @@ use Rattle.std.proofs.Common.{◌≡◌, ◌≢◌, ℕ, zero, suc, ◌+◌, ◌
 use Rattle.std.specs.Prelude.{true, false, cond, IsTrue}
 use Rattle.std.specs.List.{All, filter, range_with_len}
 use Rattle.std.proofs.lemmas.List.Elements.{All-contains}
+use Rattle.std.proofs.lemmas.Bool.Decides.{nat_tests}
 use Rattle.m17_control.specs.declared.modules.Modules.{Modules}
 use Rattle.m17_control.specs.Modules.{serves, letters_of}
-use Rattle.m17_control.proofs.ModuleSets.{serves_within}
 use Rattle.m17_house.specs.Replay.{IsPlan}
 use Rattle.m17_words.specs.declared.command.Command.{Command}
 use Rattle.m17_words.specs.declared.command.Command.TheVariants.{Judge, Show, Replay, Make, Talk}
@@ -23,6 +23,11 @@ some_passes p a zero x low high passes = absurd (omega arith)
 some_passes p a (suc n) x low high passes = cond_some (p a) a (filter p (range_with_len (a + 1) n)) (λ fails.
     let other : a ≢ x = λ same. absurd (let no : p a ≡ true = ap p same ∙ passes in cc) in
     some_passes p (a + 1) n x (omega (arith, other)) (omega arith) passes)
+
+-- letters of modules are A to Z, by what it is to be served
+serves_within : (m : Modules) (letter : ℕ) → serves m letter ≡ true → (65 ≤ letter) × (letter ≤ 90)
+unfolding serves
+serves_within m letter h = (grind (arith, nat_tests), grind (arith, nat_tests))
 
 -- a text of modules names one at least
 some_module : (text : List ℕ) (modules : Modules) → NamesModules text modules → 0 < length (letters_of modules)

@@ -14,14 +14,24 @@ struct Came<'a>(u64, u8, &'a [u8]);
 // The trace of what came.
 fn trace(alloc: Global, all: &[Came]) -> Result<Vec<u8>, AllocError> {
     let mut trace = HEADER.to_vec(alloc)?;
-    for Came(at, host, bytes) in all.iter().copied() {
-        trace.push(0x01)?;
-        trace.extend_from_slice(&at.to_be_bytes())?;
-        trace.extend_from_slice(&[0x04, 10, 0, 0, host, 0x42, 0x68])?;
-        trace.push((bytes.len() % 256) as u8)?;
-        trace.extend_from_slice(bytes)?;
+    for came in all {
+        push_came(&mut trace, *came)?;
     }
     Ok(trace)
+}
+
+fn push_came(trace: &mut Vec<u8>, came: Came) -> Result<(), AllocError> {
+    let Came(at, host, bytes) = came;
+    trace.push(0x01)?;
+    trace.extend_from_slice(&at.to_be_bytes())?;
+    trace.extend_from_slice(&[0x04, 10, 0, 0, host, 0x42, 0x68])?;
+    trace.push((bytes.len() % 256) as u8)?;
+    trace.extend_from_slice(bytes)
+}
+
+fn push_quiet(trace: &mut Vec<u8>, at: u64) -> Result<(), AllocError> {
+    trace.push(0x02)?;
+    trace.extend_from_slice(&at.to_be_bytes())
 }
 
 // The trace of so many faults.
@@ -40,6 +50,8 @@ const JOIN_D: [u8; 11] = *b"CONN\x00\x00\x00\x9f\xdd\x51D";
 const LISTEN: [u8; 11] = *b"LSTN\x00\x00\x4b\x13\xd1\x06A";
 
 const LEAVE: [u8; 10] = *b"DISC\x00\x00\x4b\x13\xd1\x06";
+
+const PONG: [u8; 10] = *b"PONG\x00\x00\x00\x9f\xdd\x51";
 
 const LEAVE_AB1CD: [u8; 10] = *b"DISC\x00\x00\x00\x9f\xdd\x51";
 
@@ -180,5 +192,42 @@ fn there_are_as_many_places_as_the_words_say(rt: HostRuntime) -> Result<(), Fail
     assert_eq!(rt; status, 0);
     let lines = "0 A join\n1 A join\n2 full\n3 A leave\n4 A join\n";
     assert_eq!(rt; written.as_slice(), lines.as_bytes());
+    Ok(())
+}
+
+// 751 packets of one stream, each 40 ms, the last one at 30,000 with the end bit.
+fn push_stream(trace: &mut Vec<u8>) -> Result<(), AllocError> {
+    for number in 0..751u16 {
+        let packet = m17_stream::write(&frame(0x1234, number, number == 750));
+        push_came(trace, Came(40 * u64::from(number), 1, &packet))?;
+    }
+    Ok(())
+}
+
+// 750 quiet moments, at each of which a frame of the stream is due, and a PONG at 45,000.
+fn push_wait(trace: &mut Vec<u8>) -> Result<(), AllocError> {
+    for n in 0..750u64 {
+        let at = 31_000 + 40 * n;
+        push_quiet(trace, at)?;
+        if at == 45_000 {
+            push_came(trace, Came(at, 1, &PONG))?;
+        }
+    }
+    Ok(())
+}
+
+#[test]
+fn a_parrot_gives_back_750_of_751_frames(rt: HostRuntime) -> Result<(), Fail> {
+    let mut input = trace(rt.alloc(), &[Came(0, 1, &JOIN)])?;
+    push_stream(&mut input)?;
+    push_wait(&mut input)?;
+    let given = ["replay", "--modules", "A", "--parrots", "A", "--summary"];
+    let (status, written) = ran(&rt, rt.alloc(), &given, input, &[], &[])?;
+    assert_eq!(rt; status, 0);
+    let begins =
+        "entries 1503\njoin 1\nagain 0\nleave 0\npong 0\nalive 1\nopened 1\ncontinued 750\n";
+    assert!(rt; written.as_slice().starts_with(begins.as_bytes()));
+    let peer = "\npeer 10.0.0.1:17000 ackn 1 nack 0 ping 20 pong 0 disc 1 frame 750\n";
+    assert!(rt; written.as_slice().ends_with(peer.as_bytes()));
     Ok(())
 }

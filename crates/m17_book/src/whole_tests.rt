@@ -5,6 +5,7 @@ use m17_io::Source;
 use m17_memory::BytesSource;
 use m17_values::{Failed, Gram, Heard, Peer};
 use std::alloc::Global;
+use std::process::Abort;
 use std::test::Fail;
 
 /// A datagram of four bytes from 127.0.0.1, one of no bytes from an IPv6 address, a quiet, and a fault.
@@ -16,6 +17,34 @@ const TRACE: &[u8; 68] = b"M17TRACE\
 
 /// Where the header and the entries of that trace end.
 const ENDS: [usize; 5] = [8, 29, 58, 67, 68];
+
+/// AB1CD joins module A and sends four frames; N0CALL comes to listen behind the first, and leaves behind the third.
+const TALK: &[u8; 375] = b"M17TRACE\
+\x01\x00\x00\x00\x00\x00\x00\x00\x00\x04\x0a\x00\x00\x01\x42\x68\x0b\
+CONN\x00\x00\x00\x9f\xdd\x51A\
+\x01\x00\x00\x00\x00\x00\x00\x00\x28\x04\x0a\x00\x00\x01\x42\x68\x36\
+M17 \x12\x34\xff\xff\xff\xff\xff\xff\x00\x00\x00\x9f\xdd\x51\x00\x05\
+\x00\x00\x00\x00\x00\x00\x00\x00\x00\x00\x00\x00\x00\x00\x00\x00\
+\x00\x00\x00\x00\x00\x00\x00\x00\x00\x00\x00\x00\x00\x00\x00\x00\x74\x3f\
+\x01\x00\x00\x00\x00\x00\x00\x00\x32\x04\x0a\x00\x00\x02\x42\x68\x0b\
+LSTN\x00\x00\x4b\x13\xd1\x06A\
+\x01\x00\x00\x00\x00\x00\x00\x00\x50\x04\x0a\x00\x00\x01\x42\x68\x36\
+M17 \x12\x34\xff\xff\xff\xff\xff\xff\x00\x00\x00\x9f\xdd\x51\x00\x05\
+\x00\x00\x00\x00\x00\x00\x00\x00\x00\x00\x00\x00\x00\x00\x00\x01\
+\x00\x00\x00\x00\x00\x00\x00\x00\x00\x00\x00\x00\x00\x00\x00\x00\x25\x5c\
+\x01\x00\x00\x00\x00\x00\x00\x00\x78\x04\x0a\x00\x00\x01\x42\x68\x36\
+M17 \x12\x34\xff\xff\xff\xff\xff\xff\x00\x00\x00\x9f\xdd\x51\x00\x05\
+\x00\x00\x00\x00\x00\x00\x00\x00\x00\x00\x00\x00\x00\x00\x00\x02\
+\x00\x00\x00\x00\x00\x00\x00\x00\x00\x00\x00\x00\x00\x00\x00\x00\xd6\xf9\
+\x01\x00\x00\x00\x00\x00\x00\x00\x82\x04\x0a\x00\x00\x02\x42\x68\x0a\
+DISC\x00\x00\x4b\x13\xd1\x06\
+\x01\x00\x00\x00\x00\x00\x00\x00\xa0\x04\x0a\x00\x00\x01\x42\x68\x36\
+M17 \x12\x34\xff\xff\xff\xff\xff\xff\x00\x00\x00\x9f\xdd\x51\x00\x05\
+\x00\x00\x00\x00\x00\x00\x00\x00\x00\x00\x00\x00\x00\x00\x80\x03\
+\x00\x00\x00\x00\x00\x00\x00\x00\x00\x00\x00\x00\x00\x00\x00\x00\xca\x4f";
+
+/// Where the header and the entries of that trace end.
+const TALK_ENDS: [usize; 8] = [8, 36, 107, 135, 206, 277, 304, 375];
 
 /// A source that gives one byte at a time, and tells nothing of what is left.
 #[derive(Drop)]
@@ -142,12 +171,10 @@ fn a_trace_is_its_entries_and_the_end(rt: HostRuntime) -> Result<(), Fail> {
     Ok(())
 }
 
-#[test]
-fn each_part_of_a_trace_is_a_shorter_trace_or_cut(rt: HostRuntime) -> Result<(), Fail> {
-    let alloc = rt.alloc();
-    let trace = TRACE.as_slice();
+/// Reads each part of a trace, whose header and entries end at these places.
+fn read_parts(rt: &impl Abort, alloc: Global, trace: &[u8], ends: &[usize]) -> Result<(), Fail> {
     for len in 0..trace.len() {
-        let whole = ENDS.iter().position(|end| *end == len);
+        let whole = ends.iter().position(|end| *end == len);
         let wanted = match whole {
             Some(entries) => Ok(usize::saturating_add(entries, 1)),
             None => Err(FormRefusal::Cut { at: len as u64 }),
@@ -155,21 +182,34 @@ fn each_part_of_a_trace_is_a_shorter_trace_or_cut(rt: HostRuntime) -> Result<(),
         assert_eq!(rt; heard(alloc, &trace[..len])?, wanted, "{len}");
         assert_eq!(rt; plain(&trace[..len]), wanted, "{len}");
     }
+    assert_eq!(rt; heard(alloc, trace)?, Ok(ends.len()));
     Ok(())
 }
 
 #[test]
-fn a_trace_with_one_byte_changed_is_read_by_the_rule(rt: HostRuntime) -> Result<(), Fail> {
-    let alloc = rt.alloc();
-    for at in 0..TRACE.len() {
-        let old = TRACE[at];
+fn each_part_of_a_trace_is_a_shorter_trace_or_cut(rt: HostRuntime) -> Result<(), Fail> {
+    read_parts(&rt, rt.alloc(), TRACE, &ENDS)?;
+    read_parts(&rt, rt.alloc(), TALK, &TALK_ENDS)
+}
+
+/// Reads a trace with each of its bytes changed in turn.
+fn read_changed(rt: &impl Abort, alloc: Global, trace: &[u8]) -> Result<(), Fail> {
+    for at in 0..trace.len() {
+        let old = trace[at];
         for byte in [0, 255, old.wrapping_add(1), old.wrapping_sub(1), 65] {
-            let mut bytes = *TRACE;
+            let mut bytes = trace.to_vec(alloc)?;
+            assert!(rt; at < bytes.len());
             bytes[at] = byte;
             assert_eq!(rt; heard(alloc, &bytes)?, plain(&bytes), "{byte} at {at}");
         }
     }
     Ok(())
+}
+
+#[test]
+fn a_trace_with_one_byte_changed_is_read_by_the_rule(rt: HostRuntime) -> Result<(), Fail> {
+    read_changed(&rt, rt.alloc(), TRACE)?;
+    read_changed(&rt, rt.alloc(), TALK)
 }
 
 /// How many records a reader gives one by one, or the refusal that it ends with.

@@ -262,19 +262,49 @@ fn sixteen_faults_in_a_row_end_a_run(rt: HostRuntime) -> Result<(), Fail> {
     Ok(())
 }
 
+/// A client without a script leaves 20 ms after its ACKN at 10, and not before.
+#[test]
+fn a_client_without_a_script_stays_as_long(rt: HostRuntime) -> Result<(), Fail> {
+    let alloc = rt.alloc();
+    let inside = State::Connected { heard_at: 10 };
+    let cases: [(u64, State, &[&[u8]]); 3] = [
+        (29, inside, &[&CONN]),
+        (30, State::Leaving, &[&CONN, &PART]),
+        (31, State::Leaving, &[&CONN, &PART]),
+    ];
+    for (at, state, said) in cases {
+        let ear = [quiet(0), heard(10, b"ACKN"), quiet(at)];
+        let told = run(&rt, alloc, Vec::from_array(alloc, ear)?, &sound(&[], 20))?;
+        expect_said(&rt, &told, said);
+        assert_eq!(rt; told.end.state, state);
+    }
+    Ok(())
+}
+
+/// Each of its three calls in turn: the rest is said, the mouth counts one failure, and the client is closed as ever.
 #[test]
 fn a_datagram_that_the_mouth_fails_to_send_is_lost(rt: HostRuntime) -> Result<(), Fail> {
     let alloc = rt.alloc();
     let packet = frame(0x1234, 0, false);
+    let bytes = m17_stream::write(&packet);
     let script = [(0, packet)];
-    let case = Case {
-        mouth_fails: &[1],
-        ..sound(&script, 0)
-    };
-    let ear = [quiet(0), heard(10, b"ACKN"), heard(20, b"DISC")];
-    let told = run(&rt, alloc, Vec::from_array(alloc, ear)?, &case)?;
-    expect_said(&rt, &told, &[&CONN, &PART]);
-    expect_closed(&rt, &told, Ending::Asked, 0, false);
+    let cases: [([u64; 1], [&[u8]; 2]); 3] = [
+        ([0], [&bytes, &PART]),
+        ([1], [&CONN, &PART]),
+        ([2], [&CONN, &bytes]),
+    ];
+    for (call, said) in cases {
+        let case = Case {
+            mouth_fails: &call,
+            ..sound(&script, 0)
+        };
+        let ear = [quiet(0), heard(10, b"ACKN"), heard(20, b"DISC")];
+        let told = run(&rt, alloc, Vec::from_array(alloc, ear)?, &case)?;
+        expect_said(&rt, &told, &said);
+        expect_closed(&rt, &told, Ending::Asked, 0, false);
+        let mouth = format!(in alloc; "{:?}", told.mouth)?;
+        assert!(rt; mouth.ends_with(" next_call: 3, faults: 1, number: 0 }"));
+    }
     Ok(())
 }
 

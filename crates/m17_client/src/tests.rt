@@ -250,3 +250,51 @@ fn each_state_meets_each_packet(rt: HostRuntime) -> Result<(), Fail> {
     }
     Ok(())
 }
+
+/// A packet finds an idle client on its way in: it says its CONN, and nothing comes of the packet.
+#[test]
+fn an_idle_client_minds_no_packet(rt: HostRuntime) -> Result<(), Fail> {
+    let frame = m17_stream::write(&frame(1, 1, false));
+    let packets: [&[u8]; 9] = [
+        b"ACKN", b"NACK", b"DISC", &PART, &PING, &PONG, &CONN, &LSTN, &frame,
+    ];
+    for packet in packets {
+        let mut idle = client(false).ok_or("no client")?;
+        let mut out = ArrayVec::new();
+        let state = idle.step(&datagram(7, packet), &mut out);
+        assert_eq!(rt; state, State::Connecting { tries: 1 });
+        assert_eq!(rt; out.len(), 1);
+        assert!(rt; matches!(out.first(), Some(Action::Say(bytes)) if bytes.as_slice() == CONN.as_slice()));
+    }
+    Ok(())
+}
+
+#[test]
+fn a_closed_client_stays_closed(rt: HostRuntime) -> Result<(), Fail> {
+    let cases: [(&[u8], Ending, u64); 4] = [
+        (b"NACK", Ending::Refused, 1),
+        (b"NACK", Ending::Refused, 1_001),
+        (b"DISC", Ending::Dropped, 30_001),
+        (b"DISC", Ending::Dropped, u64::MAX),
+    ];
+    for (packet, why, at) in cases {
+        let mut closed = client(false).ok_or("no client")?;
+        let joins = State::Connecting { tries: 1 };
+        expect(&rt, &mut closed, &Input::Quiet { at: 0 }, &CONN, joins);
+        expect(
+            &rt,
+            &mut closed,
+            &datagram(1, packet),
+            &[],
+            State::Closed(why),
+        );
+        expect(
+            &rt,
+            &mut closed,
+            &Input::Quiet { at },
+            &[],
+            State::Closed(why),
+        );
+    }
+    Ok(())
+}

@@ -8,8 +8,8 @@ use std::alloc::Global;
 use std::sync::Wait;
 use std::thread::{Builder, Threads};
 
-/// What `Crew::start` alone has, and shows to the crew. No other crate can make one, so a crew is told of a start, and that
-/// one was refused, by nobody else. This profile.
+/// What `Crew::start` alone has, and shows to the crew. No other crate can make one, so a crew is told of a start, and
+/// that one was refused, by nobody else. This profile.
 #[derive(Drop)]
 pub struct Starter(());
 

@@ -11,8 +11,8 @@ use std::sync::Wait;
 use std::thread::Threads;
 
 /// Starts the jobs, the last first, each in a thread of its own, and appends them to `running`, which has to have room
-/// for all. `Failed` where the crew refused one: it and the jobs before it are then still in `jobs`, as they were and in
-/// their order, and those behind it run. This profile.
+/// for all. `Failed` where the crew refused one: it and the jobs before it are then still in `jobs`, as they were and
+/// in their order, and those behind it run. This profile.
 pub fn start_all<W: Work, C: Crew, R: Threads + Wait + Copy + Send + 'static>(
     rt: &R,
     alloc: Global,

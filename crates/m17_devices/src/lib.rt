@@ -1,7 +1,7 @@
-//! All that the repository says of the outside under one name: the plain values, the traits of the devices, the forms in
-//! memory, and the jobs and crews of threads. It promises nothing of its own. It is for tests and for whoever uses the
-//! repository as a library; a crate below the program names `m17_values`, `m17_io`, `m17_ports` and `m17_crew`, so that a
-//! new form in memory proves nothing there again.
+//! All that the repository says of the outside under one name: the plain values, the traits of the devices, the forms
+//! in memory, and the jobs and crews of threads. It promises nothing of its own. It is for tests and for whoever uses
+//! the repository as a library; a crate below the program names `m17_values`, `m17_io`, `m17_ports` and `m17_crew`, so
+//! that a new form in memory proves nothing there again.
 #![tactic(auto)]
 
 pub use m17_crew::{

@@ -35,3 +35,5 @@ mod Renamed
 mod Otherwise
 mod Freed
 pub mod Waits
+mod LawPlaces
+mod LawFollows

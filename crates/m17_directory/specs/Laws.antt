@@ -1,5 +1,5 @@
 -- What follows from the definitions for all that a link may hear. This profile.
-use Rattle.std.specs.Prelude.{◌≡◌, ◌==◌, ◌&&◌, not, ℕ, suc, ◌+◌, ◌<◌, Bool, true, false, List, [], ◌∷◌, ◌++◌, ◌≤◌, length, map, filter, count_by, sum_by, take, is_some, Option, None, Some, option_map, if◌then◌else◌}
+use Rattle.std.specs.Prelude.{◌≡◌, ◌==◌, ◌&&◌, not, ℕ, suc, ◌+◌, ◌<◌, Bool, true, false, List, [], ◌∷◌, ◌++◌, ◌≤◌, length, map, filter, count_by, sum_by, take, is_some, Option, None, Some, slice_get, option_map, if◌then◌else◌}
 use Rattle.std.specs.List.{filter_map, flat_map, range_with_len, AllByRecursion, AllZip}
 use Rattle.m17_values.specs.declared.heard.Heard.{Heard}
 use Rattle.m17_values.specs.declared.heard.Heard.TheVariants as heard
@@ -9,12 +9,14 @@ use Rattle.m17_fields.specs.Fields.{IsBytes}
 use Rattle.m17_control.specs.declared.event.Body.{Body}
 use Rattle.m17_control.specs.declared.event.Body.TheVariants.{Join, Leave, Packet, Reply, Stop}
 use Rattle.m17_control.specs.declared.event.Event.{Event}
+use Rattle.m17_control.specs.declared.event.Why.{Why}
+use Rattle.m17_control.specs.declared.event.Why.TheVariants.{Replaced}
 use Rattle.m17_control.specs.declared.item.Direct.{Direct}
 use Rattle.m17_control.specs.declared.packet.Control.{Control}
 use Rattle.m17_control.specs.declared.packet.Control.TheVariants.{Nack, Disc}
 use Rattle.m17_control.specs.Modules.{serves, letters_of}
 pub use Rattle.m17_control.specs.Renamed.{joiner_of, leaver_of}
-use Rattle.m17_control.specs.Renamed.{AreRenamedEvents, TakeFreePlaces}
+use Rattle.m17_control.specs.Renamed.{AreRenamedEvents, TakeFreePlaces, joiner_at}
 use Rattle.m17_directory.specs.declared.dispatch.Dispatch.{Dispatch}
 use Rattle.m17_directory.specs.declared.dispatch.Dispatch.TheVariants.{ToModule, ToDoor}
 use Rattle.m17_directory.specs.declared.known.Departed.{Departed}
@@ -437,3 +439,41 @@ abbrev pub JoinsTakeFreePlaces : Type 0
 JoinsTakeFreePlaces =
     (setup : Setup) (entries : List Entry) (letter : ℕ) → AreGivenFreely setup entries →
     TakeFreePlaces setup.places (routed setup entries letter)
+
+-- Each claim is of one of the places. This profile.
+abbrev pub ClaimsArePlaced : Setup → List Entry → Type 0
+ClaimsArePlaced setup entries =
+    (n : ℕ) (claim : Claim) → claim_at entries n ≡ Some claim → claim.member.place < setup.places
+
+-- Where an entry asks and as many others are still known as there are places, each place was
+-- claimed by an entry before it. This profile.
+abbrev pub AllPlacesAreClaimed : Type 0
+AllPlacesAreClaimed =
+    (setup : Setup) (entries : List Entry) (n q : ℕ) → ClaimsAreAsked setup entries →
+    ClaimsArePlaced setup entries → n < length entries →
+    asks_at (past_at setup entries n) ≡ true →
+    length (others_at (past_at setup entries n)) ≡ setup.places → q < setup.places →
+    (i : ℕ) × (claim : Claim) × (i < n) × (claim_at entries i ≡ Some claim)
+    × (claim.member.place ≡ q)
+
+-- The member was given by a claim, and a later entry's claim is of its place again. This profile.
+pub record IsClaimedAgain (entries : List Entry) (k : Member) : Type 0 where
+  pub first : ℕ
+  pub second : ℕ
+  pub own : Claim
+  pub other : Claim
+  pub later : first < second
+  pub own_there : claim_at entries first ≡ Some own
+  pub other_there : claim_at entries second ≡ Some other
+  pub is_own : own.member ≡ k
+  pub same_place : other.member.place ≡ k.place
+
+-- A Leave that a module is routed stands behind a Join of its member there; and where the member is
+-- replaced, its place was claimed again. This profile.
+abbrev pub LeavesFollowJoins : Type 0
+LeavesFollowJoins =
+    (setup : Setup) (entries : List Entry) (letter n : ℕ) (event : Event) (k : Member)
+    (why : Why) → slice_get (routed setup entries letter) n ≡ Some event →
+    event.body ≡ Leave k why →
+    ((i : ℕ) × (i < n) × (joiner_at (routed setup entries letter) i ≡ Some k))
+    × (why ≡ Replaced → IsClaimedAgain entries k)

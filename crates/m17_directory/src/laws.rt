@@ -147,3 +147,15 @@ pub fn members_change_no_verdict()
 pub fn joins_take_free_places()
     ensures { law.JoinsTakeFreePlaces }
 {}
+
+/// Where an entry asks for a place and as many others are still known as there are places, each place was claimed by an
+/// entry before it. This profile.
+pub fn all_places_are_claimed()
+    ensures { law.AllPlacesAreClaimed }
+{}
+
+/// A Leave that a module is routed stands behind a Join of its member there; and where the member is replaced, a later
+/// entry's claim is of its place again. This profile.
+pub fn leaves_follow_joins()
+    ensures { law.LeavesFollowJoins }
+{}

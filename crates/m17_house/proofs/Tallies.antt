@@ -100,6 +100,24 @@ say_none more mouth none = record {
   tallies = λ said are x tally is. are x tally is ∙ ap tally_of (sym (ap (λ xs. said x ++ xs) (none x) ∙ append-nil (said x)));
 }
 
+-- What is said to a peer without a tally changes none.
+unnamed : (said : Peer → List Packet) (to : Peer) (o : Option Packet) (mouth : TalliesKept) → tally_at mouth.entries to ≡ None → AreTalliesOf said mouth →
+    (x : Peer) (tally : Tally) (b : Bool) → is_peer x to ≡ b → tally_at mouth.entries x ≡ Some tally → tally ≡ tally_of (said x ++ option_to_list (cond b o None))
+unnamed said to o mouth none are x tally true e is =
+    absurd (let both : None ≡ Some tally = sym none ∙ ap (tally_at mouth.entries) (sym (from_is_peer x to e)) ∙ is in cc)
+unnamed said to o mouth none are x tally false e is = are x tally is ∙ ap tally_of (sym (append-nil (said x)))
+
+pub no_tally_there : (o : Option Tally) → is_some o ≡ false → o ≡ None
+no_tally_there None e = refl
+no_tally_there (Some tally) e = absurd (true≢false e)
+
+pub say_unnamed : (item : Item) (name : ℕ) (mouth : TalliesKept) → tally_at mouth.entries item.peer ≡ None →
+    HasSaidMore (λ x. option_to_list (packet_to x name item)) mouth mouth
+say_unnamed item name mouth none = record {
+  same = record { peers = refl; number = refl };
+  tallies = λ said are x tally is. unnamed said item.peer (packet_said item.body name) mouth none are x tally (is_peer x item.peer) refl is;
+}
+
 -- one after another
 pub say_then : (first second all : Peer → List Packet) (old mid new : TalliesKept) → ((x : Peer) → first x ++ second x ≡ all x) → HasSaidMore first old mid → HasSaidMore second mid new → HasSaidMore all old new
 say_then first second all old mid new join a b = record {

@@ -15,10 +15,14 @@ use m17_module::Basket;
 use m17_port_memory::TallyMouth;
 use m17_ports::Mouth;
 
-// Says an item, unless it spells nothing.
+// Says an item, unless it spells nothing. Where the mouth has no tally for its peer, nothing would be kept of it, and it
+// isn't spelled.
 fn say_item(item: &Item, name: CallAddress, mouth: &mut TallyMouth)
     ensures { HasSaidMore (λ x. option_to_list (packet_to x name item.now)) mouth.old mouth.new }
 {
+    if mouth.tally(&item.peer).is_none() {
+        return;
+    }
     if let Some(datagram) = spell(item, name) {
         let _ = mouth.say(&item.peer, datagram.as_slice());
     }

@@ -24,7 +24,7 @@ mod tests;
 mod trail;
 
 pub use bell::{Announced, Bell};
-pub use making::{make, make_one, make_one_marked, make_one_with, make_with};
+pub use making::{make, make_marked, make_one, make_one_marked, make_one_with, make_with};
 pub use popper::Popper;
 pub use pusher::Pusher;
 pub use trail::{Trail, finish, finish_one};

@@ -50,6 +50,24 @@ pub fn make_with<T: Drop>(
     make_for(alloc, bell.share()?, producers, capacity)
 }
 
+/// `make_with` whose pushes also set a mark of the bell, the same whichever producer pushes: see `make_one_marked`. This
+/// profile.
+pub fn make_marked<T: Drop>(
+    alloc: Global,
+    bell: &Bell,
+    mark: u32,
+    producers: u32,
+    capacity: u32,
+) -> Result<(Vec<Pusher<T>>, Popper<T>), NoMemory>
+    requires producers { 0 < producers }
+    requires capacity { 0 < capacity }
+    ensures count { IfOk result (λ r. length r.0.items ≡ producers) }
+    ensures popper { IfOk result (λ r. r.1 ≡ new_popper r.1.lane capacity producers) }
+    ensures pushers { IfOk result (λ r. r.0.items ≡ new_pushers r.1 producers) }
+{
+    make_for(alloc, bell.share_marked(mark)?, producers, capacity)
+}
+
 // A lane whose pushes ring this bell, and set its mark where it has one.
 fn make_for<T: Drop>(
     alloc: Global,

@@ -29,6 +29,21 @@ fn marks_tell_which_lanes_were_pushed_to(rt: HostRuntime) -> Result<(), Fail> {
     Ok(())
 }
 
+#[test]
+fn each_producer_of_a_lane_sets_its_mark(rt: HostRuntime) -> Result<(), Fail> {
+    let bell = Bell::make_marked(rt.alloc(), 8)?;
+    let (mut pushers, _popper) = make_marked(rt.alloc(), &bell, 6, 2, 4)?;
+    assert_eq!(rt; pushers.len(), 2);
+    for pusher in pushers.iter_mut() {
+        assert_eq!(rt; pusher.try_push(&rt, 1u8), Ok(()));
+        assert_eq!(rt;
+            (bell.marked_words(0), bell.take_marks(0)),
+            (0b1, 0b100_0000)
+        );
+    }
+    Ok(())
+}
+
 // Pushes a number by each end in turn, with a rest before each, so that the consumer is asleep when it comes.
 fn push_in_turn<R: Wait + Clock>(rt: &R, ends: (Pusher<u32>, Pusher<u32>), rounds: u32) {
     let (mut a, mut b) = ends;

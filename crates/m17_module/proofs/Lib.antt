@@ -10,6 +10,7 @@ mod FramesMine
 mod LifeParts
 mod Life
 mod Between
+mod Byes
 mod Tuned
 mod TunedStep
 mod EchoesBefore

@@ -1,6 +1,6 @@
 -- What follows from the definitions for every list of events. This profile.
 use Rattle.std.specs.Prelude.{◌≡◌, ◌↔◌, ℕ, ◌<◌, ◌≤◌, ◌⊎◌, ◌&&◌, Bool, true, false, not, List, [], ◌∷◌, ◌++◌, length, filter, slice_get, is_some, Option, None, Some}
-use Rattle.std.specs.List.{All, filter_map, flat_map, range_with_len}
+use Rattle.std.specs.List.{All, Contains, filter_map, flat_map, range_with_len}
 use Rattle.m17_values.specs.declared.member.Member.{Member}
 use Rattle.m17_values.specs.declared.peer.Peer.{Peer}
 use Rattle.m17_stream.specs.declared.packet.StreamPacket.{StreamPacket}
@@ -119,6 +119,21 @@ InFromJoinToEnd =
     (places : ℕ) (events : List Event) (k : Member) (j n : ℕ) → JoinsOnce events k →
     joins events k j ≡ true → k.place < places →
     (is_some (joined_at places (acts_of events) k n) ≡ true) ↔ ((j < n) × StaysBetween events k j n)
+
+-- Among the items is a Bye to the member. This profile.
+pub record HasBye (items : List Item) (k : Member) : Type 0 where
+  pub bye : Item
+  pub there : Contains items bye
+  pub to_it : bye.member ≡ k
+  pub says_bye : is_bye bye.body ≡ true
+
+-- A member that joins once, at one of the module's places, is told a Bye at the first position behind its Join that is
+-- a Leave of it or a Join at its place. This profile.
+abbrev pub WhoIsSettledIsToldABye : Type 0
+WhoIsSettledIsToldABye =
+    (setup : Setup) (events : List Event) (k : Member) (j n : ℕ) → JoinsOnce events k →
+    joins events k j ≡ true → k.place < setup.places → j < n → StaysBetween events k j n →
+    settles k (kind_at (acts_of events) n) ≡ true → HasBye (items_at setup events n) k
 
 -- The items begin with their only Hello, and nothing follows a Bye. This profile.
 pub record IsLife (items : List Item) : Type 0 where

@@ -48,6 +48,12 @@ pub fn share_is_the_others_frames()
     frames_are_the_others();
 }
 
+/// A member that joins once, at one of the module's places, is told a Bye at the first position behind its Join that is a
+/// Leave of it or a Join at its place. This profile.
+pub fn who_is_settled_is_told_a_bye()
+    ensures { law.WhoIsSettledIsToldABye }
+{}
+
 /// Each item is for a member at one of the module's places. This profile.
 pub fn items_are_at_places()
     ensures { law.ItemsAreAtPlaces }

@@ -73,6 +73,7 @@ module _ {E B : Type 0} where
     seat = (refl, refl, refl);
     room = refl;
     notes = refl;
+    lanes = record { inboxes = refl; door = refl };
   }
 
   pub same_devices : (j k : Receiver E B) (ear : E) (trace : B) (failed : Bool) → IsSameReceiver j k → IsSameReceiver j (record k { ear = ear; trace = trace; trace_failed = failed })
@@ -85,6 +86,7 @@ module _ {E B : Type 0} where
     seat = same.seat;
     room = same.room;
     notes = same.notes;
+    lanes = same.lanes;
   }
 
   pub same_taped : (j k r : Receiver E B) → r ≡ record k { tape = r.tape; lost = r.lost } → IsSameReceiver j k → IsSameReceiver j r
@@ -97,6 +99,7 @@ module _ {E B : Type 0} where
     seat = same.seat;
     room = same.room;
     notes = same.notes;
+    lanes = same.lanes;
   })
 
   pub same_kept : (j k s : Receiver E B) → IsSameReceiver j k → IsKept k s → IsSameReceiver j s
@@ -109,6 +112,7 @@ module _ {E B : Type 0} where
     seat = (kept.seat.0 ∙ same.seat.0, kept.seat.1 ∙ same.seat.1, kept.seat.2 ∙ same.seat.2);
     room = kept.room ∙ same.room;
     notes = kept.notes ∙ ap (λ (q : PopEnd Member). let r : PopEnd Member = record q { popped = s.notes.popped } in r) same.notes;
+    lanes = record { inboxes = kept.lanes.inboxes ∙ same.lanes.inboxes; door = kept.lanes.door ∙ same.lanes.door };
   }
 
   pub plan_is : (j k : Receiver E B) → j.directory.setup.places ≡ j.places → j.directory.setup.modules ≡ j.modules → IsSameReceiver j k → IsPlanOf (plan_of j) k

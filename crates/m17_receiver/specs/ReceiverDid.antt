@@ -8,12 +8,17 @@ use Rattle.m17_directory.specs.Entries.{Entry, SaysEach}
 use Rattle.m17_directory.specs.Laws.{EndsOnce}
 use Rattle.m17_receiver.specs.declared.receiver.Receiver.{Receiver}
 use Rattle.m17_receiver.specs.Devices.{Words, IsCounted, HasHeard, EndsInFaults, HasTrace}
-use Rattle.m17_receiver.specs.Posting.{Outlets, posted_to}
+use Rattle.m17_receiver.specs.Posting.{Outlets, AreSameOutlets, posted_to}
 use Rattle.m17_receiver.specs.Claims.{HasClaimed, IsGreetedAfter}
 use Rattle.m17_receiver.specs.Tape.{IsTaped}
 
+-- where a receiver pushes
+abbrev pub outlets_of : {E B : Type 0} → Receiver E B → Outlets
+outlets_of j = record { inboxes = j.inboxes.items; door = j.door }
+
 -- It is the same receiver: what it was made with stays, its seat is of the same roll, its inboxes
--- have the same room, and it popped notes and nothing else of them. This profile.
+-- and its end of the door are the same ends and have the same room, and it popped notes and nothing
+-- else of them. This profile.
 pub record IsSameReceiver {E B : Type 0} (j k : Receiver E B) : Type 0 where
   pub link : k.link ≡ j.link
   pub modules : k.modules ≡ j.modules
@@ -23,10 +28,7 @@ pub record IsSameReceiver {E B : Type 0} (j k : Receiver E B) : Type 0 where
   pub seat : IsSameSeat j.seat k.seat
   pub room : vec_capacity k.inboxes ≡ vec_capacity j.inboxes
   pub notes : k.notes ≡ record j.notes { popped = k.notes.popped }
-
--- where a receiver pushes
-abbrev pub outlets_of : {E B : Type 0} → Receiver E B → Outlets
-outlets_of j = record { inboxes = j.inboxes.items; door = j.door }
+  pub lanes : AreSameOutlets (outlets_of j) (outlets_of k)
 
 -- What became of all that was heard, entry by entry: each says what its entry is, and only the last
 -- ends the link; what was posted, claimed and taped is what the directory's rules make of them.

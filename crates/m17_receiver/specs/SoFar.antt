@@ -19,7 +19,7 @@ use Rattle.m17_directory.specs.Known.{Past}
 use Rattle.m17_directory.specs.Routed.{past_at, heard_at, others_at, event_for, link_verdict}
 use Rattle.m17_directory.specs.StandsFor.{Kept, StandsFor, must_wait, unclaimed, departed_of}
 use Rattle.m17_directory.specs.Laws.{LaterEntriesChangeNothing, OneEntryMore, EntriesBeforeDecide, ClaimsCompleteAskers, DoorCarriesReplies, EndedWhereItEnds, AskersJoinOrAreFull, PeersComeAndGo, PeersAreToldApart, direct_of, left_before}
-use Rattle.m17_receiver.specs.Posting.{Outlets, letter_at, posted_to}
+use Rattle.m17_receiver.specs.Posting.{Outlets, letter_at, posted_to, AreSameOutlets}
 use Rattle.m17_receiver.specs.declared.receiver.Receiver.{Receiver}
 use Rattle.m17_receiver.specs.Devices.{Words, IsCounted, HasHeard, HasTrace}
 use Rattle.m17_receiver.specs.Tape.{IsTaped}
@@ -120,6 +120,7 @@ pub record IsKept {E B : Type 0} (old new : Receiver E B) : Type 0 where
   pub room : vec_capacity new.inboxes ≡ vec_capacity old.inboxes
   pub notes : new.notes ≡ record old.notes { popped = new.notes.popped }
   pub seat : IsSameSeat old.seat new.seat
+  pub lanes : AreSameOutlets (outlets_of old) (outlets_of new)
 
 -- each that left is departing, or its leaving was noted
 abbrev pub AreGone : List Departed → List Departed → List Member → Type 0

@@ -1,5 +1,5 @@
 //! A receiver for tests, with the other ends of its lanes.
-ghost use Rattle.std.specs.Prelude.{◌≡◌, ◌<◌, ◌≤◌, [], All, IfOk, None, length};
+ghost use Rattle.std.specs.Prelude.{◌≡◌, ◌<◌, ◌≤◌, [], All, IfOk, IsTrue, None, length};
 ghost use Rattle.m17_lane.specs.Ends.{PushEnd};
 ghost use Rattle.m17_ports.specs.Told.{StartsEmpty};
 ghost use Rattle.m17_roll.specs.Seat.{HasLists};
@@ -11,7 +11,7 @@ use m17_callsign::{CallAddress, encode};
 use m17_control::{Control, Direct, Event, ModuleLetter, Modules, write};
 use m17_crew::{Crew, Order, Running, StdCrew, Work};
 use m17_directory::{Directory, LinkVerdict, Post};
-use m17_lane::{Popper, Pusher, make_one};
+use m17_lane::{Bell, Popper, Pusher, make_one, make_one_marked};
 use m17_port_memory::{ListBook, ScriptEar};
 use m17_ports::{Book, Ear};
 use m17_roll::RollSeat;
@@ -23,13 +23,14 @@ use std::sync::Wait;
 use std::test::Fail;
 use std::thread::Threads;
 
-/// What a receiver is made with, the capacity of its inboxes among it.
+/// What a receiver is made with, the capacity of its inboxes and of its door among it.
 #[derive(Drop)]
 pub(crate) struct Plan {
     pub(crate) letters: &'static str,
     pub(crate) places: u32,
     pub(crate) patient: bool,
     pub(crate) room: u32,
+    pub(crate) door: u32,
     pub(crate) cells: usize,
 }
 
@@ -88,10 +89,11 @@ fn seats(alloc: Global, places: u32) -> Result<(RollSeat, RollSeat), NoMemory>
     }
 }
 
-/// A receiver that can be started.
+/// A receiver that can be started. A push on its door sets mark 0 of the bell.
 pub(crate) fn make_bench<E: Ear + Drop, B: Book + Drop>(
     alloc: Global,
     plan: &Plan,
+    bell: &Bell,
     ear: E,
     trace: B,
 ) -> Result<Bench<E, B>, Fail>
@@ -99,6 +101,7 @@ pub(crate) fn make_bench<E: Ear + Drop, B: Book + Drop>(
     requires trace { StartsEmpty (B.written trace) }
     requires places { (0 < plan.now.places) × (plan.now.places ≤ 256) }
     requires room { 0 < plan.now.room }
+    requires door { 0 < plan.now.door }
     ensures { IfOk result (λ b. IsReady (record {
       heard = E.heard;
       ear_faults = E.faults;
@@ -112,7 +115,7 @@ pub(crate) fn make_bench<E: Ear + Drop, B: Book + Drop>(
     let directory = Directory::make(alloc, 0, name, plan.places, modules)?;
     let post = Post::make(alloc)?;
     let (pushers, poppers) = inboxes(alloc, modules.count(), plan.room)?;
-    let (door, door_popper) = make_one(alloc, 256)?;
+    let (door, door_popper) = make_one_marked(alloc, bell, 0, plan.door)?;
     let (notes_pusher, notes) = make_one(alloc, 512)?;
     let (orders, order) = make_one(alloc, 2)?;
     let (seat, other) = seats(alloc, plan.places)?;
@@ -168,25 +171,75 @@ pub(crate) fn run_by<R: Wait>(
     fails: Vec<u64>,
     order: Order,
 ) -> Result<Bench<ScriptEar, ListBook>, Fail> {
-    if plan.places == 0 || plan.places > 256 || plan.room == 0 {
+    if !is_plan(plan) {
         return Err("no plan".into());
     }
+    let bell = Bell::make_marked(alloc, 1)?;
     let ear = ScriptEar::new(heard);
     let trace = ListBook::make(alloc, ROOM, fails)?;
-    let mut b = make_bench(alloc, plan, ear, trace)?;
-    b.notes.push_waiting(rt, member(9, 9));
-    b.orders.push_waiting(rt, Order::Stop);
-    b.orders.push_waiting(rt, order);
-    b.receiver.go(rt);
-    Ok(b)
+    let b = make_bench(alloc, plan, &bell, ear, trace)?;
+    Ok(go(rt, b, order))
 }
 
-/// A receiver in a thread of its own, and what the test has of it: one inbox, the notes, another seat at its roll, and
-/// the place that this seat holds.
+/// Has the receiver go by this order, behind a Stop, with a note that is there before it.
+pub(crate) fn go<E: Ear + Drop + Send + 'static, B: Book + Drop + Send + 'static, R: Wait>(
+    rt: &R,
+    bench: Bench<E, B>,
+    order: Order,
+) -> Bench<E, B>
+    requires { IsReady (record {
+      heard = E.heard;
+      ear_faults = E.faults;
+      written = B.written;
+      trace_faults = B.faults;
+    }) bench.receiver }
+{
+    let mut bench = bench;
+    bench.notes.push_waiting(rt, member(9, 9));
+    bench.orders.push_waiting(rt, Order::Stop);
+    bench.orders.push_waiting(rt, order);
+    let Bench {
+        receiver,
+        inboxes,
+        door,
+        notes,
+        orders,
+        other,
+    } = bench;
+    Bench {
+        receiver: done(rt, receiver),
+        inboxes,
+        door,
+        notes,
+        orders,
+        other,
+    }
+}
+
+// Does a job, by what a job is.
+fn done<W: Work, R: Wait>(rt: &R, job: W) -> W
+    requires { W.ready job }
+{
+    let mut job = job;
+    job.go(rt);
+    job
+}
+
+/// Whether there is a place, and no more than a roll has, and room in each lane.
+pub(crate) fn is_plan(plan: &Plan) -> bool
+    ensures { IsTrue result → (0 < plan.now.places) × (plan.now.places ≤ 256)
+        × (0 < plan.now.room) × (0 < plan.now.door) }
+{
+    plan.places > 0 && plan.places <= 256 && plan.room > 0 && plan.door > 0
+}
+
+/// A receiver in a thread of its own, and what the test has of it: one inbox, its door, the notes, another seat at its
+/// roll, and the place that this seat holds.
 #[derive(Drop)]
 pub(crate) struct Started {
     pub(crate) running: Running<Receiver<ScriptEar, ListBook>>,
     pub(crate) inbox: Popper<Event>,
+    pub(crate) door: Popper<Direct>,
     pub(crate) notes: Pusher<Member>,
     pub(crate) other: RollSeat,
     pub(crate) held: Option<Member>,
@@ -200,12 +253,13 @@ pub(crate) fn start_over<R: Threads + Wait + Copy + Send + 'static>(
     heard: Vec<Heard>,
     claims: bool,
 ) -> Result<Started, Fail> {
-    if plan.places == 0 || plan.places > 256 || plan.room == 0 {
+    if !is_plan(plan) {
         return Err("no plan".into());
     }
+    let bell = Bell::make_marked(alloc, 1)?;
     let ear = ScriptEar::new(heard);
     let trace = ListBook::make(alloc, ROOM, Vec::new(alloc))?;
-    let mut b = make_bench(alloc, plan, ear, trace)?;
+    let mut b = make_bench(alloc, plan, &bell, ear, trace)?;
     b.orders.push_waiting(rt, Order::Go);
     let inbox = b.inboxes.pop().ok_or("no inbox")?;
     let held = if claims { b.other.claim(99) } else { None };
@@ -215,6 +269,7 @@ pub(crate) fn start_over<R: Threads + Wait + Copy + Send + 'static>(
     Ok(Started {
         running,
         inbox,
+        door: b.door,
         notes: b.notes,
         other: b.other,
         held,

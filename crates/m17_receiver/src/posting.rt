@@ -3,7 +3,7 @@ ghost use Rattle.std.specs.Prelude.{◌≡◌, ◌==◌, ◌&&◌, ℕ, [], ◌�
 ghost use Rattle.m17_control.specs.Forms.{IsModule};
 ghost use Rattle.m17_directory.specs.declared.dispatch.Dispatch.TheVariants.{ToModule};
 ghost use Rattle.m17_directory.specs.Routed.{event_for};
-ghost use Rattle.m17_receiver.specs.Posting.{letter_at};
+ghost use Rattle.m17_receiver.specs.Posting.{letter_at, AreSameOutlets};
 ghost use Rattle.m17_receiver.specs.SoFar.{posting};
 ghost use Rattle.m17_rows.specs.Rows.{push_each};
 ghost use Rattle.std.specs.List.{filter_map};
@@ -27,6 +27,8 @@ pub(crate) fn push_posts<R: Wait>(
     ensures post { post.new ≡ [] }
     ensures pushed { record { inboxes = inboxes.new.items; door = door.new }
         ≡ posting modules post.old (record { inboxes = inboxes.old.items; door = door.old }) }
+    ensures lanes { AreSameOutlets (record { inboxes = inboxes.old.items; door = door.old })
+        (record { inboxes = inboxes.new.items; door = door.new }) }
     ensures room { vec_capacity inboxes.new ≡ vec_capacity inboxes.old }
 {
     known_laws();
@@ -45,6 +47,8 @@ fn push_one<R: Wait>(
 )
     ensures pushed { record { inboxes = inboxes.new.items; door = door.new }
         ≡ posting modules (dispatch ∷ []) (record { inboxes = inboxes.old.items; door = door.old }) }
+    ensures lanes { AreSameOutlets (record { inboxes = inboxes.old.items; door = door.old })
+        (record { inboxes = inboxes.new.items; door = door.new }) }
     ensures room { vec_capacity inboxes.new ≡ vec_capacity inboxes.old }
 {
     known_laws();

@@ -19,10 +19,10 @@ use std::sync::Wait;
 /// The job of a link's thread: it hears what comes to the link's socket, up to the entry that ends the link, and does
 /// with each entry what the link's directory makes of it. It owns all that it needs and takes no memory.
 ///
-/// For each entry, in this order: it is written to the trace; notes of departed members are popped, at most 512, and told
-/// to the directory; the directory hears it, and what that posts is pushed, asleep while a lane is full; who asks for a
-/// place waits until the notes of all that its peer was have come, gets a place or none, and what that posts is pushed;
-/// and the verdict goes into its cell of the tape. After `Quit` nothing but the order is touched. This profile.
+/// For each entry, in this order: it is written to the trace; notes of departed members are popped, at most 512, and
+/// told to the directory; the directory hears it, and what that posts is pushed, asleep while a lane is full; who asks
+/// for a place waits until the notes of all that its peer was have come, gets a place or none, and what that posts is
+/// pushed; and the verdict goes into its cell of the tape. After `Quit` nothing but the order is touched. This profile.
 #[derive(Drop)]
 pub struct Receiver<E, B> {
     /// The number of the link, from 0.

@@ -1,12 +1,17 @@
 //! What no clause says: that a receiver goes through with ample memory, that it ends by itself, and what it does in the
 //! order that its documents say.
+ghost use Rattle.std.specs.Prelude.{None};
 
-use crate::bench::{Plan, conn, disc, member, peer, ping, run_by, run_through, voice};
+use crate::bench::{
+    Plan, conn, disc, go, is_plan, make_bench, member, peer, ping, run_by, run_through, voice,
+};
 use m17_control::{Body, Control, ModuleLetter};
 use m17_crew::Order;
 use m17_directory::{Act, LinkVerdict};
-use m17_ports::Ear;
-use m17_values::Heard;
+use m17_lane::Bell;
+use m17_port_memory::ScriptEar;
+use m17_ports::{Book, Ear};
+use m17_values::{Failed, Heard};
 use std::alloc::Global;
 use std::process::Abort;
 use std::sync::Wait;
@@ -17,6 +22,7 @@ const ONE_MODULE: Plan = Plan {
     places: 2,
     patient: false,
     room: 256,
+    door: 256,
     cells: 8,
 };
 
@@ -25,6 +31,7 @@ const PATIENT: Plan = Plan {
     places: 2,
     patient: true,
     room: 256,
+    door: 256,
     cells: 8,
 };
 
@@ -107,6 +114,8 @@ fn events_and_replies_come_in_order(rt: HostRuntime) -> Result<(), Fail> {
     let direct = b.door.try_pop(&rt).ok_or("nothing at the door")?;
     assert_eq!(rt; direct.peer, peer(2));
     assert_eq!(rt; direct.control, Control::Nack);
+    let left = b.receiver.notes.try_pop(&rt);
+    assert_eq!(rt; left, None, "notes are taken before an entry is heard");
     Ok(())
 }
 
@@ -119,6 +128,63 @@ fn the_trace_holds_what_was_heard(rt: HostRuntime) -> Result<(), Fail> {
     assert!(rt; bytes.starts_with(b"M17TRACE"));
     assert_eq!(rt; bytes.len(), 8 + 5 * 17 + 11 + 54 + 10 + 11 + 10 + 9);
     assert!(rt; !b.receiver.lost && !b.receiver.trace_failed);
+    Ok(())
+}
+
+// A trace that keeps nothing, and sees at each write whether the door was pushed to since the last one.
+#[derive(Drop)]
+struct WatchingTrace {
+    door: Bell,
+    first: Option<bool>,
+    second: Option<bool>,
+}
+
+impl Book for WatchingTrace {
+    ghost use Rattle.std.proofs.Common.{lit≤};
+
+    type Label = ();
+
+    ghost faults = { λ _. 0 };
+
+    ghost written = { λ _. None };
+
+    ghost mark = { λ _. None };
+
+    ghost label = { λ _. tt };
+
+    ghost faults_fit = { λ _. lit≤ tt };
+
+    fn write(&mut self, _bytes: &[u8]) -> Result<(), Failed> {
+        let pushed = self.door.marked_words(0) != 0;
+        if self.first.is_none() {
+            self.first = Some(pushed);
+        } else if self.second.is_none() {
+            self.second = Some(pushed);
+        }
+        Ok(())
+    }
+}
+
+// The first entry is in the trace before its reply is at the door, and the second one behind that.
+#[test]
+fn an_entry_is_written_before_what_it_posts_is_pushed(rt: HostRuntime) -> Result<(), Fail> {
+    let alloc = rt.alloc();
+    let heard = [conn(&rt, peer(1), 0, b'B'), Heard::Quiet { at: 5 }];
+    let heard = Vec::from_array(alloc, heard)?;
+    let bell = Bell::make_marked(alloc, 1)?;
+    let trace = WatchingTrace {
+        door: bell.share()?,
+        first: None,
+        second: None,
+    };
+    if !is_plan(&ONE_MODULE) {
+        return Err("no plan".into());
+    }
+    let ear = ScriptEar::new(heard);
+    let b = make_bench(alloc, &ONE_MODULE, &bell, ear, trace)?;
+    let b = go(&rt, b, Order::Go);
+    assert_eq!(rt; b.receiver.trace.first, Some(false));
+    assert_eq!(rt; b.receiver.trace.second, Some(true));
     Ok(())
 }
 

@@ -1,19 +1,23 @@
 //! Waits of a receiver, each with the one who ends it in another thread.
 
 use crate::bench::{Plan, Started, conn, disc, member, peer, start_over, voice};
-use m17_control::Body;
-use m17_values::Member;
+use m17_control::{Body, Direct};
+use m17_lane::Popper;
+use m17_values::{Member, Peer};
 use std::alloc::Global;
 use std::process::Abort;
 use std::sync::Wait;
 use std::test::Fail;
+use std::thread;
 use std::thread::{Threads, yield_now};
+use std::time::{Clock, Duration};
 
 const ONE_PLACE: Plan = Plan {
     letters: "A",
     places: 1,
     patient: false,
     room: 256,
+    door: 256,
     cells: 4,
 };
 
@@ -22,6 +26,7 @@ const PATIENT: Plan = Plan {
     places: 1,
     patient: true,
     room: 256,
+    door: 256,
     cells: 4,
 };
 
@@ -30,6 +35,7 @@ const NARROW: Plan = Plan {
     places: 1,
     patient: false,
     room: 2,
+    door: 1,
     cells: 0,
 };
 
@@ -109,6 +115,29 @@ fn a_full_inbox_loses_nothing(rt: HostRuntime) -> Result<(), Fail> {
         }
     }
     assert_eq!(rt; next, 300);
+    let _receiver = started.running.join(&rt);
+    Ok(())
+}
+
+// To whom the next reply at the door goes.
+fn next_peer<R: Wait>(rt: &R, door: &mut Popper<Direct>) -> Peer {
+    door.pop_waiting(rt).peer
+}
+
+// A door with room for one reply is full while the test rests; the receiver goes on when the replies are popped, and
+// loses none.
+#[test]
+fn a_full_door_loses_nothing(rt: HostRuntime) -> Result<(), Fail> {
+    let alloc = rt.alloc();
+    let mut heard = Vec::new(alloc);
+    for host in 0..100u8 {
+        heard.push(conn(&rt, peer(host), 0, b'B'))?;
+    }
+    let mut started = start_over(&rt, alloc, &NARROW, heard, false)?;
+    thread::sleep(&rt, Duration::from_millis(20));
+    for host in 0..100u8 {
+        assert_eq!(rt; next_peer(&rt, &mut started.door), peer(host));
+    }
     let _receiver = started.running.join(&rt);
     Ok(())
 }

@@ -93,7 +93,7 @@ patient_misses_none events c h asked =
     h.missed ∙ ap (λ (n : ℕ). min n (2 ^ 64 - 1)) (none_missed h.tries (λ n t e f.
     let wrong : true ≡ false = sym asked ∙ (h.left_out n t e f).impatient in cc))
 
-or_later : (a b : Bool) → b ≡ true → a || b ≡ true
+pub or_later : (a b : Bool) → b ≡ true → a || b ≡ true
 or_later true b h = refl
 or_later false b h = h
 

@@ -26,6 +26,7 @@ use Rattle.m17_receiver.specs.Claims.{HasClaimed, IsGreetedAfter}
 use Rattle.m17_receiver.specs.Tape.{IsTaped}
 use Rattle.m17_receiver.specs.ReceiverDid.{HasGone, HasReceived, outlets_of}
 use Rattle.m17_house.specs.declared.plan.Plan.{Plan}
+use Rattle.m17_wiring.specs.Jobs.{AreReceivers}
 use Rattle.m17_reflect.specs.Links.{Link, IsLink, At, link_setup, letter_of}
 use Rattle.m17_reflect.specs.Judged.{IsLinkTape, IsWritten}
 use Rattle.m17_reflect.proofs.Routes.{at_below, below_at, route_by}
@@ -39,17 +40,6 @@ pub has_gone : FirstOrderDecides → (before after : PopEnd Order) (goes : Bool)
 has_gone law before after true more rest new started e = refl
 has_gone law before after false more rest new started e =
     absurd (go_not_quit (law before after false Go more rest new started e (λ h. cc)).0)
-
--- The receiver of a link, before it goes.
-pub record IsReceiverOf {E B : Type 0} (plan : Plan) (i : ℕ) (j : Receiver E B) : Type 0 where
-  pub link : j.link ≡ i
-  pub setup : j.directory.setup ≡ link_setup plan i
-  pub patient : j.patient ≡ plan.patient
-  pub cells : length j.tape.items ≡ plan.entries
-  pub none : All (λ cell. cell ≡ None) j.tape.items
-
-abbrev pub AreReceivers : {E B : Type 0} → Plan → List (Receiver E B) → Type 0
-AreReceivers {E} {B} plan js = (i : ℕ) (j : Receiver E B) → slice_get js i ≡ Some j → IsReceiverOf plan i j
 
 abbrev pub ear_tells : {E B : Type 0} → Words E B → Receiver E B → Tells Heard
 ear_tells words j = (words.heard j.ear, words.ear_faults j.ear)

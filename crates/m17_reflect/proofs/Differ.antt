@@ -1,6 +1,6 @@
 -- No two claims of a link are of one member, since the roll claims none twice.
-use Rattle.std.proofs.Common.{◌≡◌, ℕ, zero, suc, ◌+◌, ◌<◌, List, [], ◌∷◌, ◌++◌, length, Option, None, Some, sym, subst, refl, ap, ◌∙◌, arith}
-use Rattle.std.specs.Prelude.{◌≢◌, AllPairs, slice_get}
+use Rattle.std.proofs.Common.{◌≡◌, ℕ, zero, suc, List, [], ◌∷◌, ◌++◌, Option, None, Some, subst, arith}
+use Rattle.std.specs.Prelude.{◌≢◌, AllPairs}
 use Rattle.std.specs.List.{AllByRecursion, cons_option}
 use Rattle.std.specs.Option.{option_map}
 use Rattle.std.proofs.lemmas.Option.{same_Some, none-some}
@@ -9,7 +9,7 @@ use Rattle.std.proofs.lemmas.List.Kept.{AllPairs-cons}
 use Rattle.m17_values.specs.declared.member.Member.{Member}
 use Rattle.m17_directory.specs.Entries.{Claim, Entry, claim_at}
 use Rattle.m17_directory.specs.Laws.{claimed_members}
-use Rattle.m17_roll.specs.Laws.{AreDistinct, NoMemberIsClaimedTwice}
+use Rattle.m17_roll.specs.Laws.{NoMemberIsClaimedTwice}
 use Rattle.m17_roll.specs.Closing.{EndView}
 use Rattle.m17_roll.specs.Run.{IsRollRun}
 use Rattle.m17_reflect.specs.Links.{Link, At}

@@ -78,7 +78,7 @@ link_joins law each test plan i entries asked =
 abbrev pub claims_in : List Link → List Member
 claims_in links = flat_map (λ (link : Link). claimed_members link.entries) links
 
-letter_at_place : (letters : List ℕ) (m letter : ℕ) → slice_get letters m ≡ Some letter → slice_index letters m ≡ letter
+pub letter_at_place : (letters : List ℕ) (m letter : ℕ) → slice_get letters m ≡ Some letter → slice_index letters m ≡ letter
 letter_at_place [] m letter e = absurd (none-some letter e)
 letter_at_place (l ∷ letters) zero letter e = same_Some l letter e
 letter_at_place (l ∷ letters) (suc m) letter e = letter_at_place letters m letter e

@@ -38,7 +38,7 @@ life_from items after life by = record {
   ends = λ front rest bye why e body. life.bye_is_last front rest bye e (ap is_bye body);
 }
 
-is_same_self : (k : Member) → is_same k k ≡ true
+pub is_same_self : (k : Member) → is_same k k ≡ true
 is_same_self k = and_from _ _ (eq-eqb k.place k.place refl) (eq-eqb k.generation k.generation refl)
 
 pub same_member : (a b : Member) → is_same a b ≡ true → a ≡ b
@@ -49,12 +49,12 @@ same_member a b h =
     let make : ℕ → ℕ → Member = λ x y. record { place = x; generation = y } in
     ap (λ x. make x a.generation) place ∙ ap (make b.place) generation
 
-kind_there : (events : List Event) (p : ℕ) (event : Event) → slice_get events p ≡ Some event → kind_at (acts_of events) p ≡ kind_of event.body
+pub kind_there : (events : List Event) (p : ℕ) (event : Event) → slice_get events p ≡ Some event → kind_at (acts_of events) p ≡ kind_of event.body
 kind_there [] p event e = cc
 kind_there (x ∷ events) zero event e = let same : x ≡ event = cc in ap (λ (v : Event). kind_of v.body) same
 kind_there (x ∷ events) (suc p) event e = kind_there events p event e
 
-joins_there : (events : List Event) (k : Member) (p : ℕ) (event : Event) (peer : Peer) (callsign : ℕ) (listens : Bool) (after : ℕ) → slice_get events p ≡ Some event → event.body ≡ Join k peer callsign listens after → joins events k p ≡ true
+pub joins_there : (events : List Event) (k : Member) (p : ℕ) (event : Event) (peer : Peer) (callsign : ℕ) (listens : Bool) (after : ℕ) → slice_get events p ≡ Some event → event.body ≡ Join k peer callsign listens after → joins events k p ≡ true
 joins_there events k p event peer callsign listens after e body =
     ap (is_join_of k) (kind_there events p event e ∙ ap kind_of body) ∙ is_same_self k
 

@@ -30,7 +30,8 @@ use Rattle.m17_reflect.proofs.OneTrail.{Laws, Inboxes, routed_columns, one_trail
 use Rattle.m17_reflect.proofs.Routes.{at_below, below_at}
 use Rattle.m17_reflect.proofs.There.{is_at, trail_is_there}
 use Rattle.m17_reflect.proofs.Together.{zip_at, unmapped, mapped_at}
-use Rattle.m17_reflect.proofs.Worked.{IsWorkerOf, book_tells, served, admitted_of, tape_is, book_is}
+use Rattle.m17_wiring.specs.Jobs.{IsWorkerOf}
+use Rattle.m17_reflect.proofs.Worked.{book_tells, served, admitted_of, tape_is, book_is}
 
 module _ {A B C : Type 0} where
   -- two lists that come to the same, place by place
@@ -60,7 +61,7 @@ pub record AreBack {B : Type 0} (plan : Plan) (links : List Link) (boxes : Inbox
   pub trails_are : grid.AreTrails (routed_columns plan links boxes) (map inbox_of ks) trails
 
 module _ {B : Type 0} where
-  worker_count : (words : Words B) (plan : Plan) (links : ℕ) (js ks : List (Worker B)) → HaveWorked words plan links js ks → length ks ≡ module_count plan
+  pub worker_count : (words : Words B) (plan : Plan) (links : ℕ) (js ks : List (Worker B)) → HaveWorked words plan links js ks → length ks ≡ module_count plan
   worker_count words plan links js ks h = AllZip-long (HasWorked words) js ks h.worked ∙ h.count
 
   trail_count : (words : Words B) (plan : Plan) (links : List Link) (boxes : Inboxes) (js ks : List (Worker B)) (trails : List (TrailEnd Event)) → HaveWorked words plan (length links) js ks → AreBack plan links boxes ks trails → length trails ≡ module_count plan

@@ -19,7 +19,8 @@ use Rattle.m17_receiver.specs.Claims.{turned_away}
 use Rattle.m17_reflect.specs.Links.{Link, At, link_setup}
 use Rattle.m17_reflect.specs.Run.{Run}
 use Rattle.m17_reflect.specs.Patience.{AreTurnedAway, IsFullWhenTaken, PlacesAreFull}
-use Rattle.m17_reflect.proofs.Came.{Came, AreReceivers}
+use Rattle.m17_wiring.specs.Jobs.{AreReceivers}
+use Rattle.m17_reflect.proofs.Came.{Came}
 use Rattle.m17_reflect.proofs.Joining.{claims_in}
 use Rattle.m17_reflect.proofs.Routes.{at_below, below_at}
 use Rattle.m17_reflect.proofs.There.{is_at}
@@ -99,7 +100,7 @@ at_front [] ys i x e = absurd (none-some x e)
 at_front (z ∷ xs) ys zero x e = e
 at_front (z ∷ xs) ys (suc i) x e = at_front xs ys i x e
 
-contained : {A : Type 0} (xs : List A) (i : ℕ) (x : A) → slice_get xs i ≡ Some x → Contains xs x
+pub contained : {A : Type 0} (xs : List A) (i : ℕ) (x : A) → slice_get xs i ≡ Some x → Contains xs x
 contained [] i x e = absurd (none-some x e)
 contained (y ∷ xs) zero x e = (0, omega arith, same_Some y x e)
 contained (y ∷ xs) (suc i) x e = let (k, lt, is) = contained xs i x e in (suc k, omega arith, is)

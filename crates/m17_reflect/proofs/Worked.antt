@@ -24,22 +24,12 @@ use Rattle.m17_worker.specs.Tape.{verdict_on}
 use Rattle.m17_worker.specs.WorkerDid.{HasServed, HasWorked}
 use Rattle.m17_worker.specs.Written.{Tells}
 use Rattle.m17_house.specs.declared.plan.Plan.{Plan}
+use Rattle.m17_wiring.specs.Jobs.{IsWorkerOf}
 use Rattle.m17_reflect.specs.Links.{At, letter_of, setup_at}
 use Rattle.m17_reflect.specs.Judged.{IsModuleTape, IsWritten}
 use Rattle.m17_reflect.specs.Queues.{IsQueue, Carry}
 use Rattle.m17_reflect.proofs.Routes.{at_below, below_at}
 use Rattle.m17_reflect.proofs.Came.{all_at}
-
--- The worker of a module, before it goes.
-pub record IsWorkerOf {B : Type 0} (plan : Plan) (links m : ℕ) (j : Worker B) : Type 0 where
-  pub letter : j.letter ≡ letter_of plan m
-  pub links_are : j.links ≡ links
-  pub setup : j.module.setup ≡ setup_at plan m
-  pub patient : j.offers.patient ≡ plan.patient
-  pub cells : length j.tape.items ≡ plan.entries
-  pub queues : IsNewRow j.offers.queues.items
-  pub count : length j.offers.queues.items ≡ plan.places
-  pub missed : j.offers.missed ≡ 0
 
 abbrev pub book_tells : {B : Type 0} → Words B → Worker B → Tells
 book_tells words j = (words.written j.book, words.faults j.book)

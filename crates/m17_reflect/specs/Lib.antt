@@ -9,3 +9,7 @@ pub mod Sendings
 pub mod Patience
 pub mod Headline
 pub mod Views
+-- For proofs: jobs that are taken apart.
+pub mod Parted
+pub mod Gathered
+pub mod Known

@@ -10,7 +10,7 @@ use Rattle.m17_directory.specs.Laws.{EndsOnce}
 use Rattle.m17_directory.specs.Routed.{routed}
 use Rattle.m17_module.specs.Items as module_items
 use Rattle.m17_house.specs.declared.plan.Plan.{Plan}
-use Rattle.m17_house.specs.Replay.{setup_of, module_setup}
+pub use Rattle.m17_wiring.specs.Planned.{link_setup, letter_of, setup_at}
 
 -- A link: what it heard, and what that says, each entry with the place that it was given. This
 -- profile.
@@ -26,17 +26,6 @@ pub record IsLink (link : Link) : Type 0 where
 -- The list has this at that place. This profile.
 abbrev pub At : {A : Type 0} → List A → ℕ → A → Type 0
 At xs n x = slice_get xs n ≡ Some x
-
--- What the directory of the link with this number is made with. This profile.
-abbrev pub link_setup : Plan → ℕ → Setup
-link_setup plan i = record (setup_of plan) { link = i }
-
--- The letter of the module with this number, and what that module is made with. This profile.
-abbrev pub letter_of : Plan → ℕ → ℕ
-letter_of plan m = slice_index (letters_of plan.modules) m
-
-abbrev pub setup_at : Plan → ℕ → module_items.Setup
-setup_at plan m = module_setup plan (letter_of plan m)
 
 -- What each link routes to the module with this letter, in the order of the links. This profile.
 abbrev pub route_of : Plan → ℕ → ℕ × Link → List Event

@@ -12,6 +12,7 @@ use Rattle.m17_lane.specs.Ends.{TrailEnd}
 use Rattle.m17_roll.specs.Closing.{EndView}
 use Rattle.m17_receiver.specs.Devices.{Tells}
 use Rattle.m17_house.specs.declared.plan.Plan.{Plan}
+pub use Rattle.m17_wiring.specs.Planned.{module_count}
 
 -- What the devices tell, and how often each has failed: an ear, a mouth and a trace for each link,
 -- and a book for each module. The mouths have labels of kind L. This profile.
@@ -41,7 +42,3 @@ pub record Run (L : Type 0) : Type 0 where
   pub before : Devices L
   pub after : Devices L
   pub handed : Handed
-
--- How many modules the plan has. This profile.
-abbrev pub module_count : Plan → ℕ
-module_count plan = length (letters_of plan.modules)

@@ -1,10 +1,14 @@
 -- How a run is read off what was handed in and what came back. This profile.
-use Rattle.std.specs.Prelude.{ℕ, List, map, Option}
+use Rattle.std.specs.Prelude.{◌≡◌, ℕ, List, map, Option}
 use Rattle.m17_values.specs.declared.heard.Heard.{Heard}
 use Rattle.m17_ports.specs.Said.{MouthTold}
 use Rattle.m17_reflect.specs.declared.returned.Returned.{Returned}
 use Rattle.m17_reflect.specs.declared.returned.Refused.{Refused}
-use Rattle.m17_reflect.specs.Run.{Devices, Handed}
+use Rattle.m17_io.specs.Faults.{HasRisen}
+use Rattle.m17_house.specs.declared.plan.Plan.{Plan}
+use Rattle.m17_reflect.specs.declared.returned.HouseRefusal.{HouseRefusal}
+use Rattle.m17_reflect.specs.declared.returned.HouseRefusal.TheVariants.{Crew, NoMemory}
+use Rattle.m17_reflect.specs.Run.{Run, Devices, Handed}
 
 -- What is said of the devices of these kinds: what each has heard, said and written, as far as it
 -- is told, and how often it has failed. This profile.
@@ -62,3 +66,18 @@ module _ {E M B : Type 0} where
     lost = r.lost;
     book_failed = r.book_failed;
   }
+
+-- The run of this plan over these devices, as it shows itself in what came back. This profile.
+abbrev pub run_of : {E M B L : Type 0} → Words E M B L → Plan → Kinds E M B → Returned E M B → Run L
+run_of words plan d r = record {
+  plan = plan;
+  before = devices_of words d;
+  after = devices_of words (kinds_back r);
+  handed = handed_of r;
+}
+
+-- Why nothing was run, as the crew's count of refusals tells it before and after: it rose where the crew refused a start,
+-- and stands where there was no memory. This profile.
+pub record IsRefusedFor (why : HouseRefusal) (before after : ℕ) : Type 0 where
+  pub crew : why ≡ Crew → HasRisen before after
+  pub no_memory : why ≡ NoMemory → after ≡ before

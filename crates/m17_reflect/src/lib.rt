@@ -1,12 +1,26 @@
-//! The reflector over threads: what a run of it comes to, in words that users of the field know (`specs/Headline.antt`), and
-//! what it hands back (`Returned`, `Refused`).
-//! The headline has a part for each promise: one trail for each module; what was admitted, taped and written; the places
-//! claimed and given back; what each queue carries and each mouth says; who found no place; and which links were lost.
-//! The lemma files derive the parts from what the jobs, the lanes and the roll say, each by its public clauses alone.
-//! The run itself is not here yet: the jobs stand in `m17_receiver`, `m17_worker` and `m17_sender`, and `m17_launch` starts
-//! and joins them.
+//! The reflector over threads (`reflect`): each link's receiver, each module's worker and the one sender, from the devices that
+//! are handed in to those that come back.
+//! It promises, in every run that returns, under every interleaving, what `specs/Headline.antt` says: one trail for each
+//! module; what was admitted, taped and written; the places claimed and given back; what each queue carries and each mouth
+//! says; who found no place; and which links were lost. Where nothing was run all devices come back as they were.
+//! That a run returns is left to the devices: it waits for its threads. Wiring, launching and taking apart are the crates
+//! below; this one puts their clauses together, by these alone.
 #![tactic(auto)]
 
+#[cfg(test)]
+mod bench;
+#[cfg(test)]
+mod beside_tests;
+mod gather;
+mod jobs;
+mod laws;
+#[cfg(test)]
+mod made_tests;
+mod parted;
 mod returned;
+mod running;
+#[cfg(test)]
+mod tests;
 
 pub use returned::{HouseRefusal, Refused, Returned};
+pub use running::reflect;

@@ -1,6 +1,6 @@
 pub mod Places
 pub mod Ready
+pub mod Saying
 pub mod Sent
 pub mod Cells
-pub mod Saying
 pub mod SoFar

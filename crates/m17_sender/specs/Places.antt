@@ -1,4 +1,5 @@
--- What stands at a place of a sender's queues and of the Hellos that it holds back, and what it passes over.
+-- What stands at a place of a sender's queues and of the Hellos that it holds back, and what it
+-- passes over.
 use Rattle.std.specs.Prelude.{ℕ, Bool, ◌&&◌, nat_lt, List, [], ◌∷◌, map, length, slice_get, Option, None, Some}
 use Rattle.m17_lane.specs.Ends.{PopEnd}
 use Rattle.m17_control.specs.declared.item.Item.{Item}
@@ -44,8 +45,8 @@ abbrev pub held_at : List (List (Option Item)) → ℕ → ℕ → List Item
 held_at cells m q = held_in (at_place cells m q)
 
 module _ {M : Type 0} where
-  -- The item is said: its link is one of the sender's, and its member's place is one of a module's. Any other is passed
-  -- over. This profile.
+  -- The item is said: its link is one of the sender's, and its member's place is one of a module's.
+  -- Any other is passed over. This profile.
   abbrev pub is_said : Sender M → Item → Bool
   is_said s item = nat_lt item.link (length s.mouths.items) && nat_lt item.member.place s.places
 

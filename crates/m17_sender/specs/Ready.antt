@@ -5,8 +5,8 @@ use Rattle.m17_rows.specs.Grids.{IsNewGrid}
 use Rattle.m17_sender.specs.declared.sender.Sender.{Sender}
 use Rattle.m17_sender.specs.Places.{cells_of, queues_of}
 
--- It has a mouth and a pusher of notes for each link, and for each module as many queues as there are places, and as
--- many cells. This profile.
+-- It has a mouth and a pusher of notes for each link, and for each module as many queues as there
+-- are places, and as many cells. This profile.
 pub record IsShaped {M : Type 0} (s : Sender M) : Type 0 where
   pub links : length s.notes.items ≡ length s.mouths.items
   pub modules : length s.held.items ≡ length s.queues.items

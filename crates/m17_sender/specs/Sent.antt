@@ -50,16 +50,16 @@ bye_of i (Act.Notes link member) = []
 abbrev pub byes_of : ℕ → List Act → List Member
 byes_of i acts = flat_map (bye_of i) acts
 
--- P holds of each mouth before and after, with its link's number, counted from k; and there are as many.
--- This profile.
+-- P holds of each mouth before and after, with its link's number, counted from k; and there are as
+-- many. This profile.
 abbrev pub EachMouth : {M : Type 0} → (ℕ → M → M → Type 0) → ℕ → List M → List M → Type 0
 EachMouth P k [] [] = Unit {0}
 EachMouth P k [] (n ∷ ns) = ⊥
 EachMouth P k (m ∷ ms) [] = ⊥
 EachMouth P k (m ∷ ms) (n ∷ ns) = P k m n × EachMouth P (suc k) ms ns
 
--- What the mouth of link i has said: the datagrams of the acts' items and replies for the link, in order, each of
--- them, or it was lost and the mouth's count of faults rose. This profile.
+-- What the mouth of link i has said: the datagrams of the acts' items and replies for the link, in
+-- order, each of them, or it was lost and the mouth's count of faults rose. This profile.
 pub record SaidByLink {L : Type 0} (name : ℕ) (acts : List Act) (i : ℕ) (before after : MouthTold L)
     : Type 0 where
   pub datagrams : List Datagram
@@ -80,9 +80,9 @@ pub record HasStopped (before after : PopEnd Order) : Type 0 where
   pub no_stop : All (λ order. order ≢ Stop) others
   pub orders : after ≡ pops before (others ++ Stop ∷ [])
 
--- What a sender has done with its lanes, when these are its acts: of each queue it popped what it said and then the
--- item that it holds back, and of the door what it answered, but for what it passed over; and it pushed the notes.
--- This profile.
+-- What a sender has done with its lanes, when these are its acts: of each queue it popped what it
+-- said and then the item that it holds back, and of the door what it answered, but for what it
+-- passed over; and it pushed the notes. This profile.
 pub record LanesUsed {M : Type 0} (j k : Sender M) (acts : List Act) : Type 0 where
   pub same_queues : IsSameGrid (queues_of j) (queues_of k)
   pub queues : (m q : ℕ) → filter (is_said j) (popped_at (queues_of k) m q)
@@ -91,9 +91,9 @@ pub record LanesUsed {M : Type 0} (j k : Sender M) (acts : List Act) : Type 0 wh
   pub door : filter (is_answered j) k.door.popped ≡ answers_of acts
   pub notes : k.notes.items ≡ push_each (λ i. notes_of i acts) 0 j.notes.items
 
--- What a sender did that went: a list of acts in the order of turns, with a note to its link right for each Bye, what
--- its lanes and mouths show of them, and the order that ended it. What it still holds back are Hellos that wait.
--- This profile.
+-- What a sender did that went: a list of acts in the order of turns, with a note to its link right
+-- for each Bye, what its lanes and mouths show of them, and the order that ended it. What it still
+-- holds back are Hellos that wait. This profile.
 pub record Sent {M L : Type 0} (tells : M → MouthTold L) (j k : Sender M) (order : PopEnd Order)
     : Type 0 where
   pub acts : List Act
@@ -109,8 +109,8 @@ pub record Sent {M L : Type 0} (tells : M → MouthTold L) (j k : Sender M) (ord
   pub same_places : k.places ≡ j.places
   pub same_cells : map length (cells_of k) ≡ map length (cells_of j)
 
--- What a sender did: it waited for its order, and after Go it sent; after Quit all but its orders is as it was.
--- This profile.
+-- What a sender did: it waited for its order, and after Go it sent; after Quit all but its orders
+-- is as it was. This profile.
 pub record SenderDid {M L : Type 0} (tells : M → MouthTold L) (j k : Sender M) : Type 0 where
   pub goes : Bool
   pub order : PopEnd Order

@@ -19,8 +19,8 @@ use Rattle.m17_sender.specs.Places.{cells_of, held_at, is_answered, is_said, pop
 use Rattle.m17_sender.specs.Ready.{IsShaped}
 use Rattle.m17_sender.specs.Sent.{EachMouth, SaidByLink, bye_on, byes_of}
 
--- a sender, how many notes it pushed to each link, the items that it has taken out of its queues to say them, and the
--- replies that it has taken out of its door
+-- a sender, how many notes it pushed to each link, the items that it has taken out of its queues to
+-- say them, and the replies that it has taken out of its door
 pub record State (M : Type 0) : Type 0 where
   pub sender : Sender M
   pub noted : List ℕ

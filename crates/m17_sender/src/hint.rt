@@ -10,9 +10,9 @@ use std::sync::Wait;
 /// How many bits a word has.
 const WORD_BITS: u32 = 64;
 
-/// Where a sender looks: the bell that its door, its orders and all its queues ring, and which queues were pushed to and
-/// not found empty since. So a turn costs by what there is to send, and not by the number of queues. It is a hint: no
-/// clause of the sender rests on it, and at its end the sender tries all queues. This profile.
+/// Where a sender looks: the bell that its door, its orders and all its queues ring, and which queues were pushed to
+/// and not found empty since. So a turn costs by what there is to send, and not by the number of queues. It is a hint:
+/// no clause of the sender rests on it, and at its end the sender tries all queues. This profile.
 #[derive(Drop)]
 pub struct Hint {
     bell: Bell,

@@ -1,14 +1,17 @@
 //! The job of the thread that sends: it pops what the modules give and what the receivers answer, and says it on the
 //! links' mouths (`Sender`).
 //! It promises one list of acts that its lanes and mouths show: of each queue the items are said in their order, each
-//! once; a peer's new membership is greeted only behind the Bye of the old one, since a Hello is held back until so many
-//! departures of its link were noted; each Bye is noted to its link's receiver; a datagram that cannot be said is lost
-//! alone. After the stop order it ends when a turn over all queues finds nothing more.
-//! It sleeps while nothing is queued, on one bell for its door, its orders and all queues, and looks only where something
-//! was pushed (`Hint`): no promise rests on that. Which items there are is left to the modules, and who may wait for whom
-//! to the house.
+//! once; a peer's new membership is greeted only behind the Bye of the old one, since a Hello is held back until so
+//! many departures of its link were noted; each Bye is noted to its link's receiver; a datagram that cannot be said is
+//! lost alone.
+//! It sleeps while nothing is queued, on one bell for its door, its orders and all queues, and looks only where
+//! something was pushed (`Hint`): no promise rests on that. After the stop order it ends with a turn over all queues
+//! that found nothing more; of this it promises that the Hellos that it then holds back still wait. Which items there
+//! are is left to the modules, and who may wait for whom to the house.
 #![tactic(auto)]
 
+#[cfg(test)]
+mod bench;
 mod cells;
 mod hint;
 mod queue;
@@ -16,8 +19,11 @@ mod run;
 mod saying;
 mod sender;
 #[cfg(test)]
+mod serving_tests;
+#[cfg(test)]
 mod tests;
 mod turn;
 
 pub use hint::Hint;
+pub use saying::{say_item, say_reply};
 pub use sender::Sender;

@@ -12,8 +12,9 @@ use m17_control::{Direct, Item, spell, write};
 use m17_ports::Mouth;
 use m17_values::Peer;
 
-/// Says an item on the mouth of its link, unless it spells nothing.
-pub(crate) fn say_item<M: Mouth>(mouths: &mut Vec<M>, name: CallAddress, item: &Item)
+/// Says an item on the mouth of its link, in the name of the reflector, unless it spells nothing. There has to be such
+/// a link. Where the mouth fails it is lost, and nothing else. This profile.
+pub fn say_item<M: Mouth>(mouths: &mut Vec<M>, name: CallAddress, item: &Item)
     requires { item.now.link < vec_len mouths.old }
     ensures { SaysOn (told_by M.said M.tallies M.faults M.mark M.label) item.now.link
         (to_peer item.now.peer (packet_said item.now.body name))
@@ -29,8 +30,9 @@ pub(crate) fn say_item<M: Mouth>(mouths: &mut Vec<M>, name: CallAddress, item: &
     }
 }
 
-/// Says a reply on the mouth of its link.
-pub(crate) fn say_reply<M: Mouth>(mouths: &mut Vec<M>, reply: &Direct)
+/// Says a reply on the mouth of its link. There has to be such a link. Where the mouth fails it is lost, and nothing
+/// else. This profile.
+pub fn say_reply<M: Mouth>(mouths: &mut Vec<M>, reply: &Direct)
     requires { reply.now.link < vec_len mouths.old }
     ensures { SaysOn (told_by M.said M.tallies M.faults M.mark M.label) reply.now.link
         ((reply.now.peer, packets.Control reply.now.control) ∷ [])

@@ -13,11 +13,11 @@ use std::sync::Wait;
 
 /// The job of the thread that sends. It waits for its order; after `Go` it says, turn by turn, what the door holds, and
 /// at most one item of each queue, the queues in turn, each as one datagram by its link's mouth. A Hello is held back
-/// until at least as many notes as it waits for were pushed to its link; meanwhile its queue is not popped. After each Bye
-/// the member is pushed to its link's notes. What names a link or a place that is not there is passed over. A datagram
-/// that a mouth fails to say is lost, and nothing else. After `Stop` it ends with the first turn over all queues in which
-/// it neither popped nor said anything, and holds the Hellos that still wait. While there is nothing to do it sleeps until
-/// a lane of its bell is pushed to. After `Quit` it ends with all as it was. This profile.
+/// until at least as many notes as it waits for were pushed to its link; meanwhile its queue is not popped. After each
+/// Bye the member is pushed to its link's notes. What names a link or a place that is not there is passed over. A
+/// datagram that a mouth fails to say is lost, and nothing else. After `Stop` it ends with the first turn over all
+/// queues in which it neither popped nor said anything, and holds the Hellos that still wait. While there is nothing to
+/// do it sleeps until a lane of its bell is pushed to. After `Quit` it ends with all as it was. This profile.
 #[derive(Drop)]
 pub struct Sender<M> {
     /// The address in whose name it says PING, PONG and DISC.

@@ -17,8 +17,8 @@ use std::sync::Wait;
 const DOOR_CAPACITY: u32 = 256;
 
 impl<M: Mouth> Sender<M> {
-    /// A turn: what the door holds, and at most one item of each queue that may have something. Says whether anything was
-    /// popped or said.
+    /// A turn: what the door holds, and at most one item of each queue that may have something. Says whether anything
+    /// was popped or said.
     pub(crate) fn turn<R: Wait>(&mut self, rt: &R, noted: &mut [u64; LINKS]) -> bool
         requires shaped { IsShaped self.old }
         ensures goes_on { GoesOn (told_by M.said M.tallies M.faults M.mark M.label)

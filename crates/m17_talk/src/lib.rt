@@ -21,4 +21,6 @@ pub use reason::{ScriptFailure, ScriptReason};
 pub use talk_command::talk;
 
 #[cfg(test)]
+mod mouth_tests;
+#[cfg(test)]
 mod tests;

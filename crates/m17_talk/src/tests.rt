@@ -13,11 +13,11 @@ use std::sync::Wait;
 use std::test::Fail;
 
 /// `CONN` of AB1CD to module A, and its 10-byte `DISC`.
-const CONN: [u8; 11] = [0x43, 0x4F, 0x4E, 0x4E, 0, 0, 0, 0x9F, 0xDD, 0x51, 0x41];
+pub(crate) const CONN: [u8; 11] = [0x43, 0x4F, 0x4E, 0x4E, 0, 0, 0, 0x9F, 0xDD, 0x51, 0x41];
 
-const PART: [u8; 10] = [0x44, 0x49, 0x53, 0x43, 0, 0, 0, 0x9F, 0xDD, 0x51];
+pub(crate) const PART: [u8; 10] = [0x44, 0x49, 0x53, 0x43, 0, 0, 0, 0x9F, 0xDD, 0x51];
 
-type Done = Talked<ScriptEar, ListMouth, ListBook>;
+pub(crate) type Done = Talked<ScriptEar, ListMouth, ListBook>;
 
 fn peer(last: u8) -> Peer {
     let mut ip = [0; 16];
@@ -39,7 +39,7 @@ fn sent(last: u8, at: u64, bytes: &[u8]) -> Heard {
 }
 
 // A talk of AB1CD in module A with the reflector 10.0.0.9:17000.
-fn order(alloc: Global, book: Option<&str>) -> Result<TalkOrder, Fail> {
+pub(crate) fn order(alloc: Global, book: Option<&str>) -> Result<TalkOrder, Fail> {
     Ok(TalkOrder {
         call: CallAddress::new(ab1cd()).ok_or("no callsign")?,
         letter: ModuleLetter::new(b'A').ok_or("no module")?,
@@ -55,7 +55,7 @@ fn order(alloc: Global, book: Option<&str>) -> Result<TalkOrder, Fail> {
 }
 
 // The script of these moments, with frames of stream 1234 that are numbered from 0.
-fn script(alloc: Global, moments: &[u64]) -> Result<Vec<u8>, Fail> {
+pub(crate) fn script(alloc: Global, moments: &[u64]) -> Result<Vec<u8>, Fail> {
     let mut bytes = Vec::new(alloc);
     let mut number = 0u16;
     for at in moments {
@@ -68,20 +68,20 @@ fn script(alloc: Global, moments: &[u64]) -> Result<Vec<u8>, Fail> {
 
 // What fails: calls of the ports, of the mouth and of the book.
 #[derive(Clone, Copy)]
-struct Fails<'a> {
-    ports: &'a [u64],
-    mouth: &'a [u64],
-    book: &'a [u64],
+pub(crate) struct Fails<'a> {
+    pub(crate) ports: &'a [u64],
+    pub(crate) mouth: &'a [u64],
+    pub(crate) book: &'a [u64],
 }
 
-const NONE: Fails<'static> = Fails {
+pub(crate) const NONE: Fails<'static> = Fails {
     ports: &[],
     mouth: &[],
     book: &[],
 };
 
 // Ports with one link, whose ear hears this, and one book.
-fn ports(alloc: Global, heard: Vec<Heard>, fails: Fails) -> Result<ScriptPorts, Fail> {
+pub(crate) fn ports(alloc: Global, heard: Vec<Heard>, fails: Fails) -> Result<ScriptPorts, Fail> {
     let mouth = ListMouth::make(alloc, 32, fails.mouth.to_vec(alloc)?)
         .ok()
         .ok_or("no memory")?;
@@ -100,7 +100,7 @@ fn ports(alloc: Global, heard: Vec<Heard>, fails: Fails) -> Result<ScriptPorts, 
 }
 
 // Talks over such ports, and demands the ending and the line.
-fn expect<R: Abort + Wait>(
+pub(crate) fn expect<R: Abort + Wait>(
     rt: &R,
     alloc: Global,
     order: &TalkOrder,
@@ -118,7 +118,7 @@ fn expect<R: Abort + Wait>(
 }
 
 // What was said, one datagram after another.
-fn said(alloc: Global, done: &Done) -> Result<Vec<u8>, Fail> {
+pub(crate) fn said(alloc: Global, done: &Done) -> Result<Vec<u8>, Fail> {
     let mut all = Vec::new(alloc);
     if let Some((_, mouth, _)) = &done.devices {
         for (to, bytes) in mouth.list() {
@@ -132,7 +132,7 @@ fn said(alloc: Global, done: &Done) -> Result<Vec<u8>, Fail> {
 }
 
 // The client asks, is acknowledged, and is told to go.
-fn evening(alloc: Global) -> Result<Vec<Heard>, Fail> {
+pub(crate) fn evening(alloc: Global) -> Result<Vec<Heard>, Fail> {
     let heard = [
         Heard::Quiet { at: 0 },
         sent(9, 10, b"ACKN"),
@@ -309,29 +309,6 @@ fn a_book_keeps_what_was_heard_until_it_fails(rt: HostRuntime) -> Result<(), Fai
         assert!(rt; size <= whole.len());
         assert_eq!(rt; kept.bytes(), &whole[..size]);
     }
-    Ok(())
-}
-
-#[test]
-fn a_mouth_that_fails_loses_that_datagram_alone(rt: HostRuntime) -> Result<(), Fail> {
-    let alloc = rt.alloc();
-    let order = order(alloc, None)?;
-    let mouth: &[u64] = &[1];
-    let mut ports = ports(alloc, evening(alloc)?, Fails { mouth, ..NONE })?;
-    let bytes = script(alloc, &[0])?;
-    let line = "closed asked kept 0\n";
-    let done = expect(
-        &rt,
-        alloc,
-        &order,
-        bytes,
-        &mut ports,
-        TalkEnding::Finished,
-        line,
-    )?;
-    let mut wanted = CONN.to_vec(alloc)?;
-    wanted.extend_from_slice(&PART)?;
-    assert_eq!(rt; said(alloc, &done)?, wanted);
     Ok(())
 }
 

@@ -8,22 +8,22 @@ pub fn turns_grow()
     ensures { law.TurnsGrow }
 {}
 
-/// What is said to the memberships of a peer on a link stands in the order of the memberships, each with its own items in
-/// the order of its queue, if each later one's Hello waits for the notes of all before it: their Byes stand before their
-/// notes, and the notes before that Hello. What is said behind the acts, in whatever order of the queues, keeps to it. This
-/// profile.
+/// What is said to the memberships of a peer on a link stands in the order of the memberships, each with its own items
+/// in the order of its queue, if each later one's Hello waits for the notes of all before it: their Byes stand before
+/// their notes, and the notes before that Hello. What is said behind the acts, in whatever order of the queues, keeps
+/// to it. This profile.
 pub fn turns_keep_each_member_in_order()
     ensures { law.TurnsKeepEachMemberInOrder }
 {}
 
-/// The packets to a peer by a link are one order of two lists: the replies to it past all modules, and the packets of the
-/// items to it. This profile.
+/// The packets to a peer by a link are one order of two lists: the replies to it past all modules, and the packets of
+/// the items to it. This profile.
 pub fn replies_and_items_interleave()
     ensures { law.RepliesAndItemsInterleave }
 {}
 
-/// The packets to a peer by a link are one order of the replies to it past all modules, and of what its memberships there
-/// are told, one membership after another. This profile.
+/// The packets to a peer by a link are one order of the replies to it past all modules, and of what its memberships
+/// there are told, one membership after another. This profile.
 pub fn peers_are_told_in_order()
     ensures { law.PeersAreToldInOrder }
 {

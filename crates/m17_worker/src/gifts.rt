@@ -62,8 +62,8 @@ fn hand_over<R: Wait>(
     }
 }
 
-// Gives the place of the member back to whom this was said, again until the roll takes it. It rests between the tries. It
-// is handed the queues because the Bye has to stand in one of them first.
+// Gives the place of the member back to whom this was said, again until the roll takes it. It rests between the tries.
+// It is handed the queues because the Bye has to stand in one of them first.
 fn give_back<R: Wait>(rt: &R, offers: &LaneOffers, seat: &mut RollSeat, bye: &Item)
     requires said { IsSomeAnd (slice_get offers.now.queues.items bye.now.member.place)
         (λ q. Contains q.pushed bye.now) }

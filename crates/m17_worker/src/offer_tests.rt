@@ -1,10 +1,10 @@
-//! What no clause says of offers: that they are taken where there is room, and that an offer that waits goes on when the
-//! consumer pops.
+//! What no clause says of offers: that they are taken where there is room, and that an offer that waits goes on when
+//! the consumer pops.
 ghost use Rattle.std.specs.Prelude.{◌≡◌, ◌<◌, ◌≤◌, ◌+◌, ◌^◌, [], ◌∷◌, IfOk};
 ghost use Rattle.m17_worker.specs.Offers.{AreQueues};
 
 use crate::{LaneOffers, Offered};
-use m17_control::{Item, Said, Why};
+use m17_control::{Control, Item, Said, Why};
 use m17_lane::{Popper, make_one};
 use m17_samples::frame;
 use m17_values::{Member, Peer};
@@ -136,13 +136,31 @@ fn offer_by_value<R: Wait>(rt: &R, offers: LaneOffers, item: Item) -> (LaneOffer
     (offers, offered)
 }
 
+// Fills a queue with frames, and offers one item more to a late consumer: what became of it, and how many were missed.
+fn offer_past_frames<R: Threads + Wait + Clock + Sync>(
+    rt: &R,
+    alloc: Global,
+    body: Said,
+) -> Result<(Offered, u64), Fail> {
+    let (mut offers, popper) = one_queue(alloc, false)?;
+    if offer_frames(rt, &mut offers, 64) < 64 {
+        return Err("there was no room".into());
+    }
+    let (offers, offered) = offer_to_a_late_consumer(rt, offers, popper, item(body));
+    Ok((offered, offers.missed))
+}
+
 #[test]
-fn a_bye_waits_where_the_queue_is_full(rt: HostRuntime) -> Result<(), Fail> {
-    let (mut offers, popper) = one_queue(rt.alloc(), false)?;
-    assert_eq!(rt; offer_frames(&rt, &mut offers, 64), 64);
-    let bye = item(Said::Bye { why: Why::Asked });
-    let (offers, offered) = offer_to_a_late_consumer(&rt, offers, popper, bye);
-    assert_eq!(rt; (offered, offers.missed), (Offered::Queued, 0));
+fn bye_hello_and_reply_wait_where_the_queue_is_full(rt: HostRuntime) -> Result<(), Fail> {
+    let alloc = rt.alloc();
+    let bye = Said::Bye { why: Why::Asked };
+    let hello = Said::Hello { after: 0 };
+    let control = Control::Nack;
+    let reply = Said::Reply { control };
+    let waited = (Offered::Queued, 0);
+    assert_eq!(rt; offer_past_frames(&rt, alloc, bye)?, waited);
+    assert_eq!(rt; offer_past_frames(&rt, alloc, hello)?, waited);
+    assert_eq!(rt; offer_past_frames(&rt, alloc, reply)?, waited);
     Ok(())
 }
 

@@ -23,7 +23,8 @@ use m17_ports::Book;
 use std::sync::Wait;
 
 impl<B: Book> Worker<B> {
-    // Pops the next event, and serves it where it names a link and a place that are there. Answers how many were served.
+    // Pops the next event, and serves it where it names a link and a place that are there. Answers how many were
+    // served.
     pub(crate) fn turn<R: Wait>(
         &mut self,
         rt: &R,

@@ -19,14 +19,14 @@ use m17_roll::RollSeat;
 use m17_rows::starts;
 use std::sync::Wait;
 
-/// The job of a module's thread: it takes the events of the module, up to the Stop of each link, and does with each what
-/// the module makes of it. It owns all that it needs and takes no memory.
+/// The job of a module's thread: it takes the events of the module, up to the Stop of each link, and does with each
+/// what the module makes of it. It owns all that it needs and takes no memory.
 ///
-/// For each event, in this order: the module takes it in; what that gives is offered to the queues, in order, and behind
-/// each Bye its member's place is given back to the roll, again until it is taken, but for a Leave with `Replaced`; the
-/// records of the event go to the book, one write each, and its verdict to the tape. An event that names a link or a
-/// place that isn't there is passed over. The book's header is written before the first event, and a book that failed is
-/// written no more. After `Quit` nothing but the order is touched. This profile.
+/// For each event, in this order: the module takes it in; what that gives is offered to the queues, in order, and
+/// behind each Bye its member's place is given back to the roll, again until it is taken, but for a Leave with
+/// `Replaced`; the records of the event go to the book, one write each, and its verdict to the tape. An event that
+/// names a link or a place that isn't there is passed over. The book's header is written before the first event, and a
+/// book that failed is written no more. After `Quit` nothing but the order is touched. This profile.
 #[derive(Drop)]
 pub struct Worker<B> {
     /// The letter of the module, `A` to `Z`.

@@ -3,6 +3,7 @@ ghost use Rattle.std.specs.Prelude.{◌≡◌, ℕ, ◌+◌, ◌<◌, length, ma
 ghost use Rattle.std.specs.List.{All};
 ghost use Rattle.atomic_table.specs.Seated.{TableId};
 ghost use Rattle.m17_roll.specs.Closing.{AreAll, claims_of, gifts_of, IsEnded};
+ghost use Rattle.m17_roll.specs.Sightings.{RisesAtPlaces};
 ghost use Rattle.m17_roll.specs.Joined.{first_gathered, with_seat, IsGathered, end_of};
 
 use super::{RollSeat, Words};
@@ -114,20 +115,24 @@ impl Gathering {
 }
 
 /// Ends a roll: takes all its seats, as many as `make` gave, in any order, and shows what was claimed and given back in
-/// all, the words of the places, and each seat's refused askers, in the order of the seats. This profile.
+/// all, the words of the places, and each seat's refused askers, in the order of the seats. Of two claims of a seat at one
+/// place the later has the greater generation. This profile.
 pub fn close(mut seats: Vec<RollSeat>) -> RollEnd
     requires { (roll : TableId) × (places : ℕ) × AreAll roll places seats.items }
     ensures claimed { result.claimed ≡ claims_of seats.items }
     ensures given { result.given ≡ gifts_of seats.items }
     ensures refused { result.refused ≡ map (λ s. s.refused) seats.items }
     ensures places { All (λ s. s.places ≡ length result.words) seats.items }
+    ensures rising { All (λ s. RisesAtPlaces s.claimed) seats.items }
     ensures ended { IsEnded result }
 {
     let Some(last) = seats.pop() else {
         unreachable!()
     };
+    last.in_order();
     let mut gathering = Gathering::begin(last);
     while let Some(seat) = seats.pop() {
+        seat.in_order();
         gathering.take_in(seat);
     }
     gathering.settle()

@@ -1,8 +1,13 @@
-use Rattle.std.proofs.Common.{subst, List, ℕ}
+use Rattle.std.proofs.Common.{subst, sym, ap, ◌∙◌, not, List, ℕ}
 use Rattle.m17_ports.specs.Tallies.{IsTallied}
 use Rattle.m17_port_memory.specs.Peers.{tally_at}
-use Rattle.m17_house.proofs.Tallies.{say_spelled}
+use Rattle.m17_house.proofs.Tallies.{say_spelled, say_unnamed, no_tally_there}
 use Rattle.m17_house.proofs.voice.say_item.Goals as goal
+
+pub returns-then-is_none : goal.returns-then-is_none
+returns-then-is_none c =
+    say_unnamed c.args.item.now c.args.name c.args.mouth.now
+    (sym c.tally.ensures.value ∙ no_tally_there c.tally.result (c.is_none.ensures ∙ ap not c.if-is_none.true))
 
 pub returns-in-Some : goal.returns-in-Some
 returns-in-Some c =

@@ -10,6 +10,3 @@ make_bench-requires-clause-ear g c = subst (λ (e : ScriptKept). StartsEmpty (So
 
 pub make_bench-requires-clause-trace : goal.make_bench-requires-clause-trace
 make_bench-requires-clause-trace g c = subst (λ (b : WrittenKept). StartsEmpty (Some b.written)) (sym c.in_ok-trace.ensures.made) (λ all is. sym (same_Some [] all is))
-
-pub go-requires : goal.go-requires
-go-requires g c = (λ a m. m, (λ a m. m, c.in_ok-b.ensures))

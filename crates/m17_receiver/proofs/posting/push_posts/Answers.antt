@@ -1,4 +1,4 @@
-use Rattle.std.proofs.Common.{[], ◌∷◌, sym, ap, ◌∙◌}
+use Rattle.std.proofs.Common.{[], ◌∷◌, sym, ap, ◌∙◌, refl}
 use Rattle.m17_receiver.specs.Posting.{Outlets}
 use Rattle.m17_receiver.specs.SoFar.{posting}
 use Rattle.m17_receiver.proofs.Posted.{posting_more}
@@ -15,5 +15,12 @@ posts-preserved g c =
           ∙ posting_more law modules (c.in-Some.dispatch ∷ []) c.take.new.self old
           ∙ ap (λ ds. posting modules ds old) (sym first)
           ∙ c.posts.invariant.pushed;
+      lanes = record {
+        inboxes = c.push_one.ensures.lanes.inboxes ∙ c.posts.invariant.lanes.inboxes;
+        door = c.push_one.ensures.lanes.door ∙ c.posts.invariant.lanes.door;
+      };
       room = c.push_one.ensures.room ∙ c.posts.invariant.room;
     }
+
+pub posts-init : goal.posts-init
+posts-init g c = record { pushed = refl; lanes = record { inboxes = refl; door = refl }; room = refl }

@@ -6,7 +6,7 @@ use Rattle.m17_roll.proofs.seat.closing.close.Goals as goal
 
 pub loop-seat-init : goal.loop-seat-init
 loop-seat-init c =
-    rw c.begin-gathering.ensures (begins_with c.requires.0 c.requires.1 c.args.seats.items c.pop.new.self.items c.in-Some.last c.requires.2 (search rules))
+    rw c.begin-gathering.ensures (begins_with c.requires.0 c.requires.1 c.args.seats.items c.pop.new.self.items c.in-Some.last c.requires.2 (search rules) c.in_order.ensures.rising)
 
 pub returns-clause-places : goal.returns-clause-places
 returns-clause-places c k d lt =

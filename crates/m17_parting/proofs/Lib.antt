@@ -1,0 +1,6 @@
+mod Acts
+mod Mouths
+mod Steps
+mod Places
+mod Finishing
+mod Parting

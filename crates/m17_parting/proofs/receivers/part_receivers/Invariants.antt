@@ -1,0 +1,15 @@
+use Rattle.std.proofs.Common.{◌≡◌, List, ◌++◌, reverse, vec_len, vec_capacity}
+use Rattle.m17_receiver.specs.declared.receiver.Receiver.{Receiver}
+use Rattle.m17_parting.specs.Parts.{AreReceiverParts, HasReceiverRoom}
+use Rattle.m17_parting.proofs.receivers.part_receivers.Given as goal
+
+-- these were taken apart, and the others stand in reverse
+abbrev pub invariant-loop-job : goal.invariant-loop-job
+invariant-loop-job g l = record {
+  done : (gone : List (Receiver g.row.E.Denot g.row.B.Denot)) × (l.fn.jobs.items ≡ gone ++ reverse l.jobs.items) × AreReceiverParts gone l.fn.parts l.parts;
+  room : HasReceiverRoom (vec_len l.jobs) l.parts;
+  seat_room : vec_capacity l.parts.seats ≡ vec_capacity l.fn.parts.seats;
+}
+
+abbrev pub decreases-loop-job : goal.decreases-loop-job
+decreases-loop-job g l = vec_len l.jobs

@@ -1,0 +1,13 @@
+use Rattle.std.proofs.Common.{Option, Some, sym, subst}
+use Rattle.m17_control.specs.declared.item.Item.{Item}
+use Rattle.m17_sender.specs.Places.{held_in}
+use Rattle.m17_sender.specs.Sent.{told_by}
+use Rattle.m17_parting.specs.Saying.{SaysItems}
+use Rattle.m17_parting.proofs.Mouths.{items_none}
+use Rattle.m17_parting.proofs.rest.say_held.Goals as goal
+
+pub returns-in-None : goal.returns-in-None
+returns-in-None g c =
+    subst (λ (held : Option Item). SaysItems (told_by g.M.Mouth.said g.M.Mouth.tallies g.M.Mouth.faults g.M.Mouth.mark g.M.Mouth.label) c.args.name (held_in (Some held))
+    c.args.mouths.now.items c.args.mouths.now.items) (sym c.in-None.is)
+    (items_none (told_by g.M.Mouth.said g.M.Mouth.tallies g.M.Mouth.faults g.M.Mouth.mark g.M.Mouth.label) c.mouths_say_in_turn.ensures c.args.name c.args.mouths.now.items)

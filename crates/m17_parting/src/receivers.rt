@@ -1,0 +1,84 @@
+//! What receivers are made of, taken out of them.
+ghost use Rattle.std.specs.Prelude.{◌≡◌, ℕ, ◌+◌, ◌∷◌, [], vec_len, vec_capacity};
+ghost use Rattle.m17_parting.specs.Parts.{AreReceiverParts, HasReceiverRoom};
+
+use m17_control::{Direct, Event};
+use m17_crew::Order;
+use m17_directory::LinkVerdict;
+use m17_lane::{Popper, Pusher};
+use m17_receiver::Receiver;
+use m17_roll::RollSeat;
+use m17_values::Member;
+
+/// What came out of receivers, in the order of the links. Before, these are empty vectors with room. This profile.
+#[derive(Drop)]
+pub struct ReceiverParts<E, B> {
+    /// The receiving half of each link.
+    pub ears: Vec<E>,
+    /// What each link heard, as it was written.
+    pub traces: Vec<B>,
+    /// The ends of the inboxes that each link pushed to, in order of modules.
+    pub columns: Vec<Vec<Pusher<Event>>>,
+    /// The ends of the door.
+    pub doors: Vec<Pusher<Direct>>,
+    /// The ends of the notes.
+    pub noted: Vec<Popper<Member>>,
+    /// The ends of the orders.
+    pub orders: Vec<Popper<Order>>,
+    /// The seats at the roll.
+    pub seats: Vec<RollSeat>,
+    /// The verdicts of each link's first entries.
+    pub tapes: Vec<Vec<Option<LinkVerdict>>>,
+    /// Whether some link ended by 16 failures of its socket in a row.
+    pub lost: bool,
+    /// Whether a write of some trace failed.
+    pub failed: bool,
+}
+
+/// Takes the receivers apart, from the first to the last: what each is made of goes behind what there is. There has to
+/// be room for it. It allocates nothing. This profile.
+pub fn part_receivers<E, B>(jobs: &mut Vec<Receiver<E, B>>, parts: &mut ReceiverParts<E, B>)
+    requires room { HasReceiverRoom (vec_len jobs.old) parts.old }
+    ensures parts { AreReceiverParts jobs.old.items parts.old parts.new }
+    ensures emptied { jobs.new.items ≡ [] }
+    ensures seat_room { vec_capacity parts.new.seats ≡ vec_capacity parts.old.seats }
+{
+    jobs.reverse();
+    while let Some(job) = jobs.pop() {
+        parts.take(job);
+    }
+}
+
+impl<E, B> ReceiverParts<E, B> {
+    // Takes one receiver apart.
+    fn take(&mut self, job: Receiver<E, B>)
+        requires room { HasReceiverRoom 1 self.old }
+        ensures parts { AreReceiverParts (job ∷ []) self.old self.new }
+        ensures room { (n : ℕ) → HasReceiverRoom (n + 1) self.old → HasReceiverRoom n self.new }
+        ensures seat_room { vec_capacity self.new.seats ≡ vec_capacity self.old.seats }
+    {
+        let Receiver {
+            ear,
+            trace,
+            inboxes,
+            door,
+            notes,
+            order,
+            seat,
+            tape,
+            lost,
+            trace_failed,
+            ..
+        } = job;
+        self.ears.push_reserved(ear);
+        self.traces.push_reserved(trace);
+        self.columns.push_reserved(inboxes);
+        self.doors.push_reserved(door);
+        self.noted.push_reserved(notes);
+        self.orders.push_reserved(order);
+        self.seats.push_reserved(seat);
+        self.tapes.push_reserved(tape);
+        self.lost = self.lost || lost;
+        self.failed = self.failed || trace_failed;
+    }
+}

@@ -1,0 +1,57 @@
+-- The members of a run, from what the closed roll shows: each place claimed is there, and each member claimed joins once.
+use Rattle.std.proofs.Common.{◌≡◌, ℕ, List, map, length, All, Some, sym, ap, ◌∙◌, arith}
+use Rattle.std.specs.Prelude.{slice_get}
+use Rattle.std.specs.List.{flat_map}
+use Rattle.std.proofs.lemmas.List.Elements.{All-from_recursion, recursion_from_All}
+use Rattle.m17_values.specs.declared.heard.Heard.{Heard}
+use Rattle.m17_receiver.specs.Devices.{IsCounted}
+use Rattle.m17_lane.specs.Ends.{PushEnd}
+use Rattle.m17_rows.specs.Rows.{IsNewPusher, IsNewRow}
+use Rattle.m17_roll.specs.Laws.{NoMemberIsClaimedTwice}
+use Rattle.m17_roll.specs.Run.{IsRollRun}
+use Rattle.m17_reflect.specs.Links.{Link, At}
+use Rattle.m17_reflect.specs.Places.{AreSame, joiners}
+use Rattle.m17_reflect.specs.Queues.{QueuesCarry}
+use Rattle.m17_reflect.specs.Run.{Run}
+use Rattle.m17_reflect.specs.Trails.{events_of, AreTrails}
+use Rattle.m17_reflect.proofs.Came.{all_at}
+use Rattle.m17_reflect.proofs.Differ.{links_differ}
+use Rattle.m17_reflect.proofs.Joining.{claims_in}
+use Rattle.m17_reflect.proofs.Members.{AreMembers}
+use Rattle.m17_reflect.proofs.Noted.{all_in}
+use Rattle.m17_reflect.proofs.Once.{claimed_once, joins_once}
+use Rattle.m17_reflect.proofs.Seats.{claims_placed}
+use Rattle.m17_reflect.proofs.Together.{mapped_at}
+use Rattle.m17_reflect.proofs.Waiting.{ClaimsDiffer}
+
+-- What the roll of a run shows: its claims are the links', and their members are those of the Joins of all trails.
+pub record IsRollOfRun {L : Type 0} (run : Run L) (links : List Link) : Type 0 where
+  pub roll : IsRollRun run.handed.roll.words run.handed.roll.claimed run.handed.roll.given
+  pub count : length run.handed.roll.words ≡ run.plan.places
+  pub claims : run.handed.roll.claimed ≡ claims_in links
+  pub joins : AreSame (flat_map (λ trail. joiners (events_of trail)) run.handed.trails) run.handed.roll.claimed
+
+module _ {L : Type 0} where
+  -- The members of a run.
+  pub are_members : (run : Run L) (links : List Link) → AreTrails run.plan links run.handed.trails → QueuesCarry run → IsRollOfRun run links → AreMembers run links
+  are_members run links trails queues is =
+      let roll = run.handed.roll in record {
+        carried = record { trails = trails; queues = queues };
+        placed = claims_placed roll run.plan.places links is.roll is.count is.claims;
+        once = λ k lt. joins_once run.handed.trails roll.claimed k is.joins
+            (claimed_once roll.words roll.claimed roll.given k is.roll (let count = is.count in omega arith));
+      }
+
+  -- No two claims of a link are of one member.
+  pub members_differ : NoMemberIsClaimedTwice → (run : Run L) (links : List Link) → IsRollOfRun run links → (i : ℕ) (link : Link) → At links i link → ClaimsDiffer link.entries
+  members_differ law run links is = links_differ law run.handed.roll links is.roll is.claims
+
+-- What each ear heard is counted, link by link.
+pub heard_counted : (links : List Link) (heard : List (List Heard)) → map (λ (link : Link). link.heard) links ≡ heard → All IsCounted heard → (i : ℕ) (link : Link) → At links i link → IsCounted link.heard
+heard_counted links heard e counted i link at =
+    all_at IsCounted heard (recursion_from_All IsCounted heard counted) i link.heard
+    (ap (λ (l : List (List Heard)). slice_get l i) (sym e) ∙ mapped_at (λ (link : Link). link.heard) links i link at)
+
+-- A row of new pushers, one by one.
+pub new_row : {T : Type 0} (qs : List (PushEnd T)) → ((i : ℕ) (q : PushEnd T) → slice_get qs i ≡ Some q → IsNewPusher q) → IsNewRow qs
+new_row qs h = All-from_recursion IsNewPusher qs (all_in IsNewPusher qs h)

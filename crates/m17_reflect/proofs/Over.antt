@@ -1,0 +1,199 @@
+-- A run whose calls have returned, as its devices and what came back show it.
+use Rattle.std.proofs.Common.{◌≡◌, ℕ, zero, suc, ◌+◌, ◌<◌, Bool, List, [], ◌∷◌, ◌++◌, map, length, All, Option, Some, sym, subst, refl, ap, ◌∙◌, arith}
+use Rattle.std.specs.Prelude.{◌||◌, slice_get, slice_index_or}
+use Rattle.std.specs.List.{AllZip, list_any}
+use Rattle.std.proofs.lemmas.List.{length-map}
+use Rattle.std.proofs.lemmas.List.Elements.{recursion_from_All}
+use Rattle.atomic_table.specs.Seated.{TableId}
+use Rattle.m17_values.specs.declared.heard.Heard.{Heard}
+use Rattle.m17_ports.specs.Said.{MouthTold}
+use Rattle.m17_control.specs.declared.event.Event.{Event}
+use Rattle.m17_control.specs.declared.item.Item.{Item}
+use Rattle.m17_control.specs.declared.item.Direct.{Direct}
+use Rattle.m17_floor.specs.declared.verdict.Verdict.{Verdict}
+use Rattle.m17_directory.specs.declared.verdict.LinkVerdict.{LinkVerdict}
+use Rattle.m17_lane.specs.Ends.{PushEnd, PopEnd, TrailEnd}
+use Rattle.m17_grid.specs.Trails as grid
+use Rattle.m17_grid.specs.Trails.{IsTrailOf, AreTrailsOfOnes}
+use Rattle.m17_roll.specs.Closing.{EndView, AreAll}
+use Rattle.m17_roll.specs.Seat.{RollView, IsSeatOf}
+use Rattle.m17_receiver.specs.declared.receiver.Receiver.{Receiver}
+use Rattle.m17_worker.specs.declared.worker.Worker.{Worker}
+use Rattle.m17_sender.specs.declared.sender.Sender.{Sender}
+use Rattle.m17_sender.specs.Places.{queues_of, cells_of}
+use Rattle.m17_parting.specs.Left.{drained}
+use Rattle.m17_parting.specs.Rest.{SaysRest}
+use Rattle.m17_parting.specs.Rows.{AreOfOnes, AreRowsOfTrails}
+use Rattle.m17_house.specs.declared.plan.Plan.{Plan}
+use Rattle.m17_reflect.specs.declared.returned.Returned.{Returned}
+use Rattle.m17_reflect.specs.declared.parted.Links.{Links}
+use Rattle.m17_reflect.specs.declared.parted.Modules.{Modules}
+use Rattle.m17_reflect.specs.declared.parted.Voice.{Voice}
+use Rattle.m17_reflect.specs.Gathered.{IsClosedOf, HasEnded}
+use Rattle.m17_reflect.specs.Headline.{Headline}
+use Rattle.m17_reflect.specs.Parted.{AreOfReceivers, AreOfWorkers, IsOfSender}
+use Rattle.m17_reflect.specs.Run.{Run, Devices, Handed}
+use Rattle.m17_reflect.specs.Views as views
+use Rattle.m17_reflect.specs.Views.{Words, Kinds}
+use Rattle.m17_reflect.proofs.AllQueues.{lost_of}
+use Rattle.m17_reflect.proofs.Assembled.{Course, Jobs, Made, run_of, shows, hands, ear_words, book_words}
+use Rattle.m17_reflect.proofs.Calls.{Cast, Raw, Back}
+use Rattle.m17_reflect.proofs.Came.{ear_tells, trace_tells, tape_of, column_of, all_at}
+use Rattle.m17_reflect.proofs.CameBack.{queues_at, door_of, notes_at}
+use Rattle.m17_reflect.proofs.Ends.{map_twice}
+use Rattle.m17_reflect.proofs.Failed.{trace_failed_of, book_failed_of}
+use Rattle.m17_reflect.proofs.Gave.{worker_seat}
+use Rattle.m17_reflect.proofs.Modules.{inbox_of}
+use Rattle.m17_reflect.proofs.RowsBack.{rows_made, rows_trails}
+use Rattle.m17_reflect.proofs.Seats.{seat_of}
+use Rattle.m17_reflect.proofs.Whole.{Laws, IsOver, whole}
+use Rattle.m17_reflect.proofs.Worked.{Rows, book_tells}
+
+-- What `gather` says.
+pub record Gathered {E M B L : Type 0} (words : Words E M B L) (links : Links E B) (modules : Modules B) (voice : Voice M)
+    (seats : List RollView) (r : Returned E M B) : Type 0 where
+  pub devices : (r.ears ≡ links.ears) × (r.traces ≡ links.traces) × (r.books ≡ modules.books)
+  pub trails : grid.AreTrails (map (λ column. column.items) links.columns.items) modules.inboxes.items r.trails.items
+  pub ended : HasEnded words.told links modules voice (map (λ row. row.items) r.queues.items) r.mouths.items
+  pub roll : IsClosedOf seats r.roll
+  pub places : All (λ s. s.places ≡ length r.roll.words) seats
+  pub counts : (r.missed ≡ modules.missed) × (r.admitted ≡ modules.admitted)
+  pub tapes : (r.link_tapes ≡ links.tapes) × (r.tapes ≡ modules.tapes)
+  pub flags : (r.lost ≡ links.lost) × (r.book_failed ≡ (links.failed || modules.failed))
+
+abbrev devices : {L : Type 0} → List (Option (List Heard) × ℕ) → List (MouthTold L) → List (Option (List ℕ) × ℕ) → List (Option (List ℕ) × ℕ) → Devices L
+devices ears mouths traces books = record { ears = ears; mouths = mouths; traces = traces; books = books }
+
+same_devices : {L : Type 0} (a a' : List (Option (List Heard) × ℕ)) (b b' : List (MouthTold L)) (c c' d d' : List (Option (List ℕ) × ℕ)) → a ≡ a' → b ≡ b' → c ≡ c' → d ≡ d' → devices a b c d ≡ devices a' b' c' d'
+same_devices a a' b b' c c' d d' e f g h =
+    ap (λ x. devices x b c d) e ∙ ap (λ x. devices a' x c d) f ∙ ap (λ x. devices a' b' x d) g ∙ ap (λ x. devices a' b' c' x) h
+
+abbrev handed : List (TrailEnd Event) → EndView → List (List (TrailEnd Item)) → List ℕ → List ℕ → List (List (Option LinkVerdict)) → List (List (Option Verdict)) → Bool → Bool → Handed
+handed trails roll queues missed admitted link_tapes tapes lost failed = record {
+  trails = trails;
+  queues = queues;
+  roll = roll;
+  missed = missed;
+  admitted = admitted;
+  link_tapes = link_tapes;
+  tapes = tapes;
+  lost = lost;
+  book_failed = failed;
+}
+
+same_handed : (ts : List (TrailEnd Event)) (roll : EndView) (a a' : List (List (TrailEnd Item))) (b b' c c' : List ℕ) (d d' : List (List (Option LinkVerdict))) (e e' : List (List (Option Verdict))) (f f' g g' : Bool) → a ≡ a' → b ≡ b' → c ≡ c' → d ≡ d' → e ≡ e' → f ≡ f' → g ≡ g' → handed ts roll a b c d e f g ≡ handed ts roll a' b' c' d' e' f' g'
+same_handed ts roll a a' b b' c c' d d' e e' f f' g g' p q r s t u v =
+    ap (λ x. handed ts roll x b c d e f g) p ∙ ap (λ x. handed ts roll a' x c d e f g) q
+    ∙ ap (λ x. handed ts roll a' b' x d e f g) r ∙ ap (λ x. handed ts roll a' b' c' x e f g) s
+    ∙ ap (λ x. handed ts roll a' b' c' d' x f g) t ∙ ap (λ x. handed ts roll a' b' c' d' e' x g) u
+    ∙ ap (λ x. handed ts roll a' b' c' d' e' f' x) v
+
+abbrev a_run : {L : Type 0} → Plan → Devices L → Devices L → Handed → Run L
+a_run plan before after hand = record { plan = plan; before = before; after = after; handed = hand }
+
+same_run : {L : Type 0} (plan : Plan) (a a' b b' : Devices L) (c c' : Handed) → a ≡ a' → b ≡ b' → c ≡ c' → a_run plan a b c ≡ a_run plan a' b' c'
+same_run plan a a' b b' c c' e f g =
+    ap (λ x. a_run plan x b c) e ∙ ap (λ x. a_run plan a' x c) f ∙ ap (λ x. a_run plan a' b' x) g
+
+both_flags : (a a' b b' : Bool) → a ≡ a' → b ≡ b' → a || b ≡ a' || b'
+both_flags a a' b b' e f = ap (λ (x : Bool). x || b) e ∙ ap (λ (x : Bool). a' || x) f
+
+-- The jobs' devices are these.
+pub record HaveDevices {E M B : Type 0} (k : Cast E M B) (d : Kinds E M B) : Type 0 where
+  pub ears : map (λ (j : Receiver E B). j.ear) k.js ≡ d.ears
+  pub traces : map (λ (j : Receiver E B). j.trace) k.js ≡ d.traces
+  pub books : map (λ (w : Worker B). w.book) k.ws ≡ d.books
+  pub mouths : k.s.mouths.items ≡ d.mouths
+
+-- The run, by its jobs.
+abbrev pub course : {E M B L : Type 0} → Words E M B L → Plan → Cast E M B → Returned E M B → List Rows → Course E M B L
+course words plan k r rows = record {
+  words = words;
+  plan = plan;
+  before = record { receivers = k.js; workers = k.ws; mouths = k.s.mouths.items };
+  after = record { receivers = k.ks; workers = k.vs; mouths = r.mouths.items };
+  made = record { trails = r.trails.items; rows = rows; roll = r.roll };
+}
+
+module _ {E M B L : Type 0} where
+  -- the run as it shows itself
+  pub shown : (words : Words E M B L) (plan : Plan) (k : Cast E M B) (d : Kinds E M B) (links : Links E B) (modules : Modules B) (voice : Voice M) (seats : List RollView) (r : Returned E M B) (heads : List (List (PopEnd Item))) → HaveDevices k d → AreOfReceivers k.ks links → AreOfWorkers k.vs modules → (g : Gathered words links modules voice seats r) → length g.ended.rows ≡ length heads → run_of (course words plan k r (rows_made heads g.ended.rows)) ≡ views.run_of words plan d r
+  shown words plan k d links modules voice seats r heads of w v g long =
+      let ew = ear_words words in let bw = book_words words in
+      same_run plan (shows words (record { receivers = k.js; workers = k.ws; mouths = k.s.mouths.items })) (views.devices_of words d)
+      (shows words (record { receivers = k.ks; workers = k.vs; mouths = r.mouths.items })) (views.devices_of words (views.kinds_back r))
+      (hands (record { receivers = k.ks; workers = k.vs; mouths = r.mouths.items }) (record { trails = r.trails.items; rows = rows_made heads g.ended.rows; roll = r.roll })) (views.handed_of r)
+      (same_devices _ _ _ _ _ _ _ _
+      (sym (map_twice (λ (j : Receiver E B). j.ear) (λ ear. (words.heard ear, words.ear_faults ear)) k.js) ∙ ap (map (λ ear. (words.heard ear, words.ear_faults ear))) of.ears)
+      (ap (map words.told) of.mouths)
+      (sym (map_twice (λ (j : Receiver E B). j.trace) (λ trace. (words.written trace, words.book_faults trace)) k.js) ∙ ap (map (λ trace. (words.written trace, words.book_faults trace))) of.traces)
+      (sym (map_twice (λ (w : Worker B). w.book) (λ book. (words.written book, words.book_faults book)) k.ws) ∙ ap (map (λ book. (words.written book, words.book_faults book))) of.books))
+      (same_devices _ _ _ _ _ _ _ _
+      (sym (map_twice (λ (j : Receiver E B). j.ear) (λ ear. (words.heard ear, words.ear_faults ear)) k.ks) ∙ ap (map (λ ear. (words.heard ear, words.ear_faults ear))) (sym (ap (λ es. es.items) g.devices.0 ∙ w.ears)))
+      refl
+      (sym (map_twice (λ (j : Receiver E B). j.trace) (λ trace. (words.written trace, words.book_faults trace)) k.ks) ∙ ap (map (λ trace. (words.written trace, words.book_faults trace))) (sym (ap (λ es. es.items) g.devices.1 ∙ w.traces)))
+      (sym (map_twice (λ (w : Worker B). w.book) (λ book. (words.written book, words.book_faults book)) k.vs) ∙ ap (map (λ book. (words.written book, words.book_faults book))) (sym (ap (λ es. es.items) g.devices.2 ∙ v.books))))
+      (same_handed r.trails.items r.roll _ _ _ _ _ _ _ _ _ _ _ _ _ _
+      (rows_trails heads g.ended.rows long ∙ sym g.ended.drained_rows)
+      (sym (ap (λ es. es.items) g.counts.0 ∙ v.missed))
+      (sym (ap (λ es. es.items) g.counts.1 ∙ v.admitted))
+      (sym (map_twice (λ (j : Receiver E B). j.tape) (λ tape. tape.items) k.ks) ∙ ap (map (λ tape. tape.items)) (sym (ap (λ es. es.items) g.tapes.0 ∙ w.tapes)))
+      (sym (map_twice (λ (w : Worker B). w.tape) (λ tape. tape.items) k.vs) ∙ ap (map (λ tape. tape.items)) (sym (ap (λ es. es.items) g.tapes.1 ∙ v.tapes)))
+      (sym (g.flags.0 ∙ w.lost))
+      (sym (g.flags.1 ∙ both_flags links.failed _ modules.failed _ w.failed v.failed)))
+
+-- as many words as each seat's roll has places
+words_long : (roll : TableId) (places n : ℕ) (seats : List RollView) → AreAll roll places seats → All (λ s. s.places ≡ n) seats → n ≡ places
+words_long roll places n [] all h = absurd (let some = all.some_seat in omega arith)
+words_long roll places n (x ∷ seats) all h =
+    sym (recursion_from_All (λ (s : RollView). s.places ≡ n) (x ∷ seats) h).0
+    ∙ (recursion_from_All (IsSeatOf roll (length (x ∷ seats)) places) (x ∷ seats) all.each).0.2
+
+module _ {E M B L : Type 0} where
+  -- the run is over
+  pub over : (words : Words E M B L) (plan : Plan) (k : Cast E M B) (t : Sender M) (links : Links E B) (modules : Modules B) (voice : Voice M) (seats : List RollView) (r : Returned E M B) (roll : TableId) → Raw words plan k → Back words k t → AreOfReceivers k.ks links → AreOfWorkers k.vs modules → IsOfSender t voice → seats ≡ map seat_of k.ks ++ map worker_seat k.vs → AreAll roll plan.places seats → AllZip AreOfOnes (map (λ row. row.items) modules.queues.items) (map (λ row. row.items) voice.queues.items) → (g : Gathered words links modules voice seats r) → IsOver (course words plan k r (rows_made (queues_of t) g.ended.rows)) k.s t
+  over words plan k t links modules voice seats r roll h b w v o are all rows g =
+      let heads : map (λ row. row.items) voice.queues.items ≡ queues_of t = ap (λ qs. map (λ row. row.items) qs.items) o.queues in
+      let queues : map (λ row. row.items) modules.queues.items ≡ map queues_at k.vs = ap (map (λ row. row.items)) v.queues ∙ map_twice (λ (w : Worker B). w.offers.queues) (λ row. row.items) k.vs in
+      let columns : map (λ column. column.items) links.columns.items ≡ map column_of k.ks = ap (map (λ column. column.items)) w.columns ∙ map_twice (λ (j : Receiver E B). j.inboxes) (λ column. column.items) k.ks in
+      let e = g.ended in record {
+        jobs = h.jobs;
+        received = h.told_r.jobs;
+        worked = h.told_w.jobs;
+        sent = b.did;
+        shaped = h.shaped;
+        mouths = refl;
+        receiver_lines = k.lr;
+        to_receivers = b.to_receivers;
+        worker_lines = k.lw;
+        to_workers = b.to_workers;
+        sender_lines = k.ls;
+        to_sender = b.to_sender;
+        trails = subst (λ ps. grid.AreTrails (map column_of k.ks) ps r.trails.items) v.inboxes
+            (subst (λ cs. grid.AreTrails cs modules.inboxes.items r.trails.items) columns g.trails);
+        row_ends = subst (AllZip AreOfOnes (map queues_at k.vs)) heads (subst (λ cs. AllZip AreOfOnes cs (map (λ row. row.items) voice.queues.items)) queues rows);
+        rows = e.rows;
+        row_trails = subst (λ hs. AreRowsOfTrails (map queues_at k.vs) hs e.rows) heads
+            (subst (λ cs. AreRowsOfTrails cs (map (λ row. row.items) voice.queues.items) e.rows) queues e.row_trails);
+        made_rows = refl;
+        door = e.door;
+        door_trail = subst (λ (d : PopEnd Direct). IsTrailOf (map door_of k.ks) d e.door) o.door
+            (subst (λ ds. IsTrailOf ds voice.door e.door) w.doors e.door_trail);
+        notes = e.notes;
+        note_trails = subst (λ qs. AreTrailsOfOnes qs (map notes_at k.ks) e.notes) (ap (λ qs. qs.items) o.notes)
+            (subst (λ ps. AreTrailsOfOnes voice.notes.items ps e.notes) w.noted e.note_trails);
+        rest = subst (λ name. SaysRest words.told name (record { cells = cells_of t; queues = e.rows; door = e.door }) t.mouths.items r.mouths.items) o.name
+            (subst (λ ms. SaysRest words.told voice.name (record { cells = cells_of t; queues = e.rows; door = e.door }) ms r.mouths.items) (ap (λ ms. ms.items) o.mouths)
+            (subst (λ cs. SaysRest words.told voice.name (record { cells = cs; queues = e.rows; door = e.door }) voice.mouths.items r.mouths.items) (ap (λ cs. map (λ row. row.items) cs.items) o.held) e.rest));
+        roll = subst (λ ss. IsClosedOf ss r.roll) are g.roll;
+        places = words_long roll plan.places (length r.roll.words) seats all g.places;
+      }
+
+  -- The headline, of the run as it shows itself.
+  pub headline_of : (laws : Laws L) (words : Words E M B L) (plan : Plan) (k : Cast E M B) (t : Sender M) (d : Kinds E M B) (links : Links E B) (modules : Modules B) (voice : Voice M) (seats : List RollView) (r : Returned E M B) (roll : TableId) → Raw words plan k → Back words k t → HaveDevices k d → AreOfReceivers k.ks links → AreOfWorkers k.vs modules → IsOfSender t voice → seats ≡ map seat_of k.ks ++ map worker_seat k.vs → AreAll roll plan.places seats → AllZip AreOfOnes (map (λ row. row.items) modules.queues.items) (map (λ row. row.items) voice.queues.items) → Gathered words links modules voice seats r → Headline (views.run_of words plan d r)
+  headline_of laws words plan k t d links modules voice seats r roll h b of w v o are all rows g =
+      let heads : map (λ row. row.items) voice.queues.items ≡ queues_of t = ap (λ qs. map (λ row. row.items) qs.items) o.queues in
+      let long : length g.ended.rows ≡ length (queues_of t) = g.ended.row_trails.count ∙ ap length heads in
+      subst Headline (shown words plan k d links modules voice seats r (queues_of t) of w v g long)
+      (whole laws (course words plan k r (rows_made (queues_of t) g.ended.rows)) k.s t
+      (over words plan k t links modules voice seats r roll h b w v o are all rows g))

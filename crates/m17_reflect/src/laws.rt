@@ -1,0 +1,66 @@
+//! The laws of the crates below that a run rests on.
+ghost use Rattle.m17_reflect.specs.Known.{OfLanes, OfLinks, OfModules};
+
+use m17_control::{Direct, Event, Item};
+use m17_crew::Order;
+use m17_directory::laws as directory;
+use m17_grid::laws as grid;
+use m17_module::laws as module;
+use m17_roll::laws as roll;
+use m17_rows::laws as rows;
+use m17_turns::laws as turns;
+use m17_values::Member;
+
+// Of lanes, rows, grids and the roll.
+#[inline]
+pub(crate) fn of_lanes()
+    ensures { OfLanes }
+{
+    rows::rows_push::<Order>();
+    rows::rows_push::<Direct>();
+    rows::rows_push::<Member>();
+    rows::rows_grow::<Item>();
+    rows::first_order_decides();
+    grid::grids_stand::<Event>();
+    grid::rows_stand::<Event>();
+    grid::rows_stand::<Direct>();
+    grid::order_is_interleaving::<Event>();
+    grid::order_is_interleaving::<Direct>();
+    roll::no_member_is_claimed_twice();
+    roll::given_back_is_free();
+}
+
+// Of links.
+#[inline]
+pub(crate) fn of_links()
+    ensures { OfLinks }
+{
+    directory::route_carries_link();
+    directory::route_ends_in_one_stop();
+    directory::route_is_of_claimed();
+    directory::who_joins_leaves();
+    directory::leaves_follow_joins();
+    directory::joins_of_all_modules();
+    directory::each_claim_joins();
+    directory::joins_are_the_claims();
+    directory::askers_ask_for_served_modules();
+    directory::door_carries_replies();
+    directory::all_places_are_claimed();
+    directory::askers_join_or_are_full();
+}
+
+// Of modules, and of what is said on mouths with labels of this kind.
+#[inline]
+pub(crate) fn of_modules<L>()
+    ensures { OfModules L }
+{
+    module::items_are_at_places();
+    module::items_follow_their_joins();
+    module::share_is_the_others_frames();
+    module::who_is_settled_is_told_a_bye();
+    turns::less_of_a_life_is_a_life();
+    turns::turns_keep_each_member_in_order();
+    turns::peers_are_told_in_order();
+    turns::spelled_part_by_part();
+    m17_ports::laws::mouths_say_in_turn::<L>();
+}

@@ -1,0 +1,148 @@
+//! The run of the reflector over threads.
+ghost use Rattle.std.specs.Prelude.{◌≡◌, ◌<◌, ◌≤◌, true, All, map, IfOk, IfErr, MatchResult, vec_len};
+ghost use Rattle.m17_ports.specs.Told.{StartsEmpty};
+ghost use Rattle.m17_sender.specs.Sent.{told_by};
+ghost use Rattle.m17_house.specs.Replay.{IsPlan};
+ghost use Rattle.m17_reflect.specs.Headline.{Headline};
+ghost use Rattle.m17_reflect.specs.declared.returned.HouseRefusal.TheVariants as refusals;
+ghost use Rattle.m17_reflect.specs.Run.{module_count};
+ghost use Rattle.m17_reflect.specs.Views.{run_of, IsRefusedFor};
+
+use crate::gather::gather;
+use crate::jobs::{Parted, part};
+use crate::laws::{of_lanes, of_links, of_modules};
+use crate::{HouseRefusal, Refused, Returned};
+use m17_crew::Crew;
+use m17_house::Plan;
+use m17_launch::launch;
+use m17_ports::{Book, Ear, Mouth};
+use m17_wiring::{prepare, staff};
+use std::alloc::Global;
+use std::sync::Wait;
+use std::thread::Threads;
+
+/// Runs the reflector of this plan over these devices, each job in a thread of its own: a receiver for each ear, with its
+/// trace, a worker for each module, with its book, and one sender for all mouths. It ends when each ear has come to its
+/// end and what was queued by then is said. There are 1 to 4 ears, as many mouths and traces, and a book for each module; a
+/// plan is patient with one ear alone; and ears, traces and books that tell their content have none yet.
+///
+/// `Crew` where the crew refused a start, and whoever was started has quit; `NoMemory` where there is none for the lanes and
+/// the tables, before anything was heard. Both times all devices come back as they were. It waits for the threads, and
+/// for ever where an ear goes on for ever. From the first thing heard on it takes no memory. This profile.
+pub fn reflect<
+    E: Ear + Drop + Send + 'static,
+    M: Mouth + Drop + Send + 'static,
+    B: Book + Drop + Send + 'static,
+    C: Crew,
+    R: Threads + Wait + Copy + Send + 'static,
+>(
+    rt: &R,
+    alloc: Global,
+    plan: &Plan,
+    ears: Vec<E>,
+    mouths: Vec<M>,
+    traces: Vec<B>,
+    books: Vec<B>,
+    crew: &mut C,
+) -> Result<Returned<E, M, B>, Refused<E, M, B>>
+    requires plan { IsPlan plan.now }
+    requires links { (0 < vec_len ears) × (vec_len ears ≤ 4) }
+    requires alone { plan.now.patient ≡ true → vec_len ears ≡ 1 }
+    requires mouths { vec_len mouths ≡ vec_len ears }
+    requires traces { vec_len traces ≡ vec_len ears }
+    requires books { vec_len books ≡ module_count plan.now }
+    requires new_ears { All (λ ear. StartsEmpty (E.heard ear)) ears.items }
+    requires new_traces { All (λ trace. StartsEmpty (B.written trace)) traces.items }
+    requires new_books { All (λ book. StartsEmpty (B.written book)) books.items }
+    ensures headline { IfOk result (λ r. Headline (run_of (record {
+      heard = E.heard;
+      ear_faults = E.faults;
+      told = told_by M.said M.tallies M.faults M.mark M.label;
+      written = B.written;
+      book_faults = B.faults;
+    }) plan.now (record {
+      ears = ears.items;
+      mouths = mouths.items;
+      traces = traces.items;
+      books = books.items;
+    }) r)) }
+    ensures same_ears { IfOk result (λ r. (map E.mark r.ears.items ≡ map E.mark ears.items)
+        × (map E.label r.ears.items ≡ map E.label ears.items)) }
+    ensures same_mouths { IfOk result (λ r. (map M.mark r.mouths.items ≡ map M.mark mouths.items)
+        × (map M.label r.mouths.items ≡ map M.label mouths.items)) }
+    ensures same_traces { IfOk result (λ r. (map B.mark r.traces.items ≡ map B.mark traces.items)
+        × (map B.label r.traces.items ≡ map B.label traces.items)) }
+    ensures same_books { IfOk result (λ r. (map B.mark r.books.items ≡ map B.mark books.items)
+        × (map B.label r.books.items ≡ map B.label books.items)) }
+    ensures refused { IfErr result (λ r. (r.ears.items ≡ ears.items)
+        × (r.mouths.items ≡ mouths.items) × (r.traces.items ≡ traces.items)
+        × (r.books.items ≡ books.items)) }
+    ensures cause { MatchResult result (λ _. C.refusals crew.new ≡ C.refusals crew.old)
+        (λ r. IsRefusedFor r.why (C.refusals crew.old) (C.refusals crew.new)) }
+{
+    of_lanes();
+    of_links();
+    of_modules::<M::Label>();
+    let mut ears = ears;
+    let mut traces = traces;
+    let mut books = books;
+    let links = ears.len() as u32;
+    let Ok(site) = prepare(alloc, plan, links) else {
+        return Err(Refused {
+            why: HouseRefusal::NoMemory,
+            ears,
+            mouths,
+            traces,
+            books,
+        });
+    };
+    let mut staffed = staff(site, &mut ears, mouths, &mut traces, &mut books);
+    let started = launch(
+        rt,
+        alloc,
+        crew,
+        &mut staffed.receivers,
+        &mut staffed.workers,
+        &mut staffed.senders,
+    );
+    match started {
+        Ok(()) => {
+            let parted = part(staffed, ears, traces, books);
+            Ok(gather(
+                rt,
+                parted.links,
+                parted.modules,
+                parted.voice,
+                parted.seats,
+                parted.rooms,
+            ))
+        }
+        Err(_) => {
+            let gone = part(staffed, ears, traces, books);
+            Err(hand_back(gone))
+        }
+    }
+}
+
+// What is handed back where nothing was run.
+fn hand_back<E: Drop, M: Drop, B: Drop>(parted: Parted<E, M, B>) -> Refused<E, M, B>
+    ensures why { result.why ≡ refusals.Crew }
+    ensures ears { result.ears ≡ parted.links.ears }
+    ensures mouths { result.mouths ≡ parted.voice.mouths }
+    ensures traces { result.traces ≡ parted.links.traces }
+    ensures books { result.books ≡ parted.modules.books }
+{
+    let Parted {
+        links,
+        modules,
+        voice,
+        ..
+    } = parted;
+    Refused {
+        why: HouseRefusal::Crew,
+        ears: links.ears,
+        mouths: voice.mouths,
+        traces: links.traces,
+        books: modules.books,
+    }
+}

@@ -1,0 +1,7 @@
+mod Lists
+mod NewLines
+mod Taken
+mod Same
+mod Stand
+mod Ready
+mod Served

@@ -1,0 +1,40 @@
+-- What is made before a run starts. This profile.
+use Rattle.std.specs.Prelude.{◌≡◌, ◌+◌, ℕ, List, ◌++◌, map, length, Vec}
+use Rattle.std.specs.List.{All}
+use Rattle.m17_control.specs.Modules.{letters_of}
+use Rattle.m17_lane.specs.Ends.{PushEnd, PopEnd}
+use Rattle.m17_crew.specs.declared.order.Order.{Order}
+use Rattle.m17_roll.specs.Seat.{AreNew}
+use Rattle.m17_receiver.specs.declared.receiver.Receiver.{Receiver}
+use Rattle.m17_worker.specs.declared.worker.Worker.{Worker}
+use Rattle.m17_sender.specs.declared.sender.Sender.{Sender}
+use Rattle.m17_house.specs.declared.plan.Plan.{Plan}
+use Rattle.m17_wiring.specs.Bare.{EachFrom, IsNewReceiver, IsNewWorker, IsNewSender}
+use Rattle.m17_wiring.specs.Ends.{AreLaid, IsNewLine, ends_of}
+use Rattle.m17_wiring.specs.Planned.{module_count}
+use Rattle.m17_wiring.specs.Rooms.{IsRoom}
+
+-- All jobs are made, but for their devices: the receivers and the workers are these without them.
+-- This profile.
+pub record AreBare {M : Type 0} (plan : Plan) (links : ℕ)
+    (js : List (Receiver (Unit {0}) (Unit {0}))) (ws : List (Worker (Unit {0}))) (s : Sender M)
+    : Type 0 where
+  pub laid : AreLaid links (module_count plan) plan.places (ends_of js ws s)
+  pub receivers : EachFrom (IsNewReceiver plan) 0 js
+  pub receiver_count : length js ≡ links
+  pub workers : All (IsNewWorker plan links) ws
+  pub letters : map (λ w. w.letter) ws ≡ letters_of plan.modules
+  pub sender : IsNewSender plan s
+  pub seats : AreNew plan.places (links + module_count plan)
+      (map (λ j. j.seat) js ++ map (λ w. w.seat) ws)
+
+-- The ends of the orders of jobs, by job, in lanes that hold two.
+-- This profile.
+abbrev pub AreOrdersOf : {A : Type 0} → (A → PopEnd Order) → List (PushEnd Order) → List A → Type 0
+AreOrdersOf order ends jobs = IsNewLine 2 ends (map order jobs)
+
+-- No job is there yet and none runs, and there is room for so many to be there and to run.
+-- This profile.
+pub record IsVacant {V W Y Z : Type 0} (count : ℕ) (js : Vec V Y) (rs : Vec W Z) : Type 0 where
+  pub jobs : IsRoom count js
+  pub running : IsRoom count rs

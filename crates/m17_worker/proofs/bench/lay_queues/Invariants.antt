@@ -1,0 +1,9 @@
+use Rattle.m17_rows.specs.Rows.{IsNewRow}
+use Rattle.m17_worker.specs.Offers.{AreQueues}
+use Rattle.m17_worker.proofs.bench.lay_queues.Given as goal
+
+abbrev pub invariant-loop : goal.invariant-loop
+invariant-loop l = record {
+  queues : AreQueues l.counter l.pushers.items;
+  new : IsNewRow l.pushers.items;
+}

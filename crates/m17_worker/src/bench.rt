@@ -1,0 +1,156 @@
+//! A worker for tests, with the other ends of what it holds, and events for it.
+ghost use Rattle.std.specs.Prelude.{◌≡◌, ◌<◌, ◌≤◌, [], IfOk};
+ghost use Rattle.m17_ports.specs.Told.{StartsEmpty};
+ghost use Rattle.m17_roll.specs.Seat.{HasLists};
+ghost use Rattle.m17_rows.specs.Rows.{IsNewRow};
+ghost use Rattle.m17_worker.specs.Offers.{AreQueues};
+ghost use Rattle.m17_worker.specs.Ready.{IsReady};
+
+use crate::{LaneOffers, Worker};
+use m17_callsign::CallAddress;
+use m17_control::{Body, Event, Item, Tag, Why};
+use m17_crew::{Order, Work};
+use m17_lane::{Popper, Pusher, make_one};
+use m17_module::{Basket, Module};
+use m17_ports::Book;
+use m17_roll::{RollSeat, make};
+use m17_samples::{ab1cd, frame};
+use m17_values::{Member, Peer};
+use std::alloc::Global;
+use std::process::Abort;
+use std::sync::Wait;
+use std::test::Fail;
+
+pub(crate) fn member(place: u32, generation: u64) -> Member {
+    Member { place, generation }
+}
+
+fn peer() -> Peer {
+    Peer {
+        six: false,
+        ip: [10; 16],
+        port: 17_000,
+    }
+}
+
+pub(crate) fn callsign(rt: &impl Abort) -> CallAddress {
+    CallAddress::new(ab1cd()).expect(rt, "a callsign")
+}
+
+/// An event of link 0 that comes from the entry with this index.
+pub(crate) fn event(index: u64, at: u64, body: Body) -> Event {
+    Event {
+        tag: Tag { link: 0, index },
+        at,
+        body,
+    }
+}
+
+pub(crate) fn join(rt: &impl Abort, index: u64, at: u64, member: Member) -> Event {
+    let body = Body::Join {
+        member,
+        peer: peer(),
+        callsign: callsign(rt),
+        listen: false,
+        after: 0,
+    };
+    event(index, at, body)
+}
+
+pub(crate) fn sends(index: u64, at: u64, member: Member, number: u16) -> Event {
+    let packet = frame(7, number, false);
+    event(index, at, Body::Packet { member, packet })
+}
+
+pub(crate) fn leaves(index: u64, at: u64, member: Member, why: Why) -> Event {
+    event(index, at, Body::Leave { member, why })
+}
+
+/// A worker, and the other ends of what it holds.
+#[derive(Drop)]
+pub(crate) struct Bench<B> {
+    pub(crate) worker: Worker<B>,
+    pub(crate) queues: Vec<Popper<Item>>,
+    pub(crate) events: Pusher<Event>,
+    pub(crate) orders: Pusher<Order>,
+    pub(crate) other_seat: RollSeat,
+}
+
+// Queues for so many places.
+fn lay_queues(alloc: Global, places: u32) -> Result<(Vec<Pusher<Item>>, Vec<Popper<Item>>), Fail>
+    ensures queues { IfOk result (λ r. AreQueues places r.0.items) }
+    ensures new { IfOk result (λ r. IsNewRow r.0.items) }
+{
+    let mut pushers = Vec::new(alloc);
+    let mut poppers = Vec::new(alloc);
+    for _ in 0..places {
+        let (pusher, popper) = make_one(alloc, 64)?;
+        pushers.push(pusher)?;
+        poppers.push(popper)?;
+    }
+    Ok((pushers, poppers))
+}
+
+// Two new seats of a roll.
+fn two_seats(alloc: Global, places: u32) -> Result<(RollSeat, RollSeat), Fail>
+    requires { (0 < places) × (places ≤ 256) }
+    ensures { IfOk result (λ r. HasLists [] [] [] r.0) }
+{
+    let mut seats = make(alloc, places, 2)?;
+    let Some(second) = seats.pop() else {
+        unreachable!()
+    };
+    let Some(first) = seats.pop() else {
+        unreachable!()
+    };
+    Ok((first, second))
+}
+
+/// A worker of module A with one link and so many places, and that book; its tape has four cells.
+pub(crate) fn lay<B: Book + Drop>(alloc: Global, places: u32, book: B) -> Result<Bench<B>, Fail>
+    requires places { (0 < places) × (places ≤ 256) }
+    requires book { StartsEmpty (B.written book) }
+    ensures { IfOk result (λ bench. IsReady (record {
+      written = B.written;
+      faults = B.faults;
+    }) bench.worker) }
+{
+    let (pushers, poppers) = lay_queues(alloc, places)?;
+    let (events, inbox) = make_one(alloc, 256)?;
+    let (orders, order) = make_one(alloc, 2)?;
+    let (seat, other_seat) = two_seats(alloc, places)?;
+    let worker = Worker {
+        letter: b'A',
+        links: 1,
+        module: Module::make(alloc, places, false)?,
+        basket: Basket::make(alloc)?,
+        book,
+        inbox,
+        offers: LaneOffers {
+            queues: pushers,
+            patient: false,
+            missed: 0,
+        },
+        order,
+        seat,
+        tape: vec![in alloc; None; 4]?,
+        book_failed: false,
+    };
+    Ok(Bench {
+        worker,
+        queues: poppers,
+        events,
+        orders,
+        other_seat,
+    })
+}
+
+/// Does the job.
+pub(crate) fn run<W: Work, R: Wait>(rt: &R, job: W) -> W
+    requires { W.ready job }
+    ensures { W.does job result }
+{
+    let mut job = job;
+    job.go(rt);
+    job
+}
