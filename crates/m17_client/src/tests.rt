@@ -264,7 +264,9 @@ fn an_idle_client_minds_no_packet(rt: HostRuntime) -> Result<(), Fail> {
         let state = idle.step(&datagram(7, packet), &mut out);
         assert_eq!(rt; state, State::Connecting { tries: 1 });
         assert_eq!(rt; out.len(), 1);
-        assert!(rt; matches!(out.first(), Some(Action::Say(bytes)) if bytes.as_slice() == CONN.as_slice()));
+        assert!(rt;
+            matches!(out.first(), Some(Action::Say(bytes)) if bytes.as_slice() == CONN.as_slice())
+        );
     }
     Ok(())
 }
