@@ -7,7 +7,7 @@ use Rattle.m17_reflect.specs.Run.{Handed}
 use Rattle.m17_reflect.specs.Views.{IsRefusedFor}
 use Rattle.m17_words.specs.declared.order.ServeOrder.{ServeOrder}
 use Rattle.m17_serve.specs.declared.served.ServeEnding.{ServeEnding}
-use Rattle.m17_serve.specs.declared.served.ServeEnding.TheVariants.{Finished, LinkLost, BookFailed, WriteFailed, PortFailed, CrewRefused, NoMemory}
+use Rattle.m17_serve.specs.declared.served.ServeEnding.TheVariants.{WriteFailed, PortFailed, CrewRefused, NoMemory}
 use Rattle.m17_serve.specs.Devices.{HouseTold}
 use Rattle.m17_serve.specs.Served.{Around, AsksNothing, ComesToServe, EndsServe, FailsAtPort, HasCauses, Refuses, RoseWhere, Serves, counts, ending_by, lines_of}
 use Rattle.m17_serve.specs.Steps.{Prints}

@@ -13,13 +13,13 @@ use Rattle.m17_ports.specs.Told.{StartsEmpty}
 use Rattle.m17_house.specs.declared.plan.Plan.{Plan}
 use Rattle.m17_receiver.specs.Devices.{Tells}
 use Rattle.m17_words.specs.declared.order.ServeOrder.{ServeOrder}
-use Rattle.m17_talk.specs.Devices.{BookTold, shelf_tells, shelf_mark}
+use Rattle.m17_talk.specs.Devices.{shelf_tells, shelf_mark}
 use Rattle.m17_reflect.specs.declared.returned.Refused.{Refused}
 use Rattle.m17_reflect.specs.declared.returned.Returned.{Returned}
 use Rattle.m17_reflect.specs.Headline.{Headline}
 use Rattle.m17_reflect.specs.Run.{Devices, Handed, Run}
 use Rattle.m17_reflect.specs.Views.{Kinds, Words, devices_of, handed_of, kinds_back, run_of}
-use Rattle.m17_serve.specs.Devices.{AreNew, AreNewOnes, AreNumbered, AreOfQuestions, AreThere, Eyes, IsNewEar, IsNewShelf, eyes_by, house_told, number_of_ear, number_of_mouth, refused_back, shelf_told, tells_of}
+use Rattle.m17_serve.specs.Devices.{AreNew, AreNewOnes, AreNumbered, AreOfQuestions, Eyes, IsNewEar, IsNewShelf, eyes_by, house_told, number_of_ear, number_of_mouth, refused_back, shelf_told, tells_of}
 use Rattle.m17_serve.specs.Served.{plan_of, run_told}
 use Rattle.m17_serve.proofs.Lists.{all_images, map_same, map_twice}
 

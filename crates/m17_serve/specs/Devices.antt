@@ -1,5 +1,5 @@
 -- What is told of the devices of a reflector, and which they are. This profile.
-use Rattle.std.specs.Prelude.{◌≡◌, ◌↔◌, ℕ, ◌*◌, List, All, length, map, string_bytes, vec_len, slice_get, Option, None, Some, IsSome}
+use Rattle.std.specs.Prelude.{◌≡◌, ◌↔◌, ℕ, ◌*◌, List, All, length, map, string_bytes, vec_len, slice_get, Option, Some, IsSome}
 use Rattle.std.specs.Option.{option_map}
 use Rattle.m17_values.specs.declared.heard.Heard.{Heard}
 use Rattle.m17_ports.specs.declared.shelf.Shelf.{Shelf}

@@ -1,4 +1,4 @@
-use Rattle.std.proofs.Common.{ℕ, List, ◌++◌, map, string_bytes, sym, subst, arith}
+use Rattle.std.proofs.Common.{List, map, string_bytes, sym, subst, arith}
 use Rattle.m17_ports.specs.declared.question.Question.{Question}
 use Rattle.m17_ports.specs.declared.question.Question.TheVariants.{Book}
 use Rattle.m17_talk.specs.Devices.{PortsTold, ports_told}

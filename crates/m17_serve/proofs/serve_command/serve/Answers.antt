@@ -1,4 +1,4 @@
-use Rattle.std.proofs.Common.{◌≡◌, ℕ, List, length, refl, sym, ap, ◌∙◌, arith}
+use Rattle.std.proofs.Common.{◌≡◌, length, refl, sym, ap, ◌∙◌, arith}
 use Rattle.std.specs.Prelude.{vec_len}
 use Rattle.m17_control.specs.Modules.{letters_of}
 use Rattle.m17_sender.specs.Sent.{told_by}
