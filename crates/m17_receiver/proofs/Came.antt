@@ -171,6 +171,7 @@ module _ {E B : Type 0} where
         ear = heard_nothing (words.heard j.ear, words.ear_faults j.ear);
         trace = subst (λ (b : Bool). HasTrace (words.written j.trace, words.trace_faults j.trace) [] b (words.written j.trace, words.trace_faults j.trace)) (sym fit.unused.trace_failed)
             (traced_none (words.written j.trace, words.trace_faults j.trace));
+        no_end = λ in_it. absurd (omega (arith, in_it.1));
         count = refl;
         come = λ _. record {
           entries = [];

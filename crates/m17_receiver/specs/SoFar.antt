@@ -3,6 +3,7 @@ use Rattle.std.specs.Prelude.{◌≡◌, ◌⊎◌, ℕ, Bool, false, ◌+◌, �
 use Rattle.std.specs.List.{filter_map}
 use Rattle.std.specs.Option.{option_to_list}
 use Rattle.m17_values.specs.declared.heard.Heard.{Heard}
+use Rattle.m17_values.specs.declared.heard.Heard.TheVariants.{End}
 use Rattle.m17_values.specs.declared.member.Member.{Member}
 use Rattle.m17_control.specs.declared.modules.Modules.{Modules}
 use Rattle.m17_lane.specs.Ends.{PopEnd}
@@ -189,6 +190,7 @@ pub record HasComeBy {E B : Type 0} (words : Words E B) (j k : Receiver E B) (in
       (words.heard k.ear, words.ear_faults k.ear)
   pub trace : HasTrace (words.written j.trace, words.trace_faults j.trace) heard k.trace_failed
       (words.written k.trace, words.trace_faults k.trace)
+  pub no_end : Contains heard End → ⊥
   pub count : index ≡ min (length heard) (2 ^ 64 - 1)
   pub come : IsCounted heard → HasCome heard j k noted
 

@@ -1,7 +1,7 @@
 //! What a receiver does with one entry.
 ghost use Rattle.std.specs.Prelude.{◌≡◌, ◌↔◌, ℕ, ◌+◌, ◌-◌, ◌^◌, min, true, false, List, [], ◌∷◌, ◌++◌, length, IsSome, IsTrue, Option, None, Some};
 ghost use Rattle.m17_values.specs.declared.heard.Heard.{Heard};
-ghost use Rattle.m17_values.specs.declared.heard.Heard.TheVariants.{Fault};
+ghost use Rattle.m17_values.specs.declared.heard.Heard.TheVariants.{Fault, End};
 ghost use Rattle.m17_directory.specs.declared.verdict.LinkVerdict.TheVariants.{Asks};
 ghost use Rattle.m17_directory.specs.Entries.{Notice, Entry, Says};
 ghost use Rattle.m17_receiver.specs.SoFar.{Plan, IsPlanOf, IsAsking, IsThrough, IsSoFar, IsKept, HasTaken, HasNotedSome, parts_of};
@@ -31,6 +31,7 @@ impl<E, B> Receiver<E, B> {
         ensures kept { IsKept self.old self.new }
         ensures asked { self.new.directory.asked ≡ None }
         ensures says { (notice : Notice) × Says entry.now notice }
+        ensures over { entry.now ≡ End → self.new.directory.ended ≡ true }
         ensures through { (plan : Plan) (entries : List Entry) (notice : Notice) →
             IsPlanOf plan self.old → index ≡ length entries → Says entry.now notice →
             IsSoFar plan entries (parts_of self.old noted.old) →

@@ -1,4 +1,7 @@
-use Rattle.std.proofs.Common.{◌∷◌, [], ◌++◌, length, refl, sym, ap, ◌∙◌, arith}
+use Rattle.std.proofs.Common.{◌∷◌, [], ◌++◌, length, inl, inr, refl, sym, ap, ◌∙◌, arith}
+use Rattle.std.proofs.lemmas.Bool.{false≢true}
+use Rattle.std.proofs.lemmas.List.Elements.{Contains-push_cases}
+use Rattle.m17_values.specs.declared.heard.Heard.TheVariants.{End}
 use Rattle.m17_receiver.specs.declared.receiver.Receiver.{Receiver}
 use Rattle.m17_receiver.specs.Devices.{Words, HasHeard, HasTrace}
 use Rattle.m17_receiver.specs.SoFar.{plan_of}
@@ -36,7 +39,7 @@ loop-preserved g c =
     let k₁ : Receiver g.row.E.Denot g.row.B.Denot = record k { ear = c.hear-entry.new.self; trace = c.write_trace.new.trace; trace_failed = c.write_trace.new.failed } in
     let s₁ : Receiver g.row.E.Denot g.row.B.Denot = record s { tape = c.fill_tape.new.tape } in
     let heard : HasHeard (words.heard j.ear, words.ear_faults j.ear) (old.heard ++ h ∷ []) (words.heard k₁.ear, words.ear_faults k₁.ear) =
-    hears_one (words.heard j.ear, words.ear_faults j.ear) (words.heard k.ear, words.ear_faults k.ear) (words.heard k₁.ear, words.ear_faults k₁.ear) old.heard h c.requires.unused.ear
+    hears_one (words.heard j.ear, words.ear_faults j.ear) (words.heard k.ear, words.ear_faults k.ear) (words.heard k₁.ear, words.ear_faults k₁.ear) old.heard h c.requires.unused.ear old.no_end
     c.hear-entry.ensures.counted c.hear-entry.ensures.fault c.hear-entry.ensures.no_fault c.hear-entry.ensures.appended old.ear in
     let traced : HasTrace (words.written j.trace, words.trace_faults j.trace) (old.heard ++ h ∷ []) k₁.trace_failed (words.written k₁.trace, words.trace_faults k₁.trace) =
     c.write_trace.ensures.traced (words.written j.trace, words.trace_faults j.trace) old.heard (first_is c.loop.index old.heard old.count) old.trace in
@@ -52,6 +55,10 @@ loop-preserved g c =
         heard = old.heard ++ h ∷ [];
         ear = ear_stays words k₁ s (words.heard j.ear, words.ear_faults j.ear) (old.heard ++ h ∷ []) kept heard;
         trace = trace_stays words k₁ s (words.written j.trace, words.trace_faults j.trace) (old.heard ++ h ∷ []) kept traced;
+        no_end = λ in_it. elim (Contains-push_cases old.heard h End in_it) [
+          | inl earlier ↦ old.no_end earlier
+          | inr now ↦ false≢true (sym c.if-has_ended.false ∙ c.has_ended.ensures ∙ c.enter-verdict.ensures.over now)
+        ];
         count = next_index c.loop.index c.saturating_add-index.result old.heard h old.count c.saturating_add-index.ensures;
         come = λ few.
             let was = old.come (fewer old.heard h few) in
@@ -87,7 +94,7 @@ returns-then-has_ended-clause-gone g c =
     let k₁ : Receiver g.row.E.Denot g.row.B.Denot = record k { ear = c.hear-entry.new.self; trace = c.write_trace.new.trace; trace_failed = c.write_trace.new.failed } in
     let s₁ : Receiver g.row.E.Denot g.row.B.Denot = record s { tape = c.fill_tape.new.tape; lost = c.is_fault-self.result } in
     let heard : HasHeard (words.heard j.ear, words.ear_faults j.ear) (old.heard ++ h ∷ []) (words.heard k₁.ear, words.ear_faults k₁.ear) =
-    hears_one (words.heard j.ear, words.ear_faults j.ear) (words.heard k.ear, words.ear_faults k.ear) (words.heard k₁.ear, words.ear_faults k₁.ear) old.heard h c.requires.unused.ear
+    hears_one (words.heard j.ear, words.ear_faults j.ear) (words.heard k.ear, words.ear_faults k.ear) (words.heard k₁.ear, words.ear_faults k₁.ear) old.heard h c.requires.unused.ear old.no_end
     c.hear-entry.ensures.counted c.hear-entry.ensures.fault c.hear-entry.ensures.no_fault c.hear-entry.ensures.appended old.ear in
     let traced : HasTrace (words.written j.trace, words.trace_faults j.trace) (old.heard ++ h ∷ []) k₁.trace_failed (words.written k₁.trace, words.trace_faults k₁.trace) =
     c.write_trace.ensures.traced (words.written j.trace, words.trace_faults j.trace) old.heard (first_is c.loop.index old.heard old.count) old.trace in
