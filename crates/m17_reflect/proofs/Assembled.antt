@@ -29,7 +29,7 @@ use Rattle.m17_reflect.specs.Links.{Link, IsLink, At, link_setup}
 use Rattle.m17_reflect.specs.Run.{Run, Devices, Handed, module_count}
 use Rattle.m17_reflect.specs.Trails.{AreTrails, events_of}
 use Rattle.m17_reflect.specs.Judged.{IsJudged}
-use Rattle.m17_reflect.specs.Places.{ArePlacesBack, AreSame, joiners}
+use Rattle.m17_reflect.specs.Places.{AreClaims, ArePlacesBack, AreSame, joiners}
 use Rattle.m17_reflect.specs.Queues.{QueuesCarry}
 use Rattle.m17_reflect.specs.Sendings.{MouthsSay}
 use Rattle.m17_reflect.specs.Patience.{PlacesAreFull, SomeRose, HasCauses}
@@ -217,6 +217,7 @@ module _ {E M B L : Type 0} where
 
 -- What is known of a run behind its jobs: who was given back, what the mouths say, who found no place in a patient run.
 pub record Rest {E M B L : Type 0} (c : Course E M B L) (links : List Link) : Type 0 where
+  pub claims : (i : ℕ) (link : Link) → At links i link → AreClaims (link_setup c.plan i) link.entries
   pub places : ArePlacesBack c.plan.places c.made.trails c.made.roll
   pub mouths : MouthsSay (run_of c) links
   pub full : PlacesAreFull (run_of c) links
@@ -229,6 +230,7 @@ module _ {E M B L : Type 0} where
         links = links;
         of_heard = of_heard;
         each = All-from_recursion IsLink links (each_link ew c.before.receivers c.after.receivers links o.came);
+        claims = rest.claims;
         trails = o.trails;
         judged = judged c heards f links o;
         places = rest.places;

@@ -71,7 +71,7 @@ is_below : (a b : ℕ) → nat_lt a b ≡ true → a < b
 is_below a b e = grind (arith, nat_tests)
 
 -- the links' claims, each of one of the places
-placed : (plan_places : ℕ) (setup : Setup) (entries : List Entry) → setup.places ≡ plan_places → ((n : ℕ) (claim : Claim) → claim_at entries n ≡ Some claim → is_at plan_places claim.member ≡ true) → ClaimsArePlaced setup entries
+pub placed : (plan_places : ℕ) (setup : Setup) (entries : List Entry) → setup.places ≡ plan_places → ((n : ℕ) (claim : Claim) → claim_at entries n ≡ Some claim → is_at plan_places claim.member ≡ true) → ClaimsArePlaced setup entries
 placed plan_places setup entries same h n claim e = let less = is_below claim.member.place plan_places (h n claim e) in omega arith
 
 -- The laws that this rests on.
@@ -131,6 +131,7 @@ module _ {L E B : Type 0} where
     patient = λ _. record {
       missed = missed;
       full = λ i link n e. (patient_at words run js ks links others h patient i link e).1 n;
+      given = ?;
     };
     impatient = λ no. absurd (let wrong : true ≡ false = sym patient ∙ no in cc);
     any = full_when_taken laws words run js ks links others h patient;

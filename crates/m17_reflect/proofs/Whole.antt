@@ -47,7 +47,7 @@ use Rattle.m17_reflect.proofs.AllPlaces as places
 use Rattle.m17_reflect.proofs.AllPlaces.{IsClosed, all_places}
 use Rattle.m17_reflect.proofs.Came.{column_of, Heared}
 use Rattle.m17_reflect.proofs.CameBack.{queues_at, door_of, notes_at}
-use Rattle.m17_reflect.proofs.Claimed.{IsRollOfRun, are_members, members_differ, heard_counted, new_row}
+use Rattle.m17_reflect.proofs.Claimed.{IsRollOfRun, are_claims, are_members, members_differ, heard_counted, new_row}
 use Rattle.m17_reflect.proofs.Drained.{queues_back, carried_drained}
 use Rattle.m17_reflect.proofs.Failed.{failed_only_where}
 use Rattle.m17_reflect.proofs.Gone as gone
@@ -231,6 +231,8 @@ module _ {E M B L : Type 0} where
       let f = facts laws c s t h heards heared in
       headline laws.assembled c heards f
       (λ counted links of_heard o carry. record {
+        claims = are_claims laws.claimed (run_of c) links
+            (record { roll = h.roll.ended.run; count = h.places; claims = o.claims; joins = (its_places laws c s t h heards f links o).joins }) o.asked;
         places = its_places laws c s t h heards f links o;
         mouths = its_mouths laws c s t h heards f counted links of_heard o carry;
         full = who_is_full laws.patient (ear_words c.words) (run_of c) c.before.receivers c.after.receivers links (map worker_seat c.after.workers)

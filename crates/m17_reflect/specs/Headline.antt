@@ -6,11 +6,11 @@
 use Rattle.std.specs.Prelude.{◌≡◌, ◌↔◌, ℕ, IsTrue, List, length, map, All}
 use Rattle.m17_values.specs.declared.heard.Heard.{Heard}
 use Rattle.m17_receiver.specs.Devices.{Tells, IsCounted, HasHeard}
-use Rattle.m17_reflect.specs.Links.{Link, IsLink, At}
+use Rattle.m17_reflect.specs.Links.{Link, IsLink, At, link_setup}
 use Rattle.m17_reflect.specs.Run.{Run}
 use Rattle.m17_reflect.specs.Trails.{AreTrails}
 use Rattle.m17_reflect.specs.Judged.{IsJudged}
-use Rattle.m17_reflect.specs.Places.{ArePlacesBack}
+use Rattle.m17_reflect.specs.Places.{AreClaims, ArePlacesBack}
 use Rattle.m17_reflect.specs.Queues.{QueuesCarry}
 use Rattle.m17_reflect.specs.Sendings.{MouthsSay}
 use Rattle.m17_reflect.specs.Patience.{PlacesAreFull, SomeLost, HasCauses}
@@ -29,6 +29,8 @@ pub record IsCarriedOut {L : Type 0} (run : Run L) (heard : List (List Heard)) :
   pub links : List Link
   pub of_heard : map (λ (link : Link). link.heard) links ≡ heard
   pub each : All IsLink links
+  pub claims : (i : ℕ) (link : Link) → At links i link →
+      AreClaims (link_setup run.plan i) link.entries
   pub trails : AreTrails run.plan links run.handed.trails
   pub judged : IsJudged run links
   pub places : ArePlacesBack run.plan.places run.handed.trails run.handed.roll
