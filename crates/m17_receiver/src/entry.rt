@@ -81,9 +81,10 @@ impl<E, B> Receiver<E, B> {
     }
 
     // The place that the asker with this index gets. A patient receiver claims none where all are known to its link,
-    // and else until it has one; another claims once.
+    // and else until it has one that no peer has that is known there; another claims once.
     fn claim<R: Wait>(&mut self, rt: &R, index: u64, noted: &mut u64) -> Option<Member>
-        ensures taken { HasTaken self.old.patient index result self.old.seat self.new.seat }
+        ensures taken { HasTaken self.old.patient index result self.old.directory.known
+            self.old.seat self.new.seat }
         ensures full { self.old.patient ≡ true →
             (result ≡ None) ↔ (length self.old.directory.known ≡ self.old.places) }
         ensures noted { HasNotedSome (self.old.notes, self.old.directory, noted.old)
@@ -103,7 +104,7 @@ impl<E, B> Receiver<E, B> {
         Some(claim_patiently(
             rt,
             &mut self.seat,
-            index,
+            self.places,
             &mut self.notes,
             &mut self.directory,
             noted,

@@ -31,7 +31,8 @@ pub struct Receiver<E, B> {
     pub modules: Modules,
     /// How many places the roll has, 1 to 256.
     pub places: u32,
-    /// Whether it claims again until it has a place, and claims none where its own link has all; else it claims once.
+    /// Whether it claims again until it has a place, none that a peer has that its link knows, and claims nothing where
+    /// those have all; else it claims once.
     pub patient: bool,
     /// The receiving half of the link's socket.
     pub ear: E,

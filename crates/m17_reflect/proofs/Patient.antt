@@ -14,7 +14,7 @@ use Rattle.m17_roll.specs.Closing.{IsEnded}
 use Rattle.m17_roll.specs.Seat.{RollView}
 use Rattle.m17_roll.specs.Sightings.{member}
 use Rattle.m17_receiver.specs.declared.receiver.Receiver.{Receiver}
-use Rattle.m17_receiver.specs.Claims.{IsPatientAt}
+use Rattle.m17_receiver.specs.Claims.{IsPatientAt, HasFreePlaceAt}
 use Rattle.m17_receiver.specs.Devices.{Words}
 use Rattle.m17_reflect.specs.Links.{Link, At, link_setup, setup_at}
 use Rattle.m17_reflect.specs.Run.{Run, module_count}
@@ -100,6 +100,7 @@ module _ {L E B : Type 0} where
 
   patient_at : (words : Words E B) (run : Run L) (js ks : List (Receiver E B)) (links : List Link) (others : List RollView) → HasRoll words run js ks links others → run.plan.patient ≡ true → (i : ℕ) (link : Link) → At links i link
       → ClaimsAreAsked (link_setup run.plan i) link.entries × ((n : ℕ) → n < length link.entries → asks_at (past_at (link_setup run.plan i) link.entries n) ≡ true → IsPatientAt (link_setup run.plan i) link.entries n)
+      × ((n : ℕ) → HasFreePlaceAt (link_setup run.plan i) link.entries n)
   patient_at words run js ks links others h patient i link e =
       let lens = zip3_length (Came words) js ks links h.came in
       let inside = below_at links i link e in
@@ -107,13 +108,13 @@ module _ {L E B : Type 0} where
       let (k, at_k) = at_below ks i (omega (arith, lens.0, lens.1)) in
       let it = h.receivers i j at_j in
       let c = (zip3_at (Came words) js ks links h.came i j k link at_j at_k e).claimed in
-      subst (λ (s : Setup). ClaimsAreAsked s link.entries × ((n : ℕ) → n < length link.entries → asks_at (past_at s link.entries n) ≡ true → IsPatientAt s link.entries n)) it.setup
-      (c.asked, c.patient_claims (it.patient ∙ patient))
+      subst (λ (s : Setup). ClaimsAreAsked s link.entries × ((n : ℕ) → n < length link.entries → asks_at (past_at s link.entries n) ≡ true → IsPatientAt s link.entries n) × ((n : ℕ) → HasFreePlaceAt s link.entries n)) it.setup
+      (c.asked, c.patient_claims (it.patient ∙ patient), c.patient_places (it.patient ∙ patient))
 
   full_when_taken : Laws → (words : Words E B) (run : Run L) (js ks : List (Receiver E B)) (links : List Link) (others : List RollView) → HasRoll words run js ks links others → run.plan.patient ≡ true → IsFullWhenTaken run links
   full_when_taken laws words run js ks links others h is_patient i link n e lt full q less =
       let setup = link_setup run.plan i in
-      let (asked, patient) = patient_at words run js ks links others h is_patient i link e in
+      let (asked, patient, _) = patient_at words run js ks links others h is_patient i link e in
       let claims = roll_claims words js ks links others run.handed.roll h.came h.roll in
       let parts = and_parts (asks_at (past_at setup link.entries n)) (not (is_some (claim_at link.entries n))) (sym (laws.askers.full setup link.entries n) ∙ full) in
       let many : length (others_at (past_at setup link.entries n)) ≡ setup.places = (patient n lt parts.0).0 (no_claim (claim_at link.entries n) parts.1) in
@@ -131,7 +132,7 @@ module _ {L E B : Type 0} where
     patient = λ _. record {
       missed = missed;
       full = λ i link n e. (patient_at words run js ks links others h patient i link e).1 n;
-      given = ?;
+      given = λ i link n e. (patient_at words run js ks links others h patient i link e).2 n;
     };
     impatient = λ no. absurd (let wrong : true ≡ false = sym patient ∙ no in cc);
     any = full_when_taken laws words run js ks links others h patient;

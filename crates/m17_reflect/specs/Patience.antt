@@ -1,28 +1,24 @@
 -- When nothing is left out, who found no place, and when a link counts as lost. This profile.
-use Rattle.std.specs.Prelude.{◌≡◌, ◌⊎◌, ℕ, ◌<◌, true, false, IsTrue, List, length, All, Some}
-use Rattle.std.specs.List.{list_any}
-use Rattle.m17_directory.specs.Entries.{Claim, claim_at}
-use Rattle.m17_directory.specs.Outcome.{has_place}
-use Rattle.m17_directory.specs.Routed.{past_at, asks_at, others_at, link_verdict}
+use Rattle.std.specs.Prelude.{◌≡◌, ◌⊎◌, ℕ, ◌<◌, true, false, IsTrue, List, length, All}
+use Rattle.m17_directory.specs.Routed.{past_at, asks_at, link_verdict}
 use Rattle.m17_directory.specs.Laws.{is_full}
 use Rattle.m17_io.specs.Faults.{HasRisen}
 use Rattle.m17_roll.specs.Closing.{EveryPlaceStands}
-use Rattle.m17_receiver.specs.Claims.{turned_away, IsPatientAt}
+use Rattle.m17_receiver.specs.Claims.{turned_away, IsPatientAt, HasFreePlaceAt}
 use Rattle.m17_receiver.specs.Devices.{Tells, EndsInFaults}
 use Rattle.m17_reflect.specs.Links.{Link, At, link_setup}
 use Rattle.m17_reflect.specs.Run.{Run}
 
--- In a patient run nothing is left out, an entry that asks is Full exactly where as many other peers
--- are still known as there are places, and else its claim is of a place that none of these has. This
--- profile.
+-- In a patient run nothing is left out; an entry that asks is Full exactly where as many other peers
+-- are still known as there are places; and each claim of a link's entry is of a place that none of
+-- the other peers has that are still known to the link. This profile.
 pub record IsPatientRun {L : Type 0} (run : Run L) (links : List Link) : Type 0 where
   pub missed : All (λ count. count ≡ 0) run.handed.missed
   pub full : (i : ℕ) (link : Link) (n : ℕ) → At links i link → n < length link.entries →
       asks_at (past_at (link_setup run.plan i) link.entries n) ≡ true →
       IsPatientAt (link_setup run.plan i) link.entries n
-  pub given : (i n : ℕ) (link : Link) (claim : Claim) → At links i link →
-      claim_at link.entries n ≡ Some claim → list_any (has_place claim.member.place)
-      (others_at (past_at (link_setup run.plan i) link.entries n)) ≡ false
+  pub given : (i : ℕ) (link : Link) (n : ℕ) → At links i link →
+      HasFreePlaceAt (link_setup run.plan i) link.entries n
 
 -- The seat of each link refused those whose entries are Full, in order. This profile.
 abbrev pub AreTurnedAway : {L : Type 0} → Run L → List Link → Type 0
