@@ -16,6 +16,8 @@ mod jobs;
 pub mod laws;
 #[cfg(test)]
 mod made_tests;
+#[cfg(test)]
+mod meeting;
 mod parted;
 mod returned;
 mod running;
