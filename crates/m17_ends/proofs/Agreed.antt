@@ -18,12 +18,13 @@ use Rattle.m17_reflect.specs.Links.{IsLink, Link, link_setup}
 use Rattle.m17_reflect.specs.Queues.{carried}
 use Rattle.m17_reflect.specs.Run.{Run}
 use Rattle.m17_client.specs.Client.{join_packet}
-use Rattle.m17_client.specs.Laws.{ClientKeepsWhatWasSaid}
+use Rattle.m17_client.specs.Laws.{ClientKeepsWhatWasSaid, TalkIsAClientsEnd}
+use Rattle.m17_client.specs.Talk.{steps_of}
 use Rattle.m17_client.specs.Standing.{Standing}
 use Rattle.m17_client.specs.Steps.{ClientStep}
 use Rattle.m17_client.specs.Way.{GotIn, KeepsWhatWasSaid, Way}
 use Rattle.m17_ends.specs.BothEnds.{BothLetIn, IsInATrail, IsLinksEnd}
-use Rattle.m17_ends.specs.Laws.{BothEndsAgree}
+use Rattle.m17_ends.specs.Laws.{BothEndsAgree, TalksAgree}
 use Rattle.m17_ends.proofs.Listed.{all_at, beside, map_at}
 use Rattle.m17_ends.proofs.Given.{speaks}
 use Rattle.m17_ends.proofs.Carried.{in_a_trail}
@@ -34,6 +35,7 @@ use Rattle.m17_ends.proofs.Asked.{HeardAsk, heard_ask}
 -- the laws below that this rests on
 pub record Laws : Type 0 where
   pub client : ClientKeepsWhatWasSaid
+  pub talk : TalkIsAClientsEnd
   pub exact : DecodingIsExact
   pub frames : OneSpelling
   pub apart : PeersAreToldApart
@@ -127,3 +129,7 @@ module _ {L : Type 0} where
             voice_given laws run headline.heard out i way there packet q
             (is_frame laws.frames packet q bytes spelled other) telling;
       }
+
+  pub talks_agree : Laws → TalksAgree L
+  talks_agree laws run headline i way plan turns counted is net over =
+      both_agree laws run headline i way plan.client (steps_of turns) counted is net (laws.talk way plan turns over)
