@@ -1,7 +1,6 @@
 -- Both ends agree.
 use Rattle.std.proofs.Common.{◌≡◌, ℕ, List, sym, ap, ◌∙◌, subst, Some, Contains}
 use Rattle.std.specs.Prelude.{slice_get}
-use Rattle.std.specs.List.{All}
 use Rattle.m17_values.specs.declared.heard.Heard.{Heard}
 use Rattle.m17_values.specs.declared.heard.Heard.TheVariants as heard
 use Rattle.m17_stream.specs.Laws.{OneSpelling}
@@ -11,7 +10,6 @@ use Rattle.m17_control.specs.Laws.{DecodingIsExact}
 use Rattle.m17_control.specs.declared.packet.Control.TheVariants.{Ackn}
 use Rattle.m17_control.specs.declared.packet.Packet.{Packet}
 use Rattle.m17_control.specs.declared.packet.Packet.TheVariants as packets
-use Rattle.m17_receiver.specs.Devices.{IsCounted}
 use Rattle.m17_directory.specs.Laws.{DoorCarriesReplies, PeersAreToldApart}
 use Rattle.m17_reflect.specs.Headline.{Headline, IsCarriedOut}
 use Rattle.m17_reflect.specs.Links.{IsLink, Link, link_setup}
@@ -53,15 +51,14 @@ module _ {L : Type 0} where
         × Telling (link_setup run.plan i) link.entries (carried run.handed.queues) way.client q
 
   link_there : (laws : Laws) (run : Run L) (headline : Headline run) (i : ℕ) (way : Way)
-      (out : IsCarriedOut run headline.heard) → All IsCounted headline.heard → IsLinksEnd run i way
+      (out : IsCarriedOut run headline.heard) → IsLinksEnd run i way
       → LinkThere run out.links way i
-  link_there laws run headline i way out counted is =
+  link_there laws run headline i way out is =
       let (entries, at_heard) = beside run.before.ears headline.heard i is.ear_before
       (sym headline.ears.count) is.ear_was in
       let has = headline.ears.each i entries is.ear_before is.ear_after at_heard is.ear_was is.ear_is in
-      let fits : IsCounted entries = all_at IsCounted headline.heard i entries counted at_heard in
       let heard_all : way.link_heard ≡ entries =
-      told_all is.ear_before.0 entries way.link_heard is.new_ear (sym (has.told fits) ∙ is.heard) in
+      told_all is.ear_before.0 entries way.link_heard is.new_ear (sym has.told ∙ is.heard) in
       let (link, at_link, same) = map_at (λ (link : Link). link.heard) out.links i entries
       (subst (λ l. slice_get l i ≡ Some entries) (sym out.of_heard) at_heard) in
       record {
@@ -115,9 +112,9 @@ module _ {L : Type 0} where
       (speaks packet item.body (link_setup run.plan i).name (said ∙ ap Some is))
 
   pub both_agree : Laws → BothEndsAgree L
-  both_agree laws run headline i way first steps counted is net end' =
-      let out = headline.carried_out counted in
-      let there = link_there laws run headline i way out counted is in
+  both_agree laws run headline i way first steps is net end' =
+      let out = headline.carried_out in
+      let there = link_there laws run headline i way out is in
       let keeps = laws.client way first steps net end' in
       record {
         keeps = keeps;
@@ -131,5 +128,5 @@ module _ {L : Type 0} where
       }
 
   pub talks_agree : Laws → TalksAgree L
-  talks_agree laws run headline i way plan turns counted is net over =
-      both_agree laws run headline i way plan.client (steps_of turns) counted is net (laws.talk way plan turns over)
+  talks_agree laws run headline i way plan turns is net over =
+      both_agree laws run headline i way plan.client (steps_of turns) is net (laws.talk way plan turns over)

@@ -1,6 +1,5 @@
 -- What follows for a client and a link of a run of the reflector. This profile.
-use Rattle.std.specs.Prelude.{ℕ, List, All}
-use Rattle.m17_receiver.specs.Devices.{IsCounted}
+use Rattle.std.specs.Prelude.{ℕ, List}
 use Rattle.m17_reflect.specs.Headline.{Headline}
 use Rattle.m17_reflect.specs.Run.{Run}
 use Rattle.m17_client.specs.Standing.{Standing}
@@ -10,19 +9,17 @@ use Rattle.m17_client.specs.Talk.{TalkPlan, Turn, steps_of}
 use Rattle.m17_client.specs.Way.{IsClientsEnd, NothingInvented, Way}
 use Rattle.m17_ends.specs.BothEnds.{EndsAgree, IsLinksEnd}
 
--- Of a run of the reflector that meets its headline, over ears whose entries are counted in 64
--- bits, and a client at the other end of a way on which nothing is made up: both ends agree. This
--- profile.
+-- Of a run of the reflector that meets its headline, and a client at the other end of a way on which
+-- nothing is made up: both ends agree. This profile.
 abbrev pub BothEndsAgree : (L : Type 0) → Type 0
 BothEndsAgree L =
     (run : Run L) (headline : Headline run) (i : ℕ) (way : Way) (first : Standing)
-    (steps : List ClientStep) → All IsCounted headline.heard → IsLinksEnd run i way
-    → NothingInvented way → IsClientsEnd way first steps → EndsAgree run way first steps
+    (steps : List ClientStep) → IsLinksEnd run i way → NothingInvented way
+    → IsClientsEnd way first steps → EndsAgree run way first steps
 
 -- The same of a run of `talk` as the client's end. This profile.
 abbrev pub TalksAgree : (L : Type 0) → Type 0
 TalksAgree L =
     (run : Run L) (headline : Headline run) (i : ℕ) (way : Way) (plan : TalkPlan)
-    (turns : List Turn) → All IsCounted headline.heard → IsLinksEnd run i way
-    → NothingInvented way → IsTalkOver way plan turns
-    → EndsAgree run way plan.client (steps_of turns)
+    (turns : List Turn) → IsLinksEnd run i way → NothingInvented way
+    → IsTalkOver way plan turns → EndsAgree run way plan.client (steps_of turns)
