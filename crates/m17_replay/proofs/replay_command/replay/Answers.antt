@@ -21,7 +21,7 @@ returns-clause-ended g c = λ bytes told.
     let judged = c.in-Ok.ensures.judged in
     subst (λ (ending : ReplayEnding). ComesToReplay c.args.plan.now c.args.summary ending (streams bytes (g.S.Input.left c.read_heard.new.input) (g.K.Sink.written c.args.out.now) (g.K.Sink.written c.print_replayed-printed.new.out)))
     (sym c.ending_of.ensures)
-    (ended c.args.plan.now c.args.summary bytes c.deref.result.now c.in-Ok.replayed (subst (λ (heard : List Heard). IsTrace bytes heard) (sym c.deref.ensures.value) read.0) judged
+    (ended c.a_replay_there_is.ensures c.replay_text_is_free_of_places.ensures c.args.plan.now c.args.summary bytes c.in-Ok-Ok.heard.items c.in-Ok.replayed read.0 judged
     c.print_replayed-printed.result c.in-Ok.replayed.lost _ _ _ _ read.1 refl c.in-Ok-Ok.ensures.nothing_written
     (c.print_replayed-printed.ensures.writes c.args.plan.now judged.entries judged.stands))
 
