@@ -1,4 +1,4 @@
--- A run over one link of a list with an end: what its ear heard is a beginning of the list, and is counted.
+-- A run over one link of a list with an end: what its ear heard is a beginning of the list.
 use Rattle.std.proofs.Common.{◌≡◌, ℕ, ◌<◌, ◌≤◌, ◌^◌, true, List, [], ◌∷◌, ◌++◌, map, length, take, drop, replicate, Option, Some, inl, inr, sym, subst, refl, ap, ◌∙◌, arith, append_assoc}
 use Rattle.std.specs.Prelude.{◌⊎◌, slice_get, All}
 use Rattle.std.specs.List.{AllByRecursion}
@@ -10,7 +10,7 @@ use Rattle.m17_values.specs.declared.heard.Heard.TheVariants.{End}
 use Rattle.m17_ports.specs.Ear.{FollowsScript}
 use Rattle.m17_ports.specs.Told.{told_then}
 use Rattle.m17_port_memory.specs.Script.{heard_of, heard_of-follows}
-use Rattle.m17_receiver.specs.Devices.{Tells, IsCounted}
+use Rattle.m17_receiver.specs.Devices.{Tells}
 use Rattle.m17_reflect.specs.Headline.{IsCarriedOut, Headline}
 use Rattle.m17_reflect.specs.Links.{Link}
 use Rattle.m17_reflect.specs.Run.{Run}
@@ -21,7 +21,6 @@ use Rattle.m17_patient.proofs.Lists.{one_of}
 pub record IsAlone {L : Type 0} (run : Run L) (script : List Heard) : Type 0 where
   pub patient : run.plan.patient ≡ true
   pub ends : HasAnEnd script
-  pub few : length script < 2 ^ 64
   pub cells : run.plan.entries ≡ length script
   pub was : Tells Heard
   pub before : run.before.ears ≡ was ∷ []
@@ -67,8 +66,7 @@ has_run run script h alone =
     let is : heard ≡ heard_of script alone.calls =
     same_Some heard (heard_of script alone.calls) (sym (ear.told ∙ ap (λ (o : Option (List Heard)). told_then o heard) alone.nothing) ∙ alone.told) in
     let (rest, whole) = begins script heard alone.ends ear.no_more (subst (FollowsScript script) (sym is) (heard_of-follows script alone.calls)) in
-    let counted : IsCounted heard = omega (arith, alone.few, ap length whole, length-append heard rest) in
-    let carried = h.carried_out (subst (All IsCounted) (sym only) (All-from_recursion IsCounted (heard ∷ []) (counted, tt))) in
+    let carried = h.carried_out in
     let (link, links_are, its) = one_link carried.links heard (carried.of_heard ∙ only) in record {
       link = link;
       rest = rest;

@@ -144,7 +144,6 @@ tells mouth = record {
 -- A run of this plan, patient, over one ear with a script and one mouth with tallies.
 pub record IsOver (plan : Plan) (script : List Heard) (run : Run (Unit {0})) : Type 0 where
   pub plan_is : run.plan ≡ record plan { patient = true; entries = length script }
-  pub few : length script < 2 ^ 64
   pub ends : HasAnEnd script
   pub first : ScriptKept
   pub new : first ≡ new_ear script 0
@@ -157,7 +156,6 @@ alone_of : (plan : Plan) (script : List Heard) (run : Run (Unit {0})) → IsOver
 alone_of plan script run o = record {
   patient = ap (λ (p : Plan). p.patient) o.plan_is;
   ends = o.ends;
-  few = o.few;
   cells = ap (λ (p : Plan). p.entries) o.plan_is;
   was = hears o.first;
   before = o.before;

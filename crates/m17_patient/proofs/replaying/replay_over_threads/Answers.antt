@@ -39,7 +39,6 @@ take_apart-requires-clause-tape g c =
     let headline = c.in-Ok-reflect.ensures.headline in
     let over : IsOver c.args.plan.now script _ = record {
       plan_is = c.patient_plan-patient.ensures ∙ ap (λ n. let p : Plan = record c.args.plan.now { patient = true; entries = n } in p) many;
-      few = omega (arith, c.count-len.ensures.few, ap length c.deref.ensures.value);
       ends = c.requires.ends;
       first = c.new.result;
       new = c.new.ensures;
@@ -69,7 +68,6 @@ returns-in-Ok-reflect-clause-judged g c =
     let headline = c.in-Ok-reflect.ensures.headline in
     let over : IsOver c.args.plan.now script _ = record {
       plan_is = c.patient_plan-patient.ensures ∙ ap (λ n. let p : Plan = record c.args.plan.now { patient = true; entries = n } in p) many;
-      few = omega (arith, c.count-len.ensures.few, ap length c.deref.ensures.value);
       ends = c.requires.ends;
       first = c.new.result;
       new = c.new.ensures;
