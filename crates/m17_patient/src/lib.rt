@@ -10,5 +10,7 @@ mod devices;
 mod laws;
 mod replaying;
 mod tapes;
+#[cfg(test)]
+mod tests;
 
 pub use replaying::{Replay, replay_over_threads};

@@ -5,7 +5,7 @@ pub returns-in-LinkLost : goal.returns-in-LinkLost
 returns-in-LinkLost g c = rw c.in-LinkLost.is c.end_with.ensures
 
 pub returns-in-CrewRefused : goal.returns-in-CrewRefused
-returns-in-CrewRefused g c = rw c.in-CrewRefused.is c.end_with.ensures
+returns-in-CrewRefused g c = rw c.in-CrewRefused.is c.end_with-in-CrewRefused.ensures
 
 pub returns : goal.returns
 returns g c = λ left reads. elim c.match-ending.branch [
