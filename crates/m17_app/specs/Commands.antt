@@ -13,7 +13,7 @@ use Rattle.m17_app.specs.Run.{AreRefused, RunsJudge, RunsShow, RefusesWords}
 use Rattle.m17_app.specs.Make.{RunsMake}
 use Rattle.m17_app.specs.Replayed.{RunsReplay}
 use Rattle.m17_app.specs.Talk.{RunsTalk}
-use Rattle.m17_app.specs.Doing.{Doing, DoesNothing, ServesNothing, talk_side}
+use Rattle.m17_app.specs.Doing.{Doing, AsksForNothing, DoesNothing, ServesNothing, crew_side, talk_side}
 use Rattle.m17_app.specs.Serve.{RunsServe}
 use Rattle.m17_serve.specs.Served.{IsServable}
 
@@ -28,15 +28,16 @@ plan_of call modules parrots places = record {
   entries = 0;
 }
 
--- What the run of a command promises. Only `talk` and `serve` ask the ports for anything, and hand back devices. This
--- profile.
+-- What the run of a command promises. Only `talk` and `serve` ask the ports for anything, and hand back devices; only
+-- `replay` and `serve` have the crew start threads. This profile.
 abbrev pub Runs : {L : Type 0} → Command → Status → Outside → Outside → Doing L → Type 0
 Runs Judge status before after run = RunsJudge status before after × DoesNothing run
 Runs Show status before after run = RunsShow status before after × DoesNothing run
 Runs (Make seed count) status before after run =
     RunsMake seed count status before after × DoesNothing run
 Runs (Replay call modules parrots places summary) status before after run =
-    RunsReplay (plan_of call modules parrots places) summary status before after × DoesNothing run
+    RunsReplay (plan_of call modules parrots places) summary status before after (crew_side run)
+    × AsksForNothing run
 Runs (Talk order) status before after run =
     RunsTalk order status before after (talk_side run) × ServesNothing run
 Runs (Serve order) status before after run =

@@ -6,6 +6,7 @@ use Rattle.m17_serve.specs.Devices.{HouseTold}
 use Rattle.m17_serve.specs.Served.{Around, around}
 use Rattle.m17_talk.specs.Devices.{DevicesTold, PortsTold}
 use Rattle.m17_talk.specs.Talked.{Handed, handed}
+use Rattle.m17_app.specs.Status.{Starts, starts}
 
 -- What the ports told before the run and after it, how many starts the crew had refused then, and what the run hands
 -- back: the devices of a talk that ran, those of a reflector that ran with what went through its threads, or those of one
@@ -38,6 +39,17 @@ module _ {L : Type 0} where
 
   abbrev pub serve_side : Doing L → Around L
   serve_side run = around run.before run.after run.house run.refused
+
+  -- how many starts the crew had refused
+  abbrev pub crew_side : Doing L → Starts
+  crew_side run = starts run.crew_before run.crew_after
+
+  -- the ports were asked for nothing, and no devices are handed back
+  pub record AsksForNothing (run : Doing L) : Type 0 where
+    pub ports : run.after ≡ run.before
+    pub talk : run.talk ≡ None
+    pub house : run.house ≡ None
+    pub refused : run.refused ≡ None
 
   -- no reflector was to run: the crew was asked for nothing, and no devices of one are handed back
   pub record ServesNothing (run : Doing L) : Type 0 where

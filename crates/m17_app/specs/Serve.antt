@@ -1,5 +1,5 @@
 -- What a run of `serve` promises. This profile.
-use Rattle.std.specs.Prelude.{◌≡◌, ◌≢◌, ◌⊎◌, ℕ, List, [], ◌∷◌, ◌++◌, codes}
+use Rattle.std.specs.Prelude.{◌≡◌, ◌≢◌, ◌⊎◌, ℕ, List, [], ◌++◌}
 use Rattle.m17_io.specs.Faults.{HasRisen}
 use Rattle.m17_reflect.specs.declared.returned.HouseRefusal.TheVariants as refusals
 use Rattle.m17_reflect.specs.Run as reflect
@@ -11,13 +11,9 @@ use Rattle.m17_serve.specs.Served.{ending_of, lines_of, Around, AsksNothing, Fai
 use Rattle.m17_app.specs.declared.status.Status.{Status}
 use Rattle.m17_app.specs.declared.status.Status.TheVariants.{Finished, InputRefused, WordsRefused, ReadFailed, WriteFailed, PortFailed, CrewRefused, LinkLost, BookFailed, NoMemory}
 use Rattle.m17_app.specs.Doing.{Doing, serve_side}
-use Rattle.m17_app.specs.Replayed.{link_lost_line}
+use Rattle.m17_app.specs.Replayed.{crew_refused_line, link_lost_line}
 use Rattle.m17_app.specs.Status.{Outside, HasCause}
 use Rattle.m17_app.specs.Talk.{Adds, AddsPart, book_failed_line, port_failed_line}
-
--- the last line of a run whose crew refused a start
-abbrev pub crew_refused_line : List ℕ
-crew_refused_line = codes "crew refused" ++ 10 ∷ []
 
 -- the last line of a run that ended so, if it has one, and its status where that line could be written
 abbrev pub serve_last_line : ServeEnding → List ℕ

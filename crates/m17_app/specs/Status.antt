@@ -48,6 +48,14 @@ abbrev pub outside : Option (List ℕ) → ℕ → Option (List ℕ) → ℕ →
 outside left reads written writes held_back =
     record { left = left; reads = reads; written = written; writes = writes; held_back = held_back }
 
+-- How often the crew has refused a start, before a run and after it.
+pub record Starts : Type 0 where
+  pub before : ℕ
+  pub after : ℕ
+
+abbrev pub starts : ℕ → ℕ → Starts
+starts before after = record { before = before; after = after }
+
 -- A run over devices that tell: the input that was left before it and what stood written then, and what the devices
 -- tell before it and after it.
 pub record Watched : Type 0 where

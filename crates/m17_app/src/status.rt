@@ -13,7 +13,7 @@ pub enum Status {
     WriteFailed,
     /// The ports failed.
     PortFailed,
-    /// The crew refused to start a job.
+    /// The crew refused to start a thread.
     CrewRefused,
     /// A link was lost by its faults.
     LinkLost,

@@ -7,9 +7,10 @@ use Rattle.m17_directory.specs.Entries.{Notice, Claim, Entry, Setup, claim_at, p
 use Rattle.m17_directory.specs.Known.{Past, now, row_at, known_at}
 use Rattle.m17_directory.specs.Outcome.{Here, has_place}
 use Rattle.m17_directory.specs.Routed.{here_of, is_silent, others_than, others_at, asks_at, asked_before, past_at}
+use Rattle.m17_directory.specs.Fits.{OthersFitThePlaces}
 use Rattle.m17_directory.specs.Laws.{ClaimsAreAsked, ClaimsArePlaced, AllPlacesAreClaimed}
 use Rattle.m17_directory.specs.Steps.{still_by}
-use Rattle.m17_directory.proofs.Bounds.{IsSeated, seated_none, seated_known, seated_filter, seated_put, freed, fewer_than_places}
+use Rattle.m17_directory.proofs.Bounds.{IsSeated, seated_none, seated_known, seated_filter, seated_put, seated_length, freed, fewer_than_places}
 use Rattle.m17_directory.proofs.Later.{has_row}
 use Rattle.m17_directory.proofs.LawMore.{others_is}
 use Rattle.m17_directory.proofs.LawSent.{all_filter, all_found}
@@ -106,3 +107,8 @@ all_claimed setup entries n q asked placed within asks many inside =
       | inl it ↦ (it.such.0, it.such.1, it.such.2, it.such.3, ap (λ m. m.place) it.such.4 ∙ it.place)
       | inr none ↦ absurd (let few = fewer_than_places setup.places q others inside seated in let same = ap length none in omega arith)
     ]
+
+pub others_fit : OthersFitThePlaces
+others_fit setup entries n asked placed within asks =
+    seated_length setup.places (others_at (past_at setup entries n))
+    (others_seated setup entries asked placed n asks (seated_upto setup entries asked placed n (omega arith)))

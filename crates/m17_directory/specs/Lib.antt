@@ -7,6 +7,7 @@ pub mod Routed
 pub mod Given
 pub mod StandsFor
 pub mod Laws
+pub mod Fits
 -- For proofs alone.
 pub mod Steps
 pub mod Sound

@@ -1,5 +1,6 @@
 ghost use Rattle.std.specs.Prelude.{◌≡◌, ◌↔◌, ◌+◌, ◌<◌, ◌≤◌, false, true, List, [], ◌∷◌, ◌++◌, length, map, Some, None, IfOk, IfSome, IsSome, IsTrue, ◌||◌, nat_le, if◌then◌else◌, option_map};
 ghost use Rattle.std.specs.List.{list_any};
+ghost use Rattle.m17_values.specs.declared.heard.Heard.TheVariants as heard;
 ghost use Rattle.m17_directory.specs.Entries.{Notice, Entry, Claim, Says, is_fault, is_end};
 ghost use Rattle.m17_directory.specs.Entries as entries;
 ghost use Rattle.m17_directory.specs.Outcome.{has_place};
@@ -129,6 +130,7 @@ impl Directory {
         ensures asked { (result ≡ link.Asks) ↔ IsSome self.new.asked }
         ensures index { IfSome self.new.asked (λ asked. asked.index ≡ index) }
         ensures ended { (self.new.ended ≡ true) ↔ (result ≡ link.Ended) }
+        ensures over { h.now ≡ heard.End → self.new.ended ≡ true }
         ensures together { length self.new.known + length self.new.departing
             ≡ length self.old.known + length self.old.departing }
         ensures departing { HasGrown self.old.departing self.new.departing }

@@ -1,5 +1,6 @@
 //! What the definitions promise of all that a link may hear. Each function does nothing: its clause is the law. This
 //! profile.
+ghost use Rattle.m17_directory.specs.Fits.{OthersFitThePlaces};
 ghost use Rattle.m17_directory.specs.Laws as law;
 
 /// What comes later changes nothing of what an entry comes to.
@@ -158,4 +159,10 @@ pub fn all_places_are_claimed()
 /// entry's claim is of its place again. This profile.
 pub fn leaves_follow_joins()
     ensures { law.LeavesFollowJoins }
+{}
+
+/// Where each claim is of a place, and entries that ask have claims alone, no more others are still known to an entry
+/// that asks than there are places. This profile.
+pub fn others_fit_the_places()
+    ensures { OthersFitThePlaces }
 {}

@@ -38,7 +38,7 @@ claim_before entries e i below = ap (option_and_then (λ (entry : Entry). entry.
 pub notice_before : (entries : List Entry) (e : Entry) (i : ℕ) → i < length entries → notice_at (entries ++ e ∷ []) i ≡ notice_at entries i
 notice_before entries e i below = ap notice_of (slice_get_before entries (e ∷ []) i below)
 
-given_same : (entries : List Entry) (e : Entry) (place i : ℕ) → i ≤ length entries → given_before (entries ++ e ∷ []) place i ≡ given_before entries place i
+pub given_same : (entries : List Entry) (e : Entry) (place i : ℕ) → i ≤ length entries → given_before (entries ++ e ∷ []) place i ≡ given_before entries place i
 given_same entries e place i le =
     count_range (λ j. is_of_place place (claim_at (entries ++ e ∷ []) j)) (λ j. is_of_place place (claim_at entries j)) 0 i
     (λ j below. ap (is_of_place place) (claim_before entries e j (omega arith)))

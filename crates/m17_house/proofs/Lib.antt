@@ -2,6 +2,7 @@ pub mod Lists
 pub mod Peers
 pub mod Magics
 pub mod Tallies
+pub mod ToldTallies
 pub mod Cells
 pub mod Carries
 pub mod Notes
@@ -17,6 +18,7 @@ pub mod OneMore
 pub mod Played
 pub mod EndEnds
 pub mod OneReplay
+pub mod ThereIs
 pub mod FaultsEnd
 pub mod OneAnswer
 pub mod FreeChoice

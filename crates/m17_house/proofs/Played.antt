@@ -46,13 +46,13 @@ listed_more f g n m is same =
     ∙ ap (λ k. map g (range_with_len 0 n) ++ f k ∷ []) (let e : 0 + n ≡ n = omega arith in e)
 
 -- one thing more was heard
-says_more : (front : List Heard) (entries : List Entry) (h : Heard) (e : Entry) → SaysEach front entries → Says h e.notice → SaysEach (front ++ h ∷ []) (entries ++ e ∷ [])
+pub says_more : (front : List Heard) (entries : List Entry) (h : Heard) (e : Entry) → SaysEach front entries → Says h e.notice → SaysEach (front ++ h ∷ []) (entries ++ e ∷ [])
 says_more [] [] h e each says = (says, tt)
 says_more [] (x ∷ entries) h e each says = absurd each
 says_more (g ∷ front) [] h e each says = absurd each
 says_more (g ∷ front) (x ∷ entries) h e each says = (each.0, says_more front entries h e each.1 says)
 
-ends_before : EntriesBeforeDecide → EndedWhereItEnds → (plan : Plan) (entries : List Entry) (e : Entry) (i : ℕ) → i < length entries → ends_at (entries ++ e ∷ []) i ≡ ends_at entries i
+pub ends_before : EntriesBeforeDecide → EndedWhereItEnds → (plan : Plan) (entries : List Entry) (e : Entry) (i : ℕ) → i < length entries → ends_at (entries ++ e ∷ []) i ≡ ends_at entries i
 ends_before law ends plan entries e i below =
     sym (ends (setup_of plan) (entries ++ e ∷ []) i)
     ∙ ap (λ o. is_ended o.verdict) (law.heard (setup_of plan) (entries ++ e ∷ []) entries i (take-append-le i entries (e ∷ []) (omega arith)) (notice_before entries e i below))

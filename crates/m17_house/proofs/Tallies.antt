@@ -45,11 +45,11 @@ same_numbers {a} {n} {i} {o} {d} {f} {a'} {n'} {i'} {o'} {d'} {f'} ea en ei eo e
     ap (λ x. made x n i o d f) ea ∙ ap (λ x. made a' x i o d f) en ∙ ap (λ x. made a' n' x o d f) ei
     ∙ ap (λ x. made a' n' i' x d f) eo ∙ ap (λ x. made a' n' i' o' x f) ed ∙ ap (λ x. made a' n' i' o' d' x) ef
 
-same_tally : (s t : Tally) → s.ackn ≡ t.ackn → s.nack ≡ t.nack → s.ping ≡ t.ping → s.pong ≡ t.pong → s.disc ≡ t.disc → s.frame ≡ t.frame → s ≡ t
+pub same_tally : (s t : Tally) → s.ackn ≡ t.ackn → s.nack ≡ t.nack → s.ping ≡ t.ping → s.pong ≡ t.pong → s.disc ≡ t.disc → s.frame ≡ t.frame → s ≡ t
 unfolding made
 same_tally s t ea en ei eo ed ef = same_numbers ea en ei eo ed ef
 
-tally_more : (said : List Packet) (p : Packet) (bytes : List ℕ) → Spells p bytes → tally_then (tally_of said) bytes ≡ tally_of (said ++ p ∷ [])
+pub tally_more : (said : List Packet) (p : Packet) (bytes : List ℕ) → Spells p bytes → tally_then (tally_of said) bytes ≡ tally_of (said ++ p ∷ [])
 tally_more said p bytes s =
     let b : BeginsAs p bytes = begins_as p bytes s in
     same_tally (tally_then (tally_of said) bytes) (tally_of (said ++ p ∷ []))
@@ -70,7 +70,7 @@ same_count_tallies said more mouth same are x tally is = are x tally is ∙ tall
 pub none_said : (mouth : TalliesKept) → ((x : Peer) (tally : Tally) → tally_at mouth.entries x ≡ Some tally → tally ≡ no_tally) → AreTalliesOf (λ x. []) mouth
 none_said mouth empty x tally is = empty x tally is ∙ same_tally no_tally (tally_of []) refl refl refl refl refl refl
 
-some_of_map : {A B : Type 0} (f : A → B) (o : Option A) (b : B) → option_map f o ≡ Some b → (a : A) × (o ≡ Some a) × (f a ≡ b)
+pub some_of_map : {A B : Type 0} (f : A → B) (o : Option A) (b : B) → option_map f o ≡ Some b → (a : A) × (o ≡ Some a) × (f a ≡ b)
 some_of_map f None b e = cc
 some_of_map f (Some a) b e = (a, refl, same_Some (f a) b e)
 

@@ -1,18 +1,23 @@
 -- What follows from the definitions for all that a link may hear. This profile.
-use Rattle.std.specs.Prelude.{◌≡◌, ◌+◌, List, ◌∷◌, ◌++◌, length, replicate, true, Option, Some}
-use Rattle.std.specs.List.{AllByRecursion}
+use Rattle.std.specs.Prelude.{◌≡◌, ◌+◌, Bool, List, ◌∷◌, ◌++◌, length, map, filter, count_by, replicate, true, Option, Some}
+use Rattle.std.specs.List.{AllByRecursion, AllZip}
 use Rattle.m17_values.specs.declared.heard.Heard.{Heard}
 use Rattle.m17_values.specs.declared.heard.Heard.TheVariants as heard
 use Rattle.m17_values.specs.declared.peer.Peer.{Peer}
+use Rattle.m17_control.specs.declared.packet.Packet.{Packet}
+use Rattle.m17_control.specs.Forms.{Spells}
 use Rattle.m17_floor.specs.declared.verdict.Verdict.{Verdict}
 use Rattle.m17_ports.specs.declared.tally.Tally.{Tally}
+use Rattle.m17_ports.specs.Mouth.{Datagram}
+use Rattle.m17_ports.specs.Said.{AreTallied}
+use Rattle.m17_ports.specs.Tallies.{no_tally}
 use Rattle.m17_port_memory.specs.Kept.{TalliesKept}
 use Rattle.m17_port_memory.specs.Peers.{tally_at}
 use Rattle.m17_directory.specs.declared.verdict.LinkVerdict.{LinkVerdict}
-use Rattle.m17_directory.specs.Entries.{Entry, most_faults, ends_at, SaysEach}
+use Rattle.m17_directory.specs.Entries.{Entry, most_faults, ends_at, is_peer, SaysEach}
 use Rattle.m17_directory.specs.Laws.{HasBytes}
 use Rattle.m17_house.specs.declared.plan.Plan.{Plan}
-use Rattle.m17_house.specs.Replay.{EndsSomewhere, IsReplayOf, IsReplayed}
+use Rattle.m17_house.specs.Replay.{EndsSomewhere, IsReplayOf, IsReplayed, tally_of}
 use Rattle.m17_house.specs.Free.{IsFreeReplayOf, ComeToTheSame}
 
 -- What was heard ends the link, where it has an End. This profile.
@@ -35,6 +40,12 @@ abbrev pub OneReplay : Type 0
 OneReplay =
     (plan : Plan) (heard : List Heard) (one other : List Entry) → AllByRecursion HasBytes heard →
     IsReplayOf plan heard one → IsReplayOf plan heard other → one ≡ other
+
+-- What was heard, in bytes, has a replay by each plan where it ends the link. This profile.
+abbrev pub AReplayThereIs : Type 0
+AReplayThereIs =
+    (plan : Plan) (heard : List Heard) → AllByRecursion HasBytes heard → EndsSomewhere heard →
+    (entries : List Entry) × IsReplayOf plan heard entries
 
 -- The answers of a replay: what it says of the entries and of their packets, and the mouth that said what it says.
 pub record Answers : Type 0 where
@@ -71,3 +82,15 @@ abbrev pub FreeReplaysComeToTheSame : Type 0
 FreeReplaysComeToTheSame =
     (plan : Plan) (heard : List Heard) (one other : List Entry) → AllByRecursion HasBytes heard →
     IsFreeReplayOf plan heard one → IsFreeReplayOf plan heard other → ComeToTheSame plan one other
+
+-- What tallies tell: those of datagrams that were said, where they were 0 before, are those of the packets that the
+-- datagrams spell, peer by peer; and lists with as many packets of each kind have one tally. This profile.
+pub record TalliesTellPackets : Type 0 where
+  pub spelled : (before after : Peer → Option Tally) (said : List Datagram) (x : Peer)
+      (told : List Packet) (tally : Tally) →
+      ((t : Tally) → before x ≡ Some t → t ≡ no_tally) → AreTallied before said after →
+      AllZip Spells told (map (λ d. d.1) (filter (λ d. is_peer x d.0) said)) →
+      after x ≡ Some tally → tally ≡ tally_of told
+  pub as_many : (one other : List Packet) →
+      ((kind : Packet → Bool) → count_by kind one ≡ count_by kind other) →
+      tally_of one ≡ tally_of other

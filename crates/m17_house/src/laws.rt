@@ -24,6 +24,15 @@ pub fn one_replay()
     directory_laws::ended_where_it_ends();
 }
 
+/// What was heard, in bytes, has a replay by each plan where it ends the link.
+pub fn a_replay_there_is()
+    ensures { law.AReplayThereIs }
+{
+    directory_laws::each_entry_says_one_thing();
+    directory_laws::entries_before_decide();
+    directory_laws::ended_where_it_ends();
+}
+
 /// So its verdicts are the only ones, and so is what is said to each peer.
 pub fn one_answer()
     ensures { law.OneAnswer }
@@ -43,3 +52,9 @@ pub fn answers_are_free_of_places()
     directory_laws::joins_take_free_places();
     module_laws::renaming_changes_nothing_said();
 }
+
+/// The tallies of a mouth whose tallies were 0 are those of the packets that it said, each peer's by kinds; their order
+/// doesn't matter.
+pub fn tallies_tell_packets()
+    ensures { law.TalliesTellPackets }
+{}

@@ -66,6 +66,7 @@ impl<W: Work> Group<W> {
             → AllZip (Ran W.does) jobs self.new.jobs.items }
         ensures done { (jobs : List W) → jobs ≡ self.old.jobs.items ++ reverse self.old.running.items
             → self.old.jobs.items ≡ [] → AllZip W.does jobs self.new.jobs.items }
+        ensures none { self.new.running.items ≡ [] }
         ensures orders { self.new.orders ≡ self.old.orders }
     {
         m17_crew::laws::jobs_come_back_in_order::<W>();

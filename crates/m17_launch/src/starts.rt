@@ -56,7 +56,7 @@ pub fn launch<V: Work, W: Work, S: Work, C: Crew, R: Threads + Wait + Copy + Sen
             last.tell(rt, Order::Go);
             first.join(rt);
             second.join(rt);
-            last.tell(rt, Order::Stop);
+            stop_last(rt, first, second, last);
             last.join(rt);
             Ok(())
         }
@@ -112,4 +112,22 @@ fn quit<W: Work, R: Threads + Wait>(rt: &R, group: &mut Group<W>)
 {
     group.tell(rt, Order::Quit);
     group.join(rt);
+}
+
+// Tells the jobs of the last group to stop. It is handed the other groups because they have to be joined first.
+fn stop_last<V: Work, W: Work, S: Work, R: Wait>(
+    rt: &R,
+    first: &Group<V>,
+    second: &Group<W>,
+    last: &mut Group<S>,
+)
+    requires first { first.now.running.items ≡ [] }
+    requires second { second.now.running.items ≡ [] }
+    ensures orders { last.new.orders.items ≡ push_each (λ _. Stop ∷ []) 0 last.old.orders.items }
+    ensures jobs { last.new.jobs ≡ last.old.jobs }
+    ensures running { last.new.running ≡ last.old.running }
+{
+    let _ = first;
+    let _ = second;
+    last.tell(rt, Order::Stop);
 }

@@ -48,6 +48,13 @@ impl ScriptEar {
         }
     }
 
+    /// The script, with what was heard of it. This profile.
+    pub fn into_script(self) -> Vec<Heard>
+        ensures { result.items ≡ self.script }
+    {
+        self.script
+    }
+
     // The ear as it was when it was new, with this number.
     pub(crate) fn renewed(self, number: u64) -> ScriptEar
         ensures { result ≡ new_ear self.script number }

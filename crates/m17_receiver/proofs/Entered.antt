@@ -144,6 +144,7 @@ through_unasked law plan entries notice p d verdict posts out was is_heard setup
           given = refl;
           refused = λ _. sym (ap (λ b. p.seat.refused ++ cond b (n ∷ []) []) (full_unasked law setup longer n silent) ∙ append-nil p.seat.refused);
           patient_claims = λ _ asks. absurd (false≢true (sym silent ∙ asks));
+          patient_places = λ _ claim has. absurd (none-some claim has);
         });
         greeted = greeted_more entries e p.notes was.greeted (λ claim has. absurd (none-some claim has)) (λ _ i first second l has has' same. absurd (none-some second has'));
         gone = gone_more law setup entries e (heard_at past).left p.directory.departing d.departing p.notes (ap (λ (o : Outcome). o.left) outcome) heard.departing was.gone;

@@ -1,10 +1,9 @@
 -- Whom a claim waits for: each member that its peer was before has left, and its leaving was noted.
-use Rattle.std.proofs.Common.{◌≡◌, ◌==◌, ◌&&◌, ◌||◌, ◌⊎◌, ℕ, zero, suc, ◌+◌, ◌<◌, ◌≤◌, Bool, true, false, cond, List, [], ◌∷◌, ◌++◌, length, map, take, count_by, slice_get, Contains, refl, ap, sym, subst, ◌∙◌, inl, inr, arith, Option, None, Some}
+use Rattle.std.proofs.Common.{◌≡◌, ◌==◌, ◌&&◌, ◌||◌, ◌⊎◌, ℕ, zero, suc, ◌+◌, ◌<◌, ◌≤◌, Bool, true, false, cond, List, [], ◌∷◌, ◌++◌, length, map, take, count_by, slice_get, Contains, refl, ap, sym, subst, ◌∙◌, inl, inr, arith, Some}
 use Rattle.std.specs.List.{flat_map, list_any, range_with_len}
-use Rattle.std.specs.Option.{option_and_then}
 use Rattle.std.proofs.lemmas.Bool.{and_parts, and_from, cases_lt, eq-eqb, eqb-true, false≢true}
 use Rattle.std.proofs.lemmas.List.{length-append, take-append-le}
-use Rattle.std.proofs.lemmas.Option.{none-some, same_Some, slice_get-get_or, slice_get_within}
+use Rattle.std.proofs.lemmas.Option.{none-some, same_Some, slice_get-get_or}
 use Rattle.std.proofs.lemmas.List.Elements.{Contains-append_left, Contains-append_right, Contains-append_cases}
 use Rattle.std.proofs.lemmas.List.Sums.{sum_by-append}
 use Rattle.m17_values.specs.declared.member.Member.{Member}
@@ -18,7 +17,7 @@ use Rattle.m17_receiver.specs.Devices.{IsCounted}
 use Rattle.m17_receiver.specs.Claims.{IsGreetedAfter, AreOfOnePeer}
 use Rattle.m17_receiver.specs.SoFar.{Laws, AreGone, past_with}
 use Rattle.m17_receiver.proofs.Lists.{length_more, flat_more, flat_map_same}
-use Rattle.m17_receiver.proofs.Positions.{notice_before, notice_end, claim_before, claim_end}
+use Rattle.m17_receiver.proofs.Positions.{notice_before, notice_end, claim_before, claim_end, claim_within_more}
 
 -- more notes
 take_kept : (notes more : List Member) (n : ℕ) → n ≤ length notes → take n (notes ++ more) ≡ take n notes
@@ -177,16 +176,6 @@ each_noted law setup entries e departing notes x asked asks none gone i first l 
       | inr noted ↦ subst (Contains notes) (member_is d.0.member first.member parts.1) noted
     ]
 
--- a position with a claim is one of the list
-claim_within : (entries : List Entry) (n : ℕ) (claim : Claim) (o : Option Entry) → slice_get entries n ≡ o → option_and_then (λ (entry : Entry). entry.claim) o ≡ Some claim → n < length entries
-claim_within entries n claim None is has = absurd (none-some claim has)
-claim_within entries n claim (Some e) is has = slice_get_within entries n e is
-
-within : (entries : List Entry) (e : Entry) (n : ℕ) (claim : Claim) → claim_at (entries ++ e ∷ []) n ≡ Some claim → n < suc (length entries)
-within entries e n claim has =
-    let l : n < length (entries ++ e ∷ []) = claim_within (entries ++ e ∷ []) n claim (slice_get (entries ++ e ∷ []) n) refl has in
-    omega (arith, l, length_more entries e)
-
 pub greeted_none : (notes : List Member) → IsGreetedAfter [] notes
 greeted_none notes = record {
   enough = λ n claim has. absurd (none-some claim has);
@@ -202,13 +191,13 @@ pub greeted_more : (entries : List Entry) (e : Entry) (notes : List Member) → 
 greeted_more entries e notes was enough earlier = record {
   enough = λ n claim has. elim (cases_lt n (length entries)) [
     | inl before ↦ was.enough n claim (sym (claim_before entries e n before) ∙ has)
-    | inr past ↦ enough claim (sym (claim_end entries e) ∙ ap (claim_at (entries ++ e ∷ [])) (let at : length entries ≡ n = omega (arith, past, within entries e n claim has) in at) ∙ has)
+    | inr past ↦ enough claim (sym (claim_end entries e) ∙ ap (claim_at (entries ++ e ∷ [])) (let at : length entries ≡ n = omega (arith, past, claim_within_more entries e n claim has) in at) ∙ has)
   ];
   earlier = λ counted i n first second l has has' same. elim (cases_lt n (length entries)) [
     | inl before ↦ was.earlier counted i n first second l (sym (claim_before entries e i (omega arith)) ∙ has) (sym (claim_before entries e n before) ∙ has')
         (same.0, ap (is_from same.0) (sym (notice_before entries e i (omega arith))) ∙ same.1, ap (is_from same.0) (sym (notice_before entries e n before)) ∙ same.2)
     | inr past ↦
-        let at : length entries ≡ n = omega (arith, past, within entries e n second has') in
+        let at : length entries ≡ n = omega (arith, past, claim_within_more entries e n second has') in
         earlier counted i first second (omega (arith, at, l)) (sym (claim_before entries e i (omega (arith, at, l))) ∙ has)
         (sym (claim_end entries e) ∙ ap (claim_at (entries ++ e ∷ [])) at ∙ has')
         (same.0, ap (is_from same.0) (sym (notice_before entries e i (omega (arith, at, l)))) ∙ same.1, ap (is_from same.0) (sym (notice_end entries e) ∙ ap (notice_at (entries ++ e ∷ [])) at) ∙ same.2)

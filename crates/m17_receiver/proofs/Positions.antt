@@ -1,12 +1,13 @@
 -- What stands at the positions of a list of entries with one more behind.
-use Rattle.std.proofs.Common.{◌≡◌, ℕ, ◌<◌, ◌≤◌, true, false, List, [], ◌∷◌, ◌++◌, length, take, ap, sym, ◌∙◌, arith}
+use Rattle.std.proofs.Common.{◌≡◌, ℕ, suc, ◌<◌, ◌≤◌, true, false, List, [], ◌∷◌, ◌++◌, length, take, slice_get, refl, ap, sym, ◌∙◌, arith, Option, None, Some}
 use Rattle.std.specs.Option.{option_and_then}
 use Rattle.std.proofs.lemmas.List.{take-append-le}
-use Rattle.m17_directory.specs.Entries.{Entry, Setup, notice_of, notice_at, claim_at}
+use Rattle.std.proofs.lemmas.Option.{none-some, slice_get_within}
+use Rattle.m17_directory.specs.Entries.{Claim, Entry, Setup, notice_of, notice_at, claim_at}
 use Rattle.m17_directory.specs.Outcome.{Outcome}
 use Rattle.m17_directory.specs.Routed.{past_at, asks_at, is_asks, heard_at, others_at, settled_at, both, outcome_at, link_verdict}
 use Rattle.m17_receiver.specs.SoFar.{Laws, past_with}
-use Rattle.m17_receiver.proofs.Lists.{get_before, get_end}
+use Rattle.m17_receiver.proofs.Lists.{get_before, get_end, length_more}
 
 pub notice_before : (entries : List Entry) (e : Entry) (n : ℕ) → n < length entries → notice_at (entries ++ e ∷ []) n ≡ notice_at entries n
 notice_before entries e n l = ap notice_of (get_before entries (e ∷ []) n l)
@@ -19,6 +20,16 @@ notice_end entries e = ap notice_of (get_end entries e)
 
 pub claim_end : (entries : List Entry) (e : Entry) → claim_at (entries ++ e ∷ []) (length entries) ≡ e.claim
 claim_end entries e = ap (option_and_then (λ (entry : Entry). entry.claim)) (get_end entries e)
+
+-- a position with a claim is one of the list
+claim_within : (entries : List Entry) (n : ℕ) (claim : Claim) (o : Option Entry) → slice_get entries n ≡ o → option_and_then (λ (entry : Entry). entry.claim) o ≡ Some claim → n < length entries
+claim_within entries n claim None is has = absurd (none-some claim has)
+claim_within entries n claim (Some e) is has = slice_get_within entries n e is
+
+pub claim_within_more : (entries : List Entry) (e : Entry) (n : ℕ) (claim : Claim) → claim_at (entries ++ e ∷ []) n ≡ Some claim → n < suc (length entries)
+claim_within_more entries e n claim has =
+    let l : n < length (entries ++ e ∷ []) = claim_within (entries ++ e ∷ []) n claim (slice_get (entries ++ e ∷ []) n) refl has in
+    omega (arith, l, length_more entries e)
 
 take_before : (entries : List Entry) (e : Entry) (n : ℕ) → n ≤ length entries → take n (entries ++ e ∷ []) ≡ take n entries
 take_before entries e n l = take-append-le n entries (e ∷ []) l

@@ -1,5 +1,6 @@
 -- A request, settled by a claim.
-use Rattle.std.proofs.Common.{◌≡◌, ◌↔◌, ◌==◌, ◌&&◌, ◌||◌, ℕ, ◌+◌, ◌-◌, ◌^◌, min, Bool, true, false, cond, not, List, [], ◌∷◌, ◌++◌, length, map, take, Contains, refl, ap, sym, subst, ◌∙◌, arith, Option, None, Some, IsSome}
+use Rattle.std.proofs.Common.{◌≡◌, ◌↔◌, ◌==◌, ◌&&◌, ◌||◌, ℕ, ◌+◌, ◌-◌, ◌^◌, min, Bool, true, false, cond, not, List, [], ◌∷◌, ◌++◌, length, map, take, Contains, refl, ap, sym, subst, ◌∙◌, arith, Option, None, Some, IsSome, IfSome}
+use Rattle.std.specs.List.{list_any}
 use Rattle.std.specs.Option.{option_map, option_map_or, option_to_list, is_some}
 use Rattle.std.proofs.lemmas.Bool.{false≢true}
 use Rattle.std.proofs.lemmas.List.{append_assoc, take_all}
@@ -14,7 +15,7 @@ use Rattle.m17_directory.specs.declared.known.Known.{Known}
 use Rattle.m17_directory.specs.declared.verdict.LinkVerdict.{LinkVerdict}
 use Rattle.m17_directory.specs.Entries.{Notice, Claim, Entry, Setup, notice_at, claim_at, is_peer, is_from}
 use Rattle.m17_directory.specs.Known.{Past}
-use Rattle.m17_directory.specs.Outcome.{Outcome}
+use Rattle.m17_directory.specs.Outcome.{Outcome, has_place}
 use Rattle.m17_directory.specs.Routed.{asks_at, is_asks, heard_at, others_at, settled_at, both, outcome_at, link_verdict, posts_at}
 use Rattle.m17_directory.specs.StandsFor.{Kept, StandsFor, IsSettled, IsAsked, unclaimed, claimed, departed_of, must_wait, has_departing, most_members}
 use Rattle.m17_directory.specs.Laws.{left_before, is_ended, is_full}
@@ -61,6 +62,13 @@ none_back after (Some m) = (λ e. absurd (none-some _ (sym e)), λ e. absurd (no
 after_is : (after : ℕ) (taken : Option Member) (claim : Claim) → claim_of after taken ≡ Some claim → claim.after ≡ after
 after_is after None claim e = absurd (none-some claim e)
 after_is after (Some m) claim e = ap (λ (c : Claim). c.after) (sym (same_Some (record { member = m; after = after }) claim e))
+
+-- the place of the claim is that of the member
+place_free : (known : List Known) (after : ℕ) (taken : Option Member) → IfSome taken (λ m. list_any (has_place m.place) known ≡ false) →
+    (claim : Claim) → claim_of after taken ≡ Some claim → list_any (has_place claim.member.place) known ≡ false
+place_free known after None free claim e = absurd (none-some claim e)
+place_free known after (Some m) free claim e =
+    ap (λ (c : Claim). list_any (has_place c.member.place) known) (sym (same_Some (record { member = m; after = after }) claim e)) ∙ free
 
 refused_full : (n after : ℕ) (taken : Option Member) → refused_by n taken ≡ cond (not (is_some (claim_of after taken))) (n ∷ []) []
 refused_full n after None = refl
@@ -112,7 +120,7 @@ gone_settled law setup entries e first second before departing notes left_is dep
 pub through_asked : Laws → (plan : Plan) (entries : List Entry) (notice : Notice) (p : Parts) (d : Kept) (seat : RollView) (taken : Option Member) (verdict : LinkVerdict) (posts : List Dispatch) (out : Outlets) →
     IsAsking plan entries notice p → IsSome p.directory.asked → must_wait p.directory ≡ false →
     IsSettled p.directory d entries (claimed notice (claim_of p.noted taken)) (record { verdict = verdict; posts = posts }) → d.setup ≡ p.directory.setup → d.ended ≡ p.directory.ended →
-    HasTaken plan.patient (length entries) taken p.seat seat →
+    HasTaken plan.patient (length entries) taken p.directory.known p.seat seat →
     (plan.patient ≡ true → (taken ≡ None) ↔ (length p.directory.known ≡ plan.setup.places)) →
     out ≡ posting plan.setup.modules posts p.out →
     IsThrough plan entries notice (record { directory = d; out = out; notes = p.notes; noted = p.noted; seat = seat }) verdict
@@ -135,7 +143,8 @@ through_asked law plan entries notice p d seat taken verdict posts out was some 
     let its_claim : claim_at longer n ≡ claim = claim_end entries e in
     let is_full_now : is_full (link_verdict setup longer n) ≡ not (is_some claim) =
     law.askers.full setup longer n ∙ ap (λ b. b && not (is_some (claim_at longer n))) asks ∙ ap (λ (c : Option Claim). not (is_some c)) its_claim in
-    let others : length (others_at past) ≡ length p.directory.known = ap length (others_same law setup entries e before refl ∙ sym was.others) in
+    let known_there : others_at past ≡ p.directory.known = others_same law setup entries e before refl ∙ sym was.others in
+    let others : length (others_at past) ≡ length p.directory.known = ap length known_there in
     let asker = who_asks p.directory.asked some in
     let only : asks_at past ≡ false → claim ≡ None = λ silent. absurd (false≢true (sym silent ∙ asks)) in
     let gone : AreGone (left_before setup entries n ++ map departed_of heard.left) p.directory.departing p.notes =
@@ -160,6 +169,8 @@ through_asked law plan entries notice p d seat taken verdict posts out was some 
             λ none. others ∙ (full patience).0 ((none_back p.noted taken).0 (sym its_claim ∙ none)),
             λ many. its_claim ∙ (none_back p.noted taken).1 ((full patience).1 (sym others ∙ many)),
           );
+          patient_places = λ patience c has. ap (list_any (has_place c.member.place)) known_there
+              ∙ place_free p.directory.known p.noted taken (takes.unknown patience) c has;
         });
         greeted = greeted_more entries e p.notes was.greeted
             (λ c has. omega (arith, after_is p.noted taken c has, was.count))

@@ -1,10 +1,11 @@
 -- The claims that a receiver makes for those who ask, and when their peers may be greeted.
 use Rattle.std.specs.Prelude.{◌≡◌, ◌↔◌, ℕ, Bool, true, false, ◌<◌, ◌≤◌, List, [], length, take, filter, Contains, None, Some}
-use Rattle.std.specs.List.{range_with_len}
+use Rattle.std.specs.List.{list_any, range_with_len}
 use Rattle.m17_values.specs.declared.member.Member.{Member}
 use Rattle.m17_values.specs.declared.peer.Peer.{Peer}
 use Rattle.m17_roll.specs.Seat.{RollView}
 use Rattle.m17_directory.specs.Entries.{Notice, Claim, Entry, Setup, notice_at, claim_at, is_from}
+use Rattle.m17_directory.specs.Outcome.{has_place}
 use Rattle.m17_directory.specs.Routed.{past_at, asks_at, others_at, link_verdict}
 use Rattle.m17_directory.specs.Laws.{ClaimsAreAsked, claimed_members, is_full}
 use Rattle.m17_receiver.specs.Devices.{IsCounted}
@@ -21,9 +22,17 @@ abbrev pub IsPatientAt : Setup → List Entry → ℕ → Type 0
 IsPatientAt setup entries n =
     (claim_at entries n ≡ None) ↔ (length (others_at (past_at setup entries n)) ≡ setup.places)
 
+-- A claim of the entry is of a place that none of the other peers has that are still known. This
+-- profile.
+abbrev pub HasFreePlaceAt : Setup → List Entry → ℕ → Type 0
+HasFreePlaceAt setup entries n =
+    (claim : Claim) → claim_at entries n ≡ Some claim →
+    list_any (has_place claim.member.place) (others_at (past_at setup entries n)) ≡ false
+
 -- The members of the entries' claims are those that the seat claimed, in order, and entries that
 -- ask for a place have claims alone; the seat gave nothing back. A receiver that isn't patient
--- claims once for each that asks: the seat's refused askers are the Full entries. This profile.
+-- claims once for each that asks: the seat's refused askers are the Full entries. A patient one
+-- claims no place of another known peer. This profile.
 pub record HasClaimed (patient : Bool) (setup : Setup) (entries : List Entry) (seat : RollView)
     : Type 0 where
   pub asked : ClaimsAreAsked setup entries
@@ -32,6 +41,7 @@ pub record HasClaimed (patient : Bool) (setup : Setup) (entries : List Entry) (s
   pub refused : patient ≡ false → seat.refused ≡ turned_away setup entries
   pub patient_claims : patient ≡ true → (n : ℕ) → n < length entries →
       asks_at (past_at setup entries n) ≡ true → IsPatientAt setup entries n
+  pub patient_places : patient ≡ true → (n : ℕ) → HasFreePlaceAt setup entries n
 
 -- both entries are packets from one peer
 abbrev pub AreOfOnePeer : Notice → Notice → Type 0

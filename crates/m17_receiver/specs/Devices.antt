@@ -2,7 +2,7 @@
 use Rattle.std.specs.Prelude.{◌≡◌, ℕ, Bool, true, false, ◌<◌, ◌≤◌, ◌^◌, List, [], ◌∷◌, ◌++◌, length, take, replicate, Contains, Option}
 use Rattle.std.specs.List.{flat_map}
 use Rattle.m17_values.specs.declared.heard.Heard.{Heard}
-use Rattle.m17_values.specs.declared.heard.Heard.TheVariants.{Fault}
+use Rattle.m17_values.specs.declared.heard.Heard.TheVariants.{Fault, End}
 use Rattle.m17_io.specs.Faults.{HasRisen}
 use Rattle.m17_ports.specs.Told.{told_then}
 use Rattle.m17_book.specs.Book.{trace_magic}
@@ -25,11 +25,12 @@ Tells A = Option (List A) × ℕ
 abbrev pub IsCounted : {A : Type 0} → List A → Type 0
 IsCounted xs = length xs < 2 ^ 64
 
--- The ear heard these entries and no more. Its count of faults never falls; it rose where one is a
--- Fault, and stands where none is. This profile.
+-- The ear heard these entries and no more, and nothing behind an End. Its count of faults never
+-- falls; it rose where one is a Fault, and stands where none is. This profile.
 pub record HasHeard (before : Tells Heard) (entries : List Heard) (after : Tells Heard)
     : Type 0 where
-  pub told : IsCounted entries → after.0 ≡ told_then before.0 entries
+  pub told : after.0 ≡ told_then before.0 entries
+  pub no_more : (front rest : List Heard) → entries ≡ front ++ End ∷ rest → rest ≡ []
   pub counted : before.1 ≤ after.1
   pub fault : Contains entries Fault → HasRisen before.1 after.1
   pub no_fault : (Contains entries Fault → ⊥) → after.1 ≡ before.1

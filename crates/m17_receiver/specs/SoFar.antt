@@ -1,8 +1,9 @@
 -- For proofs alone: what a receiver stands for between two entries, and in the midst of one.
-use Rattle.std.specs.Prelude.{◌≡◌, ◌⊎◌, ℕ, Bool, false, ◌+◌, ◌-◌, ◌<◌, ◌^◌, min, List, [], ◌∷◌, ◌++◌, length, map, Contains, Option, None, Some, IfSome, vec_capacity}
-use Rattle.std.specs.List.{filter_map}
+use Rattle.std.specs.Prelude.{◌≡◌, ◌⊎◌, ℕ, Bool, true, false, ◌+◌, ◌-◌, ◌<◌, ◌^◌, min, List, [], ◌∷◌, ◌++◌, length, map, Contains, Option, None, Some, IfSome, vec_capacity}
+use Rattle.std.specs.List.{filter_map, list_any}
 use Rattle.std.specs.Option.{option_to_list}
 use Rattle.m17_values.specs.declared.heard.Heard.{Heard}
+use Rattle.m17_values.specs.declared.heard.Heard.TheVariants.{End}
 use Rattle.m17_values.specs.declared.member.Member.{Member}
 use Rattle.m17_control.specs.declared.modules.Modules.{Modules}
 use Rattle.m17_lane.specs.Ends.{PopEnd}
@@ -12,16 +13,18 @@ use Rattle.m17_rows.specs.Rows.{pops, pushes, push_each}
 use Rattle.m17_rows.specs.Laws.{RowsPush}
 use Rattle.m17_directory.specs.declared.dispatch.Dispatch.{Dispatch}
 use Rattle.m17_directory.specs.declared.known.Departed.{Departed}
+use Rattle.m17_directory.specs.declared.known.Known.{Known}
 use Rattle.m17_directory.specs.declared.verdict.LinkVerdict.{LinkVerdict}
 use Rattle.m17_directory.specs.declared.verdict.LinkVerdict.TheVariants.{Asks}
 use Rattle.m17_directory.specs.Entries.{Notice, Entry, Setup, SaysEach, ends_at}
 use Rattle.m17_directory.specs.Known.{Past}
+use Rattle.m17_directory.specs.Outcome.{has_place}
 use Rattle.m17_directory.specs.Routed.{past_at, heard_at, others_at, event_for, link_verdict}
 use Rattle.m17_directory.specs.StandsFor.{Kept, StandsFor, must_wait, unclaimed, departed_of}
 use Rattle.m17_directory.specs.Laws.{LaterEntriesChangeNothing, OneEntryMore, EntriesBeforeDecide, ClaimsCompleteAskers, DoorCarriesReplies, EndedWhereItEnds, AskersJoinOrAreFull, PeersComeAndGo, PeersAreToldApart, direct_of, left_before}
 use Rattle.m17_receiver.specs.Posting.{Outlets, letter_at, posted_to, AreSameOutlets}
 use Rattle.m17_receiver.specs.declared.receiver.Receiver.{Receiver}
-use Rattle.m17_receiver.specs.Devices.{Words, IsCounted, HasHeard, HasTrace}
+use Rattle.m17_receiver.specs.Devices.{Words, HasHeard, HasTrace}
 use Rattle.m17_receiver.specs.Tape.{IsTaped}
 use Rattle.m17_receiver.specs.ReceiverDid.{IsSameReceiver, outlets_of}
 use Rattle.m17_receiver.specs.Claims.{HasClaimed, IsGreetedAfter}
@@ -65,12 +68,15 @@ abbrev pub refused_by : ℕ → Option Member → List ℕ
 refused_by asker None = asker ∷ []
 refused_by asker (Some m) = []
 
--- The seat claimed this, or nothing, for an asker; one that isn't patient claimed once.
-pub record HasTaken (patient : Bool) (asker : ℕ) (claimed : Option Member) (old new : RollView)
-    : Type 0 where
+-- The seat claimed this, or nothing, for an asker; one that isn't patient claimed once, and a patient
+-- one no place that one of the known has.
+pub record HasTaken (patient : Bool) (asker : ℕ) (claimed : Option Member) (known : List Known)
+    (old new : RollView) : Type 0 where
   pub claims : new.claimed ≡ old.claimed ++ option_to_list claimed
   pub given : new.given ≡ old.given
   pub refused : patient ≡ false → new.refused ≡ old.refused ++ refused_by asker claimed
+  pub unknown : patient ≡ true →
+      IfSome claimed (λ m. list_any (has_place m.place) known ≡ false)
   pub in_roll : IfSome claimed (λ m. m.place < old.places)
   pub seat : IsSameSeat old new
 
@@ -181,7 +187,7 @@ pub record HasCome {E B : Type 0} (heard : List Heard) (j k : Receiver E B) (not
   pub so_far : IsSoFar (plan_of j) entries (parts_of k noted)
   pub taped : IsTaped j.directory.setup entries j.tape.items k.tape.items
 
--- The receiver has heard so much, and counted it.
+-- The receiver has heard so much, and counted it: what became of it.
 pub record HasComeBy {E B : Type 0} (words : Words E B) (j k : Receiver E B) (index noted : ℕ)
     : Type 0 where
   pub heard : List Heard
@@ -189,8 +195,9 @@ pub record HasComeBy {E B : Type 0} (words : Words E B) (j k : Receiver E B) (in
       (words.heard k.ear, words.ear_faults k.ear)
   pub trace : HasTrace (words.written j.trace, words.trace_faults j.trace) heard k.trace_failed
       (words.written k.trace, words.trace_faults k.trace)
-  pub count : index ≡ min (length heard) (2 ^ 64 - 1)
-  pub come : IsCounted heard → HasCome heard j k noted
+  pub no_end : Contains heard End → ⊥
+  pub count : index ≡ length heard
+  pub come : HasCome heard j k noted
 
 -- between two entries nothing is asked or posted, and the link goes on
 pub record IsBetween {E B : Type 0} (j k : Receiver E B) : Type 0 where

@@ -1,5 +1,6 @@
 //! Claims of places for those who ask.
-ghost use Rattle.std.specs.Prelude.{◌≡◌, ◌<◌, ◌↔◌, true, false, [], ◌∷◌, ◌++◌, length, None, Some};
+ghost use Rattle.std.specs.Prelude.{◌≡◌, ◌<◌, ◌↔◌, ℕ, true, false, List, [], ◌∷◌, ◌++◌, length, None, Some};
+ghost use Rattle.m17_directory.specs.declared.known.Known.{Known};
 ghost use Rattle.m17_receiver.specs.SoFar.{HasTaken, HasNotedSome};
 
 use crate::notes::pop_one;
@@ -12,34 +13,51 @@ use std::sync::Wait;
 
 // Claims once for the asker with this number.
 pub(crate) fn claim_once(seat: &mut RollSeat, asker: u64) -> Option<Member>
-    ensures { HasTaken false asker result seat.old seat.new }
+    ensures { (known : List Known) → HasTaken false asker result known seat.old seat.new }
 {
     seat.claim(asker)
 }
 
-// Claims until there is a place. Between two claims it sleeps on the notes while one is to come, since a place that a
-// member of this link has left is free soon after its note; else no bell tells when a place is given back, and it rests
-// a moment. It is the one wait that tries again and again.
+// Claims until there is a place, and none that a known peer has: that peer would leave as replaced, though it is still
+// there. Between two claims it sleeps on the notes while one is to come, since a place that a member of this link has
+// left is free soon after its note; else no bell tells when a place is given back, and it rests a moment. It is the one
+// wait that tries again and again.
 pub(crate) fn claim_patiently<R: Wait>(
     rt: &R,
     seat: &mut RollSeat,
-    asker: u64,
+    places: u32,
     notes: &mut Popper<Member>,
     directory: &mut Directory,
     noted: &mut u64,
 ) -> Member
-    ensures taken { HasTaken true asker (Some result) seat.old seat.new }
+    ensures taken { (asker : ℕ) →
+        HasTaken true asker (Some result) directory.old.known seat.old seat.new }
     ensures noted { HasNotedSome (notes.old, directory.old, noted.old)
         (notes.new, directory.new, noted.new) }
 {
     let backoff = Backoff::new();
     for _ in rt.forever() {
-        if let Some(member) = seat.claim(asker) {
+        if let Some(member) = claim_unknown_place(seat, places, directory) {
             return member;
         }
         rest(rt, &backoff, notes, directory, noted);
     }
     unreachable!()
+}
+
+// Claims the lowest of these places that no known peer has and that is found free.
+fn claim_unknown_place(seat: &mut RollSeat, places: u32, directory: &Directory) -> Option<Member>
+    ensures { (asker : ℕ) →
+        HasTaken true asker result directory.now.known seat.old seat.new }
+{
+    for place in 0..places {
+        if !directory.has_place(place) {
+            if let Some(member) = seat.claim_at(place) {
+                return Some(member);
+            }
+        }
+    }
+    None
 }
 
 // Sleeps until the next note, where a member is departing; else rests a moment.

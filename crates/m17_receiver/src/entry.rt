@@ -1,7 +1,7 @@
 //! What a receiver does with one entry.
 ghost use Rattle.std.specs.Prelude.{◌≡◌, ◌↔◌, ℕ, ◌+◌, ◌-◌, ◌^◌, min, true, false, List, [], ◌∷◌, ◌++◌, length, IsSome, IsTrue, Option, None, Some};
 ghost use Rattle.m17_values.specs.declared.heard.Heard.{Heard};
-ghost use Rattle.m17_values.specs.declared.heard.Heard.TheVariants.{Fault};
+ghost use Rattle.m17_values.specs.declared.heard.Heard.TheVariants.{Fault, End};
 ghost use Rattle.m17_directory.specs.declared.verdict.LinkVerdict.TheVariants.{Asks};
 ghost use Rattle.m17_directory.specs.Entries.{Notice, Entry, Says};
 ghost use Rattle.m17_receiver.specs.SoFar.{Plan, IsPlanOf, IsAsking, IsThrough, IsSoFar, IsKept, HasTaken, HasNotedSome, parts_of};
@@ -31,6 +31,7 @@ impl<E, B> Receiver<E, B> {
         ensures kept { IsKept self.old self.new }
         ensures asked { self.new.directory.asked ≡ None }
         ensures says { (notice : Notice) × Says entry.now notice }
+        ensures over { entry.now ≡ End → self.new.directory.ended ≡ true }
         ensures through { (plan : Plan) (entries : List Entry) (notice : Notice) →
             IsPlanOf plan self.old → index ≡ length entries → Says entry.now notice →
             IsSoFar plan entries (parts_of self.old noted.old) →
@@ -80,9 +81,10 @@ impl<E, B> Receiver<E, B> {
     }
 
     // The place that the asker with this index gets. A patient receiver claims none where all are known to its link,
-    // and else until it has one; another claims once.
+    // and else until it has one that no peer has that is known there; another claims once.
     fn claim<R: Wait>(&mut self, rt: &R, index: u64, noted: &mut u64) -> Option<Member>
-        ensures taken { HasTaken self.old.patient index result self.old.seat self.new.seat }
+        ensures taken { HasTaken self.old.patient index result self.old.directory.known
+            self.old.seat self.new.seat }
         ensures full { self.old.patient ≡ true →
             (result ≡ None) ↔ (length self.old.directory.known ≡ self.old.places) }
         ensures noted { HasNotedSome (self.old.notes, self.old.directory, noted.old)
@@ -102,7 +104,7 @@ impl<E, B> Receiver<E, B> {
         Some(claim_patiently(
             rt,
             &mut self.seat,
-            index,
+            self.places,
             &mut self.notes,
             &mut self.directory,
             noted,

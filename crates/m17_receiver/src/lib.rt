@@ -2,8 +2,9 @@
 //! each what the link's directory makes of it: events go to the inboxes of the modules, replies to the door, and who
 //! asks for a place gets one from the roll.
 //! It promises, of whatever is heard up to the entry that ends the link: each inbox got exactly what the link routes to
-//! its module, in order, each event once; the claims are the roll's; a peer that comes again is to be greeted only
-//! behind the notes of all that it was before; and the trace and the tape hold what was heard and what became of it.
+//! its module, in order, each event once; the claims are the roll's, and where it is patient of places that no other
+//! known peer has; a peer that comes again is to be greeted only behind the notes of all that it was before; and the
+//! trace and the tape hold what was heard and what became of it.
 //! Where a lane is full it waits asleep. What the modules and the sender do with what it pushes is left to their jobs,
 //! and when it starts and who joins it to whoever starts it.
 #![tactic(auto)]

@@ -30,6 +30,15 @@ const PATIENT: Plan = Plan {
     cells: 4,
 };
 
+const TWO_PLACES: Plan = Plan {
+    letters: "A",
+    places: 2,
+    patient: true,
+    room: 256,
+    door: 256,
+    cells: 4,
+};
+
 const NARROW: Plan = Plan {
     letters: "A",
     places: 1,
@@ -93,6 +102,34 @@ fn a_patient_receiver_waits_for_a_place(rt: HostRuntime) -> Result<(), Fail> {
         Body::Join { member: joined, .. } => assert_eq!(rt; joined, member(0, 1)),
         _ => return Err("no join".into()),
     }
+    let _receiver = started.running.join(&rt);
+    Ok(())
+}
+
+// Waits for the next event, a Join: its member.
+fn next_joined<R: Wait>(rt: &R, started: &mut Started) -> Option<Member> {
+    match started.inbox.pop_waiting(rt).body {
+        Body::Join { member, .. } => Some(member),
+        _ => None,
+    }
+}
+
+// A place that a known peer has is free at the roll, and a patient receiver waits for another one.
+#[test]
+fn a_patient_receiver_claims_no_known_place(rt: HostRuntime) -> Result<(), Fail> {
+    let alloc = rt.alloc();
+    let heard = [conn(&rt, peer(1), 0, b'A'), conn(&rt, peer(2), 1, b'A')];
+    let heard = Vec::from_array(alloc, heard)?;
+    let mut started = start_over(&rt, alloc, &TWO_PLACES, heard, true)?;
+    assert_eq!(rt; started.held, Some(member(0, 0)));
+    assert_eq!(rt; next_joined(&rt, &mut started), Some(member(1, 0)));
+    assert!(rt; started.other.give(member(1, 0)));
+    for _turn in 0..1_000u32 {
+        yield_now();
+    }
+    assert!(rt; started.inbox.try_pop(&rt).is_none());
+    assert!(rt; started.other.give(member(0, 0)));
+    assert_eq!(rt; next_joined(&rt, &mut started), Some(member(0, 1)));
     let _receiver = started.running.join(&rt);
     Ok(())
 }

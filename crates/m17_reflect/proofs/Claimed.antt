@@ -1,27 +1,28 @@
 -- The members of a run, from what the closed roll shows: each place claimed is there, and each member claimed joins once.
-use Rattle.std.proofs.Common.{◌≡◌, ℕ, List, map, length, All, Some, sym, ap, ◌∙◌, arith}
+use Rattle.std.proofs.Common.{◌≡◌, ℕ, List, length, Some, true, inl, inr, refl, sym, arith}
 use Rattle.std.specs.Prelude.{slice_get}
 use Rattle.std.specs.List.{flat_map}
-use Rattle.std.proofs.lemmas.List.Elements.{All-from_recursion, recursion_from_All}
-use Rattle.m17_values.specs.declared.heard.Heard.{Heard}
-use Rattle.m17_receiver.specs.Devices.{IsCounted}
+use Rattle.std.proofs.lemmas.Bool.{cases_lt}
+use Rattle.std.proofs.lemmas.List.Elements.{All-from_recursion}
+use Rattle.m17_directory.specs.Entries.{Claim, Entry, claim_at}
+use Rattle.m17_directory.specs.Laws.{ClaimsAreAsked}
 use Rattle.m17_lane.specs.Ends.{PushEnd}
 use Rattle.m17_rows.specs.Rows.{IsNewPusher, IsNewRow}
 use Rattle.m17_roll.specs.Laws.{NoMemberIsClaimedTwice}
 use Rattle.m17_roll.specs.Run.{IsRollRun}
-use Rattle.m17_reflect.specs.Links.{Link, At}
-use Rattle.m17_reflect.specs.Places.{AreSame, joiners}
+use Rattle.m17_reflect.specs.Links.{Link, At, link_setup}
+use Rattle.m17_reflect.specs.Places.{AreClaims, AreSame, joiners}
 use Rattle.m17_reflect.specs.Queues.{QueuesCarry}
 use Rattle.m17_reflect.specs.Run.{Run}
 use Rattle.m17_reflect.specs.Trails.{events_of, AreTrails}
-use Rattle.m17_reflect.proofs.Came.{all_at}
-use Rattle.m17_reflect.proofs.Differ.{links_differ}
+use Rattle.m17_reflect.proofs.Differ.{claim_in, links_differ}
 use Rattle.m17_reflect.proofs.Joining.{claims_in}
 use Rattle.m17_reflect.proofs.Members.{AreMembers}
 use Rattle.m17_reflect.proofs.Noted.{all_in}
 use Rattle.m17_reflect.proofs.Once.{claimed_once, joins_once}
+use Rattle.m17_reflect.proofs.Patient.{placed}
 use Rattle.m17_reflect.proofs.Seats.{claims_placed}
-use Rattle.m17_reflect.proofs.Together.{mapped_at}
+use Rattle.m17_reflect.proofs.There.{is_at}
 use Rattle.m17_reflect.proofs.Waiting.{ClaimsDiffer}
 
 -- What the roll of a run shows: its claims are the links', and their members are those of the Joins of all trails.
@@ -46,11 +47,24 @@ module _ {L : Type 0} where
   pub members_differ : NoMemberIsClaimedTwice → (run : Run L) (links : List Link) → IsRollOfRun run links → (i : ℕ) (link : Link) → At links i link → ClaimsDiffer link.entries
   members_differ law run links is = links_differ law run.handed.roll links is.roll is.claims
 
--- What each ear heard is counted, link by link.
-pub heard_counted : (links : List Link) (heard : List (List Heard)) → map (λ (link : Link). link.heard) links ≡ heard → All IsCounted heard → (i : ℕ) (link : Link) → At links i link → IsCounted link.heard
-heard_counted links heard e counted i link at =
-    all_at IsCounted heard (recursion_from_All IsCounted heard counted) i link.heard
-    (ap (λ (l : List (List Heard)). slice_get l i) (sym e) ∙ mapped_at (λ (link : Link). link.heard) links i link at)
+-- Claims of which no two are of one member.
+claimed_apart : (entries : List Entry) → ClaimsDiffer entries → (i j : ℕ) (a b : Claim) → claim_at entries i ≡ Some a → claim_at entries j ≡ Some b → a.member ≡ b.member → i ≡ j
+claimed_apart entries differ i j a b ea eb same = elim (cases_lt i j) [
+  | inl less ↦ absurd (differ i j a b less ea eb same)
+  | inr not_less ↦ elim (cases_lt j i) [
+    | inl more ↦ absurd (differ j i b a more eb ea (sym same))
+    | inr not_more ↦ omega arith
+  ]
+]
+
+-- What each link claims.
+pub are_claims : {L : Type 0} → NoMemberIsClaimedTwice → (run : Run L) (links : List Link) → IsRollOfRun run links → ((i : ℕ) (link : Link) → At links i link → ClaimsAreAsked (link_setup run.plan i) link.entries) → (i : ℕ) (link : Link) → At links i link → AreClaims (link_setup run.plan i) link.entries
+are_claims law run links is asked i link at = record {
+  asked = asked i link at;
+  placed = placed run.plan.places (link_setup run.plan i) link.entries refl
+      (claim_in (λ k. is_at run.plan.places k ≡ true) link.entries (claims_placed run.handed.roll run.plan.places links is.roll is.count is.claims i link at));
+  once = claimed_apart link.entries (members_differ law run links is i link at);
+}
 
 -- A row of new pushers, one by one.
 pub new_row : {T : Type 0} (qs : List (PushEnd T)) → ((i : ℕ) (q : PushEnd T) → slice_get qs i ≡ Some q → IsNewPusher q) → IsNewRow qs

@@ -31,6 +31,7 @@ pub mod Memberships
 pub mod Once
 pub mod Numbers
 pub mod Items
+pub mod Shares
 pub mod Members
 pub mod Peers
 pub mod Fewer
@@ -56,3 +57,4 @@ pub mod Space
 pub mod Over
 pub mod SameDevices
 pub mod Heads
+pub mod Told

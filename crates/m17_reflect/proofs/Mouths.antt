@@ -4,31 +4,34 @@ use Rattle.std.proofs.Common.{◌≡◌, ℕ, List, ◌++◌, map, length, Optio
 use Rattle.std.specs.Prelude.{slice_get, filter}
 use Rattle.std.specs.List.{AllByRecursion}
 use Rattle.std.proofs.lemmas.List.{length-map}
+use Rattle.std.proofs.lemmas.List.Elements.{recursion_from_All}
 use Rattle.m17_values.specs.declared.member.Member.{Member}
+use Rattle.m17_values.specs.declared.peer.Peer.{Peer}
 use Rattle.m17_ports.specs.Said.{MouthTold}
 use Rattle.m17_ports.specs.Laws.{MouthsSayInTurn}
 use Rattle.m17_control.specs.declared.item.Direct.{Direct}
 use Rattle.m17_control.specs.declared.item.Item.{Item}
 use Rattle.m17_crew.specs.declared.order.Order.{Order}
+use Rattle.m17_directory.specs.Entries.{is_peer}
 use Rattle.m17_lane.specs.Ends.{PushEnd, PopEnd, TrailEnd, new_pushers}
 use Rattle.m17_lane.specs.Orders.{items_of}
 use Rattle.m17_rows.specs.Rows.{IsNewRow}
 use Rattle.m17_rows.specs.Laws.{RowsPush}
 use Rattle.m17_grid.specs.Trails.{IsTrailOf, AreTrailsOfOnes}
 use Rattle.m17_receiver.specs.declared.receiver.Receiver.{Receiver}
-use Rattle.m17_receiver.specs.Devices.{Words, IsCounted}
+use Rattle.m17_receiver.specs.Devices.{Words}
 use Rattle.m17_sender.specs.declared.sender.Sender.{Sender}
 use Rattle.m17_sender.specs.Places.{cells_of, held_at, popped_at, queues_of}
 use Rattle.m17_sender.specs.Sent.{EachMouth, SaidByLink, Sent}
 use Rattle.m17_turns.specs.Acts.{Act, answers_of, notes_of, things_of}
-use Rattle.m17_turns.specs.Joined.{SayAll}
+use Rattle.m17_turns.specs.Joined.{SayAll, IsJoined, goes_to}
 use Rattle.m17_reflect.specs.Links.{Link, At, link_setup}
 use Rattle.m17_reflect.specs.Queues.{carried}
 use Rattle.m17_reflect.specs.Run.{Run}
-use Rattle.m17_reflect.specs.Sendings.{Sends, MouthsSay}
+use Rattle.m17_reflect.specs.Sendings.{memberships, Sends, IsForMemberships, MouthsSay}
 use Rattle.m17_reflect.proofs.AllSaid.{IsThere, can_say, queue_said, door_said, mouth_at, mouths_long, said_in_turn}
 use Rattle.m17_wiring.specs.Jobs.{AreReceivers}
-use Rattle.m17_reflect.proofs.Came.{Came}
+use Rattle.m17_reflect.proofs.Came.{Came, all_at}
 use Rattle.m17_reflect.proofs.Doors as doors
 use Rattle.m17_reflect.proofs.Doors.{IsDoor, door_of, is_door}
 use Rattle.m17_reflect.proofs.Drained.{AreQueuesBack, carried_settled, popped_then_left}
@@ -39,9 +42,10 @@ use Rattle.m17_reflect.proofs.Members.{AreMembers}
 use Rattle.m17_reflect.proofs.Noted as noted
 use Rattle.m17_reflect.proofs.Noted.{AreNoted, all_in, are_its}
 use Rattle.m17_reflect.proofs.Routes.{at_below, below_at}
+use Rattle.m17_reflect.proofs.Shares.{its_share, StandsAlone}
 use Rattle.m17_reflect.proofs.Together.{AllZip3, zip3_at, zip3_length, unmapped, mapped_at}
 use Rattle.m17_reflect.proofs.ToPeers as peers
-use Rattle.m17_reflect.proofs.ToPeers.{AllSaid, sends}
+use Rattle.m17_reflect.proofs.ToPeers.{AllSaid, AreItsMemberships, sends}
 use Rattle.m17_reflect.proofs.Waiting.{ClaimsDiffer}
 
 -- The laws that this rests on.
@@ -93,7 +97,6 @@ pub record IsSentOut {E B M L : Type 0} (words : Words E B) (tells : M → Mouth
     (links : List Link) (e : Ended E B M) : Type 0 where
   pub members : AreMembers run links
   pub differ : (i : ℕ) (link : Link) → At links i link → ClaimsDiffer link.entries
-  pub counted : (i : ℕ) (link : Link) → At links i link → IsCounted link.heard
   pub are : AreReceivers run.plan e.js
   pub came : AllZip3 (Came words) e.js e.ks links
   pub sent : Sent tells e.first e.last e.order
@@ -189,6 +192,27 @@ module _ {E B M L : Type 0} where
       (subst (λ (a : MouthTold L). SaidByLink run.plan.name (h.sent.acts ++ h.rest.acts) i (tells m) a) is_o
       (said_in_turn laws.peers.spelled laws.mouths run.plan.name h.sent.acts h.rest.acts i (tells m) (tells n) (tells o) first second))
 
+  -- a peer's memberships on a link, and what goes to it there
+  its_memberships : (laws : Laws L) (words : Words E B) (tells : M → MouthTold L) (run : Run L) (links : List Link) (e : Ended E B M) → (h : IsSentOut words tells run links e) → (i : ℕ) (link : Link) (x : Peer) → At links i link → AreItsMemberships h.sent.acts (carried run.handed.queues) (link_setup run.plan i) link.entries x
+  its_memberships laws words tells run links e h i link x at =
+      let lens = zip3_length (Came words) e.js e.ks links h.came in
+      let inside = below_at links i link at in
+      let (j, at_j) = at_below e.js i (omega (arith, lens.1)) in
+      let (k, at_k) = at_below e.ks i (omega (arith, lens.0, lens.1)) in
+      let came = zip3_at (Came words) e.js e.ks links h.came i j k link at_j at_k at in
+      are_its laws.noted run links i link h.sent.acts h.rest.acts k.notes.popped x h.members at (say_all laws words tells run links e h)
+      (are_noted laws words tells run links e h i link j k at at_j at_k) came.is_link.says came.counted
+
+  -- all that the queues carry for it is for its memberships
+  shares : (laws : Laws L) (words : Words E B) (tells : M → MouthTold L) (run : Run L) (links : List Link) (e : Ended E B M) → IsSentOut words tells run links e → (i : ℕ) (link : Link) (x : Peer) → At links i link → IsForMemberships (link_setup run.plan i) link.entries run.handed.queues x
+  shares laws words tells run links e h i link x at =
+      let its = its_memberships laws words tells run links e h i link x at in
+      let joins = memberships (link_setup run.plan i) link.entries x in
+      let each = recursion_from_All (IsJoined (carried run.handed.queues) i) joins its.in_turn.each in
+      its_share run.handed.queues joins (goes_to i (is_peer x)) (λ a b d lt less. (its.in_turn.waits a b d lt less).0)
+      (all_in (StandsAlone run.handed.queues) joins (λ n one there. (all_at (IsJoined (carried run.handed.queues) i) joins each n one there).alone))
+      its.its_items
+
   -- what a link's mouth sends
   link_sends : (laws : Laws L) (words : Words E B) (tells : M → MouthTold L) (run : Run L) (links : List Link) (e : Ended E B M) → (h : IsSentOut words tells run links e) → (i : ℕ) (link : Link) (before after : MouthTold L) → At links i link → At run.before.mouths i before → At run.after.mouths i after → Sends (link_setup run.plan i) link.entries (carried run.handed.queues) before after
   link_sends laws words tells run links e h i link before after at at_b at_a =
@@ -199,11 +223,11 @@ module _ {E B M L : Type 0} where
       let (k, at_k) = at_below e.ks i (omega (arith, lens.0, lens.1)) in
       let say = say_all laws words tells run links e h in
       let said = said_by laws words tells run links e h i before after at_b at_a in
-      let says = (zip3_at (Came words) e.js e.ks links h.came i j k link at_j at_k at).is_link.says in
+      let came = zip3_at (Came words) e.js e.ks links h.came i j k link at_j at_k at in
       sends laws.peers acts more (carried run.handed.queues) (items_of e.door.order) (link_setup run.plan i) link.entries said.datagrams before after
       (record { say = say; door = all_answered laws words tells run links e h })
       ((its_door laws words tells run links e h).parts i link at)
-      (λ x. are_its laws.noted run links i link acts more k.notes.popped x h.members at say (are_noted laws words tells run links e h i link j k at at_j at_k) says (h.counted i link at))
+      (λ x. are_its laws.noted run links i link acts more k.notes.popped x h.members at say (are_noted laws words tells run links e h i link j k at at_j at_k) came.is_link.says came.counted)
       said.spelled said.said
 
   -- What each mouth says.
@@ -213,4 +237,5 @@ module _ {E B M L : Type 0} where
         ∙ mouths_long (λ i m n. SaidByLink run.plan.name h.rest.acts i (tells m) (tells n)) 0 e.last.mouths.items e.mouths h.rest.mouths
         ∙ mouths_now words tells run links e h;
     each = link_sends laws words tells run links e h;
+    shares = shares laws words tells run links e h;
   }

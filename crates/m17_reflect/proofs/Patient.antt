@@ -14,13 +14,13 @@ use Rattle.m17_roll.specs.Closing.{IsEnded}
 use Rattle.m17_roll.specs.Seat.{RollView}
 use Rattle.m17_roll.specs.Sightings.{member}
 use Rattle.m17_receiver.specs.declared.receiver.Receiver.{Receiver}
-use Rattle.m17_receiver.specs.Claims.{IsPatientAt}
+use Rattle.m17_receiver.specs.Claims.{IsPatientAt, HasFreePlaceAt}
 use Rattle.m17_receiver.specs.Devices.{Words}
 use Rattle.m17_reflect.specs.Links.{Link, At, link_setup, setup_at}
 use Rattle.m17_reflect.specs.Run.{Run, module_count}
 use Rattle.m17_reflect.specs.Trails.{events_of}
 use Rattle.m17_reflect.specs.Queues.{QueuesCarry}
-use Rattle.m17_reflect.specs.Patience.{IsFullWhenTaken, PlacesAreFull}
+use Rattle.m17_reflect.specs.Patience.{AreSeats, IsFullWhenTaken, PlacesAreFull}
 use Rattle.m17_reflect.proofs.AllQueues.{patient_misses_none}
 use Rattle.m17_wiring.specs.Jobs.{AreReceivers}
 use Rattle.m17_reflect.proofs.Came.{Came}
@@ -28,7 +28,7 @@ use Rattle.m17_reflect.proofs.Differ.{claim_in}
 use Rattle.m17_reflect.proofs.Joining.{claims_in}
 use Rattle.m17_reflect.proofs.Routes.{at_below, below_at}
 use Rattle.m17_reflect.proofs.Found.{contains_at, get_front}
-use Rattle.m17_reflect.proofs.Seats.{contained, IsRollOf, roll_claims, claims_placed, impatient_full}
+use Rattle.m17_reflect.proofs.Seats.{contained, IsRollOf, roll_claims, claims_placed, seats_are, impatient_full}
 use Rattle.m17_reflect.proofs.There.{is_at}
 use Rattle.m17_reflect.proofs.Together.{AllZip3, zip3_at, zip3_length}
 
@@ -71,7 +71,7 @@ is_below : (a b : ℕ) → nat_lt a b ≡ true → a < b
 is_below a b e = grind (arith, nat_tests)
 
 -- the links' claims, each of one of the places
-placed : (plan_places : ℕ) (setup : Setup) (entries : List Entry) → setup.places ≡ plan_places → ((n : ℕ) (claim : Claim) → claim_at entries n ≡ Some claim → is_at plan_places claim.member ≡ true) → ClaimsArePlaced setup entries
+pub placed : (plan_places : ℕ) (setup : Setup) (entries : List Entry) → setup.places ≡ plan_places → ((n : ℕ) (claim : Claim) → claim_at entries n ≡ Some claim → is_at plan_places claim.member ≡ true) → ClaimsArePlaced setup entries
 placed plan_places setup entries same h n claim e = let less = is_below claim.member.place plan_places (h n claim e) in omega arith
 
 -- The laws that this rests on.
@@ -97,9 +97,11 @@ module _ {L E B : Type 0} where
     pub roll : IsRollOf ks others run.handed.roll
     pub ended : IsEnded run.handed.roll
     pub places : length run.handed.roll.words ≡ run.plan.places
+    pub workers : length others ≡ module_count run.plan
 
   patient_at : (words : Words E B) (run : Run L) (js ks : List (Receiver E B)) (links : List Link) (others : List RollView) → HasRoll words run js ks links others → run.plan.patient ≡ true → (i : ℕ) (link : Link) → At links i link
       → ClaimsAreAsked (link_setup run.plan i) link.entries × ((n : ℕ) → n < length link.entries → asks_at (past_at (link_setup run.plan i) link.entries n) ≡ true → IsPatientAt (link_setup run.plan i) link.entries n)
+      × ((n : ℕ) → HasFreePlaceAt (link_setup run.plan i) link.entries n)
   patient_at words run js ks links others h patient i link e =
       let lens = zip3_length (Came words) js ks links h.came in
       let inside = below_at links i link e in
@@ -107,13 +109,13 @@ module _ {L E B : Type 0} where
       let (k, at_k) = at_below ks i (omega (arith, lens.0, lens.1)) in
       let it = h.receivers i j at_j in
       let c = (zip3_at (Came words) js ks links h.came i j k link at_j at_k e).claimed in
-      subst (λ (s : Setup). ClaimsAreAsked s link.entries × ((n : ℕ) → n < length link.entries → asks_at (past_at s link.entries n) ≡ true → IsPatientAt s link.entries n)) it.setup
-      (c.asked, c.patient_claims (it.patient ∙ patient))
+      subst (λ (s : Setup). ClaimsAreAsked s link.entries × ((n : ℕ) → n < length link.entries → asks_at (past_at s link.entries n) ≡ true → IsPatientAt s link.entries n) × ((n : ℕ) → HasFreePlaceAt s link.entries n)) it.setup
+      (c.asked, c.patient_claims (it.patient ∙ patient), c.patient_places (it.patient ∙ patient))
 
   full_when_taken : Laws → (words : Words E B) (run : Run L) (js ks : List (Receiver E B)) (links : List Link) (others : List RollView) → HasRoll words run js ks links others → run.plan.patient ≡ true → IsFullWhenTaken run links
   full_when_taken laws words run js ks links others h is_patient i link n e lt full q less =
       let setup = link_setup run.plan i in
-      let (asked, patient) = patient_at words run js ks links others h is_patient i link e in
+      let (asked, patient, _) = patient_at words run js ks links others h is_patient i link e in
       let claims = roll_claims words js ks links others run.handed.roll h.came h.roll in
       let parts = and_parts (asks_at (past_at setup link.entries n)) (not (is_some (claim_at link.entries n))) (sym (laws.askers.full setup link.entries n) ∙ full) in
       let many : length (others_at (past_at setup link.entries n)) ≡ setup.places = (patient n lt parts.0).0 (no_claim (claim_at link.entries n) parts.1) in
@@ -125,22 +127,29 @@ module _ {L E B : Type 0} where
       subst (λ (ms : List Member). Contains ms claim.member) (sym claims) (link_contained links i link claim.member e (claim_contained link.entries first claim there)) in
       (claim.member.generation, subst (λ (m : Member). Contains run.handed.roll.claimed m) (ap make at) found)
 
+  its_seats : (words : Words E B) (run : Run L) (js ks : List (Receiver E B)) (links : List Link) (others : List RollView) → HasRoll words run js ks links others → AreSeats run links
+  its_seats words run js ks links others h =
+      let lens = zip3_length (Came words) js ks links h.came in
+      seats_are run links ks others h.roll (lens.0 ∙ sym lens.1) h.workers
+
   -- who found no place in a run that is patient
   pub patient_full : Laws → (words : Words E B) (run : Run L) (js ks : List (Receiver E B)) (links : List Link) (others : List RollView) → HasRoll words run js ks links others → run.plan.patient ≡ true → All (λ count. count ≡ 0) run.handed.missed → PlacesAreFull run links
   patient_full laws words run js ks links others h patient missed = record {
     patient = λ _. record {
       missed = missed;
       full = λ i link n e. (patient_at words run js ks links others h patient i link e).1 n;
+      given = λ i link n e. (patient_at words run js ks links others h patient i link e).2 n;
     };
     impatient = λ no. absurd (let wrong : true ≡ false = sym patient ∙ no in cc);
     any = full_when_taken laws words run js ks links others h patient;
+    seats = its_seats words run js ks links others h;
   }
 
   full_by : Laws → (words : Words E B) (run : Run L) (js ks : List (Receiver E B)) (links : List Link) (others : List RollView) (patient : Bool) → run.plan.patient ≡ patient → HasRoll words run js ks links others → QueuesCarry run → length run.handed.trails ≡ module_count run.plan → PlacesAreFull run links
   full_by laws words run js ks links others true is h carried trails =
       patient_full laws words run js ks links others h is (patient_missed run carried trails is)
   full_by laws words run js ks links others false is h carried trails =
-      impatient_full words run js ks links others h.receivers h.came h.roll h.ended is
+      impatient_full words run js ks links others h.receivers h.came h.roll h.ended (its_seats words run js ks links others h) is
 
   -- who found no place in any run
   pub who_is_full : Laws → (words : Words E B) (run : Run L) (js ks : List (Receiver E B)) (links : List Link) (others : List RollView) → HasRoll words run js ks links others → QueuesCarry run → length run.handed.trails ≡ module_count run.plan → PlacesAreFull run links

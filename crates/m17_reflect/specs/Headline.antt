@@ -6,11 +6,11 @@
 use Rattle.std.specs.Prelude.{◌≡◌, ◌↔◌, ℕ, IsTrue, List, length, map, All}
 use Rattle.m17_values.specs.declared.heard.Heard.{Heard}
 use Rattle.m17_receiver.specs.Devices.{Tells, IsCounted, HasHeard}
-use Rattle.m17_reflect.specs.Links.{Link, IsLink, At}
+use Rattle.m17_reflect.specs.Links.{Link, IsLink, At, link_setup}
 use Rattle.m17_reflect.specs.Run.{Run}
 use Rattle.m17_reflect.specs.Trails.{AreTrails}
 use Rattle.m17_reflect.specs.Judged.{IsJudged}
-use Rattle.m17_reflect.specs.Places.{ArePlacesBack}
+use Rattle.m17_reflect.specs.Places.{AreClaims, ArePlacesBack}
 use Rattle.m17_reflect.specs.Queues.{QueuesCarry}
 use Rattle.m17_reflect.specs.Sendings.{MouthsSay}
 use Rattle.m17_reflect.specs.Patience.{PlacesAreFull, SomeLost, HasCauses}
@@ -29,6 +29,8 @@ pub record IsCarriedOut {L : Type 0} (run : Run L) (heard : List (List Heard)) :
   pub links : List Link
   pub of_heard : map (λ (link : Link). link.heard) links ≡ heard
   pub each : All IsLink links
+  pub claims : (i : ℕ) (link : Link) → At links i link →
+      AreClaims (link_setup run.plan i) link.entries
   pub trails : AreTrails run.plan links run.handed.trails
   pub judged : IsJudged run links
   pub places : ArePlacesBack run.plan.places run.handed.trails run.handed.roll
@@ -37,10 +39,11 @@ pub record IsCarriedOut {L : Type 0} (run : Run L) (heard : List (List Heard)) :
   pub full : PlacesAreFull run links
   pub lost : IsTrue run.handed.lost ↔ SomeLost links
 
--- The headline. It holds where what each ear heard is counted in 64 bits; a count that has come to
--- 2^64 - 1 stays there. This profile.
+-- The headline: what each ear heard, so much as is counted in 64 bits, and what became of it. This
+-- profile.
 pub record Headline {L : Type 0} (run : Run L) : Type 0 where
   pub heard : List (List Heard)
   pub ears : EarsHeard run heard
   pub causes : HasCauses run
-  pub carried_out : All IsCounted heard → IsCarriedOut run heard
+  pub counted : All IsCounted heard
+  pub carried_out : IsCarriedOut run heard

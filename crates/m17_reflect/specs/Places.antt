@@ -1,13 +1,22 @@
 -- What became of the places: who joined, and what the roll shows in the end. This profile.
-use Rattle.std.specs.Prelude.{◌≡◌, ℕ, ◌<◌, ◌*◌, Bool, List, length, count_by, slice_index, Contains}
+use Rattle.std.specs.Prelude.{◌≡◌, ℕ, ◌<◌, ◌*◌, Bool, List, length, count_by, slice_index, Contains, Some}
 use Rattle.std.specs.List.{flat_map, filter_map}
 use Rattle.m17_values.specs.declared.member.Member.{Member}
 use Rattle.m17_control.specs.declared.event.Event.{Event}
-use Rattle.m17_directory.specs.Laws.{joiner_of}
+use Rattle.m17_directory.specs.Entries.{Claim, Entry, Setup, claim_at}
+use Rattle.m17_directory.specs.Laws.{ClaimsAreAsked, ClaimsArePlaced, joiner_of}
 use Rattle.m17_lane.specs.Ends.{TrailEnd}
 use Rattle.m17_roll.specs.Closing.{EndView}
 use Rattle.m17_roll.specs.Run.{count_at, IsRollRun}
 use Rattle.m17_reflect.specs.Trails.{events_of}
+
+-- What a link claims: entries that ask have claims alone, each is of one of the places, and no member
+-- is claimed twice. This profile.
+pub record AreClaims (setup : Setup) (entries : List Entry) : Type 0 where
+  pub asked : ClaimsAreAsked setup entries
+  pub placed : ClaimsArePlaced setup entries
+  pub once : (i j : ℕ) (a b : Claim) → claim_at entries i ≡ Some a → claim_at entries j ≡ Some b →
+      a.member ≡ b.member → i ≡ j
 
 -- The two lists have the same items, each as often. This profile.
 abbrev pub AreSame : {A : Type 0} → List A → List A → Type 0

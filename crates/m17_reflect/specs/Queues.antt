@@ -1,6 +1,7 @@
 -- What each queue carries: what its module gives for its place, but for what was left out and
 -- counted. This profile.
 use Rattle.std.specs.Prelude.{◌≡◌, ℕ, ◌-◌, ◌^◌, ◌≤◌, min, Bool, true, false, List, [], ◌∷◌, length, map, take, slice_get}
+use Rattle.std.specs.List.{flat_map}
 use Rattle.std.specs.Option.{option_map_or}
 use Rattle.m17_control.specs.declared.event.Event.{Event}
 use Rattle.m17_control.specs.declared.item.Item.{Item}
@@ -66,3 +67,8 @@ abbrev pub carried : List (List (TrailEnd Item)) → ℕ → ℕ → List Item
 carried queues m q =
     option_map_or (λ (queue : TrailEnd Item). items_of queue.order)
     (slice_get (row_at queues m) q) []
+
+-- All that the queues carried, queue by queue. This profile.
+abbrev pub all_carried : List (List (TrailEnd Item)) → List Item
+all_carried queues =
+    flat_map (λ row. flat_map (λ (queue : TrailEnd Item). items_of queue.order) row) queues

@@ -1,9 +1,10 @@
 -- What each mouth was to say, peer by peer, and that it said it. This profile.
-use Rattle.std.specs.Prelude.{◌≡◌, ◌==◌, ℕ, List, [], ◌∷◌, length, map, unwrap_or, Option, Some, if◌then◌else◌}
+use Rattle.std.specs.Prelude.{◌≡◌, ◌==◌, ℕ, List, [], ◌∷◌, length, map, filter, unwrap_or, Option, Some, if◌then◌else◌}
 use Rattle.std.specs.List.{AllZip, flat_map, position, range_with_len}
 use Rattle.m17_values.specs.declared.peer.Peer.{Peer}
 use Rattle.m17_ports.specs.Mouth.{Datagram}
 use Rattle.m17_ports.specs.Said.{MouthTold, SaidOf}
+use Rattle.m17_control.specs.declared.item.Item.{Item}
 use Rattle.m17_control.specs.declared.modules.Modules.{Modules}
 use Rattle.m17_control.specs.declared.packet.Packet.{Packet}
 use Rattle.m17_control.specs.declared.packet.Packet.TheVariants as packets
@@ -13,12 +14,14 @@ use Rattle.m17_directory.specs.declared.known.Request.{Request}
 use Rattle.m17_directory.specs.Entries.{Notice, Claim, Entry, Setup, notice_at, claim_at, is_peer}
 use Rattle.m17_directory.specs.Known.{request_in}
 use Rattle.m17_directory.specs.Routed.{past_at, asks_at, direct_replies}
+use Rattle.m17_lane.specs.Ends.{TrailEnd}
 use Rattle.m17_turns.specs.Orders.{IsInterleaving}
-use Rattle.m17_turns.specs.Joined.{Queues, Joined, items_of, packets_of}
+use Rattle.m17_turns.specs.Joined.{Queues, Joined, goes_to, items_of, packets_of}
 use Rattle.m17_turns.specs.Laws.{bytes_to}
 use Rattle.m17_reflect.specs.Links.{Link, At, link_setup}
 use Rattle.m17_reflect.specs.Run.{Run}
-use Rattle.m17_reflect.specs.Queues.{carried}
+use Rattle.m17_reflect.specs.Places.{AreSame}
+use Rattle.m17_reflect.specs.Queues.{all_carried, carried}
 
 -- The number of the module with this letter: how many served letters stand before it. This profile.
 abbrev pub number_of : Modules → ℕ → ℕ
@@ -67,10 +70,19 @@ pub record Sends {L : Type 0} (setup : Setup) (entries : List Entry) (queues : Q
   pub to_each : (x : Peer) → IsToldAs setup entries queues x attempts
   pub said : SaidOf before attempts after
 
--- Each link's mouth says what the link answers, and what its members have in their queues. This
--- profile.
+-- All that the queues carry for a peer of this link is for its memberships there, each item once.
+-- This profile.
+abbrev pub IsForMemberships : Setup → List Entry → List (List (TrailEnd Item)) → Peer → Type 0
+IsForMemberships setup entries queues x =
+    AreSame (filter (goes_to setup.link (is_peer x)) (all_carried queues))
+    (flat_map (items_of (carried queues)) (memberships setup entries x))
+
+-- Each link's mouth says what the link answers, and what its members have in their queues, which is
+-- all that the queues carry for them. This profile.
 pub record MouthsSay {L : Type 0} (run : Run L) (links : List Link) : Type 0 where
   pub count : length run.after.mouths ≡ length links
   pub each : (i : ℕ) (link : Link) (before after : MouthTold L) → At links i link →
       At run.before.mouths i before → At run.after.mouths i after →
       Sends (link_setup run.plan i) link.entries (carried run.handed.queues) before after
+  pub shares : (i : ℕ) (link : Link) (x : Peer) → At links i link →
+      IsForMemberships (link_setup run.plan i) link.entries run.handed.queues x

@@ -13,9 +13,11 @@ mod bench;
 mod beside_tests;
 mod gather;
 mod jobs;
-mod laws;
+pub mod laws;
 #[cfg(test)]
 mod made_tests;
+#[cfg(test)]
+mod meeting;
 mod parted;
 mod returned;
 mod running;

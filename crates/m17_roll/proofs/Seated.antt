@@ -98,9 +98,9 @@ pair_of m q r who = (refusing (sees m.0 q r) who, m.1)
 
 -- what a claim's look at a free place did, and then its lost exchange
 pub passes_two : (s : Inside) (one two : Seat (Unit {0}) Notes) (q old r : ℕ) (who : List ℕ)
-    → LookedFor who s.seat.me q old one.me → ¬ IsTaken old → ClaimedFor who one.me q old r two.me → r ≢ old
+    → LookedFor who s.seat.me q old one.me → ¬ IsTaken old → ClaimedFor who one.me q old r two.me → r ≢ old → q < s.places
     → PassesAt (seat_view s) q who (seen_by s two)
-passes_two s one two q old r who look free exchange miss =
+passes_two s one two q old r who look free exchange miss in_roll =
     let before = s.seat.me.0 in
     let at : ◌≡◌ {A = Me (Unit {0}) Notes} one.me (sees before q old, s.seat.me.1) = look.free free in
     let below = subst (λ (m : Me (Unit {0}) Notes). IsNotBelow m.0.seen q r) at (exchange.lost miss).1 in
@@ -109,6 +109,7 @@ passes_two s one two q old r who look free exchange miss =
     (exchange.lost miss).0 ∙ ap (λ (m : Me (Unit {0}) Notes). pair_of m q r who) at in record {
       looks = sighting q old ∷ sighting q r ∷ [];
       few = omega arith;
+      in_roll = in_roll;
       taken = inr (0, 1, old, r, omega arith, refl, refl, omega arith);
       after = ap (λ (m : Me (Unit {0}) Notes). view_at s m) then
           ∙ ap (λ (xs : List Sighting). with_refused (record (seat_view s) { seen = xs }) who) (append_assoc before.seen (sighting q old ∷ []) (sighting q r ∷ []));

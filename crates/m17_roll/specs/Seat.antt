@@ -105,16 +105,25 @@ IsNotGiven old m new =
     (((old.places ≤ m.place) ⊎ (2 ^ 63 - 1 ≤ m.generation)) × (new ≡ old))
     ⊎ IsMiss old m new
 
--- One place of a claim was seen taken, in at most two looks, and these askers were refused.
-pub record PassesAt (old : RollView) (place : ℕ) (who : List ℕ) (new : RollView) : Type 0 where
-  pub looks : List Sighting
-  pub few : length looks ≤ 2
-  pub taken : IsSeenTaken looks place
-  pub after : new ≡ with_refused (with_looks old looks) who
-
--- One place of a claim was found free, and taken.
+-- A place was claimed: it was found free for a generation that isn't its last, later than any that
+-- this seat had claimed there.
 pub record TakesAt (old : RollView) (place : ℕ) (m : Member) (new : RollView) : Type 0 where
   pub here : m.place ≡ place
+  pub in_roll : place < old.places
   pub after : new ≡ with_claim (with_looks old (sighting place (2 * m.generation) ∷ [])) m
   pub not_last : m.generation < 2 ^ 63 - 1
   pub newer : IsNewAt old.claimed place m.generation
+
+-- A place of the roll was seen taken, in at most two looks, and these askers were refused.
+pub record PassesAt (old : RollView) (place : ℕ) (who : List ℕ) (new : RollView) : Type 0 where
+  pub looks : List Sighting
+  pub few : length looks ≤ 2
+  pub in_roll : place < old.places
+  pub taken : IsSeenTaken looks place
+  pub after : new ≡ with_refused (with_looks old looks) who
+
+-- The place was not claimed, and nobody was refused: the roll has no such place, and then nothing
+-- was done; or it was seen taken.
+abbrev pub IsNotClaimed : RollView → ℕ → RollView → Type 0
+IsNotClaimed old place new =
+    ((old.places ≤ place) × (new ≡ old)) ⊎ PassesAt old place [] new

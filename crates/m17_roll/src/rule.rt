@@ -72,6 +72,13 @@ impl Asker for Brand {
     ghost askers = { [] };
 }
 
+/// Nobody is refused, wherever the place is found taken.
+pub struct Nobody;
+
+impl Asker for Nobody {
+    ghost askers = { [] };
+}
+
 /// A look of a claim.
 pub struct LooksFor<A> {
     marker: PhantomData<A>,

@@ -2,10 +2,12 @@
 ghost use Rattle.std.specs.Prelude.{◌≡◌, ◌⊎◌, ℕ, ◌<◌, ◌≤◌, ◌↔◌, length, replicate, IfOk, IfSome, IfNone, IsNone, MatchOption, [], ◌∷◌, ◌++◌};
 ghost use Rattle.std.specs.Bool.{MatchBool, OnTrue, OnFalse};
 ghost use Rattle.m17_roll.specs.Sightings.{sighting, NeverFalls, RisesAtPlaces};
-ghost use Rattle.m17_roll.specs.Seat.{AreNew, IsSameSeat, HasLists, with_looks, with_gift, IsClaim, IsRefusal, IsNotGiven, TakesAt, PassesAt};
+ghost use Rattle.m17_roll.specs.Seat.{AreNew, IsSameSeat, HasLists, with_looks, with_gift, IsClaim, IsRefusal, IsNotGiven, IsNotClaimed, TakesAt, PassesAt};
 ghost use Rattle.m17_roll.specs.Rule.{SeenElse};
 
-use crate::rule::{Asker, ClaimsFor, Gives, Looks, LooksFor, Notes, Parting, RollRule, Shape};
+use crate::rule::{
+    Asker, ClaimsFor, Gives, Looks, LooksFor, Nobody, Notes, Parting, RollRule, Shape,
+};
 use atomic_table::{Seat, Table};
 use m17_values::{Member, NoMemory};
 use std::alloc::{AllocError, Global};
@@ -62,13 +64,35 @@ impl RollSeat {
         ensures seat { IsSameSeat self.old self.new }
     {
         for place in 0..self.places {
-            if let Some(member) = self.try_at::<Brand>(place, asker) {
+            if let Some(member) = self.try_at::<Brand>(place, Some(asker)) {
                 self.in_order();
                 return Some(member);
             }
         }
         self.in_order();
         None
+    }
+
+    /// Claims this place and no other, for its next generation. One look, and one exchange where the place is free. None
+    /// comes only where the roll has no such place, and then nothing is done, or where the place was seen taken in this
+    /// call, as in `claim`. Nobody is noted as refused: whoever asks may try another place. This profile.
+    pub fn claim_at(&mut self, place: u32) -> Option<Member>
+        ensures claimed { IfSome result (λ m. TakesAt self.old place m self.new) }
+        ensures refused { IfNone result (IsNotClaimed self.old place self.new) }
+        ensures never_falls { NeverFalls self.new.seen }
+        ensures rising { RisesAtPlaces self.new.claimed }
+        ensures lists { MatchOption result
+            (HasLists self.old.claimed self.old.given self.old.refused self.new)
+            (λ m. HasLists (self.old.claimed ++ m ∷ []) self.old.given self.old.refused self.new) }
+        ensures seat { IsSameSeat self.old self.new }
+    {
+        if place >= self.places {
+            self.in_order();
+            return None;
+        }
+        let member = self.try_at::<Nobody>(place, None);
+        self.in_order();
+        member
     }
 
     /// Gives a member back, so that its place is free for the next generation: true where the place's word was that of the
@@ -115,8 +139,8 @@ impl RollSeat {
         Some(word)
     }
 
-    // One place of a claim. Where it is seen taken, these askers are refused.
-    fn try_at<A: Asker>(&mut self, place: u32, asker: u64) -> Option<Member>
+    // One place of a claim, for this asker, if who asks is to be noted. Where it is seen taken, these askers are refused.
+    fn try_at<A: Asker>(&mut self, place: u32, asker: Option<u64>) -> Option<Member>
         requires in_roll { place < self.old.places }
         requires others { SeenElse self.old.places place self.old.seen A.askers }
         ensures claimed { IfSome result (λ m. TakesAt self.old place m self.new) }

@@ -74,6 +74,20 @@ fn the_lowest_free_place_is_claimed(rt: HostRuntime) -> Result<(), Fail> {
 }
 
 #[test]
+fn one_place_is_claimed_alone(rt: HostRuntime) -> Result<(), Fail> {
+    let (mut first, mut second) = two_seats(rt.alloc(), 2)?;
+    assert_eq!(rt; first.claim_at(1), Some(member(1, 0)));
+    assert_eq!(rt; second.claim_at(1), None);
+    assert_eq!(rt; second.look(0), Some(0));
+    assert!(rt; first.give(member(1, 0)));
+    assert_eq!(rt; second.claim_at(1), Some(member(1, 1)));
+    assert_eq!(rt; second.claim_at(2), None);
+    assert_eq!(rt; second.claim_at(u32::MAX), None);
+    assert_eq!(rt; first.claim(5), Some(member(0, 0)));
+    Ok(())
+}
+
+#[test]
 fn no_place_comes_to_its_last_generations(rt: HostRuntime) -> Result<(), Fail> {
     let (mut first, _) = two_seats(rt.alloc(), 2)?;
     assert_eq!(rt; first.claim(0), Some(member(0, 0)));

@@ -1,4 +1,5 @@
 use Rattle.std.proofs.Common.{◌≡◌, ℕ, ◌+◌, ◌||◌, Bool, leb, max, List, length, refl, ap, sym, ◌∙◌, subst, arith}
+use Rattle.m17_values.specs.declared.heard.Heard.{Heard}
 use Rattle.m17_directory.specs.declared.known.Known.{Known}
 use Rattle.m17_directory.specs.Entries.{Notice, Entry, Says, moment_of, is_end}
 use Rattle.m17_directory.specs.Outcome.{Here}
@@ -94,3 +95,6 @@ returns-clause-departing c =
 
 pub returns-clause-bounds : goal.returns-clause-bounds
 returns-clause-bounds c = bounded c
+
+pub returns-clause-over : goal.returns-clause-over
+returns-clause-over c = λ is. c.ends_by-ends.ensures Notice.End (subst (λ (h : Heard). Says h Notice.End) (sym is) refl)

@@ -1,8 +1,11 @@
-use Rattle.std.proofs.Common.{◌∷◌, [], ◌++◌, length, refl, sym, ap, ◌∙◌, arith}
+use Rattle.std.proofs.Common.{◌∷◌, [], ◌++◌, length, inl, inr, refl, sym, ap, ◌∙◌, arith}
+use Rattle.std.proofs.lemmas.Bool.{false≢true}
+use Rattle.std.proofs.lemmas.List.Elements.{Contains-push_cases}
+use Rattle.m17_values.specs.declared.heard.Heard.TheVariants.{End}
 use Rattle.m17_receiver.specs.declared.receiver.Receiver.{Receiver}
 use Rattle.m17_receiver.specs.Devices.{Words, HasHeard, HasTrace}
 use Rattle.m17_receiver.specs.SoFar.{plan_of}
-use Rattle.m17_receiver.proofs.Came.{same_devices, same_taped, come_none, come_on, come_end, same_kept, same_itself, plan_is, first_is, next_index, fewer, index_is, trace_stays, ear_stays, faults_stay, cell_put}
+use Rattle.m17_receiver.proofs.Came.{same_devices, same_taped, come_none, come_on, come_end, same_kept, same_itself, plan_is, first_is, next_index, index_is, trace_stays, ear_stays, faults_stay, cell_put}
 use Rattle.m17_receiver.proofs.Heard.{hears_one}
 use Rattle.m17_receiver.proofs.receiver.Receiver.receive.Goals as goal
 
@@ -36,7 +39,7 @@ loop-preserved g c =
     let k₁ : Receiver g.row.E.Denot g.row.B.Denot = record k { ear = c.hear-entry.new.self; trace = c.write_trace.new.trace; trace_failed = c.write_trace.new.failed } in
     let s₁ : Receiver g.row.E.Denot g.row.B.Denot = record s { tape = c.fill_tape.new.tape } in
     let heard : HasHeard (words.heard j.ear, words.ear_faults j.ear) (old.heard ++ h ∷ []) (words.heard k₁.ear, words.ear_faults k₁.ear) =
-    hears_one (words.heard j.ear, words.ear_faults j.ear) (words.heard k.ear, words.ear_faults k.ear) (words.heard k₁.ear, words.ear_faults k₁.ear) old.heard h c.requires.unused.ear
+    hears_one (words.heard j.ear, words.ear_faults j.ear) (words.heard k.ear, words.ear_faults k.ear) (words.heard k₁.ear, words.ear_faults k₁.ear) old.heard h c.requires.unused.ear old.no_end
     c.hear-entry.ensures.counted c.hear-entry.ensures.fault c.hear-entry.ensures.no_fault c.hear-entry.ensures.appended old.ear in
     let traced : HasTrace (words.written j.trace, words.trace_faults j.trace) (old.heard ++ h ∷ []) k₁.trace_failed (words.written k₁.trace, words.trace_faults k₁.trace) =
     c.write_trace.ensures.traced (words.written j.trace, words.trace_faults j.trace) old.heard (first_is c.loop.index old.heard old.count) old.trace in
@@ -52,10 +55,14 @@ loop-preserved g c =
         heard = old.heard ++ h ∷ [];
         ear = ear_stays words k₁ s (words.heard j.ear, words.ear_faults j.ear) (old.heard ++ h ∷ []) kept heard;
         trace = trace_stays words k₁ s (words.written j.trace, words.trace_faults j.trace) (old.heard ++ h ∷ []) kept traced;
-        count = next_index c.loop.index c.saturating_add-index.result old.heard h old.count c.saturating_add-index.ensures;
-        come = λ few.
-            let was = old.come (fewer old.heard h few) in
-            let at = index_is j k old.heard h c.loop.noted c.loop.index was few old.count in
+        no_end = λ in_it. elim (Contains-push_cases old.heard h End in_it) [
+          | inl earlier ↦ old.no_end earlier
+          | inr now ↦ false≢true (sym c.if-has_ended.false ∙ c.has_ended.ensures ∙ c.enter-verdict.ensures.over now)
+        ];
+        count = next_index c.loop.index c.count_one-next.result old.heard h old.count c.count_one-next.ensures;
+        come =
+            let was = old.come in
+            let at = index_is j k old.heard c.loop.noted c.loop.index was old.count in
             let says = c.enter-verdict.ensures.says in
             let through = c.enter-verdict.ensures.through (plan_of j) was.entries says.0 (plan_is j k₁ c.requires.made.places c.requires.made.modules
             (same_devices j k c.hear-entry.new.self c.write_trace.new.trace c.write_trace.new.failed between.same)) at says.1 was.so_far in
@@ -87,7 +94,7 @@ returns-then-has_ended-clause-gone g c =
     let k₁ : Receiver g.row.E.Denot g.row.B.Denot = record k { ear = c.hear-entry.new.self; trace = c.write_trace.new.trace; trace_failed = c.write_trace.new.failed } in
     let s₁ : Receiver g.row.E.Denot g.row.B.Denot = record s { tape = c.fill_tape.new.tape; lost = c.is_fault-self.result } in
     let heard : HasHeard (words.heard j.ear, words.ear_faults j.ear) (old.heard ++ h ∷ []) (words.heard k₁.ear, words.ear_faults k₁.ear) =
-    hears_one (words.heard j.ear, words.ear_faults j.ear) (words.heard k.ear, words.ear_faults k.ear) (words.heard k₁.ear, words.ear_faults k₁.ear) old.heard h c.requires.unused.ear
+    hears_one (words.heard j.ear, words.ear_faults j.ear) (words.heard k.ear, words.ear_faults k.ear) (words.heard k₁.ear, words.ear_faults k₁.ear) old.heard h c.requires.unused.ear old.no_end
     c.hear-entry.ensures.counted c.hear-entry.ensures.fault c.hear-entry.ensures.no_fault c.hear-entry.ensures.appended old.ear in
     let traced : HasTrace (words.written j.trace, words.trace_faults j.trace) (old.heard ++ h ∷ []) k₁.trace_failed (words.written k₁.trace, words.trace_faults k₁.trace) =
     c.write_trace.ensures.traced (words.written j.trace, words.trace_faults j.trace) old.heard (first_is c.loop.index old.heard old.count) old.trace in
@@ -98,9 +105,10 @@ returns-then-has_ended-clause-gone g c =
           let risen = c.hear-entry.ensures.fault (c.is_fault-self.ensures.0 lost) in
           omega (arith, risen, old.ear.counted, faults_stay words k₁ s kept);
       trace = trace_stays words k₁ s (words.written j.trace, words.trace_faults j.trace) (old.heard ++ h ∷ []) kept traced;
-      received = λ few.
-          let was = old.come (fewer old.heard h few) in
-          let at = index_is j k old.heard h c.loop.noted c.loop.index was few old.count in
+      counted = omega (arith, next_index c.loop.index c.count_one-next.result old.heard h old.count c.count_one-next.ensures, c.count_one-next.type_inv);
+      received =
+          let was = old.come in
+          let at = index_is j k old.heard c.loop.noted c.loop.index was old.count in
           let says = c.enter-verdict.ensures.says in
           let through = c.enter-verdict.ensures.through (plan_of j) was.entries says.0 (plan_is j k₁ c.requires.made.places c.requires.made.modules
           (same_devices j k c.hear-entry.new.self c.write_trace.new.trace c.write_trace.new.failed between.same)) at says.1 was.so_far in

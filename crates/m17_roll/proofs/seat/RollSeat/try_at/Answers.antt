@@ -64,7 +64,7 @@ returns-then-found-word-clause-refused g c =
     let f = c.compare_exchange-found.ensures in
     let free : ¬ IsTaken c.load-word.result = λ t. ⊎_elim c.if-word-eq1.false c.if-word.false t in
     let p = passes_two c.self.inside c.load-word.new.seat c.compare_exchange-found.new.seat c.args.place c.load-word.result c.compare_exchange-found.result
-    g.A.Asker.askers e.2 free f.2 c.if-found-word.true in
+    g.A.Asker.askers e.2 free f.2 c.if-found-word.true (subst (λ (v : RollView). c.args.place < v.places) (sym c.self.view_is) c.requires.in_roll) in
     rw (← c.self.view_is) p
 
 pub invariant_of-self-2 : goal.invariant_of-self-2
