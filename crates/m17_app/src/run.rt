@@ -60,13 +60,7 @@ fn run_nothing<S: Input<K>, K: Sink>(input: &S, out: &mut K) -> Status
 }
 
 // Runs the command that the words name.
-fn run_command<
-    R: Threads + Wait + Copy + Send + 'static,
-    P: Ports,
-    C: Crew,
-    S: Input<K>,
-    K: Sink,
->(
+fn run_command<R: Threads + Wait + Copy + Send + 'static, P: Ports, C: Crew, S: Input<K>, K: Sink>(
     rt: &R,
     alloc: Global,
     command: Command,
@@ -130,13 +124,7 @@ fn run_command<
 /// crew refused a start, 7 where a link was lost, 8 where a book failed, and 70 where there was no memory. Only `talk` and
 /// `serve` ask the ports for anything; where they ran, their devices are handed back. Only `replay` and `serve` have the
 /// crew start threads. `make` reads no input, and ends with 0 or 4. This profile.
-pub fn run<
-    R: Threads + Wait + Copy + Send + 'static,
-    P: Ports,
-    C: Crew,
-    S: Input<K>,
-    K: Sink,
->(
+pub fn run<R: Threads + Wait + Copy + Send + 'static, P: Ports, C: Crew, S: Input<K>, K: Sink>(
     rt: &R,
     alloc: Global,
     words: &[String],

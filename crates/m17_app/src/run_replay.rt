@@ -14,12 +14,7 @@ use std::sync::Wait;
 use std::thread::Threads;
 
 // Runs `replay` to its last line.
-pub fn run_replay<
-    R: Threads + Wait + Copy + Send + 'static,
-    C: Crew,
-    S: Input<K>,
-    K: Sink,
->(
+pub fn run_replay<R: Threads + Wait + Copy + Send + 'static, C: Crew, S: Input<K>, K: Sink>(
     rt: &R,
     alloc: Global,
     plan: &Plan,

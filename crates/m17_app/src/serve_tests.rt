@@ -66,7 +66,16 @@ fn ran<C: Crew, R: Abort + Threads + Wait + Copy + Send + 'static>(
     Ok((done, sink))
 }
 
-const SERVE: [&str; 8] = ["serve", "--call", "M17-TST", "--modules", "A", "--book", "d", "x"];
+const SERVE: [&str; 8] = [
+    "serve",
+    "--call",
+    "M17-TST",
+    "--modules",
+    "A",
+    "--book",
+    "d",
+    "x",
+];
 
 #[test]
 fn a_reflector_ends_with_its_status_and_line(rt: HostRuntime) -> Result<(), Fail> {
@@ -93,7 +102,10 @@ fn a_reflector_ends_with_its_status_and_line(rt: HostRuntime) -> Result<(), Fail
     let mut crew = StdCrew::new();
     let (done, sink) = ran(&rt, alloc, &SERVE, heard, (none, none), &mut crew)?;
     assert_eq!(rt; done.status, 7);
-    assert_eq!(rt; sink.bytes(), "A admitted 0 missed 0\nlink lost\n".as_bytes());
+    assert_eq!(rt;
+        sink.bytes(),
+        "A admitted 0 missed 0\nlink lost\n".as_bytes()
+    );
     let mut crew = RefusingCrew::new(Vec::from_array(alloc, [1])?);
     let heard = evening(&rt, alloc)?;
     let (done, sink) = ran(&rt, alloc, &SERVE, heard, (none, none), &mut crew)?;

@@ -21,15 +21,7 @@ pub fn run_on<
     C: Crew,
     R: Read + Drop,
     P: Print,
->(
-    rt: &H,
-    alloc: Global,
-    words: &[String],
-    ports: &mut Q,
-    crew: &mut C,
-    reader: R,
-    to: &P,
-) -> u8
+>(rt: &H, alloc: Global, words: &[String], ports: &mut Q, crew: &mut C, reader: R, to: &P) -> u8
     ensures status { IsStatus result }
     // The words that name no command are refused, and no others.
     ensures refused { AreRefused (map string_bytes words.now)

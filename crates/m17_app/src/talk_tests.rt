@@ -3,8 +3,7 @@ use crate::done::Done;
 use crate::run::run;
 use crate::tests::words;
 use m17_devices::{
-    BytesSink, BytesSource, Gram, Heard, ListBook, ListMouth, Peer, ScriptEar, ScriptPorts,
-    StdCrew,
+    BytesSink, BytesSource, Gram, Heard, ListBook, ListMouth, Peer, ScriptEar, ScriptPorts, StdCrew,
 };
 use std::alloc::Global;
 use std::process::Abort;
@@ -109,7 +108,15 @@ fn expect<R: Threads + Wait + Abort + Copy + Send + 'static>(
     let mut sink = BytesSink::make(alloc, 100, Vec::new(alloc))?;
     let given = words(alloc, given)?;
     let mut crew = StdCrew::new();
-    let done = run(rt, alloc, &given, &mut ports, &mut crew, &mut source, &mut sink);
+    let done = run(
+        rt,
+        alloc,
+        &given,
+        &mut ports,
+        &mut crew,
+        &mut source,
+        &mut sink,
+    );
     assert_eq!(rt; done.status, status);
     assert_eq!(rt; sink.bytes(), text.as_bytes());
     Ok(done)
@@ -223,7 +230,15 @@ fn a_talk_whose_line_cannot_be_written_hands_back_its_devices(rt: HostRuntime) -
         let mut sink = BytesSink::make(alloc, 100, [call].to_vec(alloc)?)?;
         let given = words(alloc, &TALK)?;
         let mut crew = StdCrew::new();
-        let done = run(&rt, alloc, &given, &mut ports, &mut crew, &mut source, &mut sink);
+        let done = run(
+            &rt,
+            alloc,
+            &given,
+            &mut ports,
+            &mut crew,
+            &mut source,
+            &mut sink,
+        );
         assert_eq!(rt; done.status, 4);
         assert!(rt; done.talk.is_some());
     }

@@ -9,10 +9,10 @@ ghost use Rattle.m17_replay.specs.Run.{judged_ending, CanPrint, StandsFor, Write
 
 use crate::ReplayEnding;
 use crate::judging::{Replayed, judge_heard};
+use crate::laws::replay_text_is_free_of_places;
 use crate::lines::print_lines;
 use crate::reading::read_heard;
 use crate::summary::{print_counts, print_peers};
-use crate::laws::replay_text_is_free_of_places;
 use m17_crew::Crew;
 use m17_house::{Plan, laws as house_laws};
 use m17_io::{Input, Sink};
@@ -26,12 +26,7 @@ use std::thread::Threads;
 /// line for each entry, or with `summary` one page of counts. Nothing is written before the input was read to its end.
 /// The input is refused with the place and reason of the form of traces; the answer says how the run ended, and the last
 /// line is the caller's to write. `NoMemory` where there is none, before anything is written. This profile.
-pub fn replay<
-    S: Input<K>,
-    K: Sink,
-    C: Crew,
-    R: Threads + Wait + Copy + Send + 'static,
->(
+pub fn replay<S: Input<K>, K: Sink, C: Crew, R: Threads + Wait + Copy + Send + 'static>(
     rt: &R,
     alloc: Global,
     plan: &Plan,

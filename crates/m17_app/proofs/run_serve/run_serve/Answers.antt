@@ -9,5 +9,5 @@ returns-clause-runs g c = λ left reads.
     served c.args.order.now c.serve-served.result.ending c.conclude_serve.result _ mid _ _ c.serve-served.ensures.ended c.serve-served.ensures.causes (refl, refl)
     (λ other. c.conclude_serve.ensures.concluded other left reads)
     (λ none.
-        let same = c.conclude_serve.ensures.memory none in
-        (same.0, ap (λ out. outside left reads (g.K.Sink.written out) (g.K.Sink.faults out) (g.K.Sink.held_back out)) same.1))
+    let same = c.conclude_serve.ensures.memory none in
+    (same.0, ap (λ out. outside left reads (g.K.Sink.written out) (g.K.Sink.faults out) (g.K.Sink.held_back out)) same.1))
