@@ -42,4 +42,4 @@ refused_code status code before after run is (inl refuses) = elim refuses.0.answ
   | inl words ↦ inl (is ∙ ap code_of words)
   | inr write ↦ inr (inl (is ∙ ap code_of write))
 ]
-refused_code status code before after crew run is (inr none) = inr (inr (is ∙ ap code_of none.0))
+refused_code status code before after run is (inr none) = inr (inr (is ∙ ap code_of none.0))
