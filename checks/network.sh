@@ -92,3 +92,29 @@ nobody_there() {
     talks 0 'closed no-answer kept 0\n' 127.0.0.1:0 "127.0.0.1:$port" book
 }
 check "where nobody listens a client asks five times, and ends" nobody_there
+
+# free_port: a UDP port of the loopback that nothing has.
+free_port() {
+    python3 -c 'import socket
+s = socket.socket(socket.AF_INET, socket.SOCK_DGRAM)
+s.bind(("127.0.0.1", 0))
+print(s.getsockname()[1])'
+}
+
+served_talk() {
+    needs python3
+    three_frames >script
+    port=$(free_port)
+    prog serve --call M17-TST --for 2 --book . "127.0.0.1:$port" >served &
+    server=$!
+    sleep 0.5
+    gives 0 'closed asked kept 0\n' \
+        prog talk --call AB1CD --module A --bind 127.0.0.1:0 --to "127.0.0.1:$port" <script || return 1
+    wait "$server" || {
+        echo "serve ended with status $?"
+        return 1
+    }
+    printf 'A admitted 3 missed 0\nB admitted 0 missed 0\nC admitted 0 missed 0\n' >wanted
+    cmp served wanted && [ "$(head -c 8 link0.trace)" = M17TRACE ] && [ -s A.book ]
+}
+check "a reflector serves a talk for two seconds, and prints what its modules admitted" served_talk

@@ -10,3 +10,4 @@ pub mod Runnable
 pub mod WordsRefused
 pub mod Codes
 pub mod TalkRuns
+pub mod ServeRuns

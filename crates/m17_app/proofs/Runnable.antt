@@ -1,6 +1,6 @@
 -- What words name can be run.
 use Rattle.std.proofs.Common.{◌≡◌, ◌≢◌, ℕ, zero, suc, ◌+◌, ◌<◌, ◌≤◌, Bool, List, [], ◌∷◌, length, Option, None, Some, refl, ap, ◌∙◌, arith}
-use Rattle.std.specs.Prelude.{true, false, cond, IsTrue}
+use Rattle.std.specs.Prelude.{true, false, cond, IfSome, IsTrue}
 use Rattle.std.specs.List.{All, filter, range_with_len}
 use Rattle.std.proofs.lemmas.List.Elements.{All-contains}
 use Rattle.std.proofs.lemmas.Bool.Decides.{nat_tests}
@@ -8,8 +8,8 @@ use Rattle.m17_control.specs.declared.modules.Modules.{Modules}
 use Rattle.m17_control.specs.Modules.{serves, letters_of}
 use Rattle.m17_house.specs.Replay.{IsPlan}
 use Rattle.m17_words.specs.declared.command.Command.{Command}
-use Rattle.m17_words.specs.declared.command.Command.TheVariants.{Judge, Show, Replay, Make, Talk}
-use Rattle.m17_words.specs.Values.{NamesModules, NamesParrots}
+use Rattle.m17_words.specs.declared.command.Command.TheVariants.{Judge, Show, Replay, Make, Talk, Serve}
+use Rattle.m17_words.specs.Values.{IsNumberIfAny, NamesModules, NamesParrots}
 use Rattle.m17_words.specs.Words.{Names, Gives}
 use Rattle.m17_app.specs.Commands.{IsRunnable}
 
@@ -43,11 +43,28 @@ among None modules parrots none letter is = absurd (let no : serves parrots lett
 among (Some text) modules parrots (named, all) letter is =
     All-contains (λ l. IsTrue (serves modules l)) text letter all ((named.letters letter).0 is)
 
+few_seconds : (text : Option (List ℕ)) (seconds : Option ℕ) → IsNumberIfAny 1 1000000 text seconds → IfSome seconds (λ s. s ≤ 1000000)
+few_seconds None None h = tt
+few_seconds None (Some s) h = absurd h
+few_seconds (Some text) None h = absurd h
+few_seconds (Some text) (Some s) h = h.at_most
+
 gives_runnable : (words : List (List ℕ)) (command : Command) → Gives words command → IsRunnable command
 gives_runnable words Judge gives = tt
 gives_runnable words Show gives = tt
 gives_runnable words (Make seed count) gives = gives.1.count_is.at_most
 gives_runnable words (Talk order) gives = tt
+gives_runnable words (Serve order) gives = record {
+  plan = record {
+    some_place = omega (arith, gives.1.places_are.at_least);
+    at_most = omega (arith, gives.1.places_are.at_most);
+    some_module = some_module _ order.modules gives.1.modules_are;
+    parrots = among _ order.modules order.parrots gives.1.parrots_are;
+  };
+  some_link = gives.1.some_bind;
+  few_links = gives.1.few_binds;
+  few_seconds = few_seconds _ order.seconds gives.1.seconds_are;
+}
 gives_runnable words (Replay call modules parrots places summary) gives = record {
   some_place = omega (arith, gives.1.places_are.at_least);
   at_most = omega (arith, gives.1.places_are.at_most);

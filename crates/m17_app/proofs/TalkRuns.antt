@@ -38,7 +38,7 @@ ran_later order end run before mid after left (script, read, talks) =
     (script, (read.0, (λ input is. let both = read.1 input is in (both.0, left ∙ both.1))), talks)
 
 -- text that was written, and then a line, or a first part of it
-adds_after : (a b : List ℕ) (before mid after : Outside) → ((first : List ℕ) → before.written ≡ Some first → mid.written ≡ Some (first ++ a))
+pub adds_after : (a b : List ℕ) (before mid after : Outside) → ((first : List ℕ) → before.written ≡ Some first → mid.written ≡ Some (first ++ a))
     → ((xs : List ℕ) → mid.written ≡ Some xs → after.written ≡ Some (xs ++ b)) → Adds (a ++ b) before after
 adds_after a b before mid after text line = λ first is. line (first ++ a) (text first is) ∙ ap Some (append_assoc first a b)
 
@@ -47,19 +47,19 @@ part_after : (first a b : List ℕ) (written : Option (List ℕ)) → AppendsPre
 part_after first a b written (n, is) =
     (length a + n, is ∙ ap Some (append_assoc first a (take n b)) ∙ ap (λ (xs : List ℕ). Some (first ++ xs)) (sym (take-append-add a b n)))
 
-adds_part_after : (a b : List ℕ) (before mid after : Outside) → ((first : List ℕ) → before.written ≡ Some first → mid.written ≡ Some (first ++ a))
+pub adds_part_after : (a b : List ℕ) (before mid after : Outside) → ((first : List ℕ) → before.written ≡ Some first → mid.written ≡ Some (first ++ a))
     → ((xs : List ℕ) → mid.written ≡ Some xs → AppendsPrefix xs b after.written) → AddsPart (a ++ b) before after
 adds_part_after a b before mid after text part = λ first is. part_after first a b after.written (part (first ++ a) (text first is))
 
 -- nothing more was written behind a first part
-part_longer : (first a b : List ℕ) (written : Option (List ℕ)) → AppendsPrefix first a written → AppendsPrefix first (a ++ b) written
+pub part_longer : (first a b : List ℕ) (written : Option (List ℕ)) → AppendsPrefix first a written → AppendsPrefix first (a ++ b) written
 part_longer first a b written (n, is) = elim (cases_lt n (length a)) [
   | inl short ↦ (n, is ∙ ap (λ (xs : List ℕ). Some (first ++ xs)) (sym (take-append-le n a b (omega arith))))
   | inr long ↦
       (length a, is ∙ ap (λ (xs : List ℕ). Some (first ++ xs)) (take_all n a long ∙ sym (take-append-le (length a) a b (omega arith) ∙ take_all (length a) a (omega arith))))
 ]
 
-same_written : (mid after : Outside) → ((xs : List ℕ) → mid.written ≡ Some xs → AppendsPrefix xs [] after.written) → (xs : List ℕ) → mid.written ≡ Some xs → after.written ≡ Some xs
+pub same_written : (mid after : Outside) → ((xs : List ℕ) → mid.written ≡ Some xs → AppendsPrefix xs [] after.written) → (xs : List ℕ) → mid.written ≡ Some xs → after.written ≡ Some xs
 same_written mid after part xs is = let p = part xs is in p.1 ∙ ap (λ (ys : List ℕ). Some (xs ++ ys)) (take_all p.0 [] (omega arith)) ∙ ap Some (append-nil xs)
 
 -- the flags of an end, by its status

@@ -5,7 +5,7 @@ use Rattle.m17_io.specs.Sink.{AppendsPrefix}
 use Rattle.m17_print.specs.declared.ending.Ending.{Ending}
 use Rattle.m17_print.specs.declared.ending.Ending.TheVariants as endings
 use Rattle.m17_app.specs.declared.status.Status.{Status}
-use Rattle.m17_app.specs.declared.status.Status.TheVariants.{Finished, InputRefused, WordsRefused, ReadFailed, WriteFailed, PortFailed, LinkLost, BookFailed, NoMemory}
+use Rattle.m17_app.specs.declared.status.Status.TheVariants.{Finished, InputRefused, WordsRefused, ReadFailed, WriteFailed, PortFailed, CrewRefused, LinkLost, BookFailed, NoMemory}
 
 -- the number that the program ends with
 abbrev pub code_of : Status → ℕ
@@ -15,6 +15,7 @@ code_of WordsRefused = 2
 code_of ReadFailed = 3
 code_of WriteFailed = 4
 code_of PortFailed = 5
+code_of CrewRefused = 6
 code_of LinkLost = 7
 code_of BookFailed = 8
 code_of NoMemory = 70

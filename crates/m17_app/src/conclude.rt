@@ -1,7 +1,8 @@
-ghost use Rattle.std.specs.Prelude.{◌≡◌, ℕ, Option, List};
+ghost use Rattle.std.specs.Prelude.{◌≡◌, ◌≢◌, ℕ, Option, List};
 ghost use Rattle.m17_print.specs.Endings.{last_line, words_refused_line};
 ghost use Rattle.m17_app.specs.Status.{status_of, outside, WritesLast};
 ghost use Rattle.m17_app.specs.Replayed.{replay_last_line, replay_status};
+ghost use Rattle.m17_app.specs.Serve.{serve_last_line, serve_status};
 ghost use Rattle.m17_app.specs.Talk.{talk_last_line, talk_status};
 ghost use Rattle.m17_app.specs.declared.status.Status.TheVariants.{WordsRefused};
 
@@ -9,6 +10,7 @@ use crate::status::Status;
 use m17_io::Sink;
 use m17_print::{Ending, Line, Reason};
 use m17_replay::ReplayEnding;
+use m17_serve::ServeEnding;
 use m17_talk::TalkEnding;
 
 // Writes a last line, which may be empty, hands on all that was written, and answers the status, or that the sink
@@ -89,6 +91,50 @@ pub fn conclude_talk<K: Sink>(out: &mut K, ending: &TalkEnding) -> Status
         TalkEnding::WriteFailed => Ending::WriteFailed,
     };
     conclude(out, &ending)
+}
+
+// Ends a run of `serve` that ended so. Nothing is written where there was no memory.
+pub fn conclude_serve<K: Sink>(out: &mut K, ending: &ServeEnding) -> Status
+    ensures memory { ending.now ≡ ServeEnding.NoMemory
+        → (result ≡ Status.NoMemory) × (out.new ≡ out.old) }
+    ensures concluded { ending.now ≢ ServeEnding.NoMemory
+        → (left : Option (List ℕ)) (reads : ℕ) →
+        WritesLast (serve_last_line ending.now) (serve_status ending.now) result
+        (outside left reads (K.written out.old) (K.faults out.old) (K.held_back out.old))
+        (outside left reads (K.written out.new) (K.faults out.new) (K.held_back out.new)) }
+{
+    if *ending == ServeEnding::NoMemory {
+        return Status::NoMemory;
+    }
+    end_with(out, serve_line(ending), serve_status(ending))
+}
+
+// The last line of a run of `serve` that ended so, if it has one.
+fn serve_line(ending: &ServeEnding) -> &'static [u8]
+    ensures { result.now ≡ serve_last_line ending.now }
+{
+    match ending {
+        ServeEnding::LinkLost => b"link lost\n",
+        ServeEnding::BookFailed => b"book failed\n",
+        ServeEnding::PortFailed => b"port failed\n",
+        ServeEnding::CrewRefused => b"crew refused\n",
+        ServeEnding::Finished | ServeEnding::WriteFailed | ServeEnding::NoMemory => b"",
+    }
+}
+
+// The status of a run of `serve` that ended so.
+fn serve_status(ending: &ServeEnding) -> Status
+    ensures { result ≡ serve_status ending.now }
+{
+    match ending {
+        ServeEnding::Finished => Status::Finished,
+        ServeEnding::LinkLost => Status::LinkLost,
+        ServeEnding::BookFailed => Status::BookFailed,
+        ServeEnding::WriteFailed => Status::WriteFailed,
+        ServeEnding::PortFailed => Status::PortFailed,
+        ServeEnding::CrewRefused => Status::CrewRefused,
+        ServeEnding::NoMemory => Status::NoMemory,
+    }
 }
 
 // The status of a run that ended so.

@@ -12,6 +12,7 @@ mod interruption;
 mod run;
 mod run_make;
 mod run_replay;
+mod run_serve;
 mod run_talk;
 mod status;
 mod std_in;
@@ -22,12 +23,14 @@ mod words;
 ghost use Rattle.std.specs.Process.{exit_status};
 ghost use Rattle.m17_app.specs.Status.{IsStatus};
 
+use m17_devices::StdCrew;
 use m17_net::UdpPorts;
 use status::Status;
 use std::env;
 use std::io::ErrorKind;
 use std::process::ExitCode;
 use std::sync::Wait;
+use std::thread::Threads;
 use streams::run_on;
 use words::words_after_name;
 
@@ -36,12 +39,21 @@ fn main(rt: HostRuntime) -> ExitCode {
 }
 
 // Runs the program on the standard streams, over sockets and files. It waits by `waits`, which is the runtime too.
-fn start<W: Wait>(rt: HostRuntime, waits: &W) -> ExitCode
+fn start<W: Threads + Wait + Copy + Send + 'static>(rt: HostRuntime, waits: &W) -> ExitCode
     ensures { IsStatus (exit_status result) }
 {
     let mut ports = UdpPorts::new(rt);
+    let mut crew = StdCrew::new();
     let status = match words_of(rt) {
-        Some(words) => run_on(waits, rt.alloc(), &words, &mut ports, rt.stdin(), &rt),
+        Some(words) => run_on(
+            waits,
+            rt.alloc(),
+            &words,
+            &mut ports,
+            &mut crew,
+            rt.stdin(),
+            &rt,
+        ),
         None => Status::NoMemory.code(),
     };
     ExitCode::from(status)
@@ -59,6 +71,8 @@ fn words_of(rt: HostRuntime) -> Option<Vec<String>> {
 
 #[cfg(test)]
 mod replay_tests;
+#[cfg(test)]
+mod serve_tests;
 #[cfg(test)]
 mod std_tests;
 #[cfg(test)]

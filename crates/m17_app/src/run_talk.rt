@@ -1,4 +1,4 @@
-ghost use Rattle.std.specs.Prelude.{option_map};
+ghost use Rattle.std.specs.Prelude.{◌≡◌, None, option_map};
 ghost use Rattle.m17_talk.specs.Devices.{ports_told, ear_told, mouth_told, book_told, devices_told};
 ghost use Rattle.m17_talk.specs.Talked.{handed};
 ghost use Rattle.m17_app.specs.Status.{outside};
@@ -24,7 +24,7 @@ pub(crate) fn run_talk<R: Wait, P: Ports, S: Input<K>, K: Sink>(
     input: &mut S,
     out: &mut K,
 ) -> Ended<P::Ear, P::Mouth, P::Book>
-    ensures { RunsTalk order.now result.status
+    ensures runs { RunsTalk order.now result.status
         (outside (S.left input.old) (S.faults input.old)
         (K.written out.old) (K.faults out.old) (K.held_back out.old))
         (outside (S.left input.new) (S.faults input.new)
@@ -38,6 +38,8 @@ pub(crate) fn run_talk<R: Wait, P: Ports, S: Input<K>, K: Sink>(
         (option_map (λ b. book_told (P.Book.written b) (P.Book.faults b) (P.Book.mark b))
         d.2.inner))
         result.talk)) }
+    ensures no_house { result.house ≡ None }
+    ensures no_refusal { result.refused ≡ None }
 {
     scripts_are_exact();
     match talk(rt, alloc, order, ports, input, out) {
@@ -46,6 +48,8 @@ pub(crate) fn run_talk<R: Wait, P: Ports, S: Input<K>, K: Sink>(
             Ended {
                 status: conclude_talk(out, &ending),
                 talk: devices,
+                house: None,
+                refused: None,
             }
         }
         Err(_) => alone(Status::NoMemory),

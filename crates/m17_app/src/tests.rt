@@ -1,9 +1,10 @@
 //! What no clause says: the worked runs of the commands, over devices in memory.
 use crate::run::run;
-use m17_devices::{BytesSink, BytesSource, ScriptPorts};
+use m17_devices::{BytesSink, BytesSource, ScriptPorts, StdCrew};
 use std::alloc::{AllocError, Global};
 use std::sync::Wait;
 use std::test::Fail;
+use std::thread::Threads;
 
 // A record of `judge`: its moment, its talker, and the stream id, number and end bit of its packet.
 #[derive(Clone, Copy, Debug)]
@@ -28,7 +29,7 @@ pub fn words(alloc: Global, given: &[&str]) -> Result<Vec<String>, AllocError> {
 }
 
 // Runs the program, and hands back its status and what it wrote.
-pub fn ran<R: Wait>(
+pub fn ran<R: Threads + Wait + Copy + Send + 'static>(
     rt: &R,
     alloc: Global,
     given: &[&str],
@@ -42,7 +43,15 @@ pub fn ran<R: Wait>(
     };
     let mut ports = ScriptPorts::new(Vec::new(alloc), Vec::new(alloc), Vec::new(alloc));
     let words = words(alloc, given)?;
-    let done = run(rt, alloc, &words, &mut ports, &mut source, &mut sink);
+    let done = run(
+        rt,
+        alloc,
+        &words,
+        &mut ports,
+        &mut StdCrew::new(),
+        &mut source,
+        &mut sink,
+    );
     Ok((done.status, sink.bytes().to_vec(alloc)?))
 }
 

@@ -1,4 +1,4 @@
-use Rattle.std.proofs.Common.{rules}
+use Rattle.std.proofs.Common.{rules, inl}
 use Rattle.m17_app.specs.Commands.{IsRunnable}
 use Rattle.m17_app.proofs.Runnable.{names_runnable}
 use Rattle.m17_app.proofs.run.run.Goals as goal
@@ -6,3 +6,8 @@ use Rattle.m17_app.proofs.run.run.Goals as goal
 pub run_command-requires-clause-runnable : goal.run_command-requires-clause-runnable
 run_command-requires-clause-runnable g c =
     let runnable : IsRunnable c.in-Ok.command = names_runnable _ c.in-Ok.command c.in-Ok.ensures.named in search (runnable, rules)
+
+pub returns-in-Ok-clause-runs : goal.returns-in-Ok-clause-runs
+returns-in-Ok-clause-runs g c =
+    rw (c.answer_of.ensures.talk, c.answer_of.ensures.house, c.answer_of.ensures.refused)
+    (c.run_command.result.status, c.answer_of.ensures.code, inl (c.in-Ok.command, c.in-Ok.ensures.named, c.run_command.ensures))

@@ -1,0 +1,13 @@
+use Rattle.std.proofs.Common.{refl, ap}
+use Rattle.m17_app.specs.Status.{Outside, outside}
+use Rattle.m17_app.proofs.ServeRuns.{served}
+use Rattle.m17_app.proofs.run_serve.run_serve.Goals as goal
+
+pub returns-clause-runs : goal.returns-clause-runs
+returns-clause-runs g c = λ left reads.
+    let mid : Outside = outside left reads (g.K.Sink.written c.serve-served.new.out) (g.K.Sink.faults c.serve-served.new.out) (g.K.Sink.held_back c.serve-served.new.out) in
+    served c.args.order.now c.serve-served.result.ending c.conclude_serve.result _ mid _ _ c.serve-served.ensures.ended c.serve-served.ensures.causes (refl, refl)
+    (λ other. c.conclude_serve.ensures.concluded other left reads)
+    (λ none.
+    let same = c.conclude_serve.ensures.memory none in
+    (same.0, ap (λ out. outside left reads (g.K.Sink.written out) (g.K.Sink.faults out) (g.K.Sink.held_back out)) same.1))
