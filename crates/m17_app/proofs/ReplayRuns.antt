@@ -13,11 +13,11 @@ use Rattle.m17_replay.specs.declared.ending.ReplayEnding.{ReplayEnding}
 use Rattle.m17_replay.specs.declared.ending.ReplayEnding.TheVariants as endings
 use Rattle.m17_replay.specs.declared.reason.TraceReason.{TraceReason}
 use Rattle.m17_replay.specs.Reasons.{refusal_told}
-use Rattle.m17_replay.specs.Replay.{IsReplayText, SaysReplay, PrintsReplay, failed_device, streams, ComesToReplay}
+use Rattle.m17_replay.specs.Replay.{IsReplayText, SaysReplay, PrintsReplay, EndsBeforeText, failed_device, streams, ComesToReplay, TellsCrew}
 use Rattle.m17_app.specs.declared.status.Status.{Status}
-use Rattle.m17_app.specs.declared.status.Status.TheVariants.{Finished, InputRefused, WordsRefused, ReadFailed, WriteFailed, LinkLost, NoMemory}
-use Rattle.m17_app.specs.Status.{Outside, watched, HasCause, WritesLast}
-use Rattle.m17_app.specs.Replayed.{replay_last_line, replay_status, IsRunText, IsWholeReplay, StandsReplay, RunsReplay}
+use Rattle.m17_app.specs.declared.status.Status.TheVariants.{Finished, InputRefused, WordsRefused, ReadFailed, WriteFailed, CrewRefused, LinkLost, NoMemory}
+use Rattle.m17_app.specs.Status.{Outside, Starts, watched, HasCause, WritesLast}
+use Rattle.m17_app.specs.Replayed.{crew_refused_line, replay_last_line, replay_status, IsRunText, IsWholeReplay, StandsReplay, RunsReplay}
 use Rattle.m17_app.proofs.Statuses.{Told, own_status, never}
 use Rattle.m17_app.proofs.Concluded.{counts, cause_from, sound_from, line_stands, whole_from}
 
@@ -26,6 +26,7 @@ told : (ending : ReplayEnding) → Told (replay_status ending) (failed_device en
 told endings.Finished = record { read_told = λ e. cc; read_failed = λ e. cc; write_told = λ e. cc; write_failed = λ e. cc; no_memory = λ e. cc; no_words = λ e. cc }
 told endings.LinkLost = record { read_told = λ e. cc; read_failed = λ e. cc; write_told = λ e. cc; write_failed = λ e. cc; no_memory = λ e. cc; no_words = λ e. cc }
 told (endings.Refused place reason) = record { read_told = λ e. cc; read_failed = λ e. cc; write_told = λ e. cc; write_failed = λ e. cc; no_memory = λ e. cc; no_words = λ e. cc }
+told endings.CrewRefused = record { read_told = λ e. cc; read_failed = λ e. cc; write_told = λ e. cc; write_failed = λ e. cc; no_memory = λ e. cc; no_words = λ e. cc }
 told endings.ReadFailed = record { read_told = λ _. refl; read_failed = λ _. refl; write_told = λ e. cc; write_failed = λ e. cc; no_memory = λ e. cc; no_words = λ e. cc }
 told endings.WriteFailed = record { read_told = λ e. cc; read_failed = λ e. cc; write_told = λ _. refl; write_failed = λ _. refl; no_memory = λ e. cc; no_words = λ e. cc }
 
@@ -35,6 +36,7 @@ finished_as : (plan : Plan) (summary : Bool) (ending : ReplayEnding) (input : Li
 finished_as plan summary endings.Finished input left e said = said
 finished_as plan summary endings.LinkLost input left e said = cc
 finished_as plan summary (endings.Refused place reason) input left e said = cc
+finished_as plan summary endings.CrewRefused input left e said = cc
 finished_as plan summary endings.ReadFailed input left e said = cc
 finished_as plan summary endings.WriteFailed input left e said = cc
 
@@ -43,6 +45,7 @@ lost_as : (plan : Plan) (summary : Bool) (ending : ReplayEnding) (input : List �
 lost_as plan summary endings.Finished input left e said = cc
 lost_as plan summary endings.LinkLost input left e said = said
 lost_as plan summary (endings.Refused place reason) input left e said = cc
+lost_as plan summary endings.CrewRefused input left e said = cc
 lost_as plan summary endings.ReadFailed input left e said = cc
 lost_as plan summary endings.WriteFailed input left e said = cc
 
@@ -51,6 +54,7 @@ refused_as : (plan : Plan) (summary : Bool) (ending : ReplayEnding) (input : Lis
 refused_as plan summary endings.Finished input left e said = cc
 refused_as plan summary endings.LinkLost input left e said = cc
 refused_as plan summary (endings.Refused place reason) input left e said = (place, reason, said)
+refused_as plan summary endings.CrewRefused input left e said = cc
 refused_as plan summary endings.ReadFailed input left e said = cc
 refused_as plan summary endings.WriteFailed input left e said = cc
 
@@ -62,6 +66,7 @@ whole_text plan summary endings.Finished input left text said printed =
 whole_text plan summary endings.LinkLost input left text said printed = (text, printed, refl)
 whole_text plan summary (endings.Refused place reason) input left text said printed =
     (place, reason, said, ap (λ (xs : List ℕ). xs ++ replay_last_line (endings.Refused place reason)) printed)
+whole_text plan summary endings.CrewRefused input left text said printed = tt
 whole_text plan summary endings.ReadFailed input left text said printed = tt
 whole_text plan summary endings.WriteFailed input left text said printed = tt
 
@@ -72,16 +77,17 @@ not_write_failed status (inr (inl h)) e = cc
 not_write_failed status (inr (inr h)) e = cc
 
 -- nothing stood against it
-complete_as : (plan : Plan) (summary : Bool) (ending : ReplayEnding) (status : Status) (input : List ℕ) (heard : List Heard) (left : Option (List ℕ)) (before after : Outside)
-    → TracesAreExact → (status ≡ replay_status ending) ⊎ (status ≡ WriteFailed) → HasCause status before after → SaysReplay plan summary ending input left → IsTrace input heard
-    → ¬ HasRisen before.reads after.reads → ¬ HasRisen before.writes after.writes → (status ≡ Finished) ⊎ (status ≡ LinkLost) ⊎ (status ≡ NoMemory)
-complete_as plan summary ending status input heard left before after exact (inr h) cause said is no_read no_write = absurd (no_write (cause.write_failed h))
-complete_as plan summary endings.Finished status input heard left before after exact (inl h) cause said is no_read no_write = inl h
-complete_as plan summary endings.LinkLost status input heard left before after exact (inl h) cause said is no_read no_write = inr (inl h)
-complete_as plan summary (endings.Refused place reason) status input heard left before after exact (inl h) cause said is no_read no_write =
+complete_as : (plan : Plan) (summary : Bool) (ending : ReplayEnding) (status : Status) (input : List ℕ) (heard : List Heard) (left : Option (List ℕ)) (before after : Outside) (crew : Starts)
+    → TracesAreExact → TellsCrew ending crew.before crew.after → (status ≡ replay_status ending) ⊎ (status ≡ WriteFailed) → HasCause status before after → SaysReplay plan summary ending input left → IsTrace input heard
+    → ¬ HasRisen before.reads after.reads → ¬ HasRisen before.writes after.writes → ¬ HasRisen crew.before crew.after → (status ≡ Finished) ⊎ (status ≡ LinkLost) ⊎ (status ≡ NoMemory)
+complete_as plan summary ending status input heard left before after crew exact tells (inr h) cause said is no_read no_write no_start = absurd (no_write (cause.write_failed h))
+complete_as plan summary endings.Finished status input heard left before after crew exact tells (inl h) cause said is no_read no_write no_start = inl h
+complete_as plan summary endings.LinkLost status input heard left before after crew exact tells (inl h) cause said is no_read no_write no_start = inr (inl h)
+complete_as plan summary (endings.Refused place reason) status input heard left before after crew exact tells (inl h) cause said is no_read no_write no_start =
     absurd (exact.not_both input heard (refusal_told place reason) is said)
-complete_as plan summary endings.ReadFailed status input heard left before after exact (inl h) cause said is no_read no_write = absurd (no_read (cause.read_failed h))
-complete_as plan summary endings.WriteFailed status input heard left before after exact (inl h) cause said is no_read no_write = absurd (no_write (cause.write_failed h))
+complete_as plan summary endings.CrewRefused status input heard left before after crew exact tells (inl h) cause said is no_read no_write no_start = absurd (no_start (tells.refused refl))
+complete_as plan summary endings.ReadFailed status input heard left before after crew exact tells (inl h) cause said is no_read no_write no_start = absurd (no_read (cause.read_failed h))
+complete_as plan summary endings.WriteFailed status input heard left before after crew exact tells (inl h) cause said is no_read no_write no_start = absurd (no_write (cause.write_failed h))
 
 -- what is said of the input after the last line, which leaves the input alone
 abbrev pub Came : Plan → Bool → ReplayEnding → Outside → Outside → Type 0
@@ -106,11 +112,20 @@ stands plan summary ending status input first text before mid after causes last 
       written_is = line.written_is;
     }
 
+-- a start was refused, by the status
+start_refused : (ending : ReplayEnding) → replay_status ending ≡ CrewRefused → ending ≡ endings.CrewRefused
+start_refused endings.Finished e = cc
+start_refused endings.LinkLost e = cc
+start_refused (endings.Refused place reason) e = cc
+start_refused endings.CrewRefused e = refl
+start_refused endings.ReadFailed e = cc
+start_refused endings.WriteFailed e = cc
+
 -- the whole run
-pub ran : (plan : Plan) (summary : Bool) (ending : ReplayEnding) (status : Status) (before mid after : Outside) → TracesAreExact → Came plan summary ending before mid
-    → HasCauses (counts before) (counts mid) (failed_device ending) → Grows before.written mid.written
-    → WritesLast (replay_last_line ending) (replay_status ending) status mid after → RunsReplay plan summary status before after
-ran plan summary ending status before mid after exact came causes grows last =
+pub ran : (plan : Plan) (summary : Bool) (ending : ReplayEnding) (status : Status) (before mid after : Outside) (crew : Starts) → TracesAreExact → TellsCrew ending crew.before crew.after → Came plan summary ending before mid
+    → HasCauses (counts before) (counts mid) (failed_device ending) → Grows before.written mid.written → (EndsBeforeText ending → mid.written ≡ before.written)
+    → WritesLast (replay_last_line ending) (replay_status ending) status mid after → RunsReplay plan summary status before after crew
+ran plan summary ending status before mid after crew exact tells came causes grows unwritten last =
     let cause = cause_from (replay_status ending) (failed_device ending) (replay_last_line ending) status before mid after (told ending) causes last in
     let left : after.left ≡ mid.left = last.input_untouched.0 in
     let own : status ≢ WriteFailed → status ≡ replay_status ending = own_status (replay_status ending) status last.answer in
@@ -122,6 +137,15 @@ ran plan summary ending status before mid after exact came causes grows last =
       no_memory = λ is. absurd (some_memory is);
       finished = λ is input is_input. finished_as plan summary ending input after.left (sym (own (λ e. cc)) ∙ is) (said input is_input);
       lost = λ is input is_input. lost_as plan summary ending input after.left (sym (own (λ e. cc)) ∙ is) (said input is_input);
+      crew_refused = λ is. tells.refused (start_refused ending (sym (own (λ e. cc)) ∙ is));
+      nothing_run = λ is input is_input.
+          let same = start_refused ending (sym (own (λ e. cc)) ∙ is) in
+          subst (λ (e : ReplayEnding). SaysReplay plan summary e input after.left) same (said input is_input);
+      crew_line = λ is first is_first.
+          let same = start_refused ending (sym (own (λ e. cc)) ∙ is) in
+          let none : mid.written ≡ before.written = unwritten (subst EndsBeforeText (sym same) tt) in
+          last.whole (λ e. cc) first (none ∙ is_first) ∙ ap (λ (e : ReplayEnding). Some (first ++ replay_last_line e)) same;
+      no_start_refused = λ other not_write. tells.others (λ e. other (own not_write ∙ ap replay_status e));
       refused = λ is input is_input. refused_as plan summary ending input after.left (sym (own (λ e. cc)) ∙ is) (said input is_input);
       text = λ whole input first is_input is_first.
           let text = (came input is_input).printed first is_first in
@@ -136,23 +160,27 @@ ran plan summary ending status before mid after exact came causes grows last =
       last = λ not_write _ first is_first.
           let text = grows first is_first in
           (ending, text.0, own not_write, last.whole not_write (first ++ text.0) text.1);
-      complete = λ input heard is_input is no_read no_write.
-          complete_as plan summary ending status input heard after.left before after exact last.answer cause (said input is_input) is no_read no_write;
+      complete = λ input heard is_input is no_read no_write no_start.
+          complete_as plan summary ending status input heard after.left before after crew exact tells last.answer cause (said input is_input) is no_read no_write no_start;
       no_words = never WordsRefused (replay_status ending) status last.answer (told ending).no_words (λ e. cc);
     }
 
 -- there was no memory
-pub no_run : (plan : Plan) (summary : Bool) (before after : Outside) → after.written ≡ before.written → after.reads ≡ before.reads → after.writes ≡ before.writes
-    → RunsReplay plan summary NoMemory before after
-no_run plan summary before after written reads writes = record {
+pub no_run : (plan : Plan) (summary : Bool) (before after : Outside) (crew : Starts) → after.written ≡ before.written → after.reads ≡ before.reads → after.writes ≡ before.writes
+    → crew.after ≡ crew.before → RunsReplay plan summary NoMemory before after crew
+no_run plan summary before after crew written reads writes stands = record {
   cause = λ other. absurd (other refl);
   no_memory = λ _. (written, reads, writes);
   finished = λ e. cc;
   lost = λ e. cc;
+  crew_refused = λ e. cc;
+  nothing_run = λ e. cc;
+  crew_line = λ e. cc;
+  no_start_refused = λ _ _. stands;
   refused = λ e. cc;
   text = λ e. elim e [ inl x ↦ cc | inr (inl y) ↦ cc | inr (inr z) ↦ cc ];
   stands = λ other. absurd (other refl);
   last = λ _ other. absurd (other refl);
-  complete = λ input heard is_input is no_read no_write. inr (inr refl);
+  complete = λ input heard is_input is no_read no_write no_start. inr (inr refl);
   no_words = λ e. cc;
 }

@@ -6,7 +6,7 @@ use Rattle.m17_print.specs.Endings.{failed_device}
 use Rattle.m17_print.specs.declared.ending.Ending.{Ending}
 use Rattle.m17_print.specs.declared.ending.Ending.TheVariants as endings
 use Rattle.m17_app.specs.declared.status.Status.{Status}
-use Rattle.m17_app.specs.declared.status.Status.TheVariants.{Finished, InputRefused, WordsRefused, ReadFailed, WriteFailed, PortFailed, LinkLost, BookFailed, NoMemory}
+use Rattle.m17_app.specs.declared.status.Status.TheVariants.{Finished, InputRefused, WordsRefused, ReadFailed, WriteFailed, PortFailed, CrewRefused, LinkLost, BookFailed, NoMemory}
 use Rattle.m17_app.specs.Status.{status_of}
 
 -- a status is that of a failed write, or another
@@ -17,6 +17,7 @@ is_write_failed WordsRefused = inr (λ e. cc)
 is_write_failed ReadFailed = inr (λ e. cc)
 is_write_failed WriteFailed = inl refl
 is_write_failed PortFailed = inr (λ e. cc)
+is_write_failed CrewRefused = inr (λ e. cc)
 is_write_failed LinkLost = inr (λ e. cc)
 is_write_failed BookFailed = inr (λ e. cc)
 is_write_failed NoMemory = inr (λ e. cc)

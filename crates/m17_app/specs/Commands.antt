@@ -8,7 +8,7 @@ use Rattle.m17_words.specs.declared.command.Command.TheVariants.{Judge, Show, Re
 use Rattle.m17_words.specs.Words.{Names}
 use Rattle.m17_app.specs.declared.status.Status.{Status}
 use Rattle.m17_app.specs.declared.status.Status.TheVariants.{NoMemory}
-use Rattle.m17_app.specs.Status.{Outside}
+use Rattle.m17_app.specs.Status.{Outside, Starts, RefusesNoStart}
 use Rattle.m17_app.specs.Run.{AreRefused, RunsJudge, RunsShow, RefusesWords}
 use Rattle.m17_app.specs.Make.{RunsMake}
 use Rattle.m17_talk.specs.Talked.{AsksNothing, Handed}
@@ -26,29 +26,36 @@ plan_of call modules parrots places = record {
   entries = 0;
 }
 
--- What the run of a command promises. Only `talk` asks the ports for anything, and hands back devices. This profile.
-abbrev pub Runs : Command → Status → Outside → Outside → Handed → Type 0
-Runs Judge status before after run = RunsJudge status before after × AsksNothing run
-Runs Show status before after run = RunsShow status before after × AsksNothing run
-Runs (Make seed count) status before after run =
-    RunsMake seed count status before after × AsksNothing run
-Runs (Replay call modules parrots places summary) status before after run =
-    RunsReplay (plan_of call modules parrots places) summary status before after × AsksNothing run
-Runs (Talk order) status before after run = RunsTalk order status before after run
+-- What the run of a command promises. Only `talk` asks the ports for anything, and hands back devices; and only `replay`
+-- has the crew start threads. This profile.
+abbrev pub Runs : Command → Status → Outside → Outside → Starts → Handed → Type 0
+Runs Judge status before after crew run =
+    RunsJudge status before after × AsksNothing run × RefusesNoStart crew
+Runs Show status before after crew run =
+    RunsShow status before after × AsksNothing run × RefusesNoStart crew
+Runs (Make seed count) status before after crew run =
+    RunsMake seed count status before after × AsksNothing run × RefusesNoStart crew
+Runs (Replay call modules parrots places summary) status before after crew run =
+    RunsReplay (plan_of call modules parrots places) summary status before after crew
+    × AsksNothing run
+Runs (Talk order) status before after crew run =
+    RunsTalk order status before after run × RefusesNoStart crew
 
 -- What a run promises: that of the command which its words name, or that they are refused where they name none; or
 -- there was no memory for reading them, and no device was touched. This profile.
-abbrev pub RunsWords : List (List ℕ) → Status → Outside → Outside → Handed → Type 0
-RunsWords words status before after run =
-    ((command : Command) × Names words command × Runs command status before after run)
-    ⊎ (AreRefused words × RefusesWords status before after × AsksNothing run)
-    ⊎ ((status ≡ NoMemory) × (after ≡ before) × AsksNothing run)
+abbrev pub RunsWords : List (List ℕ) → Status → Outside → Outside → Starts → Handed → Type 0
+RunsWords words status before after crew run =
+    ((command : Command) × Names words command × Runs command status before after crew run)
+    ⊎ (AreRefused words × RefusesWords status before after × AsksNothing run
+    × RefusesNoStart crew)
+    ⊎ ((status ≡ NoMemory) × (after ≡ before) × AsksNothing run × RefusesNoStart crew)
 
 -- What a run promises whose words name no command: that they are refused, or there was no memory for reading them and
 -- no device was touched. This profile.
-abbrev pub EndsRefused : Status → Outside → Outside → Handed → Type 0
-EndsRefused status before after run = (RefusesWords status before after × AsksNothing run)
-    ⊎ ((status ≡ NoMemory) × (after ≡ before) × AsksNothing run)
+abbrev pub EndsRefused : Status → Outside → Outside → Starts → Handed → Type 0
+EndsRefused status before after crew run =
+    (RefusesWords status before after × AsksNothing run × RefusesNoStart crew)
+    ⊎ ((status ≡ NoMemory) × (after ≡ before) × AsksNothing run × RefusesNoStart crew)
 
 -- The values of a command are within the bounds that its run needs, as those of a command that words name are. This
 -- profile.

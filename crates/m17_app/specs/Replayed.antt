@@ -11,12 +11,16 @@ use Rattle.m17_replay.specs.declared.reason.TraceReason.{TraceReason}
 use Rattle.m17_replay.specs.Reasons.{trace_reason_words, refusal_told}
 use Rattle.m17_replay.specs.Replay.{IsReplayText, PrintsReplay}
 use Rattle.m17_app.specs.declared.status.Status.{Status}
-use Rattle.m17_app.specs.declared.status.Status.TheVariants.{Finished, InputRefused, WordsRefused, ReadFailed, WriteFailed, LinkLost, NoMemory}
-use Rattle.m17_app.specs.Status.{Outside, Watched, watched, HasCause}
+use Rattle.m17_app.specs.declared.status.Status.TheVariants.{Finished, InputRefused, WordsRefused, ReadFailed, WriteFailed, CrewRefused, LinkLost, NoMemory}
+use Rattle.m17_app.specs.Status.{Outside, Starts, Watched, watched, HasCause}
 
 -- the last line of a run whose link was lost
 abbrev pub link_lost_line : List ℕ
 link_lost_line = codes "link lost" ++ 10 ∷ []
+
+-- the last line of a run whose crew refused a start
+abbrev pub crew_refused_line : List ℕ
+crew_refused_line = codes "crew refused" ++ 10 ∷ []
 
 -- the last line of a run that ended so, if it has one, and its status where that line could be written
 abbrev pub replay_last_line : ReplayEnding → List ℕ
@@ -24,6 +28,7 @@ replay_last_line endings.Finished = []
 replay_last_line endings.LinkLost = link_lost_line
 replay_last_line (endings.Refused place reason) =
     input_refused_line place (trace_reason_words reason)
+replay_last_line endings.CrewRefused = crew_refused_line
 replay_last_line endings.ReadFailed = read_failed_line
 replay_last_line endings.WriteFailed = []
 
@@ -31,6 +36,7 @@ abbrev pub replay_status : ReplayEnding → Status
 replay_status endings.Finished = Finished
 replay_status endings.LinkLost = LinkLost
 replay_status (endings.Refused place reason) = InputRefused
+replay_status endings.CrewRefused = CrewRefused
 replay_status endings.ReadFailed = ReadFailed
 replay_status endings.WriteFailed = WriteFailed
 
@@ -67,7 +73,7 @@ pub record StandsReplay (plan : Plan) (summary : Bool) (status : Status) (run : 
 
 -- What a run of `replay` promises.
 pub record RunsReplay (plan : Plan) (summary : Bool) (status : Status) (before after : Outside)
-    : Type 0 where
+    (crew : Starts) : Type 0 where
   pub cause : status ≢ NoMemory → HasCause status before after
   -- want of memory comes before anything is written, and no device has failed then
   pub no_memory : status ≡ NoMemory → (after.written ≡ before.written)
@@ -77,6 +83,13 @@ pub record RunsReplay (plan : Plan) (summary : Bool) (status : Status) (before a
       → ((text : List ℕ) × IsReplayText plan summary false input text) × (after.left ≡ Some [])
   pub lost : status ≡ LinkLost → (input : List ℕ) → before.left ≡ Some input
       → ((text : List ℕ) × IsReplayText plan summary true input text) × (after.left ≡ Some [])
+  -- 6: the crew refused a start, once the input, a trace, was read to its end, and `crew refused` alone was written
+  pub crew_refused : status ≡ CrewRefused → HasRisen crew.before crew.after
+  pub nothing_run : status ≡ CrewRefused → (input : List ℕ) → before.left ≡ Some input
+      → ((heard : List Heard) × IsTrace input heard) × (after.left ≡ Some [])
+  pub crew_line : status ≡ CrewRefused → (first : List ℕ) → before.written ≡ Some first
+      → after.written ≡ Some (first ++ crew_refused_line)
+  pub no_start_refused : status ≢ CrewRefused → status ≢ WriteFailed → crew.after ≡ crew.before
   -- why and where it is none
   pub refused : status ≡ InputRefused → (input : List ℕ) → before.left ≡ Some input
       → (place : ℕ) × (reason : TraceReason) × RefusesTrace input (refusal_told place reason)
@@ -93,9 +106,10 @@ pub record RunsReplay (plan : Plan) (summary : Bool) (status : Status) (before a
       → before.written ≡ Some first
       → (e : ReplayEnding) × (text : List ℕ) × (status ≡ replay_status e)
       × (after.written ≡ Some (first ++ text ++ replay_last_line e))
-  -- a trace, and devices that do not fail
+  -- a trace, devices that do not fail, and a crew that refuses no start
   pub complete : (input : List ℕ) (heard : List Heard) → before.left ≡ Some input
       → IsTrace input heard
       → ¬ HasRisen before.reads after.reads → ¬ HasRisen before.writes after.writes
+      → ¬ HasRisen crew.before crew.after
       → (status ≡ Finished) ⊎ (status ≡ LinkLost) ⊎ (status ≡ NoMemory)
   pub no_words : status ≢ WordsRefused

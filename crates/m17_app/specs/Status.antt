@@ -5,7 +5,7 @@ use Rattle.m17_io.specs.Sink.{AppendsPrefix}
 use Rattle.m17_print.specs.declared.ending.Ending.{Ending}
 use Rattle.m17_print.specs.declared.ending.Ending.TheVariants as endings
 use Rattle.m17_app.specs.declared.status.Status.{Status}
-use Rattle.m17_app.specs.declared.status.Status.TheVariants.{Finished, InputRefused, WordsRefused, ReadFailed, WriteFailed, PortFailed, LinkLost, BookFailed, NoMemory}
+use Rattle.m17_app.specs.declared.status.Status.TheVariants.{Finished, InputRefused, WordsRefused, ReadFailed, WriteFailed, PortFailed, CrewRefused, LinkLost, BookFailed, NoMemory}
 
 -- the number that the program ends with
 abbrev pub code_of : Status → ℕ
@@ -15,6 +15,7 @@ code_of WordsRefused = 2
 code_of ReadFailed = 3
 code_of WriteFailed = 4
 code_of PortFailed = 5
+code_of CrewRefused = 6
 code_of LinkLost = 7
 code_of BookFailed = 8
 code_of NoMemory = 70
@@ -46,6 +47,18 @@ pub record Outside : Type 0 where
 abbrev pub outside : Option (List ℕ) → ℕ → Option (List ℕ) → ℕ → ℕ → Outside
 outside left reads written writes held_back =
     record { left = left; reads = reads; written = written; writes = writes; held_back = held_back }
+
+-- How often the crew has refused a start, before a run and after it.
+pub record Starts : Type 0 where
+  pub before : ℕ
+  pub after : ℕ
+
+abbrev pub starts : ℕ → ℕ → Starts
+starts before after = record { before = before; after = after }
+
+-- No start was refused. This profile.
+abbrev pub RefusesNoStart : Starts → Type 0
+RefusesNoStart crew = crew.after ≡ crew.before
 
 -- A run over devices that tell: the input that was left before it and what stood written then, and what the devices
 -- tell before it and after it.

@@ -13,7 +13,7 @@ use Rattle.m17_talk.specs.Reasons.{script_reason_words}
 use Rattle.m17_talk.specs.Script.{Due, IsScript, RefusesScript}
 use Rattle.m17_talk.specs.Talked.{ending_of, talk_line, AsksNothing, FailsAtPort, Handed, HasRead, HasRun, Streams}
 use Rattle.m17_app.specs.declared.status.Status.{Status}
-use Rattle.m17_app.specs.declared.status.Status.TheVariants.{Finished, InputRefused, WordsRefused, ReadFailed, WriteFailed, PortFailed, LinkLost, BookFailed, NoMemory}
+use Rattle.m17_app.specs.declared.status.Status.TheVariants.{Finished, InputRefused, WordsRefused, ReadFailed, WriteFailed, PortFailed, CrewRefused, LinkLost, BookFailed, NoMemory}
 use Rattle.m17_app.specs.Replayed.{link_lost_line}
 use Rattle.m17_app.specs.Status.{Outside, HasCause}
 
@@ -114,6 +114,7 @@ TellsTalk order WriteFailed before after run = CutsTalk order before after run
 TellsTalk order PortFailed before after run = FailsAtPort order run
     × ((script : List Due) × HasRead script (streams before after))
     × Adds port_failed_line before after
+TellsTalk order CrewRefused before after run = ⊥
 TellsTalk order LinkLost before after run = RanTalk order LinkLost before after run
 TellsTalk order BookFailed before after run = RanTalk order BookFailed before after run
 -- before the ports are asked and anything is written, and no device has failed then

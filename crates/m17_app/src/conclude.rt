@@ -58,6 +58,9 @@ pub fn conclude_replay<K: Sink>(out: &mut K, ending: &ReplayEnding) -> Status
 {
     let ending = match ending {
         ReplayEnding::LinkLost => return end_with(out, b"link lost\n", Status::LinkLost),
+        ReplayEnding::CrewRefused => {
+            return end_with(out, b"crew refused\n", Status::CrewRefused);
+        }
         ReplayEnding::Finished => Ending::Finished,
         ReplayEnding::Refused { place, reason } => Ending::Refused {
             place: *place,

@@ -1,7 +1,7 @@
 ghost use Rattle.std.specs.Prelude.{◌≡◌, map, string_bytes, option_map};
 ghost use Rattle.m17_talk.specs.Devices.{ports_told, ear_told, mouth_told, book_told, devices_told};
 ghost use Rattle.m17_talk.specs.Talked.{handed};
-ghost use Rattle.m17_app.specs.Status.{Tells, IsStatus, outside};
+ghost use Rattle.m17_app.specs.Status.{Tells, IsStatus, outside, starts};
 ghost use Rattle.m17_app.specs.Run.{AreRefused, RunsJudge, RunsShow, RefusesWords};
 ghost use Rattle.m17_app.specs.Commands.{Runs, RunsWords, EndsRefused, IsRunnable};
 
@@ -11,12 +11,13 @@ use crate::run_make::run_make;
 use crate::run_replay::run_replay;
 use crate::run_talk::run_talk;
 use crate::status::Status;
-use m17_devices::Ports;
+use m17_devices::{Crew, Ports};
 use m17_house::Plan;
 use m17_io::{Input, Sink};
 use m17_words::{Command, WordsRefusal, read_words};
 use std::alloc::Global;
 use std::sync::Wait;
+use std::thread::Threads;
 
 // Runs `judge` to its last line.
 fn run_judge<S: Input<K>, K: Sink>(alloc: Global, input: &mut S, out: &mut K) -> Status
@@ -56,11 +57,18 @@ fn run_nothing<S: Input<K>, K: Sink>(input: &S, out: &mut K) -> Status
 }
 
 // Runs the command that the words name.
-fn run_command<R: Wait, P: Ports, S: Input<K>, K: Sink>(
+fn run_command<
+    R: Threads + Wait + Copy + Send + 'static,
+    P: Ports,
+    C: Crew,
+    S: Input<K>,
+    K: Sink,
+>(
     rt: &R,
     alloc: Global,
     command: Command,
     ports: &mut P,
+    crew: &mut C,
     input: &mut S,
     out: &mut K,
 ) -> Ended<P::Ear, P::Mouth, P::Book>
@@ -70,6 +78,7 @@ fn run_command<R: Wait, P: Ports, S: Input<K>, K: Sink>(
         (K.written out.old) (K.faults out.old) (K.held_back out.old))
         (outside (S.left input.new) (S.faults input.new)
         (K.written out.new) (K.faults out.new) (K.held_back out.new))
+        (starts (C.refusals crew.old) (C.refusals crew.new))
         (handed (ports_told (P.asked ports.old) (P.calls ports.old) (P.faults ports.old))
         (ports_told (P.asked ports.new) (P.calls ports.new) (P.faults ports.new))
         (option_map (λ d. devices_told
@@ -99,22 +108,30 @@ fn run_command<R: Wait, P: Ports, S: Input<K>, K: Sink>(
                 patient: true,
                 entries: 0,
             };
-            alone(run_replay(alloc, &plan, summary, input, out))
+            alone(run_replay(rt, alloc, &plan, summary, crew, input, out))
         }
         Command::Talk(order) => run_talk(rt, alloc, &order, ports, input, out),
     }
 }
 
-/// Does all that the program does: reads the words, runs their command over the ports, the source and the sink, and
-/// answers the status: 0 where the command went to its end, 1 where the input is refused, 2 where the words are, 3 where
-/// the source failed, 4 where the sink failed, in place of all others, 5 where the ports failed, 7 where a link was
-/// lost, 8 where a book failed, and 70 where there was no memory. Only `talk` asks the ports for anything; where it ran,
-/// its devices are handed back. `make` reads no input, and ends with 0 or 4. This profile.
-pub fn run<R: Wait, P: Ports, S: Input<K>, K: Sink>(
+/// Does all that the program does: reads the words, runs their command over the ports, the crew, the source and the
+/// sink, and answers the status: 0 where the command went to its end, 1 where the input is refused, 2 where the words
+/// are, 3 where the source failed, 4 where the sink failed, in place of all others, 5 where the ports failed, 6 where the
+/// crew refused a start, 7 where a link was lost, 8 where a book failed, and 70 where there was no memory. Only `talk`
+/// asks the ports for anything; where it ran, its devices are handed back. Only `replay` has the crew start threads.
+/// `make` reads no input, and ends with 0 or 4. This profile.
+pub fn run<
+    R: Threads + Wait + Copy + Send + 'static,
+    P: Ports,
+    C: Crew,
+    S: Input<K>,
+    K: Sink,
+>(
     rt: &R,
     alloc: Global,
     words: &[String],
     ports: &mut P,
+    crew: &mut C,
     input: &mut S,
     out: &mut K,
 ) -> Done<P::Ear, P::Mouth, P::Book>
@@ -128,6 +145,7 @@ pub fn run<R: Wait, P: Ports, S: Input<K>, K: Sink>(
         (K.written out.old) (K.faults out.old) (K.held_back out.old))
         (outside (S.left input.new) (S.faults input.new)
         (K.written out.new) (K.faults out.new) (K.held_back out.new))
+        (starts (C.refusals crew.old) (C.refusals crew.new))
         (handed (ports_told (P.asked ports.old) (P.calls ports.old) (P.faults ports.old))
         (ports_told (P.asked ports.new) (P.calls ports.new) (P.faults ports.new))
         (option_map (λ d. devices_told
@@ -144,6 +162,7 @@ pub fn run<R: Wait, P: Ports, S: Input<K>, K: Sink>(
         (K.written out.old) (K.faults out.old) (K.held_back out.old))
         (outside (S.left input.new) (S.faults input.new)
         (K.written out.new) (K.faults out.new) (K.held_back out.new))
+        (starts (C.refusals crew.old) (C.refusals crew.new))
         (handed (ports_told (P.asked ports.old) (P.calls ports.old) (P.faults ports.old))
         (ports_told (P.asked ports.new) (P.calls ports.new) (P.faults ports.new))
         (option_map (λ d. devices_told
@@ -155,7 +174,7 @@ pub fn run<R: Wait, P: Ports, S: Input<K>, K: Sink>(
         result.talk))) }
 {
     match read_words(alloc, words) {
-        Ok(command) => answer_of(run_command(rt, alloc, command, ports, input, out)),
+        Ok(command) => answer_of(run_command(rt, alloc, command, ports, crew, input, out)),
         Err(WordsRefusal::Refused) => answer_of(alone(run_nothing(input, out))),
         Err(WordsRefusal::NoMemory) => answer_of(alone(Status::NoMemory)),
     }

@@ -1,20 +1,30 @@
 ghost use Rattle.m17_house.specs.Replay.{IsPlan};
-ghost use Rattle.m17_app.specs.Status.{outside};
+ghost use Rattle.m17_app.specs.Status.{outside, starts};
 ghost use Rattle.m17_app.specs.Replayed.{RunsReplay};
 
 use crate::conclude::conclude_replay;
 use crate::status::Status;
 use m17_book::laws::traces_are_exact;
+use m17_devices::Crew;
 use m17_house::Plan;
 use m17_io::{Input, Sink};
 use m17_replay::replay;
 use std::alloc::Global;
+use std::sync::Wait;
+use std::thread::Threads;
 
 // Runs `replay` to its last line.
-pub fn run_replay<S: Input<K>, K: Sink>(
+pub fn run_replay<
+    R: Threads + Wait + Copy + Send + 'static,
+    C: Crew,
+    S: Input<K>,
+    K: Sink,
+>(
+    rt: &R,
     alloc: Global,
     plan: &Plan,
     summary: bool,
+    crew: &mut C,
     input: &mut S,
     out: &mut K,
 ) -> Status
@@ -23,10 +33,11 @@ pub fn run_replay<S: Input<K>, K: Sink>(
         (outside (S.left input.old) (S.faults input.old)
         (K.written out.old) (K.faults out.old) (K.held_back out.old))
         (outside (S.left input.new) (S.faults input.new)
-        (K.written out.new) (K.faults out.new) (K.held_back out.new)) }
+        (K.written out.new) (K.faults out.new) (K.held_back out.new))
+        (starts (C.refusals crew.old) (C.refusals crew.new)) }
 {
     traces_are_exact();
-    match replay(alloc, plan, summary, input, out) {
+    match replay(rt, alloc, plan, summary, crew, input, out) {
         Ok(ending) => conclude_replay(out, &ending),
         Err(_) => Status::NoMemory,
     }

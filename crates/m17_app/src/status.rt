@@ -13,6 +13,8 @@ pub enum Status {
     WriteFailed,
     /// The ports failed.
     PortFailed,
+    /// The crew refused to start a thread.
+    CrewRefused,
     /// A link was lost by its faults.
     LinkLost,
     /// A book failed, and no link was lost.
@@ -36,6 +38,7 @@ impl Status {
             Status::ReadFailed => 3,
             Status::WriteFailed => 4,
             Status::PortFailed => 5,
+            Status::CrewRefused => 6,
             Status::LinkLost => 7,
             Status::BookFailed => 8,
             Status::NoMemory => 70,

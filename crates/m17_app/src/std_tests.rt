@@ -3,7 +3,7 @@
 use crate::std_in::StdIn;
 use crate::std_out::StdOut;
 use crate::streams::run_on;
-use m17_devices::ScriptPorts;
+use m17_devices::{ScriptPorts, StdCrew};
 use m17_io::{Outlet, Source};
 use m17_values::Failed;
 use std::alloc::Global;
@@ -250,7 +250,8 @@ fn each_status_of_the_program_comes_with_its_line(rt: HostRuntime) -> Result<(),
         let to = printer_that(alloc, run.writes);
         let mut ports = ScriptPorts::new(Vec::new(alloc), Vec::new(alloc), Vec::new(alloc));
         let reader = reader_of(run.input, run.reads);
-        let status = run_on(&rt, alloc, &words, &mut ports, reader, &to);
+        let mut crew = StdCrew::new();
+        let status = run_on(&rt, alloc, &words, &mut ports, &mut crew, reader, &to);
         assert_eq!(rt; status, run.status, "run {i}");
         assert!(rt; to.holds(run.printed), "run {i}");
     }

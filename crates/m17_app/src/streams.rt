@@ -7,18 +7,26 @@ use crate::status::Status;
 use crate::std_in::StdIn;
 use crate::std_out::StdOut;
 use m17_buffers::{BufferedSink, BufferedSource};
-use m17_devices::Ports;
+use m17_devices::{Crew, Ports};
 use std::alloc::Global;
 use std::io::Read;
 use std::sync::Wait;
+use std::thread::Threads;
 
-/// Runs the program over these ports, on a reader and on what prints, both buffered. `NoMemory` also where there is none
+/// Runs the program over these ports and this crew, on a reader and on what prints, both buffered. `NoMemory` also where there is none
 /// for the buffers.
-pub fn run_on<H: Wait, Q: Ports, R: Read + Drop, P: Print>(
+pub fn run_on<
+    H: Threads + Wait + Copy + Send + 'static,
+    Q: Ports,
+    C: Crew,
+    R: Read + Drop,
+    P: Print,
+>(
     rt: &H,
     alloc: Global,
     words: &[String],
     ports: &mut Q,
+    crew: &mut C,
     reader: R,
     to: &P,
 ) -> u8
@@ -34,5 +42,5 @@ pub fn run_on<H: Wait, Q: Ports, R: Read + Drop, P: Print>(
     let Ok(mut out) = BufferedSink::make(alloc, StdOut::new(to)) else {
         return Status::NoMemory.code();
     };
-    run(rt, alloc, words, ports, &mut input, &mut out).status
+    run(rt, alloc, words, ports, crew, &mut input, &mut out).status
 }

@@ -4,11 +4,13 @@ use crate::run::run;
 use crate::tests::words;
 use m17_devices::{
     BytesSink, BytesSource, Gram, Heard, ListBook, ListMouth, Peer, ScriptEar, ScriptPorts,
+    StdCrew,
 };
 use std::alloc::Global;
 use std::process::Abort;
 use std::sync::Wait;
 use std::test::Fail;
+use std::thread::Threads;
 
 type Talk = Done<ScriptEar, ListMouth, ListBook>;
 
@@ -93,7 +95,7 @@ fn assert_pushed(pushed: bool) -> Result<(), Fail> {
 }
 
 // Runs `talk` by these words, and demands its status and what it wrote.
-fn expect<R: Abort + Wait>(
+fn expect<R: Threads + Wait + Abort + Copy + Send + 'static>(
     rt: &R,
     alloc: Global,
     given: &[&str],
@@ -106,7 +108,8 @@ fn expect<R: Abort + Wait>(
     let mut source = BytesSource::new(input, Vec::new(alloc));
     let mut sink = BytesSink::make(alloc, 100, Vec::new(alloc))?;
     let given = words(alloc, given)?;
-    let done = run(rt, alloc, &given, &mut ports, &mut source, &mut sink);
+    let mut crew = StdCrew::new();
+    let done = run(rt, alloc, &given, &mut ports, &mut crew, &mut source, &mut sink);
     assert_eq!(rt; done.status, status);
     assert_eq!(rt; sink.bytes(), text.as_bytes());
     Ok(done)
@@ -219,7 +222,8 @@ fn a_talk_whose_line_cannot_be_written_hands_back_its_devices(rt: HostRuntime) -
         let mut source = BytesSource::new(script(alloc, &[20])?, Vec::new(alloc));
         let mut sink = BytesSink::make(alloc, 100, [call].to_vec(alloc)?)?;
         let given = words(alloc, &TALK)?;
-        let done = run(&rt, alloc, &given, &mut ports, &mut source, &mut sink);
+        let mut crew = StdCrew::new();
+        let done = run(&rt, alloc, &given, &mut ports, &mut crew, &mut source, &mut sink);
         assert_eq!(rt; done.status, 4);
         assert!(rt; done.talk.is_some());
     }

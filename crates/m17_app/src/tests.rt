@@ -1,9 +1,10 @@
 //! What no clause says: the worked runs of the commands, over devices in memory.
 use crate::run::run;
-use m17_devices::{BytesSink, BytesSource, ScriptPorts};
+use m17_devices::{BytesSink, BytesSource, Crew, RefusingCrew, ScriptPorts, StdCrew};
 use std::alloc::{AllocError, Global};
 use std::sync::Wait;
 use std::test::Fail;
+use std::thread::Threads;
 
 // A record of `judge`: its moment, its talker, and the stream id, number and end bit of its packet.
 #[derive(Clone, Copy, Debug)]
@@ -28,10 +29,24 @@ pub fn words(alloc: Global, given: &[&str]) -> Result<Vec<String>, AllocError> {
 }
 
 // Runs the program, and hands back its status and what it wrote.
-pub fn ran<R: Wait>(
+pub fn ran<R: Threads + Wait + Copy + Send + 'static>(
     rt: &R,
     alloc: Global,
     given: &[&str],
+    input: Vec<u8>,
+    read_fails: &[u64],
+    write_fails: &[u64],
+) -> Result<(u8, Vec<u8>), AllocError> {
+    let mut crew = StdCrew::new();
+    ran_by(rt, alloc, given, &mut crew, input, read_fails, write_fails)
+}
+
+// The same by this crew.
+fn ran_by<C: Crew, R: Threads + Wait + Copy + Send + 'static>(
+    rt: &R,
+    alloc: Global,
+    given: &[&str],
+    crew: &mut C,
     input: Vec<u8>,
     read_fails: &[u64],
     write_fails: &[u64],
@@ -42,8 +57,32 @@ pub fn ran<R: Wait>(
     };
     let mut ports = ScriptPorts::new(Vec::new(alloc), Vec::new(alloc), Vec::new(alloc));
     let words = words(alloc, given)?;
-    let done = run(rt, alloc, &words, &mut ports, &mut source, &mut sink);
+    let done = run(rt, alloc, &words, &mut ports, crew, &mut source, &mut sink);
     Ok((done.status, sink.bytes().to_vec(alloc)?))
+}
+
+// A crew that refuses the first start: nothing of the trace is told. Without a trace the crew is not asked.
+#[test]
+fn a_refused_start_is_told(rt: HostRuntime) -> Result<(), Fail> {
+    let alloc = rt.alloc();
+    for (input, status, text) in [
+        (b"M17TRACE\x03".as_slice(), 6, b"crew refused\n".as_slice()),
+        (b"M17", 1, b"input refused at 3: cut\n"),
+    ] {
+        let mut crew = RefusingCrew::new(Vec::from_array(alloc, [0])?);
+        let (ended, written) = ran_by(
+            &rt,
+            alloc,
+            &["replay"],
+            &mut crew,
+            input.to_vec(alloc)?,
+            &[],
+            &[],
+        )?;
+        assert_eq!(rt; ended, status);
+        assert_eq!(rt; written.as_slice(), text);
+    }
+    Ok(())
 }
 
 #[test]

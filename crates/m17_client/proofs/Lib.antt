@@ -6,3 +6,9 @@ mod OneTurn
 mod Turns
 mod Ears
 mod Ended
+mod Listed
+mod Moves
+mod WholeSteps
+mod Keeping
+mod GettingIn
+mod KeptWay

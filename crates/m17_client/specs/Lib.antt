@@ -5,5 +5,8 @@ pub mod Client
 pub mod Steps
 pub mod Talk
 pub mod TalkDevices
+-- The way to a reflector, and what follows of a client's end of it.
+pub mod Way
+pub mod Laws
 -- For proofs alone: how far a run has come.
 pub mod TalkSoFar

@@ -4,11 +4,13 @@
 //! the exact bytes that are said, and that a step asks for two things at most. `talk` runs a client over an ear, a
 //! mouth and a book, with a script of packets to send. It promises which steps are taken at what is heard
 //! (`specs/Talk.antt`), that the mouth said and the book has what these ask for, but for what a device failed to take,
-//! and when the run is over (`specs/TalkDevices.antt`). The devices, and that an ear answers often enough for the time
-//! rules to come in time, are left to its caller.
+//! and when the run is over (`specs/TalkDevices.antt`). What follows where the way to the reflector may lose, repeat and
+//! reorder datagrams is in `laws` (`specs/Way.antt`): what a client keeps was said to it. The devices, and that an ear
+//! answers often enough for the time rules to come in time, are left to its caller.
 #![tactic(auto)]
 
 mod client;
+pub mod laws;
 mod log;
 mod progress;
 mod run;

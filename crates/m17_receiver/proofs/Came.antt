@@ -1,5 +1,5 @@
 -- One entry more of a receiver.
-use Rattle.std.proofs.Common.{◌≡◌, ◌==◌, ◌↔◌, ℕ, ◌+◌, ◌-◌, ◌^◌, min, Bool, true, false, List, [], ◌∷◌, ◌++◌, length, set, Contains, IsTrue, refl, ap, sym, subst, ◌∙◌, inl, inr, arith, Option, Some}
+use Rattle.std.proofs.Common.{◌≡◌, ◌==◌, ◌↔◌, ℕ, ◌+◌, Bool, true, false, List, [], ◌∷◌, ◌++◌, length, set, Contains, IsTrue, refl, ap, sym, subst, ◌∙◌, inl, inr, arith, Option, Some}
 use Rattle.std.proofs.lemmas.Bool.{eq-eqb, eqb-true}
 use Rattle.std.proofs.lemmas.List.{length-append}
 use Rattle.m17_values.specs.declared.heard.Heard.{Heard}
@@ -10,7 +10,7 @@ use Rattle.m17_directory.specs.declared.known.Departed.{Departed}
 use Rattle.m17_directory.specs.declared.verdict.LinkVerdict.{LinkVerdict}
 use Rattle.m17_directory.specs.Entries.{Notice, Setup, Says, ends_at}
 use Rattle.m17_receiver.specs.declared.receiver.Receiver.{Receiver}
-use Rattle.m17_receiver.specs.Devices.{Words, Tells, IsCounted, HasHeard, HasTrace}
+use Rattle.m17_receiver.specs.Devices.{Words, Tells, HasHeard, HasTrace}
 use Rattle.m17_receiver.specs.Tape.{IsTaped}
 use Rattle.m17_receiver.specs.Ready.{IsFit}
 use Rattle.m17_receiver.specs.ReceiverDid.{IsSameReceiver, HasReceived, outlets_of}
@@ -24,24 +24,21 @@ use Rattle.m17_receiver.proofs.Ended.{length_says, says_more, ends_before, ends_
 use Rattle.m17_receiver.proofs.Taped.{taped_more, taped_none}
 
 -- the header comes with the first entry
-pub first_is : (index : ℕ) (heards : List Heard) → index ≡ min (length heards) (2 ^ 64 - 1) → ((index == 0) ≡ true) ↔ (heards ≡ [])
+pub first_is : (index : ℕ) (heards : List Heard) → index ≡ length heards → ((index == 0) ≡ true) ↔ (heards ≡ [])
 first_is index [] is = (λ _. refl, λ _. eq-eqb index 0 (omega (arith, is)))
 first_is index (h ∷ heards) is = (λ e. absurd (let zero_is : index ≡ 0 = eqb-true index 0 e in omega (arith, is, zero_is)), λ e. absurd (cc))
 
 -- the next index
-pub next_index : (index next : ℕ) (heards : List Heard) (h : Heard) → index ≡ min (length heards) (2 ^ 64 - 1) → next ≡ min (index + 1) (2 ^ 64 - 1) → next ≡ min (length (heards ++ h ∷ [])) (2 ^ 64 - 1)
+pub next_index : (index next : ℕ) (heards : List Heard) (h : Heard) → index ≡ length heards → next ≡ index + 1 → next ≡ length (heards ++ h ∷ [])
 next_index index next heards h is next_is = omega (arith, is, next_is, length-append heards (h ∷ []))
-
-pub fewer : (heards : List Heard) (h : Heard) → IsCounted (heards ++ h ∷ []) → IsCounted heards
-fewer heards h few = omega (arith, few, length-append heards (h ∷ []))
 
 nobody : (d : Departed) → Contains [] d → ⊥
 nobody d in_it = omega (arith, in_it.1)
 
 module _ {E B : Type 0} where
   -- the index of the entry
-  pub index_is : (j k : Receiver E B) (heards : List Heard) (h : Heard) (noted index : ℕ) → (was : HasCome heards j k noted) → IsCounted (heards ++ h ∷ []) → index ≡ min (length heards) (2 ^ 64 - 1) → index ≡ length was.entries
-  index_is j k heards h noted index was few is = omega (arith, few, is, length-append heards (h ∷ []), length_says heards was.entries was.says)
+  pub index_is : (j k : Receiver E B) (heards : List Heard) (noted index : ℕ) → (was : HasCome heards j k noted) → index ≡ length heards → index ≡ length was.entries
+  index_is j k heards noted index was is = omega (arith, is, length_says heards was.entries was.says)
 
   -- what is written and heard stays while the entry is worked on
   pub trace_stays : (words : Words E B) (k s : Receiver E B) (start : Tells ℕ) (heards : List Heard) → IsKept k s → HasTrace start heards k.trace_failed (words.written k.trace, words.trace_faults k.trace) →
@@ -173,7 +170,7 @@ module _ {E B : Type 0} where
             (traced_none (words.written j.trace, words.trace_faults j.trace));
         no_end = λ in_it. absurd (omega (arith, in_it.1));
         count = refl;
-        come = λ _. record {
+        come = record {
           entries = [];
           says = tt;
           goes_on = λ n l. absurd (omega arith);

@@ -1,6 +1,6 @@
 -- One more that was heard.
-use Rattle.std.proofs.Common.{◌≡◌, ◌≢◌, ℕ, zero, suc, ◌-◌, ◌<◌, ◌≤◌, ◌^◌, List, [], ◌∷◌, ◌++◌, length, replicate, Contains, refl, sym, ap, ◌∙◌, subst, inl, inr, arith, Option, None, Some}
-use Rattle.std.proofs.lemmas.List.{append-nil, append_assoc, length-append, length-replicate}
+use Rattle.std.proofs.Common.{◌≡◌, ◌≢◌, ℕ, zero, suc, ◌<◌, ◌≤◌, List, [], ◌∷◌, ◌++◌, length, replicate, Contains, refl, sym, ap, ◌∙◌, subst, inl, inr, arith, Option, None, Some}
+use Rattle.std.proofs.lemmas.List.{append-nil, append_assoc, length-append}
 use Rattle.std.proofs.lemmas.List.Elements.{Contains-append_left, Contains-append_right, Contains-push, Contains-push_cases}
 use Rattle.std.proofs.lemmas.Option.{none-some, same_Some}
 use Rattle.m17_values.specs.declared.heard.Heard.{Heard}

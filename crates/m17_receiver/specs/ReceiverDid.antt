@@ -43,9 +43,9 @@ pub record HasReceived {E B : Type 0} (heard : List Heard) (j k : Receiver E B) 
   pub greeted : IsGreetedAfter entries k.notes.popped
   pub taped : IsTaped j.directory.setup entries j.tape.items k.tape.items
 
--- The receiver went: its ear heard this, its trace holds that, and where so much is counted in 64
--- bits each entry became what it had to. It is lost, and its trace has failed, only where the count
--- of faults of the one or the other rose. This profile.
+-- The receiver went: its ear heard this, so much as is counted in 64 bits, its trace holds that, and
+-- each entry became what it had to. It is lost, and its trace has failed, only where the count of
+-- faults of the one or the other rose. This profile.
 pub record HasGone {E B : Type 0} (words : Words E B) (j k : Receiver E B) : Type 0 where
   pub heard : List Heard
   pub ear : HasHeard (words.heard j.ear, words.ear_faults j.ear) heard
@@ -53,7 +53,8 @@ pub record HasGone {E B : Type 0} (words : Words E B) (j k : Receiver E B) : Typ
   pub lost : IsTrue k.lost → HasRisen (words.ear_faults j.ear) (words.ear_faults k.ear)
   pub trace : HasTrace (words.written j.trace, words.trace_faults j.trace) heard k.trace_failed
       (words.written k.trace, words.trace_faults k.trace)
-  pub received : IsCounted heard → HasReceived heard j k
+  pub counted : IsCounted heard
+  pub received : HasReceived heard j k
 
 -- What a receiver did: it waited for its order; after Quit all but the popped order is as it was;
 -- after Go it received. This profile.

@@ -24,7 +24,7 @@ use Rattle.m17_directory.specs.StandsFor.{Kept, StandsFor, must_wait, unclaimed,
 use Rattle.m17_directory.specs.Laws.{LaterEntriesChangeNothing, OneEntryMore, EntriesBeforeDecide, ClaimsCompleteAskers, DoorCarriesReplies, EndedWhereItEnds, AskersJoinOrAreFull, PeersComeAndGo, PeersAreToldApart, direct_of, left_before}
 use Rattle.m17_receiver.specs.Posting.{Outlets, letter_at, posted_to, AreSameOutlets}
 use Rattle.m17_receiver.specs.declared.receiver.Receiver.{Receiver}
-use Rattle.m17_receiver.specs.Devices.{Words, IsCounted, HasHeard, HasTrace}
+use Rattle.m17_receiver.specs.Devices.{Words, HasHeard, HasTrace}
 use Rattle.m17_receiver.specs.Tape.{IsTaped}
 use Rattle.m17_receiver.specs.ReceiverDid.{IsSameReceiver, outlets_of}
 use Rattle.m17_receiver.specs.Claims.{HasClaimed, IsGreetedAfter}
@@ -187,7 +187,7 @@ pub record HasCome {E B : Type 0} (heard : List Heard) (j k : Receiver E B) (not
   pub so_far : IsSoFar (plan_of j) entries (parts_of k noted)
   pub taped : IsTaped j.directory.setup entries j.tape.items k.tape.items
 
--- The receiver has heard so much, and counted it.
+-- The receiver has heard so much, and counted it: what became of it.
 pub record HasComeBy {E B : Type 0} (words : Words E B) (j k : Receiver E B) (index noted : ℕ)
     : Type 0 where
   pub heard : List Heard
@@ -196,8 +196,8 @@ pub record HasComeBy {E B : Type 0} (words : Words E B) (j k : Receiver E B) (in
   pub trace : HasTrace (words.written j.trace, words.trace_faults j.trace) heard k.trace_failed
       (words.written k.trace, words.trace_faults k.trace)
   pub no_end : Contains heard End → ⊥
-  pub count : index ≡ min (length heard) (2 ^ 64 - 1)
-  pub come : IsCounted heard → HasCome heard j k noted
+  pub count : index ≡ length heard
+  pub come : HasCome heard j k noted
 
 -- between two entries nothing is asked or posted, and the link goes on
 pub record IsBetween {E B : Type 0} (j k : Receiver E B) : Type 0 where

@@ -12,7 +12,7 @@ use m17_directory::{Directory, LinkVerdict, Post};
 use m17_lane::{Popper, Pusher};
 use m17_ports::{Book, Ear};
 use m17_roll::RollSeat;
-use m17_rows::starts;
+use m17_rows::{count_one, starts};
 use m17_values::{Heard, Member};
 use std::sync::Wait;
 
@@ -22,7 +22,8 @@ use std::sync::Wait;
 /// For each entry, in this order: it is written to the trace; notes of departed members are popped, at most 512, and
 /// told to the directory; the directory hears it, and what that posts is pushed, asleep while a lane is full; who asks
 /// for a place waits until the notes of all that its peer was have come, gets a place or none, and what that posts is
-/// pushed; and the verdict goes into its cell of the tape. After `Quit` nothing but the order is touched. This profile.
+/// pushed; and the verdict goes into its cell of the tape. It hears 2^64 - 1 entries at the most, and then waits for ever.
+/// After `Quit` nothing but the order is touched. This profile.
 #[derive(Drop)]
 pub struct Receiver<E, B> {
     /// The number of the link, from 0.
@@ -110,15 +111,16 @@ impl<E: Ear, B: Book> Receiver<E, B> {
         let mut index = 0u64;
         let mut noted = 0u64;
         for _ in rt.forever() {
+            let next = count_one(rt, index);
             let entry = self.ear.hear();
             write_trace(&mut self.trace, &mut self.trace_failed, index == 0, &entry);
             let verdict = self.enter(rt, &entry, index, &mut noted);
             fill_tape(&mut self.tape, index, verdict);
-            index = index.saturating_add(1);
             if self.directory.has_ended() {
                 self.lost = is_fault(&entry);
                 return;
             }
+            index = next;
         }
         unreachable!()
     }

@@ -1,23 +1,19 @@
 -- A run put together: what its jobs have done, and what was made of the ends of their lanes, is what the headline says.
-use Rattle.std.proofs.Common.{◌≡◌, ℕ, ◌<◌, Bool, true, false, List, [], ◌∷◌, ◌++◌, map, length, All, Some, sym, subst, refl, ap, ◌∙◌, arith}
-use Rattle.std.specs.Prelude.{◌⊎◌, ◌||◌, IsTrue, slice_get, Contains}
-use Rattle.std.specs.List.{AllByRecursion, list_any, flat_map}
+use Rattle.std.proofs.Common.{◌≡◌, ℕ, Bool, true, false, List, [], ◌∷◌, map, length, Some, sym, subst, refl, ◌∙◌, arith}
+use Rattle.std.specs.Prelude.{◌⊎◌, ◌||◌, IsTrue, slice_get}
+use Rattle.std.specs.List.{AllByRecursion, list_any}
 use Rattle.std.proofs.lemmas.List.{length-map}
-use Rattle.std.proofs.lemmas.List.Elements.{recursion_from_All, All-from_recursion}
+use Rattle.std.proofs.lemmas.List.Elements.{All-from_recursion}
 use Rattle.m17_values.specs.declared.heard.Heard.{Heard}
-use Rattle.m17_values.specs.declared.member.Member.{Member}
-use Rattle.m17_ports.specs.Said.{MouthTold}
 use Rattle.m17_control.specs.declared.event.Event.{Event}
 use Rattle.m17_control.specs.declared.item.Item.{Item}
-use Rattle.m17_floor.specs.declared.verdict.Verdict.{Verdict}
 use Rattle.m17_module.specs.Laws.{ItemsAreAtPlaces}
-use Rattle.m17_directory.specs.Laws.{RouteIsOfClaimed, JoinsOfAllModules, EachClaimJoins, ClaimsAreAsked, claimed_members}
+use Rattle.m17_directory.specs.Laws.{RouteIsOfClaimed, ClaimsAreAsked}
 use Rattle.m17_lane.specs.Ends.{TrailEnd}
 use Rattle.m17_rows.specs.Laws.{RowsGrow}
 use Rattle.m17_grid.specs.Laid.{IsLaid}
 use Rattle.m17_grid.specs.Trails as grid
 use Rattle.m17_roll.specs.Closing.{EndView, IsEnded}
-use Rattle.m17_roll.specs.Seat.{RollView}
 use Rattle.m17_receiver.specs.declared.receiver.Receiver.{Receiver}
 use Rattle.m17_receiver.specs.Devices as devices
 use Rattle.m17_receiver.specs.Devices.{IsCounted}
@@ -26,25 +22,25 @@ use Rattle.m17_worker.specs.Ready as worker
 use Rattle.m17_worker.specs.WorkerDid.{HasServed}
 use Rattle.m17_house.specs.declared.plan.Plan.{Plan}
 use Rattle.m17_reflect.specs.Links.{Link, IsLink, At, link_setup}
-use Rattle.m17_reflect.specs.Run.{Run, Devices, Handed, module_count}
+use Rattle.m17_reflect.specs.Run.{Run, Devices, Handed}
 use Rattle.m17_reflect.specs.Trails.{AreTrails, events_of}
 use Rattle.m17_reflect.specs.Judged.{IsJudged}
-use Rattle.m17_reflect.specs.Places.{AreClaims, ArePlacesBack, AreSame, joiners}
+use Rattle.m17_reflect.specs.Places.{AreClaims, ArePlacesBack}
 use Rattle.m17_reflect.specs.Queues.{QueuesCarry}
 use Rattle.m17_reflect.specs.Sendings.{MouthsSay}
-use Rattle.m17_reflect.specs.Patience.{PlacesAreFull, SomeRose, HasCauses}
-use Rattle.m17_reflect.specs.Headline.{EarsHeard, IsCarriedOut, Headline}
+use Rattle.m17_reflect.specs.Patience.{PlacesAreFull, SomeRose}
+use Rattle.m17_reflect.specs.Headline.{IsCarriedOut, Headline}
 use Rattle.m17_reflect.specs.Views.{Words}
 use Rattle.m17_reflect.proofs.OneTrail as trail
 use Rattle.m17_reflect.proofs.OneTrail.{Inboxes}
 use Rattle.m17_reflect.proofs.Routes.{at_below, below_at}
 use Rattle.m17_wiring.specs.Jobs.{AreReceivers}
-use Rattle.m17_reflect.proofs.Came.{Came, Heared, ear_tells, trace_tells, tape_of, column_of, all_came, ears_heard, traces_written, link_tapes, columns_routed}
+use Rattle.m17_reflect.proofs.Came.{Came, Heared, ear_tells, trace_tells, tape_of, column_of, all_came, all_counted, ears_heard, traces_written, link_tapes, columns_routed}
 use Rattle.m17_reflect.proofs.Worked.{Rows, book_tells}
-use Rattle.m17_reflect.proofs.Joining.{joins_are_claims, claims_in}
-use Rattle.m17_reflect.proofs.Seats.{IsRollOf, seat_of, roll_claims, claims_placed, impatient_full}
+use Rattle.m17_reflect.proofs.Joining.{claims_in}
+use Rattle.m17_reflect.proofs.Seats.{IsRollOf, roll_claims, claims_placed}
 use Rattle.m17_reflect.proofs.Modules.{HaveWorked, AreBack, inbox_of, all_trails, all_served, all_admitted, all_tapes, all_books}
-use Rattle.m17_reflect.proofs.AllQueues.{QueuesBack, all_queues, any_at, at_any, lost_of, lost_where, lost_only_where, or_later}
+use Rattle.m17_reflect.proofs.AllQueues.{QueuesBack, all_queues, at_any, lost_of, lost_where, lost_only_where, or_later}
 use Rattle.m17_reflect.proofs.Failed.{trace_failed_of, book_failed_of}
 use Rattle.m17_reflect.proofs.Gave.{worker_seat}
 use Rattle.m17_reflect.proofs.Together.{AllZip3, zip3_at, zip3_length}
@@ -241,7 +237,7 @@ module _ {E M B L : Type 0} where
       }
 
   -- the headline
-  pub headline : Laws → (c : Course E M B L) (heards : List (List Heard)) → Facts c heards → (All IsCounted heards → (links : List Link) → map (λ (link : Link). link.heard) links ≡ heards → OfLinks c links → QueuesCarry (run_of c) → Rest c links) → (IsTrue (has_failed c.after) → SomeRose (shows c.words c.before).traces (shows c.words c.after).traces ⊎ SomeRose (shows c.words c.before).books (shows c.words c.after).books) → Headline (run_of c)
+  pub headline : Laws → (c : Course E M B L) (heards : List (List Heard)) → Facts c heards → ((links : List Link) → map (λ (link : Link). link.heard) links ≡ heards → OfLinks c links → QueuesCarry (run_of c) → Rest c links) → (IsTrue (has_failed c.after) → SomeRose (shows c.words c.before).traces (shows c.words c.after).traces ⊎ SomeRose (shows c.words c.before).books (shows c.words c.after).books) → Headline (run_of c)
   headline laws c heards f rest failed =
       let ew = ear_words c.words in
       let lens = zip3_length (Heared ew) c.before.receivers c.after.receivers heards f.heared in record {
@@ -255,8 +251,9 @@ module _ {E M B L : Type 0} where
           lost = lost_only_where ew c.before.receivers c.after.receivers heards f.heared;
           book_failed = failed;
         };
-        carried_out = λ counted.
-            let (links, came, of_heard) = all_came ew c.before.receivers c.after.receivers heards f.heared (recursion_from_All IsCounted heards counted) in
+        counted = All-from_recursion IsCounted heards (all_counted ew c.before.receivers c.after.receivers heards f.heared);
+        carried_out =
+            let (links, came, of_heard) = all_came ew c.before.receivers c.after.receivers heards f.heared in
             let o = of_links laws c heards f links came in
-            carried_out laws c heards f links o of_heard (rest counted links of_heard o (carried laws c heards f links o));
+            carried_out laws c heards f links o of_heard (rest links of_heard o (carried laws c heards f links o));
       }

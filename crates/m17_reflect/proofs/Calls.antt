@@ -1,30 +1,20 @@
 -- The jobs of a run as the calls hand them on: wired, launched, told to go, and joined.
-use Rattle.std.proofs.Common.{◌≡◌, ℕ, zero, suc, ◌+◌, ◌<◌, ◌≤◌, List, [], ◌∷◌, ◌++◌, map, length, All, Some, vec_len, vec_capacity, sym, subst, refl, ap, ◌∙◌, arith}
-use Rattle.std.specs.Prelude.{slice_get, Vec}
+use Rattle.std.proofs.Common.{◌≡◌, List, [], ◌∷◌, map, length, subst}
 use Rattle.std.specs.List.{AllZip}
-use Rattle.std.proofs.lemmas.List.{length-map}
-use Rattle.std.proofs.lemmas.List.Elements.{All-from_recursion, recursion_from_All}
-use Rattle.std.proofs.lemmas.Slice.Zip.{AllZip-long}
-use Rattle.m17_control.specs.declared.event.Event.{Event}
-use Rattle.m17_control.specs.declared.item.Item.{Item}
 use Rattle.m17_crew.specs.declared.order.Order.{Order}
 use Rattle.m17_crew.specs.declared.order.Order.TheVariants.{Go, Stop}
-use Rattle.m17_lane.specs.Ends.{PushEnd, PopEnd, TrailEnd}
-use Rattle.m17_rows.specs.Laws.{RowsPush}
+use Rattle.m17_lane.specs.Ends.{PushEnd, TrailEnd}
 use Rattle.m17_grid.specs.Trails.{AreTrailsOfOnes}
-use Rattle.m17_launch.specs.Groups.{Staff, staff, WereTold}
+use Rattle.m17_launch.specs.Groups.{staff, WereTold}
 use Rattle.m17_receiver.specs.declared.receiver.Receiver.{Receiver}
 use Rattle.m17_receiver.specs.ReceiverDid.{ReceiverDid}
 use Rattle.m17_worker.specs.declared.worker.Worker.{Worker}
 use Rattle.m17_worker.specs.WorkerDid.{WorkerDid}
 use Rattle.m17_sender.specs.declared.sender.Sender.{Sender}
-use Rattle.m17_sender.specs.Places.{queues_of}
 use Rattle.m17_sender.specs.Ready.{IsShaped}
-use Rattle.m17_sender.specs.Sent.{Sent, SenderDid}
+use Rattle.m17_sender.specs.Sent.{SenderDid}
 use Rattle.m17_wiring.specs.Ends.{IsNewLine}
 use Rattle.m17_wiring.specs.Jobs.{AreJobs}
-use Rattle.m17_wiring.specs.Planned.{module_count}
-use Rattle.m17_wiring.specs.Rooms.{IsRoom, AreRooms}
 use Rattle.m17_parting.specs.Rows.{AreOfOnes}
 use Rattle.m17_house.specs.declared.plan.Plan.{Plan}
 use Rattle.m17_reflect.specs.Views.{Words}
@@ -39,9 +29,6 @@ use Rattle.m17_reflect.proofs.Gone.{receiver_order, worker_order, all_worked, zi
 use Rattle.m17_reflect.proofs.Launched.{told_ones, told_came, told_long, went_keeps, one_job}
 use Rattle.m17_reflect.proofs.Lines.{sender_order, receiver_keeps, worker_keeps, sender_keeps, sender_went}
 use Rattle.m17_reflect.proofs.Orders.{OrdersCame}
-use Rattle.m17_reflect.proofs.Routes.{at_below, below_at}
-use Rattle.m17_reflect.proofs.Together.{mapped_at}
-use Rattle.m17_reflect.proofs.Whole.{same_row_length}
 
 -- The jobs before and after, the ends of their orders, and the one sender.
 pub record Cast (E M B : Type 0) : Type 0 where

@@ -52,6 +52,7 @@ pub record Came {E B : Type 0} (words : Words E B) (j k : Receiver E B) (link : 
   pub ear : HasHeard (ear_tells words j) link.heard (ear_tells words k)
   pub trace : HasTrace (trace_tells words j) link.heard k.trace_failed (trace_tells words k)
   pub is_link : IsLink link
+  pub counted : IsCounted link.heard
   pub lost : IsTrue k.lost ↔ EndsInFaults link.heard
   pub posted : outlets_of k ≡ posted_to j.directory.setup link.entries (outlets_of j)
   pub claimed : HasClaimed j.patient j.directory.setup link.entries k.seat
@@ -64,21 +65,23 @@ pub record Heared {E B : Type 0} (words : Words E B) (j k : Receiver E B) (heard
   pub ear : HasHeard (ear_tells words j) heard (ear_tells words k)
   pub lost : IsTrue k.lost → HasRisen (words.ear_faults j.ear) (words.ear_faults k.ear)
   pub trace : HasTrace (trace_tells words j) heard k.trace_failed (trace_tells words k)
-  pub received : IsCounted heard → HasReceived heard j k
+  pub counted : IsCounted heard
+  pub received : HasReceived heard j k
 
 module _ {E B : Type 0} where
   pub heared : (words : Words E B) (j k : Receiver E B) → HasGone words j k → (heard : List Heard) × Heared words j k heard
-  heared words j k g = (g.heard, record { ear = g.ear; lost = g.lost; trace = g.trace; received = g.received })
+  heared words j k g = (g.heard, record { ear = g.ear; lost = g.lost; trace = g.trace; counted = g.counted; received = g.received })
 
-  came : (words : Words E B) (j k : Receiver E B) (heard : List Heard) → Heared words j k heard → IsCounted heard → (link : Link) × Came words j k link × (link.heard ≡ heard)
-  came words j k heard g counted =
-      let h = g.received counted in
+  came : (words : Words E B) (j k : Receiver E B) (heard : List Heard) → Heared words j k heard → (link : Link) × Came words j k link × (link.heard ≡ heard)
+  came words j k heard g =
+      let h = g.received in
       let link : Link = record { heard = heard; entries = h.entries } in (
         link,
         record {
           ear = g.ear;
           trace = g.trace;
           is_link = record { says = h.says; ends = h.ends };
+          counted = g.counted;
           lost = h.lost;
           posted = h.posted;
           claimed = h.claimed;
@@ -88,16 +91,25 @@ module _ {E B : Type 0} where
         refl,
       )
 
-  -- the links of a run, where what each ear heard is counted
-  pub all_came : (words : Words E B) (js ks : List (Receiver E B)) (heards : List (List Heard)) → AllZip3 (Heared words) js ks heards → AllByRecursion IsCounted heards → (links : List Link) × AllZip3 (Came words) js ks links × (map (λ (link : Link). link.heard) links ≡ heards)
-  all_came words [] [] [] h c = ([], tt, refl)
-  all_came words [] [] (z ∷ zs) h c = absurd h
-  all_came words [] (y ∷ ys) zs h c = absurd h
-  all_came words (x ∷ xs) [] zs h c = absurd h
-  all_came words (x ∷ xs) (y ∷ ys) [] h c = absurd h
-  all_came words (x ∷ xs) (y ∷ ys) (z ∷ zs) h c =
-      let (link, here, is) = came words x y z h.0 c.0 in
-      let (links, rest, are) = all_came words xs ys zs h.1 c.1 in
+  -- what each ear heard is counted
+  pub all_counted : (words : Words E B) (js ks : List (Receiver E B)) (heards : List (List Heard)) → AllZip3 (Heared words) js ks heards → AllByRecursion IsCounted heards
+  all_counted words [] [] [] h = tt
+  all_counted words [] [] (z ∷ zs) h = absurd h
+  all_counted words [] (y ∷ ys) zs h = absurd h
+  all_counted words (x ∷ xs) [] zs h = absurd h
+  all_counted words (x ∷ xs) (y ∷ ys) [] h = absurd h
+  all_counted words (x ∷ xs) (y ∷ ys) (z ∷ zs) h = (h.0.counted, all_counted words xs ys zs h.1)
+
+  -- the links of a run
+  pub all_came : (words : Words E B) (js ks : List (Receiver E B)) (heards : List (List Heard)) → AllZip3 (Heared words) js ks heards → (links : List Link) × AllZip3 (Came words) js ks links × (map (λ (link : Link). link.heard) links ≡ heards)
+  all_came words [] [] [] h = ([], tt, refl)
+  all_came words [] [] (z ∷ zs) h = absurd h
+  all_came words [] (y ∷ ys) zs h = absurd h
+  all_came words (x ∷ xs) [] zs h = absurd h
+  all_came words (x ∷ xs) (y ∷ ys) [] h = absurd h
+  all_came words (x ∷ xs) (y ∷ ys) (z ∷ zs) h =
+      let (link, here, is) = came words x y z h.0 in
+      let (links, rest, are) = all_came words xs ys zs h.1 in
       (link ∷ links, (here, rest), ap (λ (l : List Heard). l ∷ map (λ (link : Link). link.heard) links) is ∙ ap (λ (ls : List (List Heard)). z ∷ ls) are)
 
   pub ears_heard : (words : Words E B) (js ks : List (Receiver E B)) (heards : List (List Heard)) → AllZip3 (Heared words) js ks heards → (i : ℕ) (entries : List Heard) (before after : Tells Heard) → At heards i entries → At (map (ear_tells words) js) i before → At (map (ear_tells words) ks) i after → HasHeard before entries after

@@ -1,16 +1,15 @@
 -- What the jobs of a run give back can be finished: each lane has all its ends again.
-use Rattle.std.proofs.Common.{◌≡◌, ℕ, zero, suc, ◌+◌, ◌<◌, List, [], ◌∷◌, ◌++◌, map, length, All, Some, sym, subst, refl, ap, ◌∙◌, arith}
-use Rattle.std.specs.Prelude.{slice_get, replicate}
-use Rattle.std.specs.List.{AllZip, AllByRecursion}
+use Rattle.std.proofs.Common.{◌≡◌, ℕ, zero, suc, List, [], ◌∷◌, map, length, Some, sym, subst, ap, ◌∙◌, arith}
+use Rattle.std.specs.Prelude.{slice_get}
+use Rattle.std.specs.List.{AllZip}
 use Rattle.std.proofs.lemmas.List.{length-map}
-use Rattle.std.proofs.lemmas.List.Elements.{All-from_recursion}
 use Rattle.std.proofs.lemmas.Slice.Zip.{AllZip-long}
 use Rattle.m17_control.specs.declared.event.Event.{Event}
 use Rattle.m17_control.specs.declared.item.Item.{Item}
 use Rattle.m17_control.specs.declared.item.Direct.{Direct}
 use Rattle.m17_values.specs.declared.member.Member.{Member}
 use Rattle.m17_lane.specs.Ends.{PushEnd, PopEnd}
-use Rattle.m17_rows.specs.Rows.{as_new, as_new_popper, push_each, IsSameRow, IsSamePopRow}
+use Rattle.m17_rows.specs.Rows.{as_new, as_new_popper, IsSameRow, IsSamePopRow}
 use Rattle.m17_rows.specs.Laws.{RowsPush, RowsGrow}
 use Rattle.m17_grid.specs.Columns.{IsGrid}
 use Rattle.m17_grid.specs.Laws.{GridsStand}

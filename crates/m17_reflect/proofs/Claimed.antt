@@ -1,13 +1,11 @@
 -- The members of a run, from what the closed roll shows: each place claimed is there, and each member claimed joins once.
-use Rattle.std.proofs.Common.{◌≡◌, ℕ, ◌<◌, List, map, length, All, Some, true, inl, inr, refl, sym, ap, ◌∙◌, arith}
+use Rattle.std.proofs.Common.{◌≡◌, ℕ, List, length, Some, true, inl, inr, refl, sym, arith}
 use Rattle.std.specs.Prelude.{slice_get}
 use Rattle.std.specs.List.{flat_map}
 use Rattle.std.proofs.lemmas.Bool.{cases_lt}
-use Rattle.std.proofs.lemmas.List.Elements.{All-from_recursion, recursion_from_All}
-use Rattle.m17_values.specs.declared.heard.Heard.{Heard}
+use Rattle.std.proofs.lemmas.List.Elements.{All-from_recursion}
 use Rattle.m17_directory.specs.Entries.{Claim, Entry, claim_at}
 use Rattle.m17_directory.specs.Laws.{ClaimsAreAsked}
-use Rattle.m17_receiver.specs.Devices.{IsCounted}
 use Rattle.m17_lane.specs.Ends.{PushEnd}
 use Rattle.m17_rows.specs.Rows.{IsNewPusher, IsNewRow}
 use Rattle.m17_roll.specs.Laws.{NoMemberIsClaimedTwice}
@@ -17,7 +15,6 @@ use Rattle.m17_reflect.specs.Places.{AreClaims, AreSame, joiners}
 use Rattle.m17_reflect.specs.Queues.{QueuesCarry}
 use Rattle.m17_reflect.specs.Run.{Run}
 use Rattle.m17_reflect.specs.Trails.{events_of, AreTrails}
-use Rattle.m17_reflect.proofs.Came.{all_at}
 use Rattle.m17_reflect.proofs.Differ.{claim_in, links_differ}
 use Rattle.m17_reflect.proofs.Joining.{claims_in}
 use Rattle.m17_reflect.proofs.Members.{AreMembers}
@@ -26,7 +23,6 @@ use Rattle.m17_reflect.proofs.Once.{claimed_once, joins_once}
 use Rattle.m17_reflect.proofs.Patient.{placed}
 use Rattle.m17_reflect.proofs.Seats.{claims_placed}
 use Rattle.m17_reflect.proofs.There.{is_at}
-use Rattle.m17_reflect.proofs.Together.{mapped_at}
 use Rattle.m17_reflect.proofs.Waiting.{ClaimsDiffer}
 
 -- What the roll of a run shows: its claims are the links', and their members are those of the Joins of all trails.
@@ -69,12 +65,6 @@ are_claims law run links is asked i link at = record {
       (claim_in (λ k. is_at run.plan.places k ≡ true) link.entries (claims_placed run.handed.roll run.plan.places links is.roll is.count is.claims i link at));
   once = claimed_apart link.entries (members_differ law run links is i link at);
 }
-
--- What each ear heard is counted, link by link.
-pub heard_counted : (links : List Link) (heard : List (List Heard)) → map (λ (link : Link). link.heard) links ≡ heard → All IsCounted heard → (i : ℕ) (link : Link) → At links i link → IsCounted link.heard
-heard_counted links heard e counted i link at =
-    all_at IsCounted heard (recursion_from_All IsCounted heard counted) i link.heard
-    (ap (λ (l : List (List Heard)). slice_get l i) (sym e) ∙ mapped_at (λ (link : Link). link.heard) links i link at)
 
 -- A row of new pushers, one by one.
 pub new_row : {T : Type 0} (qs : List (PushEnd T)) → ((i : ℕ) (q : PushEnd T) → slice_get qs i ≡ Some q → IsNewPusher q) → IsNewRow qs

@@ -8,7 +8,7 @@ use Rattle.m17_control.specs.declared.item.Item.{Item}
 use Rattle.m17_lane.specs.Ends.{PushEnd, PopEnd, TrailEnd}
 use Rattle.m17_lane.specs.Orders.{items_of}
 use Rattle.m17_grid.specs.Trails.{IsTrailOfOne, AreTrailsOfOnes}
-use Rattle.m17_sender.specs.Places.{in_row, at_place, popped_by, popped_at}
+use Rattle.m17_sender.specs.Places.{in_row, popped_by, popped_at}
 use Rattle.m17_worker.specs.declared.worker.Worker.{Worker}
 use Rattle.m17_house.specs.declared.plan.Plan.{Plan}
 use Rattle.m17_parting.specs.Left.{left, left_in, drained}

@@ -1,25 +1,14 @@
 -- The ends that the jobs give back are those of the lanes that were laid, whatever went through them.
-use Rattle.std.proofs.Common.{◌≡◌, ℕ, zero, suc, ◌<◌, List, [], ◌∷◌, ◌++◌, map, length, All, Some, sym, subst, refl, ap, ◌∙◌, arith}
+use Rattle.std.proofs.Common.{◌≡◌, ℕ, zero, suc, List, [], ◌∷◌, ◌++◌, map, length, All, Some, sym, subst, refl, ap, ◌∙◌, arith}
 use Rattle.std.specs.Prelude.{slice_get}
 use Rattle.std.specs.List.{AllZip, AllByRecursion}
 use Rattle.std.proofs.lemmas.List.{length-map}
 use Rattle.std.proofs.lemmas.List.Elements.{All-from_recursion}
-use Rattle.std.proofs.lemmas.Slice.Zip.{AllZip-long}
 use Rattle.atomic_table.specs.Seated.{TableId}
-use Rattle.m17_values.specs.declared.member.Member.{Member}
-use Rattle.m17_control.specs.declared.event.Event.{Event}
-use Rattle.m17_control.specs.declared.item.Item.{Item}
-use Rattle.m17_control.specs.declared.item.Direct.{Direct}
 use Rattle.m17_lane.specs.Ends.{PushEnd, PopEnd, AreOf, new_popper, new_pusher, new_pushers}
 use Rattle.m17_rows.specs.Rows.{as_new, as_new_popper, IsSameRow, IsSamePopRow}
-use Rattle.m17_rows.specs.Laws.{RowsPush, RowsGrow}
-use Rattle.m17_grid.specs.Columns.{lanes_of, lanes_popped, IsGrid}
-use Rattle.m17_grid.specs.Laid.{IsLaid}
-use Rattle.m17_grid.specs.Laws.{GridsStand}
+use Rattle.m17_grid.specs.Columns.{lanes_of, lanes_popped}
 use Rattle.m17_wiring.specs.Ends.{IsNewLine}
-use Rattle.m17_reflect.proofs.Routes.{at_below, below_at}
-use Rattle.m17_reflect.proofs.Gone.{zip_from}
-use Rattle.m17_reflect.proofs.Together.{zip_at}
 
 module _ {A B : Type 0} where
   -- a relation of jobs, as one of their parts

@@ -1,50 +1,38 @@
 -- Jobs that went and were taken apart can be gathered: what their ends and seats are, and that there is room.
-use Rattle.std.proofs.Common.{◌≡◌, ℕ, zero, suc, ◌+◌, ◌<◌, ◌≤◌, List, [], ◌∷◌, ◌++◌, map, length, All, Some, vec_len, vec_capacity, sym, subst, refl, ap, ◌∙◌, arith}
-use Rattle.std.specs.Prelude.{slice_get, Vec}
-use Rattle.std.specs.List.{AllZip, AllByRecursion}
+use Rattle.std.proofs.Common.{◌≡◌, ℕ, ◌+◌, ◌<◌, List, [], ◌∷◌, ◌++◌, map, length, sym, subst, refl, ap, ◌∙◌}
+use Rattle.std.specs.List.{AllZip}
 use Rattle.std.proofs.lemmas.List.{length-map}
-use Rattle.std.proofs.lemmas.List.Elements.{All-from_recursion, recursion_from_All}
-use Rattle.std.proofs.lemmas.Slice.Zip.{AllZip-long}
+use Rattle.std.proofs.lemmas.List.Elements.{recursion_from_All}
 use Rattle.atomic_table.specs.Seated.{TableId}
-use Rattle.m17_ports.specs.Said.{MouthTold}
-use Rattle.m17_control.specs.declared.event.Event.{Event}
 use Rattle.m17_control.specs.declared.item.Item.{Item}
 use Rattle.m17_control.specs.declared.item.Direct.{Direct}
-use Rattle.m17_values.specs.declared.member.Member.{Member}
-use Rattle.m17_lane.specs.Ends.{PushEnd, PopEnd, AreOf}
+use Rattle.m17_lane.specs.Ends.{PopEnd, AreOf}
 use Rattle.m17_rows.specs.Rows.{as_new_popper}
 use Rattle.m17_grid.specs.Columns.{IsGrid}
 use Rattle.m17_roll.specs.Closing.{AreAll}
 use Rattle.m17_roll.specs.Seat.{RollView, AreNew}
 use Rattle.m17_receiver.specs.declared.receiver.Receiver.{Receiver}
 use Rattle.m17_receiver.specs.Devices as devices
-use Rattle.m17_receiver.specs.ReceiverDid.{ReceiverDid}
 use Rattle.m17_worker.specs.declared.worker.Worker.{Worker}
 use Rattle.m17_worker.specs.Ready.{Words}
-use Rattle.m17_worker.specs.WorkerDid.{HasWorked}
 use Rattle.m17_sender.specs.declared.sender.Sender.{Sender}
 use Rattle.m17_sender.specs.Places.{queues_of, cells_of}
 use Rattle.m17_sender.specs.Ready.{IsShaped}
-use Rattle.m17_sender.specs.Sent.{Sent}
 use Rattle.m17_wiring.specs.Ends.{AreLaid, ends_of}
-use Rattle.m17_wiring.specs.Rooms.{IsRoom, AreRooms}
 use Rattle.m17_parting.specs.Rows.{AreOfOnes}
 use Rattle.m17_reflect.specs.declared.parted.Links.{Links}
 use Rattle.m17_reflect.specs.declared.parted.Modules.{Modules}
 use Rattle.m17_reflect.specs.declared.parted.Voice.{Voice}
 use Rattle.m17_reflect.specs.Parted.{AreOfReceivers, AreOfWorkers, IsOfSender}
-use Rattle.m17_reflect.proofs.Came.{column_of, all_at}
+use Rattle.m17_reflect.proofs.Came.{all_at}
 use Rattle.m17_reflect.proofs.CameBack as back
 use Rattle.m17_reflect.proofs.CameBack.{HaveGone, queues_at, door_of, notes_at, inboxes_back, queues_back, door_back, notes_back}
 use Rattle.m17_reflect.proofs.Ends.{map_twice, CanFinish}
 use Rattle.m17_reflect.proofs.Gave.{worker_seat}
-use Rattle.m17_reflect.proofs.Gone.{zip_from}
 use Rattle.m17_reflect.proofs.Launched.{zip_less, as_ones}
 use Rattle.m17_reflect.proofs.Modules.{inbox_of, map_beside}
-use Rattle.m17_reflect.proofs.Routes.{at_below, below_at}
 use Rattle.m17_reflect.proofs.Seats.{seat_of}
 use Rattle.m17_reflect.proofs.SeatsBack.{seats_back}
-use Rattle.m17_reflect.proofs.Together.{mapped_at, unmapped}
 
 -- Jobs that went, and what they were taken apart into.
 pub record Apart {E M B : Type 0} (ew : devices.Words E B) (bw : Words B) (js ks : List (Receiver E B)) (ws vs : List (Worker B))

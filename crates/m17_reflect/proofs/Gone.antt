@@ -1,6 +1,6 @@
 -- Each job of a run went, or each only quit, by what it was told.
-use Rattle.std.proofs.Common.{◌≡◌, ℕ, zero, suc, ◌<◌, Bool, true, false, List, [], ◌∷◌, ◌++◌, map, length, Option, Some, sym, subst, refl, ap, ◌∙◌, inl, inr, arith}
-use Rattle.std.specs.Prelude.{◌⊎◌, ◌≢◌, slice_get, if◌then◌else◌}
+use Rattle.std.proofs.Common.{◌≡◌, ℕ, suc, Bool, true, false, List, [], ◌∷◌, map, length, Some, refl, ap, ◌∙◌, inl, inr, arith}
+use Rattle.std.specs.Prelude.{◌≢◌, slice_get, if◌then◌else◌}
 use Rattle.std.specs.List.{AllZip}
 use Rattle.std.proofs.lemmas.Slice.Zip.{AllZip-long}
 use Rattle.m17_values.specs.declared.heard.Heard.{Heard}
@@ -8,12 +8,11 @@ use Rattle.m17_crew.specs.declared.order.Order.{Order}
 use Rattle.m17_crew.specs.declared.order.Order.TheVariants.{Go, Quit, Stop}
 use Rattle.m17_crew.specs.Laws.{Ran}
 use Rattle.m17_lane.specs.Ends.{PushEnd, PopEnd}
-use Rattle.m17_rows.specs.Rows.{IsNewPopper}
 use Rattle.m17_rows.specs.Starts.{HasStarted}
 use Rattle.m17_rows.specs.Laws.{RowsPush, FirstOrderDecides}
 use Rattle.m17_receiver.specs.declared.receiver.Receiver.{Receiver}
 use Rattle.m17_receiver.specs.Devices as devices
-use Rattle.m17_receiver.specs.ReceiverDid.{ReceiverDid, HasGone}
+use Rattle.m17_receiver.specs.ReceiverDid.{ReceiverDid}
 use Rattle.m17_worker.specs.declared.worker.Worker.{Worker}
 use Rattle.m17_worker.specs.Ready.{Words}
 use Rattle.m17_worker.specs.WorkerDid.{WorkerDid, HasWorked}

@@ -1,5 +1,5 @@
 -- The rows of queues that came back, and the sender that only quit.
-use Rattle.std.proofs.Common.{◌≡◌, ℕ, ◌≤◌, ◌<◌, List, [], ◌∷◌, map, length, Some, vec_len, sym, subst, refl, ap, ◌∙◌, arith}
+use Rattle.std.proofs.Common.{◌≡◌, ℕ, ◌≤◌, List, [], ◌∷◌, map, length, Some, vec_len, sym, subst, refl, ap, ◌∙◌, arith}
 use Rattle.std.specs.Prelude.{slice_get, Vec}
 use Rattle.std.specs.List.{AllZip}
 use Rattle.std.proofs.lemmas.List.{length-map}
@@ -8,7 +8,7 @@ use Rattle.m17_control.specs.declared.item.Item.{Item}
 use Rattle.m17_crew.specs.declared.order.Order.{Order}
 use Rattle.m17_crew.specs.declared.order.Order.TheVariants.{Quit}
 use Rattle.m17_crew.specs.Laws.{Ran}
-use Rattle.m17_lane.specs.Ends.{PushEnd, PopEnd}
+use Rattle.m17_lane.specs.Ends.{PushEnd}
 use Rattle.m17_lane.specs.declared.popper.Popper.{Popper}
 use Rattle.m17_rows.specs.Rows.{as_new_popper}
 use Rattle.m17_sender.specs.declared.sender.Sender.{Sender}

@@ -1,14 +1,11 @@
 -- What follows of jobs that were launched: their orders can be finished, and what they did is known then.
-use Rattle.std.proofs.Common.{◌≡◌, ℕ, zero, suc, ◌+◌, ◌<◌, ◌≤◌, List, [], ◌∷◌, ◌++◌, map, length, All, Some, sym, subst, refl, ap, ◌∙◌, inl, inr, arith}
-use Rattle.std.specs.Prelude.{◌⊎◌, slice_get}
+use Rattle.std.proofs.Common.{◌≡◌, List, [], ◌∷◌, map, length, sym, subst, refl, ap, inl, inr, arith}
 use Rattle.std.specs.List.{AllZip}
-use Rattle.std.proofs.lemmas.List.{length-map}
 use Rattle.std.proofs.lemmas.Slice.Zip.{AllZip-long}
 use Rattle.m17_crew.specs.declared.order.Order.{Order}
-use Rattle.m17_crew.specs.declared.order.Order.TheVariants.{Go, Quit, Stop}
 use Rattle.m17_crew.specs.Laws.{Ran}
 use Rattle.m17_lane.specs.Ends.{PushEnd, PopEnd, TrailEnd}
-use Rattle.m17_rows.specs.Rows.{as_new_popper, push_each}
+use Rattle.m17_rows.specs.Rows.{push_each}
 use Rattle.m17_rows.specs.Laws.{RowsPush}
 use Rattle.m17_grid.specs.Trails.{AreTrailsOfOnes}
 use Rattle.m17_launch.specs.Groups.{Staff, WereTold}

@@ -57,3 +57,4 @@ pub mod Space
 pub mod Over
 pub mod SameDevices
 pub mod Heads
+pub mod Told

@@ -1,6 +1,5 @@
 -- The orders' lanes can be finished, and what the sender did follows from what it was told.
-use Rattle.std.proofs.Common.{◌≡◌, ℕ, zero, suc, ◌<◌, Bool, true, false, List, [], ◌∷◌, ◌++◌, map, length, Some, sym, subst, refl, ap, ◌∙◌, inl, inr, arith}
-use Rattle.std.specs.Prelude.{◌⊎◌, slice_get, if◌then◌else◌}
+use Rattle.std.proofs.Common.{◌≡◌, Bool, true, false, List, [], ◌∷◌, ◌++◌, map, sym, subst, refl, ap, ◌∙◌, inl, inr}
 use Rattle.std.specs.List.{AllZip}
 use Rattle.std.proofs.lemmas.List.{append_assoc}
 use Rattle.std.proofs.lemmas.Slice.Zip.{AllZip-long}
@@ -9,9 +8,9 @@ use Rattle.m17_crew.specs.declared.order.Order.{Order}
 use Rattle.m17_crew.specs.declared.order.Order.TheVariants.{Go, Quit, Stop}
 use Rattle.m17_crew.specs.Laws.{Ran}
 use Rattle.m17_lane.specs.Ends.{PushEnd, PopEnd, TrailEnd}
-use Rattle.m17_rows.specs.Rows.{as_new, as_new_popper, push_each, IsNewPopper}
+use Rattle.m17_rows.specs.Rows.{as_new_popper, push_each}
 use Rattle.m17_rows.specs.Starts.{HasStarted}
-use Rattle.m17_rows.specs.Laws.{RowsPush, FirstOrderDecides}
+use Rattle.m17_rows.specs.Laws.{RowsPush}
 use Rattle.m17_grid.specs.Trails.{AreTrailsOfOnes}
 use Rattle.m17_receiver.specs.declared.receiver.Receiver.{Receiver}
 use Rattle.m17_receiver.specs.Devices as devices
@@ -23,7 +22,7 @@ use Rattle.m17_sender.specs.declared.sender.Sender.{Sender}
 use Rattle.m17_sender.specs.Sent.{Sent, SenderDid}
 use Rattle.m17_wiring.specs.Ends.{IsNewLine}
 use Rattle.m17_reflect.proofs.Orders.{OrdersCame, order_came}
-use Rattle.m17_reflect.proofs.Gone.{Laws, receiver_order, worker_order, told_go, told_quit, stayed, went, quit_is_no_stop}
+use Rattle.m17_reflect.proofs.Gone.{Laws, receiver_order, worker_order, told_go, stayed, quit_is_no_stop}
 use Rattle.m17_reflect.proofs.Ends.{zip_same, map_twice, line_back, CanFinish}
 
 -- the order's end stays that of its lane

@@ -19,7 +19,7 @@ use Rattle.m17_rows.specs.Rows.{IsNewRow}
 use Rattle.m17_rows.specs.Laws.{RowsPush}
 use Rattle.m17_grid.specs.Trails.{IsTrailOf, AreTrailsOfOnes}
 use Rattle.m17_receiver.specs.declared.receiver.Receiver.{Receiver}
-use Rattle.m17_receiver.specs.Devices.{Words, IsCounted}
+use Rattle.m17_receiver.specs.Devices.{Words}
 use Rattle.m17_sender.specs.declared.sender.Sender.{Sender}
 use Rattle.m17_sender.specs.Places.{cells_of, held_at, popped_at, queues_of}
 use Rattle.m17_sender.specs.Sent.{EachMouth, SaidByLink, Sent}
@@ -97,7 +97,6 @@ pub record IsSentOut {E B M L : Type 0} (words : Words E B) (tells : M → Mouth
     (links : List Link) (e : Ended E B M) : Type 0 where
   pub members : AreMembers run links
   pub differ : (i : ℕ) (link : Link) → At links i link → ClaimsDiffer link.entries
-  pub counted : (i : ℕ) (link : Link) → At links i link → IsCounted link.heard
   pub are : AreReceivers run.plan e.js
   pub came : AllZip3 (Came words) e.js e.ks links
   pub sent : Sent tells e.first e.last e.order
@@ -200,9 +199,9 @@ module _ {E B M L : Type 0} where
       let inside = below_at links i link at in
       let (j, at_j) = at_below e.js i (omega (arith, lens.1)) in
       let (k, at_k) = at_below e.ks i (omega (arith, lens.0, lens.1)) in
-      let says = (zip3_at (Came words) e.js e.ks links h.came i j k link at_j at_k at).is_link.says in
+      let came = zip3_at (Came words) e.js e.ks links h.came i j k link at_j at_k at in
       are_its laws.noted run links i link h.sent.acts h.rest.acts k.notes.popped x h.members at (say_all laws words tells run links e h)
-      (are_noted laws words tells run links e h i link j k at at_j at_k) says (h.counted i link at)
+      (are_noted laws words tells run links e h i link j k at at_j at_k) came.is_link.says came.counted
 
   -- all that the queues carry for it is for its memberships
   shares : (laws : Laws L) (words : Words E B) (tells : M → MouthTold L) (run : Run L) (links : List Link) (e : Ended E B M) → IsSentOut words tells run links e → (i : ℕ) (link : Link) (x : Peer) → At links i link → IsForMemberships (link_setup run.plan i) link.entries run.handed.queues x
@@ -224,11 +223,11 @@ module _ {E B M L : Type 0} where
       let (k, at_k) = at_below e.ks i (omega (arith, lens.0, lens.1)) in
       let say = say_all laws words tells run links e h in
       let said = said_by laws words tells run links e h i before after at_b at_a in
-      let says = (zip3_at (Came words) e.js e.ks links h.came i j k link at_j at_k at).is_link.says in
+      let came = zip3_at (Came words) e.js e.ks links h.came i j k link at_j at_k at in
       sends laws.peers acts more (carried run.handed.queues) (items_of e.door.order) (link_setup run.plan i) link.entries said.datagrams before after
       (record { say = say; door = all_answered laws words tells run links e h })
       ((its_door laws words tells run links e h).parts i link at)
-      (λ x. are_its laws.noted run links i link acts more k.notes.popped x h.members at say (are_noted laws words tells run links e h i link j k at at_j at_k) says (h.counted i link at))
+      (λ x. are_its laws.noted run links i link acts more k.notes.popped x h.members at say (are_noted laws words tells run links e h i link j k at at_j at_k) came.is_link.says came.counted)
       said.spelled said.said
 
   -- What each mouth says.

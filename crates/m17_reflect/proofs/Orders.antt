@@ -1,15 +1,13 @@
 -- What the jobs of a group were told, and that each got the first of it.
-use Rattle.std.proofs.Common.{◌≡◌, ℕ, zero, suc, ◌<◌, List, [], ◌∷◌, ◌++◌, map, length, Option, Some, sym, subst, refl, ap, ◌∙◌, arith}
+use Rattle.std.proofs.Common.{◌≡◌, ℕ, List, [], ◌++◌, map, length, Some, sym, ap, ◌∙◌, arith}
 use Rattle.std.specs.Prelude.{slice_get}
-use Rattle.std.specs.List.{AllZip}
 use Rattle.std.specs.Option.{option_map}
 use Rattle.std.proofs.lemmas.List.{length-map}
-use Rattle.std.proofs.lemmas.Slice.Zip.{AllZip-long}
 use Rattle.m17_crew.specs.declared.order.Order.{Order}
-use Rattle.m17_lane.specs.Ends.{PushEnd, PopEnd, TrailEnd, new_popper, new_pusher}
+use Rattle.m17_lane.specs.Ends.{PushEnd, PopEnd, TrailEnd}
 use Rattle.m17_rows.specs.Rows.{pushes, push_each, IsNewPopper}
 use Rattle.m17_rows.specs.Laws.{RowsPush}
-use Rattle.m17_grid.specs.Trails.{IsTrailOfOne, AreTrailsOfOnes}
+use Rattle.m17_grid.specs.Trails.{AreTrailsOfOnes}
 use Rattle.m17_wiring.specs.Ends.{IsNewLine}
 use Rattle.m17_reflect.proofs.Routes.{at_below, below_at}
 use Rattle.m17_reflect.proofs.Together.{mapped_at}

@@ -1,8 +1,7 @@
 -- A run whose calls have returned, as its devices and what came back show it.
-use Rattle.std.proofs.Common.{◌≡◌, ℕ, zero, suc, ◌+◌, ◌<◌, Bool, List, [], ◌∷◌, ◌++◌, map, length, All, Option, Some, sym, subst, refl, ap, ◌∙◌, arith}
-use Rattle.std.specs.Prelude.{◌||◌, slice_get, slice_index_or}
-use Rattle.std.specs.List.{AllZip, list_any}
-use Rattle.std.proofs.lemmas.List.{length-map}
+use Rattle.std.proofs.Common.{◌≡◌, ℕ, Bool, List, [], ◌∷◌, ◌++◌, map, length, All, Option, sym, subst, refl, ap, ◌∙◌, arith}
+use Rattle.std.specs.Prelude.{◌||◌}
+use Rattle.std.specs.List.{AllZip}
 use Rattle.std.proofs.lemmas.List.Elements.{recursion_from_All}
 use Rattle.atomic_table.specs.Seated.{TableId}
 use Rattle.m17_values.specs.declared.heard.Heard.{Heard}
@@ -12,7 +11,7 @@ use Rattle.m17_control.specs.declared.item.Item.{Item}
 use Rattle.m17_control.specs.declared.item.Direct.{Direct}
 use Rattle.m17_floor.specs.declared.verdict.Verdict.{Verdict}
 use Rattle.m17_directory.specs.declared.verdict.LinkVerdict.{LinkVerdict}
-use Rattle.m17_lane.specs.Ends.{PushEnd, PopEnd, TrailEnd}
+use Rattle.m17_lane.specs.Ends.{PopEnd, TrailEnd}
 use Rattle.m17_grid.specs.Trails as grid
 use Rattle.m17_grid.specs.Trails.{IsTrailOf, AreTrailsOfOnes}
 use Rattle.m17_roll.specs.Closing.{EndView, AreAll}
@@ -21,7 +20,6 @@ use Rattle.m17_receiver.specs.declared.receiver.Receiver.{Receiver}
 use Rattle.m17_worker.specs.declared.worker.Worker.{Worker}
 use Rattle.m17_sender.specs.declared.sender.Sender.{Sender}
 use Rattle.m17_sender.specs.Places.{queues_of, cells_of}
-use Rattle.m17_parting.specs.Left.{drained}
 use Rattle.m17_parting.specs.Rest.{SaysRest}
 use Rattle.m17_parting.specs.Rows.{AreOfOnes, AreRowsOfTrails}
 use Rattle.m17_house.specs.declared.plan.Plan.{Plan}
@@ -35,19 +33,16 @@ use Rattle.m17_reflect.specs.Parted.{AreOfReceivers, AreOfWorkers, IsOfSender}
 use Rattle.m17_reflect.specs.Run.{Run, Devices, Handed}
 use Rattle.m17_reflect.specs.Views as views
 use Rattle.m17_reflect.specs.Views.{Words, Kinds}
-use Rattle.m17_reflect.proofs.AllQueues.{lost_of}
-use Rattle.m17_reflect.proofs.Assembled.{Course, Jobs, Made, run_of, shows, hands, ear_words, book_words}
+use Rattle.m17_reflect.proofs.Assembled.{Course, run_of, shows, hands, ear_words, book_words}
 use Rattle.m17_reflect.proofs.Calls.{Cast, Raw, Back}
-use Rattle.m17_reflect.proofs.Came.{ear_tells, trace_tells, tape_of, column_of, all_at}
+use Rattle.m17_reflect.proofs.Came.{column_of}
 use Rattle.m17_reflect.proofs.CameBack.{queues_at, door_of, notes_at}
 use Rattle.m17_reflect.proofs.Ends.{map_twice}
-use Rattle.m17_reflect.proofs.Failed.{trace_failed_of, book_failed_of}
 use Rattle.m17_reflect.proofs.Gave.{worker_seat}
-use Rattle.m17_reflect.proofs.Modules.{inbox_of}
 use Rattle.m17_reflect.proofs.RowsBack.{rows_made, rows_trails}
 use Rattle.m17_reflect.proofs.Seats.{seat_of}
 use Rattle.m17_reflect.proofs.Whole.{Laws, IsOver, whole}
-use Rattle.m17_reflect.proofs.Worked.{Rows, book_tells}
+use Rattle.m17_reflect.proofs.Worked.{Rows}
 
 -- What `gather` says.
 pub record Gathered {E M B L : Type 0} (words : Words E M B L) (links : Links E B) (modules : Modules B) (voice : Voice M)

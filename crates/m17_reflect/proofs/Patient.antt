@@ -20,7 +20,7 @@ use Rattle.m17_reflect.specs.Links.{Link, At, link_setup, setup_at}
 use Rattle.m17_reflect.specs.Run.{Run, module_count}
 use Rattle.m17_reflect.specs.Trails.{events_of}
 use Rattle.m17_reflect.specs.Queues.{QueuesCarry}
-use Rattle.m17_reflect.specs.Patience.{IsFullWhenTaken, PlacesAreFull}
+use Rattle.m17_reflect.specs.Patience.{AreSeats, IsFullWhenTaken, PlacesAreFull}
 use Rattle.m17_reflect.proofs.AllQueues.{patient_misses_none}
 use Rattle.m17_wiring.specs.Jobs.{AreReceivers}
 use Rattle.m17_reflect.proofs.Came.{Came}
@@ -28,7 +28,7 @@ use Rattle.m17_reflect.proofs.Differ.{claim_in}
 use Rattle.m17_reflect.proofs.Joining.{claims_in}
 use Rattle.m17_reflect.proofs.Routes.{at_below, below_at}
 use Rattle.m17_reflect.proofs.Found.{contains_at, get_front}
-use Rattle.m17_reflect.proofs.Seats.{contained, IsRollOf, roll_claims, claims_placed, impatient_full}
+use Rattle.m17_reflect.proofs.Seats.{contained, IsRollOf, roll_claims, claims_placed, seats_are, impatient_full}
 use Rattle.m17_reflect.proofs.There.{is_at}
 use Rattle.m17_reflect.proofs.Together.{AllZip3, zip3_at, zip3_length}
 
@@ -97,6 +97,7 @@ module _ {L E B : Type 0} where
     pub roll : IsRollOf ks others run.handed.roll
     pub ended : IsEnded run.handed.roll
     pub places : length run.handed.roll.words ≡ run.plan.places
+    pub workers : length others ≡ module_count run.plan
 
   patient_at : (words : Words E B) (run : Run L) (js ks : List (Receiver E B)) (links : List Link) (others : List RollView) → HasRoll words run js ks links others → run.plan.patient ≡ true → (i : ℕ) (link : Link) → At links i link
       → ClaimsAreAsked (link_setup run.plan i) link.entries × ((n : ℕ) → n < length link.entries → asks_at (past_at (link_setup run.plan i) link.entries n) ≡ true → IsPatientAt (link_setup run.plan i) link.entries n)
@@ -126,6 +127,11 @@ module _ {L E B : Type 0} where
       subst (λ (ms : List Member). Contains ms claim.member) (sym claims) (link_contained links i link claim.member e (claim_contained link.entries first claim there)) in
       (claim.member.generation, subst (λ (m : Member). Contains run.handed.roll.claimed m) (ap make at) found)
 
+  its_seats : (words : Words E B) (run : Run L) (js ks : List (Receiver E B)) (links : List Link) (others : List RollView) → HasRoll words run js ks links others → AreSeats run links
+  its_seats words run js ks links others h =
+      let lens = zip3_length (Came words) js ks links h.came in
+      seats_are run links ks others h.roll (lens.0 ∙ sym lens.1) h.workers
+
   -- who found no place in a run that is patient
   pub patient_full : Laws → (words : Words E B) (run : Run L) (js ks : List (Receiver E B)) (links : List Link) (others : List RollView) → HasRoll words run js ks links others → run.plan.patient ≡ true → All (λ count. count ≡ 0) run.handed.missed → PlacesAreFull run links
   patient_full laws words run js ks links others h patient missed = record {
@@ -136,13 +142,14 @@ module _ {L E B : Type 0} where
     };
     impatient = λ no. absurd (let wrong : true ≡ false = sym patient ∙ no in cc);
     any = full_when_taken laws words run js ks links others h patient;
+    seats = its_seats words run js ks links others h;
   }
 
   full_by : Laws → (words : Words E B) (run : Run L) (js ks : List (Receiver E B)) (links : List Link) (others : List RollView) (patient : Bool) → run.plan.patient ≡ patient → HasRoll words run js ks links others → QueuesCarry run → length run.handed.trails ≡ module_count run.plan → PlacesAreFull run links
   full_by laws words run js ks links others true is h carried trails =
       patient_full laws words run js ks links others h is (patient_missed run carried trails is)
   full_by laws words run js ks links others false is h carried trails =
-      impatient_full words run js ks links others h.receivers h.came h.roll h.ended is
+      impatient_full words run js ks links others h.receivers h.came h.roll h.ended (its_seats words run js ks links others h) is
 
   -- who found no place in any run
   pub who_is_full : Laws → (words : Words E B) (run : Run L) (js ks : List (Receiver E B)) (links : List Link) (others : List RollView) → HasRoll words run js ks links others → QueuesCarry run → length run.handed.trails ≡ module_count run.plan → PlacesAreFull run links

@@ -1,14 +1,9 @@
 -- The queues of all modules, finished and drained, as the rows that the headline speaks of.
-use Rattle.std.proofs.Common.{◌≡◌, ℕ, zero, suc, ◌<◌, List, [], ◌∷◌, ◌++◌, map, length, Some, sym, subst, refl, ap, ◌∙◌, arith}
+use Rattle.std.proofs.Common.{◌≡◌, ℕ, zero, suc, List, [], ◌∷◌, map, length, Some, subst, refl, ap, arith}
 use Rattle.std.specs.Prelude.{slice_get}
-use Rattle.std.specs.List.{AllZip}
-use Rattle.std.proofs.lemmas.List.{length-map}
 use Rattle.std.proofs.lemmas.Option.{none-some, same_Some}
-use Rattle.std.proofs.lemmas.Slice.Zip.{AllZip-long}
 use Rattle.m17_control.specs.declared.item.Item.{Item}
-use Rattle.m17_lane.specs.Ends.{PushEnd, PopEnd, TrailEnd}
-use Rattle.m17_lane.specs.Orders.{items_of}
-use Rattle.m17_rows.specs.Rows.{as_new_popper}
+use Rattle.m17_lane.specs.Ends.{PopEnd, TrailEnd}
 use Rattle.m17_worker.specs.declared.worker.Worker.{Worker}
 use Rattle.m17_parting.specs.Left.{drained}
 use Rattle.m17_parting.specs.Rows.{AreRowsOfTrails}
@@ -17,7 +12,6 @@ use Rattle.m17_reflect.specs.Links.{At}
 use Rattle.m17_reflect.proofs.AllQueues.{QueuesBack}
 use Rattle.m17_reflect.proofs.CameBack.{queues_at}
 use Rattle.m17_reflect.proofs.Drained.{row_drained, queues_drained}
-use Rattle.m17_reflect.proofs.Routes.{at_below, below_at}
 use Rattle.m17_reflect.proofs.Together.{mapped_at}
 use Rattle.m17_reflect.proofs.Worked.{Rows}
 

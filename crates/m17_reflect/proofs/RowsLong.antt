@@ -1,5 +1,5 @@
 -- The rows of trails are as long as the rows of ends that they were made of.
-use Rattle.std.proofs.Common.{◌≡◌, List, map, length, sym, ◌∙◌, arith}
+use Rattle.std.proofs.Common.{◌≡◌, List, map, length, arith}
 use Rattle.std.specs.List.{AllZip}
 use Rattle.std.proofs.lemmas.Slice.Zip.{AllZip-long}
 use Rattle.m17_lane.specs.Ends.{PushEnd, PopEnd, TrailEnd}

@@ -4,6 +4,7 @@ use Rattle.std.specs.Prelude.{◌==◌, slice_get, slice_index_or, filter, Conta
 use Rattle.std.specs.List.{AllByRecursion, range_with_len}
 use Rattle.std.proofs.lemmas.Bool.{eqb-true}
 use Rattle.std.proofs.lemmas.Bool.Decides.{nat_tests}
+use Rattle.std.proofs.lemmas.List.{length-append, length-map}
 use Rattle.std.proofs.lemmas.Option.{same_Some, none-some}
 use Rattle.std.proofs.lemmas.List.Elements.{recursion_from_All, All-contains_itself}
 use Rattle.m17_values.specs.declared.member.Member.{Member}
@@ -17,10 +18,11 @@ use Rattle.m17_receiver.specs.declared.receiver.Receiver.{Receiver}
 use Rattle.m17_receiver.specs.Devices.{Words}
 use Rattle.m17_receiver.specs.Claims.{turned_away}
 use Rattle.m17_reflect.specs.Links.{Link, At, link_setup}
-use Rattle.m17_reflect.specs.Run.{Run}
-use Rattle.m17_reflect.specs.Patience.{AreTurnedAway, IsFullWhenTaken, PlacesAreFull}
+use Rattle.m17_reflect.specs.Run.{Run, module_count}
+use Rattle.m17_reflect.specs.Patience.{AreSeats, AreTurnedAway, IsFullWhenTaken, PlacesAreFull}
 use Rattle.m17_wiring.specs.Jobs.{AreReceivers}
-use Rattle.m17_reflect.proofs.Came.{Came}
+use Rattle.m17_reflect.proofs.Came.{Came, all_at}
+use Rattle.m17_reflect.proofs.Found.{get_behind}
 use Rattle.m17_reflect.proofs.Joining.{claims_in}
 use Rattle.m17_reflect.proofs.Routes.{at_below, below_at}
 use Rattle.m17_reflect.proofs.There.{is_at}
@@ -42,9 +44,13 @@ claims_append [] ys = refl
 claims_append (x ∷ xs) ys =
     ap (λ (l : List Member). x.claimed ++ l) (claims_append xs ys) ∙ sym (append_assoc_claims x.claimed (claims_of xs) (claims_of ys))
 
-no_claims : (seats : List RollView) → AllByRecursion (λ (s : RollView). s.claimed ≡ []) seats → claims_of seats ≡ []
+-- the seat claimed nothing and refused nobody
+abbrev pub TookNone : RollView → Type 0
+TookNone s = (s.claimed ≡ []) × (s.refused ≡ [])
+
+no_claims : (seats : List RollView) → AllByRecursion TookNone seats → claims_of seats ≡ []
 no_claims [] h = refl
-no_claims (s ∷ seats) h = ap (λ (l : List Member). l ++ claims_of seats) h.0 ∙ no_claims seats h.1
+no_claims (s ∷ seats) h = ap (λ (l : List Member). l ++ claims_of seats) h.0.0 ∙ no_claims seats h.1
 
 seat_claims : {E B : Type 0} (words : Words E B) (js ks : List (Receiver E B)) (links : List Link) → AllZip3 (Came words) js ks links → claims_of (map seat_of ks) ≡ claims_in links
 seat_claims words [] [] [] h = refl
@@ -61,7 +67,7 @@ pub record IsRollOf {E B : Type 0} (ks : List (Receiver E B)) (others : List Rol
     : Type 0 where
   pub claimed : roll.claimed ≡ claims_of (map seat_of ks ++ others)
   pub refused : roll.refused ≡ map (λ (s : RollView). s.refused) (map seat_of ks ++ others)
-  pub no_other : AllByRecursion (λ (s : RollView). s.claimed ≡ []) others
+  pub no_other : AllByRecursion TookNone others
 
 module _ {E B : Type 0} where
   -- all that was claimed are the links' claims
@@ -158,11 +164,26 @@ module _ {L E B : Type 0} where
       ∙ mapped_at (λ (s : RollView). s.refused) (map seat_of ks ++ others) i k.seat (at_front (map seat_of ks) others i k.seat (mapped_at seat_of ks i k at_k))
       ∙ ap Some (c.claimed.refused (it.patient ∙ impatient) ∙ ap (λ (s : Setup). turned_away s link.entries) it.setup)
 
+  -- the seats behind those of the links
+  pub seats_are : (run : Run L) (links : List Link) (ks : List (Receiver E B)) (others : List RollView) → IsRollOf ks others run.handed.roll → length ks ≡ length links → length others ≡ module_count run.plan → AreSeats run links
+  seats_are run links ks others is long count =
+      let front = map seat_of ks in
+      let first : length front ≡ length links = length-map ks seat_of ∙ long in record {
+        count = ap length is.refused ∙ length-map (front ++ others) (λ (s : RollView). s.refused) ∙ omega (arith, length-append front others, first, count);
+        modules = λ m less.
+            let (s, at) = at_below others m (omega (arith, count)) in
+            let there : slice_get (front ++ others) (length links + m) ≡ Some s = ap (λ (n : ℕ). slice_get (front ++ others) (n + m)) (sym first) ∙ get_behind front others m ∙ at in
+            ap (λ (l : List (List ℕ)). slice_get l (length links + m)) is.refused
+            ∙ mapped_at (λ (s : RollView). s.refused) (front ++ others) (length links + m) s there
+            ∙ ap Some (all_at TookNone others is.no_other m s at).1;
+      }
+
   -- who found no place in a run that isn't patient
-  pub impatient_full : (words : Words E B) (run : Run L) (js ks : List (Receiver E B)) (links : List Link) (others : List RollView) → AreReceivers run.plan js → AllZip3 (Came words) js ks links → IsRollOf ks others run.handed.roll → IsEnded run.handed.roll → run.plan.patient ≡ false → PlacesAreFull run links
-  impatient_full words run js ks links others are h is ended impatient =
+  pub impatient_full : (words : Words E B) (run : Run L) (js ks : List (Receiver E B)) (links : List Link) (others : List RollView) → AreReceivers run.plan js → AllZip3 (Came words) js ks links → IsRollOf ks others run.handed.roll → IsEnded run.handed.roll → AreSeats run links → run.plan.patient ≡ false → PlacesAreFull run links
+  impatient_full words run js ks links others are h is ended seats impatient =
       let away = turned_away_are words run js ks links others are h is impatient in record {
         patient = λ yes. absurd (let wrong : true ≡ false = sym yes ∙ impatient in cc);
         impatient = λ _. away;
         any = full_when_refused run links away ended;
+        seats = seats;
       }

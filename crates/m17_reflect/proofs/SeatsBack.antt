@@ -1,5 +1,5 @@
--- The seats that the jobs give back are all seats of one roll, and no worker claimed a place.
-use Rattle.std.proofs.Common.{◌≡◌, ℕ, zero, suc, ◌+◌, ◌<◌, List, [], ◌∷◌, ◌++◌, map, length, All, Some, sym, subst, refl, ap, ◌∙◌, arith}
+-- The seats that the jobs give back are all seats of one roll, and no worker claimed a place or refused anyone.
+use Rattle.std.proofs.Common.{◌≡◌, ℕ, zero, suc, ◌+◌, ◌<◌, List, [], ◌∷◌, ◌++◌, map, length, All, sym, subst, ap, ◌∙◌, arith}
 use Rattle.std.specs.Prelude.{replicate}
 use Rattle.std.specs.List.{AllZip, AllByRecursion}
 use Rattle.std.proofs.lemmas.List.{length-map}
@@ -14,7 +14,7 @@ use Rattle.m17_receiver.specs.ReceiverDid.{ReceiverDid}
 use Rattle.m17_worker.specs.declared.worker.Worker.{Worker}
 use Rattle.m17_worker.specs.Ready.{Words}
 use Rattle.m17_worker.specs.WorkerDid.{HasWorked}
-use Rattle.m17_reflect.proofs.Seats.{seat_of}
+use Rattle.m17_reflect.proofs.Seats.{seat_of, TookNone}
 use Rattle.m17_reflect.proofs.Gave.{worker_seat}
 use Rattle.m17_reflect.proofs.Ends.{zip_parts}
 
@@ -49,13 +49,13 @@ still_all roll seats places (suc n) (a ∷ before) (b ∷ after) e h =
     let rest : before ≡ replicate n (new_seat roll seats places) = cc in
     (seat_still roll seats places a b here h.0, still_all roll seats places n before after rest h.1)
 
-new_claims : (roll : TableId) (seats places n : ℕ) (before : List RollView) → before ≡ replicate n (new_seat roll seats places) → AllByRecursion (λ (s : RollView). s.claimed ≡ []) before
-new_claims roll seats places n [] e = tt
-new_claims roll seats places zero (a ∷ before) e = absurd cc
-new_claims roll seats places (suc n) (a ∷ before) e =
+new_took : (roll : TableId) (seats places n : ℕ) (before : List RollView) → before ≡ replicate n (new_seat roll seats places) → AllByRecursion TookNone before
+new_took roll seats places n [] e = tt
+new_took roll seats places zero (a ∷ before) e = absurd cc
+new_took roll seats places (suc n) (a ∷ before) e =
     let here : a ≡ new_seat roll seats places = cc in
     let rest : before ≡ replicate n (new_seat roll seats places) = cc in
-    (ap (λ (s : RollView). s.claimed) here, new_claims roll seats places n before rest)
+    ((ap (λ (s : RollView). s.claimed) here, ap (λ (s : RollView). s.refused) here), new_took roll seats places n before rest)
 
 behind : (P : RollView → Type 0) (xs ys : List RollView) → AllByRecursion P (xs ++ ys) → AllByRecursion P ys
 behind P [] ys h = h
@@ -83,15 +83,15 @@ module _ {E B : Type 0} where
       )
 
 module _ {B : Type 0} where
-  same_claims : (bw : Words B) (ws vs : List (Worker B)) → AllZip (HasWorked bw) ws vs → AllByRecursion (λ (s : RollView). s.claimed ≡ []) (map worker_seat ws) → AllByRecursion (λ (s : RollView). s.claimed ≡ []) (map worker_seat vs)
-  same_claims bw [] [] h none = tt
-  same_claims bw [] (v ∷ vs) h none = absurd h
-  same_claims bw (w ∷ ws) [] h none = absurd h
-  same_claims bw (w ∷ ws) (v ∷ vs) h none = (h.0.served.gave_back.lists.0 ∙ none.0, same_claims bw ws vs h.1 none.1)
+  same_took : (bw : Words B) (ws vs : List (Worker B)) → AllZip (HasWorked bw) ws vs → AllByRecursion TookNone (map worker_seat ws) → AllByRecursion TookNone (map worker_seat vs)
+  same_took bw [] [] h none = tt
+  same_took bw [] (v ∷ vs) h none = absurd h
+  same_took bw (w ∷ ws) [] h none = absurd h
+  same_took bw (w ∷ ws) (v ∷ vs) h none = ((h.0.served.gave_back.lists.0 ∙ none.0.0, h.0.served.gave_back.lists.2 ∙ none.0.1), same_took bw ws vs h.1 none.1)
 
-  -- no worker claimed a place
-  pub none_claimed : (bw : Words B) (others : List RollView) (ws vs : List (Worker B)) (places seats : ℕ) → AreNew places seats (others ++ map worker_seat ws) → AllZip (HasWorked bw) ws vs → AllByRecursion (λ (s : RollView). s.claimed ≡ []) (map worker_seat vs)
-  none_claimed bw others ws vs places seats new worked =
+  -- no worker claimed a place or refused anyone
+  pub none_took : (bw : Words B) (others : List RollView) (ws vs : List (Worker B)) (places seats : ℕ) → AreNew places seats (others ++ map worker_seat ws) → AllZip (HasWorked bw) ws vs → AllByRecursion TookNone (map worker_seat vs)
+  none_took bw others ws vs places seats new worked =
       let (roll, are) = new in
-      same_claims bw ws vs worked
-      (behind (λ (s : RollView). s.claimed ≡ []) others (map worker_seat ws) (new_claims roll seats places seats (others ++ map worker_seat ws) are))
+      same_took bw ws vs worked
+      (behind TookNone others (map worker_seat ws) (new_took roll seats places seats (others ++ map worker_seat ws) are))

@@ -1,8 +1,7 @@
 -- There is room for what jobs are taken apart into, and for the trails of their lanes.
-use Rattle.std.proofs.Common.{◌≡◌, ℕ, ◌+◌, ◌<◌, ◌≤◌, List, [], map, length, All, Some, vec_len, vec_capacity, sym, subst, refl, ap, ◌∙◌, arith}
+use Rattle.std.proofs.Common.{◌≡◌, ℕ, ◌≤◌, List, [], length, All, Some, vec_len, vec_capacity, sym, subst, arith}
 use Rattle.std.specs.Prelude.{slice_get, Vec}
 use Rattle.std.specs.List.{AllZip}
-use Rattle.std.proofs.lemmas.List.{length-map}
 use Rattle.std.proofs.lemmas.List.Elements.{recursion_from_All}
 use Rattle.m17_wiring.specs.Rooms.{IsRoom, AreRooms}
 use Rattle.m17_reflect.proofs.Came.{all_at}

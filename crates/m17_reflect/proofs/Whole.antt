@@ -1,34 +1,27 @@
 -- The headline of a run, from what its calls say: what was wired, what the jobs did, what was made of their ends, what was
 -- said behind them, and what the closed roll shows.
-use Rattle.std.proofs.Common.{◌≡◌, ℕ, zero, suc, ◌+◌, ◌<◌, List, [], ◌∷◌, ◌++◌, map, length, All, Some, sym, subst, refl, ap, ◌∙◌, arith}
-use Rattle.std.specs.Prelude.{slice_get, slice_index_or}
+use Rattle.std.proofs.Common.{◌≡◌, ℕ, zero, suc, ◌+◌, List, [], ◌∷◌, ◌++◌, map, length, Some, sym, subst, refl, ap, ◌∙◌, arith}
+use Rattle.std.specs.Prelude.{slice_get}
 use Rattle.std.specs.List.{AllZip}
 use Rattle.std.proofs.lemmas.List.{length-map}
 use Rattle.std.proofs.lemmas.Slice.Zip.{AllZip-long}
 use Rattle.m17_values.specs.declared.heard.Heard.{Heard}
 use Rattle.m17_values.specs.declared.member.Member.{Member}
-use Rattle.m17_ports.specs.Laws.{MouthsSayInTurn}
-use Rattle.m17_control.specs.declared.event.Event.{Event}
 use Rattle.m17_control.specs.declared.item.Direct.{Direct}
 use Rattle.m17_control.specs.declared.item.Item.{Item}
 use Rattle.m17_crew.specs.declared.order.Order.{Order}
 use Rattle.m17_crew.specs.declared.order.Order.TheVariants.{Go, Stop}
-use Rattle.m17_lane.specs.Ends.{PushEnd, PopEnd, TrailEnd, new_popper, new_pusher, new_pushers}
-use Rattle.m17_rows.specs.Rows.{IsNewRow, as_new_popper}
+use Rattle.m17_lane.specs.Ends.{PushEnd, PopEnd, TrailEnd, new_pushers}
+use Rattle.m17_rows.specs.Rows.{as_new_popper}
 use Rattle.m17_grid.specs.Trails as grid
 use Rattle.m17_grid.specs.Trails.{IsTrailOf, AreTrailsOfOnes}
 use Rattle.m17_roll.specs.Laws.{NoMemberIsClaimedTwice}
-use Rattle.m17_roll.specs.Seat.{RollView}
-use Rattle.m17_receiver.specs.declared.receiver.Receiver.{Receiver}
-use Rattle.m17_receiver.specs.Devices.{IsCounted}
 use Rattle.m17_receiver.specs.ReceiverDid.{ReceiverDid}
-use Rattle.m17_worker.specs.declared.worker.Worker.{Worker}
 use Rattle.m17_worker.specs.WorkerDid.{WorkerDid, HasWorked}
 use Rattle.m17_sender.specs.declared.sender.Sender.{Sender}
 use Rattle.m17_sender.specs.Places.{queues_of, cells_of}
 use Rattle.m17_sender.specs.Ready.{IsShaped}
 use Rattle.m17_sender.specs.Sent.{Sent, SenderDid}
-use Rattle.m17_wiring.specs.Ends.{IsNewLine, AreLaid, ends_of}
 use Rattle.m17_wiring.specs.Jobs.{AreJobs}
 use Rattle.m17_wiring.specs.Planned.{module_count}
 use Rattle.m17_parting.specs.Rest.{SaysRest}
@@ -38,7 +31,6 @@ use Rattle.m17_reflect.specs.Headline.{Headline}
 use Rattle.m17_reflect.specs.Links.{Link, At}
 use Rattle.m17_reflect.specs.Places.{ArePlacesBack}
 use Rattle.m17_reflect.specs.Queues.{QueuesCarry, carried}
-use Rattle.m17_reflect.specs.Run.{Run}
 use Rattle.m17_reflect.specs.Sendings.{MouthsSay}
 use Rattle.m17_reflect.proofs.Assembled as assembled
 use Rattle.m17_reflect.proofs.Assembled.{Course, Facts, OfLinks, Rest, run_of, ear_words, book_words, headline}
@@ -47,7 +39,7 @@ use Rattle.m17_reflect.proofs.AllPlaces as places
 use Rattle.m17_reflect.proofs.AllPlaces.{IsClosed, all_places}
 use Rattle.m17_reflect.proofs.Came.{column_of, Heared}
 use Rattle.m17_reflect.proofs.CameBack.{queues_at, door_of, notes_at}
-use Rattle.m17_reflect.proofs.Claimed.{IsRollOfRun, are_claims, are_members, members_differ, heard_counted, new_row}
+use Rattle.m17_reflect.proofs.Claimed.{IsRollOfRun, are_claims, are_members, members_differ, new_row}
 use Rattle.m17_reflect.proofs.Drained.{queues_back, carried_drained}
 use Rattle.m17_reflect.proofs.Failed.{failed_only_where}
 use Rattle.m17_reflect.proofs.Gone as gone
@@ -62,7 +54,7 @@ use Rattle.m17_reflect.proofs.Patient.{who_is_full}
 use Rattle.m17_reflect.proofs.Routes.{at_below, below_at}
 use Rattle.m17_reflect.proofs.RowsBack.{rows_made, rows_count, rows_trails, rows_back}
 use Rattle.m17_reflect.proofs.Seats.{seat_of}
-use Rattle.m17_reflect.proofs.SeatsBack.{none_claimed}
+use Rattle.m17_reflect.proofs.SeatsBack.{none_took}
 use Rattle.m17_reflect.proofs.Together.{AllZip3, zip_at}
 
 -- The laws that all rests on.
@@ -164,7 +156,7 @@ module _ {E M B L : Type 0} where
         roll = record {
           claimed = h.roll.claimed;
           refused = h.roll.refused;
-          no_other = none_claimed (book_words c.words) (map seat_of c.before.receivers) c.before.workers c.after.workers c.plan.places
+          no_other = none_took (book_words c.words) (map seat_of c.before.receivers) c.before.workers c.after.workers c.plan.places
               (length c.before.receivers + module_count c.plan) h.jobs.seats worked.worked;
         };
         ended = h.roll.ended;
@@ -179,8 +171,8 @@ module _ {E M B L : Type 0} where
       (record { of_seats = f.roll; given = h.roll.given; rises = h.roll.rising; run = h.roll.ended.run; places = h.places })
 
   -- what the mouths of the run say
-  its_mouths : (laws : Laws L) (c : Course E M B L) (s t : Sender M) → IsOver c s t → (heards : List (List Heard)) → Facts c heards → All IsCounted heards → (links : List Link) → map (λ (link : Link). link.heard) links ≡ heards → OfLinks c links → QueuesCarry (run_of c) → MouthsSay (run_of c) links
-  its_mouths laws c s t h heards f counted links of_heard o carry =
+  its_mouths : (laws : Laws L) (c : Course E M B L) (s t : Sender M) → IsOver c s t → (heards : List (List Heard)) → Facts c heards → (links : List Link) → OfLinks c links → QueuesCarry (run_of c) → MouthsSay (run_of c) links
+  its_mouths laws c s t h heards f links o carry =
       let sent = its_sender laws c s t h in
       let laid = h.jobs.laid in
       let back = its_places laws c s t h heards f links o in
@@ -193,7 +185,6 @@ module _ {E M B L : Type 0} where
       (record {
         members = are_members (run_of c) links o.trails carry of_run;
         differ = members_differ laws.claimed (run_of c) links of_run;
-        counted = heard_counted links heards of_heard counted;
         are = h.jobs.receivers;
         came = o.came;
         sent = sent;
@@ -230,12 +221,12 @@ module _ {E M B L : Type 0} where
       let (heards, heared) = all_heared (ear_words c.words) laws.gone c.before.receivers c.after.receivers h.receiver_lines h.received h.to_receivers in
       let f = facts laws c s t h heards heared in
       headline laws.assembled c heards f
-      (λ counted links of_heard o carry. record {
+      (λ links of_heard o carry. record {
         claims = are_claims laws.claimed (run_of c) links
             (record { roll = h.roll.ended.run; count = h.places; claims = o.claims; joins = (its_places laws c s t h heards f links o).joins }) o.asked;
         places = its_places laws c s t h heards f links o;
-        mouths = its_mouths laws c s t h heards f counted links of_heard o carry;
+        mouths = its_mouths laws c s t h heards f links o carry;
         full = who_is_full laws.patient (ear_words c.words) (run_of c) c.before.receivers c.after.receivers links (map worker_seat c.after.workers)
-            (record { receivers = f.are; came = o.came; roll = f.roll; ended = h.roll.ended; places = h.places }) carry o.trails.count;
+            (record { receivers = f.are; came = o.came; roll = f.roll; ended = h.roll.ended; places = h.places; workers = length-map c.after.workers worker_seat ∙ f.came_back ∙ f.worked.count }) carry o.trails.count;
       })
       (failed_only_where (ear_words c.words) (book_words c.words) c.before.receivers c.after.receivers heards c.before.workers c.after.workers heared f.worked.worked)

@@ -1,5 +1,5 @@
 -- For proofs: what comes back of a run whose jobs have ended.
-use Rattle.std.specs.Prelude.{◌≡◌, ◌++◌, ℕ, List, map, All}
+use Rattle.std.specs.Prelude.{◌≡◌, List, map, All}
 use Rattle.m17_values.specs.declared.member.Member.{Member}
 use Rattle.m17_ports.specs.Said.{MouthTold}
 use Rattle.m17_control.specs.declared.item.Direct.{Direct}

@@ -39,10 +39,11 @@ pub record IsCarriedOut {L : Type 0} (run : Run L) (heard : List (List Heard)) :
   pub full : PlacesAreFull run links
   pub lost : IsTrue run.handed.lost ↔ SomeLost links
 
--- The headline. It holds where what each ear heard is counted in 64 bits; a count that has come to
--- 2^64 - 1 stays there. This profile.
+-- The headline: what each ear heard, so much as is counted in 64 bits, and what became of it. This
+-- profile.
 pub record Headline {L : Type 0} (run : Run L) : Type 0 where
   pub heard : List (List Heard)
   pub ears : EarsHeard run heard
   pub causes : HasCauses run
-  pub carried_out : All IsCounted heard → IsCarriedOut run heard
+  pub counted : All IsCounted heard
+  pub carried_out : IsCarriedOut run heard

@@ -8,6 +8,7 @@ pub mod Queues
 pub mod Sendings
 pub mod Patience
 pub mod Headline
+pub mod Laws
 pub mod Views
 -- For proofs: jobs that are taken apart.
 pub mod Parted

@@ -1,14 +1,12 @@
 -- What each link of a reflector heard, and what it routes to each module. Links and modules are
 -- numbered from 0 in the order of the plan, modules in the order of their letters. This profile.
-use Rattle.std.specs.Prelude.{◌≡◌, ℕ, List, map, slice_get, slice_index, Some}
+use Rattle.std.specs.Prelude.{◌≡◌, ℕ, List, map, slice_get, Some}
 use Rattle.std.specs.List.{enumerate_from}
 use Rattle.m17_values.specs.declared.heard.Heard.{Heard}
 use Rattle.m17_control.specs.declared.event.Event.{Event}
-use Rattle.m17_control.specs.Modules.{letters_of}
-use Rattle.m17_directory.specs.Entries.{Entry, Setup, SaysEach}
+use Rattle.m17_directory.specs.Entries.{Entry, SaysEach}
 use Rattle.m17_directory.specs.Laws.{EndsOnce}
 use Rattle.m17_directory.specs.Routed.{routed}
-use Rattle.m17_module.specs.Items as module_items
 use Rattle.m17_house.specs.declared.plan.Plan.{Plan}
 pub use Rattle.m17_wiring.specs.Planned.{link_setup, letter_of, setup_at}
 

@@ -1,5 +1,5 @@
 -- When nothing is left out, who found no place, and when a link counts as lost. This profile.
-use Rattle.std.specs.Prelude.{◌≡◌, ◌⊎◌, ℕ, ◌<◌, true, false, IsTrue, List, length, All}
+use Rattle.std.specs.Prelude.{◌≡◌, ◌⊎◌, ℕ, ◌+◌, ◌<◌, true, false, IsTrue, List, [], length, All}
 use Rattle.m17_directory.specs.Routed.{past_at, asks_at, link_verdict}
 use Rattle.m17_directory.specs.Laws.{is_full}
 use Rattle.m17_io.specs.Faults.{HasRisen}
@@ -7,7 +7,7 @@ use Rattle.m17_roll.specs.Closing.{EveryPlaceStands}
 use Rattle.m17_receiver.specs.Claims.{turned_away, IsPatientAt, HasFreePlaceAt}
 use Rattle.m17_receiver.specs.Devices.{Tells, EndsInFaults}
 use Rattle.m17_reflect.specs.Links.{Link, At, link_setup}
-use Rattle.m17_reflect.specs.Run.{Run}
+use Rattle.m17_reflect.specs.Run.{Run, module_count}
 
 -- In a patient run nothing is left out; an entry that asks is Full exactly where as many other peers
 -- are still known as there are places; and each claim of a link's entry is of a place that none of
@@ -33,11 +33,19 @@ IsFullWhenTaken run links =
     is_full (link_verdict (link_setup run.plan i) link.entries n) ≡ true →
     EveryPlaceStands run.handed.roll.words run.handed.roll.claimed
 
+-- The roll has a seat for each link, and behind these one for each module, which refused nobody.
+-- This profile.
+pub record AreSeats {L : Type 0} (run : Run L) (links : List Link) : Type 0 where
+  pub count : length run.handed.roll.refused ≡ length links + module_count run.plan
+  pub modules : (m : ℕ) → m < module_count run.plan →
+      At run.handed.roll.refused (length links + m) []
+
 -- Who found no place: by patience or by the roll. This profile.
 pub record PlacesAreFull {L : Type 0} (run : Run L) (links : List Link) : Type 0 where
   pub patient : run.plan.patient ≡ true → IsPatientRun run links
   pub impatient : run.plan.patient ≡ false → AreTurnedAway run links
   pub any : IsFullWhenTaken run links
+  pub seats : AreSeats run links
 
 -- The count of some of these devices rose. This profile.
 pub record SomeRose {A : Type 0} (before after : List (Tells A)) : Type 0 where

@@ -1,11 +1,10 @@
 -- A run of the reflector, as it shows itself: the devices before and after, and what comes back
 -- beside them. This profile.
-use Rattle.std.specs.Prelude.{ℕ, Bool, List, length, Option}
+use Rattle.std.specs.Prelude.{ℕ, Bool, List, Option}
 use Rattle.m17_values.specs.declared.heard.Heard.{Heard}
 use Rattle.m17_ports.specs.Said.{MouthTold}
 use Rattle.m17_control.specs.declared.event.Event.{Event}
 use Rattle.m17_control.specs.declared.item.Item.{Item}
-use Rattle.m17_control.specs.Modules.{letters_of}
 use Rattle.m17_floor.specs.declared.verdict.Verdict.{Verdict}
 use Rattle.m17_directory.specs.declared.verdict.LinkVerdict.{LinkVerdict}
 use Rattle.m17_lane.specs.Ends.{TrailEnd}

@@ -1,5 +1,7 @@
-//! The laws of the crates below that a run rests on.
+//! What follows from the headline (`headline_tells`: it has no body, its clause is the law), and the laws of the crates
+//! below that a run rests on. This profile.
 ghost use Rattle.m17_reflect.specs.Known.{OfLanes, OfLinks, OfModules};
+ghost use Rattle.m17_reflect.specs.Laws.{HeadlineTells};
 
 use m17_control::{Direct, Event, Item};
 use m17_crew::Order;
@@ -10,6 +12,12 @@ use m17_roll::laws as roll;
 use m17_rows::laws as rows;
 use m17_turns::laws as turns;
 use m17_values::Member;
+
+/// What a link heard is what its ear tells, where it tells anything and told nothing before. So what the headline says of
+/// links is said of that list. This profile.
+pub fn headline_tells<L>()
+    ensures { HeadlineTells L }
+{}
 
 // Of lanes, rows, grids and the roll.
 #[inline]

@@ -13,7 +13,7 @@ mod bench;
 mod beside_tests;
 mod gather;
 mod jobs;
-mod laws;
+pub mod laws;
 #[cfg(test)]
 mod made_tests;
 #[cfg(test)]

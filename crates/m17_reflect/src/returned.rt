@@ -22,7 +22,7 @@ pub struct Returned<E, M, B> {
     pub trails: Vec<Trail<Event>>,
     /// For each module the finished queues of its places.
     pub queues: Vec<Vec<Trail<Item>>>,
-    /// The closed roll: its seats are those of the receivers, in the order of the links, and then those of the workers.
+    /// The closed roll: it has a seat for each link, in their order, and then one for each module.
     pub roll: RollEnd,
     /// How many items of each module were left out at full queues; a count stays at 2^64 - 1.
     pub missed: Vec<u64>,

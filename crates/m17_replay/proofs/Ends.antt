@@ -12,10 +12,13 @@ use Rattle.m17_values.specs.declared.heard.Heard.{Heard}
 use Rattle.m17_book.specs.Book.{IsTrace}
 use Rattle.m17_directory.specs.Entries.{Entry, peers_named}
 use Rattle.m17_house.specs.declared.plan.Plan.{Plan}
+use Rattle.m17_house.specs.Laws.{AReplayThereIs}
 use Rattle.m17_report.specs.Summary.{counts_text, peer_line, peers_text}
 use Rattle.m17_replay.specs.declared.judging.Replayed.{Replayed}
+use Rattle.m17_replay.specs.Laws.{TextIsFreeOfPlaces}
 use Rattle.m17_replay.specs.Replay.{failed_device, heard_count, line_of, lines_text, outcome_of, replay_text, streams, summary_text, tally_at, ComesToReplay, EndsBeforeText, IsReplayText}
 use Rattle.m17_replay.specs.Run.{judged_ending, AreVerdicts, IsJudged, Writes}
+use Rattle.m17_replay.proofs.PlainText.{plain_text}
 use Rattle.m17_replay.proofs.Writing.{writes_part, writes_same, writes_then}
 
 -- the lines of so many entries are the text without a summary
@@ -39,17 +42,10 @@ summary_is : (plan : Plan) (entries : List Entry) (count : ℕ) → count ≡ he
 unfolding summary_text
 summary_is plan entries count e = ap (λ n. counts_text n (map (outcome_of plan entries) (range_with_len 0 n)) ++ peers_text (tally_at plan entries) (peers_named entries (length entries))) e
 
-module _ (plan : Plan) (summary : Bool) (bytes : List ℕ) (heard : List Heard) (replayed : Replayed) (trace : IsTrace bytes heard) (is : IsJudged plan summary heard replayed) where
+module _ (there : AReplayThereIs) (free : TextIsFreeOfPlaces) (plan : Plan) (summary : Bool) (bytes : List ℕ) (heard : List Heard) (replayed : Replayed) (trace : IsTrace bytes heard) (is : IsJudged plan summary heard replayed) where
   -- its text
   is_text : (lost : Bool) → replayed.lost ≡ lost → IsReplayText plan summary lost bytes (replay_text plan summary is.entries)
-  is_text lost e = record {
-    heard = heard;
-    entries = is.entries;
-    is_trace = trace;
-    is_replay = is.is_replay;
-    is_lost_so = is.is_lost_so ∙ e;
-    text_is = refl;
-  }
+  is_text lost e = plain_text there free plan summary lost bytes heard is.entries trace is.is_replay (is.is_lost_so ∙ e)
 
   -- how it ends
   pub ended : (result : Result (Unit {0}) Failed) (lost : Bool) (left first before_it written : Option (List ℕ)) → left ≡ Some [] → replayed.lost ≡ lost → before_it ≡ first

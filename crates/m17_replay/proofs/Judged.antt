@@ -15,13 +15,14 @@ use Rattle.m17_directory.specs.Routed.{link_verdict}
 use Rattle.m17_port_memory.specs.Kept.{TalliesKept}
 use Rattle.m17_port_memory.specs.Peers.{named_in}
 use Rattle.m17_house.specs.declared.plan.Plan.{Plan}
-use Rattle.m17_house.specs.Replay.{IsReplayed, setup_of, packet_verdict}
+use Rattle.m17_house.specs.Free.{IsFreelyReplayed}
+use Rattle.m17_house.specs.Replay.{setup_of, packet_verdict}
 use Rattle.m17_replay.specs.declared.judging.Replayed.{Replayed}
 use Rattle.m17_replay.specs.Replay.{is_lost}
 use Rattle.m17_replay.specs.Run.{is_fault_heard, sender_of, AreNamed, CanPrint, IsJudged}
 use Rattle.m17_replay.proofs.HeardLemmas.{length_says, says_at, says_fault, named_sent, nobody}
 
-module _ (plan : Plan) (heard : List Heard) (verdicts : List LinkVerdict) (packets : List (Option Verdict)) (mouth : TalliesKept) (is : IsReplayed plan heard verdicts packets mouth) where
+module _ (plan : Plan) (heard : List Heard) (verdicts : List LinkVerdict) (packets : List (Option Verdict)) (mouth : TalliesKept) (is : IsFreelyReplayed plan heard verdicts packets mouth) where
   -- a verdict for each entry, and there is one
   verdicts_count : length verdicts ≡ length is.entries
   verdicts_count = ap length is.each ∙ length-map-range_with_len (link_verdict (setup_of plan) is.entries) 0 (length is.entries)
@@ -95,7 +96,7 @@ count_within len count true is = omega arith
 count_within len count false is = omega arith
 
 -- so it is kept
-pub judged : (plan : Plan) (summary : Bool) (heard : List Heard) (replayed : Replayed) (is : IsReplayed plan heard replayed.verdicts.items replayed.packets.items replayed.mouth)
+pub judged : (plan : Plan) (summary : Bool) (heard : List Heard) (replayed : Replayed) (is : IsFreelyReplayed plan heard replayed.verdicts.items replayed.packets.items replayed.mouth)
     → ((entries : List Entry) → SaysEach (take (length replayed.verdicts.items) heard) entries → replayed.named.keys ≡ (if summary then peers_named entries (length entries) else []))
     → ((h : Heard) → slice_get (take (length replayed.verdicts.items) heard) (length (take (length replayed.verdicts.items) heard) - 1) ≡ Some h → replayed.lost ≡ is_fault_heard h)
     → replayed.count ≡ (if replayed.lost then length replayed.verdicts.items else length replayed.verdicts.items - 1)
@@ -115,7 +116,7 @@ judged plan summary heard replayed is names tells count =
       };
     }
 
-pub can_print : (plan : Plan) (summary : Bool) (heard : List Heard) (replayed : Replayed) (first : TalliesKept) (is : IsReplayed plan heard replayed.verdicts.items replayed.packets.items replayed.mouth)
+pub can_print : (plan : Plan) (summary : Bool) (heard : List Heard) (replayed : Replayed) (first : TalliesKept) (is : IsFreelyReplayed plan heard replayed.verdicts.items replayed.packets.items replayed.mouth)
     → ((entries : List Entry) → SaysEach (take (length replayed.verdicts.items) heard) entries → replayed.named.keys ≡ (if summary then peers_named entries (length entries) else []))
     → replayed.count ≡ (if replayed.lost then length replayed.verdicts.items else length replayed.verdicts.items - 1)
     → (summary ≡ true → AreNamed (filter_map sender_of heard) first) → named_in replayed.mouth.entries ≡ named_in first.entries
@@ -129,7 +130,7 @@ can_print plan summary heard replayed first is names count were same =
     }
 
 -- the same where the count of the verdicts has other names
-pub judged_at : (plan : Plan) (summary : Bool) (heard : List Heard) (replayed : Replayed) (len size : ℕ) (is : IsReplayed plan heard replayed.verdicts.items replayed.packets.items replayed.mouth)
+pub judged_at : (plan : Plan) (summary : Bool) (heard : List Heard) (replayed : Replayed) (len size : ℕ) (is : IsFreelyReplayed plan heard replayed.verdicts.items replayed.packets.items replayed.mouth)
     → len ≡ length replayed.verdicts.items → size ≡ length replayed.verdicts.items
     → ((entries : List Entry) → SaysEach (take len heard) entries → replayed.named.keys ≡ (if summary then peers_named entries (length entries) else []))
     → ((h : Heard) → slice_get (take len heard) (length (take len heard) - 1) ≡ Some h → replayed.lost ≡ is_fault_heard h)
@@ -141,7 +142,7 @@ judged_at plan summary heard replayed len size is e f names tells count =
     (subst (λ (n : ℕ). (h : Heard) → slice_get (take n heard) (length (take n heard) - 1) ≡ Some h → replayed.lost ≡ is_fault_heard h) e tells)
     (subst (λ (n : ℕ). replayed.count ≡ (if replayed.lost then n else n - 1)) f count)
 
-pub can_print_at : (plan : Plan) (summary : Bool) (heard : List Heard) (replayed : Replayed) (first : TalliesKept) (len size : ℕ) (is : IsReplayed plan heard replayed.verdicts.items replayed.packets.items replayed.mouth)
+pub can_print_at : (plan : Plan) (summary : Bool) (heard : List Heard) (replayed : Replayed) (first : TalliesKept) (len size : ℕ) (is : IsFreelyReplayed plan heard replayed.verdicts.items replayed.packets.items replayed.mouth)
     → len ≡ length replayed.verdicts.items → size ≡ length replayed.verdicts.items
     → ((entries : List Entry) → SaysEach (take len heard) entries → replayed.named.keys ≡ (if summary then peers_named entries (length entries) else []))
     → replayed.count ≡ (if replayed.lost then size else size - 1)

@@ -6,3 +6,4 @@ mod Ends
 mod OneText
 mod Lost
 mod FreeText
+mod PlainText

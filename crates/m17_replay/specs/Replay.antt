@@ -1,6 +1,7 @@
 -- What `replay` prints: a line for each entry that was heard, or a summary. This profile.
-use Rattle.std.specs.Prelude.{◌≡◌, ◌⊎◌, ℕ, ◌-◌, Bool, true, false, List, [], ◌++◌, length, map, Option, None, Some, if◌then◌else◌}
+use Rattle.std.specs.Prelude.{◌≡◌, ◌≢◌, ◌⊎◌, ℕ, ◌-◌, Bool, true, false, List, [], ◌++◌, length, map, Option, None, Some, if◌then◌else◌}
 use Rattle.std.specs.List.{flat_map, range_with_len}
+use Rattle.m17_io.specs.Faults.{HasRisen}
 use Rattle.m17_io.specs.declared.fault.Fault.{Fault}
 use Rattle.m17_io.specs.declared.fault.Fault.TheVariants.{Read, Write}
 use Rattle.m17_values.specs.declared.heard.Heard.{Heard}
@@ -14,7 +15,7 @@ use Rattle.m17_house.specs.Replay.{IsReplayOf, setup_of, packet_verdict, said_to
 use Rattle.m17_report.specs.Lines.{verdict_line}
 use Rattle.m17_report.specs.Summary.{Outcome, counts_text, peers_text}
 use Rattle.m17_replay.specs.declared.ending.ReplayEnding.{ReplayEnding}
-use Rattle.m17_replay.specs.declared.ending.ReplayEnding.TheVariants.{Finished, LinkLost, Refused, ReadFailed, WriteFailed}
+use Rattle.m17_replay.specs.declared.ending.ReplayEnding.TheVariants.{Finished, LinkLost, Refused, CrewRefused, ReadFailed, WriteFailed}
 use Rattle.m17_replay.specs.Reasons.{refusal_told}
 
 -- The link was lost: the entry that ended it is a fault. This profile.
@@ -73,6 +74,8 @@ SaysReplay plan summary LinkLost input left =
     ((text : List ℕ) × IsReplayText plan summary true input text) × (left ≡ Some [])
 SaysReplay plan summary (Refused place reason) input left =
     RefusesTrace input (refusal_told place reason)
+SaysReplay plan summary CrewRefused input left =
+    ((heard : List Heard) × IsTrace input heard) × (left ≡ Some [])
 SaysReplay plan summary ReadFailed input left = Unit {0}
 SaysReplay plan summary WriteFailed input left = Unit {0}
 
@@ -81,17 +84,20 @@ abbrev pub PrintsReplay : Plan → Bool → ReplayEnding → List ℕ → List �
 PrintsReplay plan summary Finished input text = IsReplayText plan summary false input text
 PrintsReplay plan summary LinkLost input text = IsReplayText plan summary true input text
 PrintsReplay plan summary (Refused place reason) input text = text ≡ []
+PrintsReplay plan summary CrewRefused input text = text ≡ []
 PrintsReplay plan summary ReadFailed input text = text ≡ []
 -- nothing, where the sink failed before the input was read, or else a first part of the text
 PrintsReplay plan summary WriteFailed input text = (text ≡ [])
     ⊎ ((lost : Bool) × (whole after : List ℕ) × IsReplayText plan summary lost input whole
     × (whole ≡ text ++ after))
 
--- The ending comes before any text: the input is refused, or the source failed. This profile.
+-- The ending comes before any text: the input is refused, the crew refused a start, or the source failed. This
+-- profile.
 abbrev pub EndsBeforeText : ReplayEnding → Type 0
 EndsBeforeText Finished = ⊥
 EndsBeforeText LinkLost = ⊥
 EndsBeforeText (Refused place reason) = Unit {0}
+EndsBeforeText CrewRefused = Unit {0}
 EndsBeforeText ReadFailed = Unit {0}
 EndsBeforeText WriteFailed = ⊥
 
@@ -100,8 +106,15 @@ abbrev pub failed_device : ReplayEnding → Option Fault
 failed_device Finished = None
 failed_device LinkLost = None
 failed_device (Refused place reason) = None
+failed_device CrewRefused = None
 failed_device ReadFailed = Some Read
 failed_device WriteFailed = Some Write
+
+-- What an ending tells of the crew's count of refused starts: it rose where a start was refused, and stands in any other
+-- run. This profile.
+pub record TellsCrew (ending : ReplayEnding) (before after : ℕ) : Type 0 where
+  pub refused : ending ≡ CrewRefused → HasRisen before after
+  pub others : ending ≢ CrewRefused → after ≡ before
 
 -- What the devices tell of a run: the input, what is left of it, and what was written before the run and after it.
 pub record Streams : Type 0 where

@@ -12,7 +12,8 @@ use Rattle.m17_directory.specs.Entries.{Entry, peers_named, with_peer}
 use Rattle.m17_port_memory.specs.Kept.{TalliesKept}
 use Rattle.m17_port_memory.specs.Peers as mouth
 use Rattle.m17_house.specs.declared.plan.Plan.{Plan}
-use Rattle.m17_house.specs.Replay.{IsReplayOf, verdicts_of, packet_verdicts_of}
+use Rattle.m17_house.specs.Free.{IsFreeReplayOf}
+use Rattle.m17_house.specs.Replay.{verdicts_of, packet_verdicts_of}
 use Rattle.m17_io.specs.declared.fault.Fault.{Fault}
 use Rattle.m17_report.specs.declared.kind.Kind.{Kind}
 use Rattle.m17_report.specs.Summary.{count_at, count_line, kind_place, kind_word, Outcome}
@@ -90,10 +91,10 @@ pub record StandsFor (plan : Plan) (summary : Bool) (entries : List Entry) (repl
   pub tallies : TalliesAre (tally_at plan entries) replayed.mouth
   pub named_are : summary ≡ true → replayed.named.keys ≡ peers_named entries (length entries)
 
--- The trace was judged: this is kept of its replay.
+-- The trace was judged: this is kept of its replay, in which places were given freely.
 pub record IsJudged (plan : Plan) (summary : Bool) (heard : List Heard) (replayed : Replayed)
     : Type 0 where
   pub entries : List Entry
-  pub is_replay : IsReplayOf plan heard entries
+  pub is_replay : IsFreeReplayOf plan heard entries
   pub is_lost_so : is_lost entries ≡ replayed.lost
   pub stands : StandsFor plan summary entries replayed

@@ -9,6 +9,8 @@ pub enum ReplayEnding {
     LinkLost,
     /// The input is no trace: refused at this place, for this reason. Nothing was written.
     Refused { place: u64, reason: TraceReason },
+    /// The crew refused to start a thread. Nothing was heard or written.
+    CrewRefused,
     /// The source failed. Nothing was written.
     ReadFailed,
     /// The sink failed.

@@ -1,17 +1,23 @@
-ghost use Rattle.std.specs.Prelude.{◌≡◌, ◌<◌, ◌-◌, length, slice_get, Some, IfOk, if◌then◌else◌};
+ghost use Rattle.std.specs.Prelude.{◌≡◌, ◌<◌, ◌-◌, length, slice_get, Some, IfOk, MatchResult, if◌then◌else◌};
 ghost use Rattle.m17_values.specs.declared.heard.Heard.{Heard};
 ghost use Rattle.m17_book.specs.Answers.{HasEnd};
 ghost use Rattle.m17_house.specs.Replay.{IsPlan};
+ghost use Rattle.m17_reflect.specs.Views.{IsRefusedFor};
 ghost use Rattle.m17_replay.specs.Run.{is_fault_heard, CanPrint, IsJudged};
 
 use crate::peers::{make_mouth, name_peers_for};
+use m17_crew::Crew;
 use m17_directory::LinkVerdict;
 use m17_floor::Verdict;
-use m17_house::{Plan, replay_plain};
+use m17_house::Plan;
+use m17_patient::{Replay, replay_over_threads};
 use m17_port_memory::TallyMouth;
-use m17_values::{Heard, NoMemory, Peer};
+use m17_reflect::HouseRefusal;
+use m17_values::{Heard, Peer};
 use std::alloc::Global;
 use std::collections::BTreeSet;
+use std::sync::Wait;
+use std::thread::Threads;
 
 // What a replay came to, before it is printed.
 #[derive(Drop)]
@@ -30,30 +36,40 @@ pub(crate) struct Replayed {
     pub count: usize,
 }
 
-// Judges what was heard, and names the peers of the summary, where one is asked for.
-pub(crate) fn judge_heard(
+// Judges what was heard, over threads, and names the peers of the summary, where one is asked for.
+pub(crate) fn judge_heard<C: Crew, R: Threads + Wait + Copy + Send + 'static>(
+    rt: &R,
     alloc: Global,
     plan: &Plan,
     summary: bool,
-    heard: &[Heard],
-) -> Result<Replayed, NoMemory>
+    heard: Vec<Heard>,
+    crew: &mut C,
+) -> Result<Replayed, HouseRefusal>
     requires plan { IsPlan plan.now }
-    requires ends { HasEnd heard.now }
-    ensures judged { IfOk result (λ replayed. IsJudged plan.now summary heard.now replayed) }
+    requires ends { HasEnd heard.items }
+    ensures judged { IfOk result (λ replayed. IsJudged plan.now summary heard.items replayed) }
     ensures can_print { IfOk result CanPrint }
+    ensures cause { MatchResult result (λ _. C.refusals crew.new ≡ C.refusals crew.old)
+        (λ why. IsRefusedFor why (C.refusals crew.old) (C.refusals crew.new)) }
 {
-    let mut mouth = match make_mouth(alloc, summary, heard) {
+    let mouth = match make_mouth(alloc, summary, &heard) {
         Ok(mouth) => mouth,
-        Err(no_memory) => return Err(no_memory),
+        Err(_) => return Err(HouseRefusal::NoMemory),
     };
-    let (verdicts, packets) = match replay_plain(alloc, plan, heard, &mut mouth) {
-        Ok(judged) => judged,
-        Err(no_memory) => return Err(no_memory),
+    let replay = match replay_over_threads(rt, alloc, plan, heard, mouth, crew) {
+        Ok(replay) => replay,
+        Err(why) => return Err(why),
     };
+    let Replay {
+        verdicts,
+        packets,
+        mouth,
+        heard,
+    } = replay;
     let front = &heard[..verdicts.len()];
     let named = match name_peers_for(alloc, summary, front) {
         Ok(named) => named,
-        Err(no_memory) => return Err(no_memory),
+        Err(_) => return Err(HouseRefusal::NoMemory),
     };
     let lost = ends_in_fault(front);
     let count = count_heard(verdicts.len(), lost);

@@ -1,9 +1,9 @@
-ghost use Rattle.std.specs.Prelude.{◌≡◌, ℕ, Bool, List, [], Some, IfOk, OnErr, MatchResult};
+ghost use Rattle.std.specs.Prelude.{◌≡◌, ◌≢◌, ℕ, Bool, List, [], Some, IfOk, IfErr, OnErr, MatchResult};
 ghost use Rattle.m17_io.specs.Faults.{HasCauses};
 ghost use Rattle.m17_book.specs.Answers.{HasEnd};
 ghost use Rattle.m17_book.specs.Book.{IsTrace};
 ghost use Rattle.m17_house.specs.declared.plan.Plan.{Plan};
-ghost use Rattle.m17_replay.specs.declared.ending.ReplayEnding.TheVariants.{Refused};
+ghost use Rattle.m17_replay.specs.declared.ending.ReplayEnding.TheVariants.{Refused, CrewRefused};
 ghost use Rattle.m17_replay.specs.Replay.{streams, ComesToReplay};
 ghost use Rattle.m17_replay.specs.Run.{stopped_by};
 
@@ -26,6 +26,7 @@ pub(crate) fn read_heard<S: Input<K>, K: Sink>(
         MatchResult read (λ heard. IsTrace bytes heard.items × (S.left input.new ≡ Some []))
         (λ ending. (plan : Plan) → (summary : Bool) → ComesToReplay plan summary ending
         (streams bytes (S.left input.new) (K.written out.old) (K.written out.new)))) }
+    ensures no_crew { IfOk result (λ read. IfErr read (λ ending. ending ≢ CrewRefused)) }
     ensures nothing_written { K.written out.new ≡ K.written out.old }
     ensures no_fault { OnErr result ((S.faults input.new ≡ S.faults input.old)
         × (K.faults out.new ≡ K.faults out.old)) }

@@ -1,10 +1,10 @@
-ghost use Rattle.std.specs.Prelude.{◌≡◌, ℕ, true, List, Some, IfOk, OnErr};
+ghost use Rattle.std.specs.Prelude.{◌≡◌, ℕ, true, List, Some, IfOk, OnErr, MatchResult};
 ghost use Rattle.m17_io.specs.Faults.{HasCause, HasCauses};
 ghost use Rattle.m17_print.specs.Endings.{Grows};
 ghost use Rattle.m17_house.specs.Replay.{IsPlan};
 ghost use Rattle.m17_directory.specs.Entries.{Entry};
 ghost use Rattle.m17_house.specs.declared.plan.Plan.{Plan};
-ghost use Rattle.m17_replay.specs.Replay.{failed_device, replay_text, streams, summary_text, ComesToReplay, EndsBeforeText};
+ghost use Rattle.m17_replay.specs.Replay.{failed_device, replay_text, streams, summary_text, ComesToReplay, EndsBeforeText, TellsCrew};
 ghost use Rattle.m17_replay.specs.Run.{judged_ending, CanPrint, StandsFor, Writes};
 
 use crate::ReplayEnding;
@@ -12,19 +12,31 @@ use crate::judging::{Replayed, judge_heard};
 use crate::lines::print_lines;
 use crate::reading::read_heard;
 use crate::summary::{print_counts, print_peers};
-use m17_house::Plan;
+use crate::laws::replay_text_is_free_of_places;
+use m17_crew::Crew;
+use m17_house::{Plan, laws as house_laws};
 use m17_io::{Input, Sink};
+use m17_reflect::HouseRefusal;
 use m17_values::{Failed, NoMemory};
 use std::alloc::Global;
+use std::sync::Wait;
+use std::thread::Threads;
 
-/// Replays a trace: reads it whole, judges what its one link heard as the reflector of this plan would have done, and
-/// writes a line for each entry, or with `summary` one page of counts. Nothing is written before the input was read to
-/// its end. The input is refused with the place and reason of the form of traces; the answer says how the run ended, and
-/// the last line is the caller's to write. `NoMemory` where there is none, before anything is written. This profile.
-pub fn replay<S: Input<K>, K: Sink>(
+/// Replays a trace: reads it whole, has the reflector of this plan hear it again over threads, patiently, and writes a
+/// line for each entry, or with `summary` one page of counts. Nothing is written before the input was read to its end.
+/// The input is refused with the place and reason of the form of traces; the answer says how the run ended, and the last
+/// line is the caller's to write. `NoMemory` where there is none, before anything is written. This profile.
+pub fn replay<
+    S: Input<K>,
+    K: Sink,
+    C: Crew,
+    R: Threads + Wait + Copy + Send + 'static,
+>(
+    rt: &R,
     alloc: Global,
     plan: &Plan,
     summary: bool,
+    crew: &mut C,
     input: &mut S,
     out: &mut K,
 ) -> Result<ReplayEnding, NoMemory>
@@ -40,19 +52,26 @@ pub fn replay<S: Input<K>, K: Sink>(
     // Nothing was written of an input that is refused, or where the source failed, whatever the source tells.
     ensures unwritten { IfOk result (λ ending. EndsBeforeText ending →
         K.written out.new ≡ K.written out.old) }
+    // A refused start is told exactly where the crew's count of refusals rose.
+    ensures crew { MatchResult result
+        (λ ending. TellsCrew ending (C.refusals crew.old) (C.refusals crew.new))
+        (λ _. C.refusals crew.new ≡ C.refusals crew.old) }
     // Want of memory comes before anything is written, and no device has failed then.
     ensures untouched { OnErr result (K.written out.new ≡ K.written out.old) }
     ensures no_fault { OnErr result ((S.faults input.new ≡ S.faults input.old)
         × (K.faults out.new ≡ K.faults out.old)) }
 {
+    house_laws::a_replay_there_is();
+    replay_text_is_free_of_places();
     let heard = match read_heard(alloc, input, out) {
         Ok(Ok(heard)) => heard,
         Ok(Err(ending)) => return Ok(ending),
         Err(no_memory) => return Err(no_memory),
     };
-    let mut replayed = match judge_heard(alloc, plan, summary, &heard) {
+    let mut replayed = match judge_heard(rt, alloc, plan, summary, heard, crew) {
         Ok(replayed) => replayed,
-        Err(no_memory) => return Err(no_memory),
+        Err(HouseRefusal::Crew) => return Ok(ReplayEnding::CrewRefused),
+        Err(HouseRefusal::NoMemory) => return Err(NoMemory),
     };
     let lost = replayed.lost;
     let printed = print_replayed(summary, &mut replayed, out);

@@ -5,12 +5,15 @@ use crate::{ReplayEnding, TraceReason, replay};
 use m17_book::write_entry;
 use m17_callsign::{CallAddress, encode};
 use m17_control::Modules;
+use m17_crew::{RefusingCrew, StdCrew};
 use m17_house::Plan;
 use m17_memory::{BytesSink, BytesSource};
 use m17_values::{Gram, Heard, NoMemory, Peer};
 use std::alloc::Global;
 use std::process::Abort;
+use std::sync::Wait;
 use std::test::Fail;
+use std::thread::Threads;
 
 // A reflector with these modules and so many places, without parrots.
 fn plan(places: u32, letters: &str) -> Result<Plan, Fail>
@@ -68,8 +71,8 @@ fn trace(alloc: Global, heard: &[Heard]) -> Result<Vec<u8>, Fail> {
 
 // Replays these bytes, and looks at how that ends and at what was written. The devices fail at the calls of these
 // numbers.
-fn expect_failing(
-    rt: &impl Abort,
+fn expect_failing<R: Threads + Wait + Abort + Copy + Send + 'static>(
+    rt: &R,
     alloc: Global,
     plan: &Plan,
     summary: bool,
@@ -82,17 +85,16 @@ fn expect_failing(
 {
     let mut source = BytesSource::new(bytes.to_vec(alloc)?, fails.0.to_vec(alloc)?);
     let mut sink = BytesSink::make(alloc, 1000, fails.1.to_vec(alloc)?)?;
-    assert_eq!(rt;
-        replay(alloc, plan, summary, &mut source, &mut sink)?,
-        ending
-    );
+    let mut crew = StdCrew::new();
+    let ended = replay(rt, alloc, plan, summary, &mut crew, &mut source, &mut sink);
+    assert_eq!(rt; ended?, ending);
     assert_eq!(rt; sink.bytes(), text.as_bytes());
     Ok(())
 }
 
 // The same with devices that do not fail.
-fn expect(
-    rt: &impl Abort,
+fn expect<R: Threads + Wait + Abort + Copy + Send + 'static>(
+    rt: &R,
     alloc: Global,
     plan: &Plan,
     bytes: &[u8],
@@ -282,12 +284,29 @@ fn want_of_memory_comes_before_anything_is_written(rt: HostRuntime) -> Result<()
     let plan = plan(256, "ABC")?;
     let mut source = BytesSource::new(TWO_JOIN.to_vec(alloc)?, Vec::new(alloc));
     let mut sink = BytesSink::make(alloc, 1000, Vec::new(alloc))?;
-    match replay(alloc, &plan, true, &mut source, &mut sink) {
+    let mut crew = StdCrew::new();
+    match replay(&rt, alloc, &plan, true, &mut crew, &mut source, &mut sink) {
         Ok(ending) => {
             assert_eq!(rt; ending, ReplayEnding::Finished);
             assert_eq!(rt; sink.bytes(), SUMMARY.as_bytes());
         }
         Err(NoMemory) => assert!(rt; sink.bytes().is_empty()),
+    }
+    Ok(())
+}
+
+// Whichever start is refused, of the link's job, the three modules' and the sender's.
+#[test]
+fn a_refused_start_comes_before_anything_is_written(rt: HostRuntime) -> Result<(), Fail> {
+    let alloc = rt.alloc();
+    let plan = plan(256, "ABC")?;
+    for start in 0..5 {
+        let mut source = BytesSource::new(TWO_JOIN.to_vec(alloc)?, Vec::new(alloc));
+        let mut sink = BytesSink::make(alloc, 1000, Vec::new(alloc))?;
+        let mut crew = RefusingCrew::new(Vec::from_array(alloc, [start])?);
+        let ended = replay(&rt, alloc, &plan, true, &mut crew, &mut source, &mut sink);
+        assert_eq!(rt; ended, Ok(ReplayEnding::CrewRefused));
+        assert!(rt; sink.bytes().is_empty());
     }
     Ok(())
 }

@@ -1,5 +1,5 @@
 //! What no clause says: that an item pushed at a place comes out of the lane of that place and of no other, that a full
-//! lane gives it back at once, and that a job is started by the order it finds.
+//! lane gives it back at once, that a job is started by the order it finds, and that a count goes on to its last.
 ghost use Rattle.std.specs.Prelude.{◌≡◌, IfOk, vec_len};
 
 use super::*;
@@ -71,5 +71,13 @@ fn a_job_goes_or_quits_by_its_order_and_leaves_what_comes_after_it(
     assert!(rt; starts(&rt, &mut told));
     assert!(rt; !starts(&rt, &mut told));
     assert_eq!(rt; told.try_pop(&rt), Some(Order::Stop));
+    Ok(())
+}
+
+#[test]
+fn a_count_goes_on(rt: HostRuntime) -> Result<(), Fail> {
+    let first = count_one(&rt, 0);
+    assert_eq!(rt; count_one(&rt, first), 2);
+    assert_eq!(rt; count_one(&rt, u64::MAX - 1), u64::MAX);
     Ok(())
 }

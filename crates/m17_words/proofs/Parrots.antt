@@ -6,7 +6,7 @@ use Rattle.clap.specs.Words.{Row}
 use Rattle.m17_control.specs.declared.modules.Modules.{Modules}
 use Rattle.m17_control.specs.Modules.{serves}
 use Rattle.m17_words.specs.declared.command.Command.{Command}
-use Rattle.m17_words.specs.declared.command.Command.TheVariants.{Judge, Show, Replay, Make, Talk}
+use Rattle.m17_words.specs.declared.command.Command.TheVariants.{Judge, Show, Replay, Make, Talk, Serve}
 use Rattle.m17_words.specs.Values.{NamesModules, NamesParrots}
 use Rattle.m17_words.specs.Words.{ReplayOptions, options, IsReplay, IsReplayWith}
 
@@ -37,3 +37,4 @@ not_replay rows none Show values = values
 not_replay rows none (Replay call modules parrots places summary) values = none (options call modules parrots places summary) values
 not_replay rows none (Make seed count) values = values
 not_replay rows none (Talk order) values = values
+not_replay rows none (Serve order) values = values

@@ -1,7 +1,7 @@
 -- The tables are those of simple commands, whose options and arguments have no rule on one another.
 use Rattle.std.proofs.Common.{refl}
 use Rattle.clap.proofs.OnLiterals.{clap_on_literals}
-use Rattle.m17_words.specs.Tables.{IsSimple, judge_table, show_table, replay_table, make_table, needed_table, talk_table}
+use Rattle.m17_words.specs.Tables.{IsSimple, judge_table, show_table, replay_table, make_table, talk_table, serve_table}
 
 pub judge_simple : IsSimple judge_table
 unfolding IsSimple judge_table clap_on_literals
@@ -22,3 +22,7 @@ make_simple = refl
 pub talk_simple : IsSimple talk_table
 unfolding IsSimple talk_table clap_on_literals
 talk_simple = refl
+
+pub serve_simple : IsSimple serve_table
+unfolding IsSimple serve_table clap_on_literals
+serve_simple = refl

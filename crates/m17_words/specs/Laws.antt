@@ -1,13 +1,14 @@
 -- Words name one command. This profile.
-use Rattle.std.specs.Prelude.{◌≡◌, ◌↔◌, ℕ, List, IsTrue, string_bytes}
+use Rattle.std.specs.Prelude.{◌≡◌, ◌↔◌, ℕ, List, IsTrue, map, string_bytes}
 use Rattle.std.specs.Option.{option_map}
 use Rattle.clap.specs.Words.{Text}
 use Rattle.m17_control.specs.declared.modules.Modules.{Modules}
 use Rattle.m17_control.specs.Modules.{serves}
 use Rattle.m17_peer.specs.Text.{text_of}
 use Rattle.m17_words.specs.declared.order.TalkOrder.{TalkOrder}
+use Rattle.m17_words.specs.declared.order.ServeOrder.{ServeOrder}
 use Rattle.m17_words.specs.declared.command.Command.{Command}
-use Rattle.m17_words.specs.declared.command.Command.TheVariants.{Judge, Show, Replay, Make, Talk}
+use Rattle.m17_words.specs.declared.command.Command.TheVariants.{Judge, Show, Replay, Make, Talk, Serve}
 use Rattle.m17_words.specs.Words.{Names}
 
 -- the sets have the same modules
@@ -24,6 +25,15 @@ pub record SameOrder (o o' : TalkOrder) : Type 0 where
   pub stay : o'.stay ≡ o.stay
   pub book : option_map string_bytes o'.book ≡ option_map string_bytes o.book
 
+pub record SameServe (o o' : ServeOrder) : Type 0 where
+  pub call : o'.call ≡ o.call
+  pub modules : SameModules o'.modules o.modules
+  pub parrots : SameModules o'.parrots o.parrots
+  pub places : o'.places ≡ o.places
+  pub seconds : o'.seconds ≡ o.seconds
+  pub book : option_map string_bytes o'.book ≡ option_map string_bytes o.book
+  pub binds : map string_bytes o'.binds.items ≡ map string_bytes o.binds.items
+
 -- The commands are one, with the same values.
 abbrev pub SameCommand : Command → Command → Type 0
 SameCommand Judge other = other ≡ Judge
@@ -36,6 +46,8 @@ SameCommand (Replay call modules parrots places summary) other = ⊥
 SameCommand (Make seed count) other = other ≡ Make seed count
 SameCommand (Talk order) (Talk order') = SameOrder order order'
 SameCommand (Talk order) other = ⊥
+SameCommand (Serve order) (Serve order') = SameServe order order'
+SameCommand (Serve order) other = ⊥
 
 -- words name one command
 abbrev pub OneCommand : Type 0

@@ -5,3 +5,4 @@ pub mod Laws
 -- for proofs alone
 pub mod First
 pub mod TalkValues
+pub mod ServeValues

@@ -1,6 +1,7 @@
 -- The options and arguments of each command, as `clap` takes them. This profile.
 use Rattle.std.specs.Prelude.{◌≡◌, true, List, [], codes, Option, Some, unwrap_or}
-use Rattle.clap.specs.Words.{App, Row, Rule, Text, fault_of, first_of, is_simple_and_free, matches_of, new_app, new_rule, with_rule}
+use Rattle.clap.specs.Lexer.{usize_max}
+use Rattle.clap.specs.Words.{App, Row, Rule, Text, all_of, fault_of, first_of, is_simple_and_free, matches_of, new_app, new_rule, with_rule}
 use Rattle.clap.specs.Simple.{on_top}
 use Rattle.clap.specs.declared.builder.action.ArgAction.TheVariants.{SetTrue}
 
@@ -25,6 +26,13 @@ flag name = record (new_rule name) { long = Some name; action = Some SetTrue }
 
 abbrev pub argument : Text → Rule
 argument name = record (new_rule name) { required = true }
+
+-- an argument that has to be there once or more often, between options too
+abbrev pub arguments : Text → Rule
+arguments name = record (new_rule name) {
+  required = true;
+  range = Some (record { start_inclusive = 1; end_inclusive = usize_max });
+}
 
 -- The table of each command. This profile.
 unfoldable pub judge_table : App
@@ -52,6 +60,16 @@ unfoldable pub talk_table : App
 talk_table = with_rule (with_rule (with_rule needed_table (flag (codes "listen")))
     (option (codes "stay"))) (option (codes "book"))
 
+-- how a reflector is run, and then all that `serve` may be told
+abbrev pub plan_table : App
+plan_table = with_rule (with_rule (with_rule (with_rule (bare (codes "serve"))
+    (needed (codes "call"))) (option (codes "modules"))) (option (codes "parrots")))
+    (option (codes "places"))
+
+unfoldable pub serve_table : App
+serve_table = with_rule (with_rule (with_rule plan_table (option (codes "for")))
+    (option (codes "book"))) (arguments (codes "bind"))
+
 -- the words that such a command takes, and what it finds among them, are known from `clap`'s own definitions
 unfoldable pub IsSimple : App → Type 0
 IsSimple table = is_simple_and_free table ≡ true
@@ -71,3 +89,7 @@ text_of found name = first_of name found
 -- the same, or what stands in place of an option that is left out
 abbrev pub text_or : List Row → Text → Text → Text
 text_or found name instead = unwrap_or (text_of found name) instead
+
+-- all texts that were found for an argument, in order, if there are any
+unfoldable pub texts_of : List Row → Text → Option (List Text)
+texts_of found name = all_of name found

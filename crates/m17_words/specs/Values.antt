@@ -12,6 +12,13 @@ pub record IsNumber (least most : ℕ) (text : List ℕ) (number : ℕ) : Type 0
   pub at_least : least ≤ number
   pub at_most : number ≤ most
 
+-- the number of a text, where there is one
+abbrev pub IsNumberIfAny : ℕ → ℕ → Option (List ℕ) → Option ℕ → Type 0
+IsNumberIfAny least most None None = Unit {0}
+IsNumberIfAny least most None (Some number) = ⊥
+IsNumberIfAny least most (Some text) None = ⊥
+IsNumberIfAny least most (Some text) (Some number) = IsNumber least most text number
+
 -- The text names these modules: letters from A to Z, each once.
 pub record NamesModules (text : List ℕ) (modules : Modules) : Type 0 where
   pub is_text : IsModulesText text

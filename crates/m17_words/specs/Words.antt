@@ -1,15 +1,16 @@
 -- The words of the command line, and what they ask for. This profile.
-use Rattle.std.specs.Prelude.{◌≡◌, ℕ, Bool, ◌-◌, ◌^◌, List, [], ◌∷◌, codes, string_bytes}
+use Rattle.std.specs.Prelude.{◌≡◌, ℕ, Bool, Some, ◌-◌, ◌^◌, ◌<◌, ◌≤◌, List, [], ◌∷◌, codes, map, string_bytes, vec_len}
 use Rattle.std.specs.Option.{option_map}
 use Rattle.clap.specs.Words.{Row, Text}
 use Rattle.m17_callsign.specs.Callsign.{IsCallsignOf}
 use Rattle.m17_control.specs.declared.modules.Modules.{Modules}
 use Rattle.m17_peer.specs.Text.{IsTextOf}
 use Rattle.m17_words.specs.declared.order.TalkOrder.{TalkOrder}
+use Rattle.m17_words.specs.declared.order.ServeOrder.{ServeOrder}
 use Rattle.m17_words.specs.declared.command.Command.{Command}
-use Rattle.m17_words.specs.declared.command.Command.TheVariants.{Judge, Show, Replay, Make, Talk}
-use Rattle.m17_words.specs.Tables.{judge_table, show_table, replay_table, make_table, talk_table, Takes, found, text_of, text_or}
-use Rattle.m17_words.specs.Values.{IsNumber, NamesLetter, NamesModules, NamesParrots, IsFlagged}
+use Rattle.m17_words.specs.declared.command.Command.TheVariants.{Judge, Show, Replay, Make, Talk, Serve}
+use Rattle.m17_words.specs.Tables.{judge_table, show_table, replay_table, make_table, talk_table, serve_table, Takes, found, text_of, text_or, texts_of}
+use Rattle.m17_words.specs.Values.{IsNumber, IsNumberIfAny, NamesLetter, NamesModules, NamesParrots, IsFlagged}
 
 -- the word that names a command
 abbrev pub word_of : Command → Text
@@ -18,6 +19,7 @@ word_of Show = codes "show"
 word_of (Replay call modules parrots places summary) = codes "replay"
 word_of (Make seed count) = codes "make"
 word_of (Talk order) = codes "talk"
+word_of (Serve order) = codes "serve"
 
 -- what a replay is run with
 pub record ReplayOptions : Type 0 where
@@ -61,6 +63,19 @@ pub record IsTalk (found : List Row) (order : TalkOrder) : Type 0 where
   pub stay_is : IsNumber 0 86400000 (text_or found (codes "stay") (codes "0")) order.stay
   pub book_is : option_map string_bytes order.book ≡ text_of found (codes "book")
 
+-- The values of a run of the reflector: its callsign, the modules, which of them are parrots, the places, for how long it
+-- serves, the folder of its traces and books, and where its links are bound, one to four.
+pub record IsServe (found : List Row) (order : ServeOrder) : Type 0 where
+  pub call_is : IsCallsignOf (text_or found (codes "call") []) order.call
+  pub modules_are : NamesModules (text_or found (codes "modules") (codes "ABC")) order.modules
+  pub parrots_are : NamesParrots (text_of found (codes "parrots")) order.modules order.parrots
+  pub places_are : IsNumber 1 256 (text_or found (codes "places") (codes "64")) order.places
+  pub seconds_are : IsNumberIfAny 1 1000000 (text_of found (codes "for")) order.seconds
+  pub book_is : option_map string_bytes order.book ≡ text_of found (codes "book")
+  pub binds_are : texts_of found (codes "bind") ≡ Some (map string_bytes order.binds.items)
+  pub some_bind : 0 < vec_len order.binds
+  pub few_binds : vec_len order.binds ≤ 4
+
 -- the same of a command
 abbrev pub IsReplayWith : List Row → Command → Type 0
 IsReplayWith found (Replay call modules parrots places summary) =
@@ -75,6 +90,10 @@ abbrev pub IsTalkWith : List Row → Command → Type 0
 IsTalkWith found (Talk order) = IsTalk found order
 IsTalkWith found _ = ⊥
 
+abbrev pub IsServeWith : List Row → Command → Type 0
+IsServeWith found (Serve order) = IsServe found order
+IsServeWith found _ = ⊥
+
 -- The words after the first one give the values of the command.
 abbrev pub Gives : List Text → Command → Type 0
 Gives words Judge = Takes judge_table words
@@ -83,6 +102,7 @@ Gives words (Replay call modules parrots places summary) = Takes replay_table wo
     × IsReplay (found replay_table words) (options call modules parrots places summary)
 Gives words (Make seed count) = Takes make_table words × IsMake (found make_table words) seed count
 Gives words (Talk order) = Takes talk_table words × IsTalk (found talk_table words) order
+Gives words (Serve order) = Takes serve_table words × IsServe (found serve_table words) order
 
 -- The words name a command: the first is its word, byte for byte, and the others give its values. This profile.
 abbrev pub Names : List Text → Command → Type 0

@@ -1,6 +1,6 @@
 ghost use Rattle.std.specs.Prelude.{◌≡◌, ℕ, List, true, map, string_bytes, option_map, unwrap_or, IfOk};
 ghost use Rattle.clap.specs.Words.{app_of, found_of, rows_of};
-ghost use Rattle.m17_words.specs.Tables.{IsSimple, Takes, found, text_of, text_or};
+ghost use Rattle.m17_words.specs.Tables.{IsSimple, Takes, found, text_of, text_or, texts_of};
 ghost use Rattle.m17_words.specs.Values.{IsFlagged};
 
 use crate::WordsRefusal;
@@ -52,4 +52,12 @@ pub(crate) fn is_there(matches: &ArgMatches, name: &str) -> bool
     ensures { IsFlagged (text_of (rows_of (found_of matches.now)) name.now) result }
 {
     matches!(text_of(matches, name), Some("true"))
+}
+
+// All texts that were found for an argument, in order, if there are any.
+pub(crate) fn texts_of<'m, 'a>(matches: &'m ArgMatches<'a>, name: &str) -> Option<&'m [&'a str]>
+    ensures { option_map (λ texts. map (λ s. s.now) texts.now) result
+        ≡ texts_of (rows_of (found_of matches.now)) name.now }
+{
+    matches.get_strs(name)
 }

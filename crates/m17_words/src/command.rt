@@ -1,4 +1,4 @@
-use crate::TalkOrder;
+use crate::{ServeOrder, TalkOrder};
 use m17_callsign::CallAddress;
 use m17_control::Modules;
 
@@ -25,6 +25,8 @@ pub enum Command {
     },
     /// `talk`: a client of a reflector, by a script.
     Talk(TalkOrder),
+    /// `serve`: the reflector.
+    Serve(ServeOrder),
 }
 
 /// Why the words give no command. This profile.

@@ -9,6 +9,7 @@ pub(crate) enum FirstWord {
     Replay,
     Make,
     Talk,
+    Serve,
 }
 
 // Which command's first word a text is, byte for byte.
@@ -19,6 +20,7 @@ pub(crate) fn first_word(text: &str) -> Option<FirstWord>
     ensures no_replay { IfNone result (text.now ≢ codes "replay") }
     ensures no_make { IfNone result (text.now ≢ codes "make") }
     ensures no_talk { IfNone result (text.now ≢ codes "talk") }
+    ensures no_serve { IfNone result (text.now ≢ codes "serve") }
 {
     match text {
         "judge" => Some(FirstWord::Judge),
@@ -26,6 +28,7 @@ pub(crate) fn first_word(text: &str) -> Option<FirstWord>
         "replay" => Some(FirstWord::Replay),
         "make" => Some(FirstWord::Make),
         "talk" => Some(FirstWord::Talk),
+        "serve" => Some(FirstWord::Serve),
         _ => None,
     }
 }

@@ -11,13 +11,16 @@ mod first;
 pub mod laws;
 mod order;
 mod reading;
+mod serve_words;
 mod tables;
 mod talk_words;
 mod values;
 
 pub use command::{Command, WordsRefusal};
-pub use order::TalkOrder;
+pub use order::{ServeOrder, TalkOrder};
 pub use reading::read_words;
 
+#[cfg(test)]
+mod serve_tests;
 #[cfg(test)]
 mod tests;

@@ -1,5 +1,5 @@
 use m17_callsign::CallAddress;
-use m17_control::ModuleLetter;
+use m17_control::{ModuleLetter, Modules};
 use m17_values::Peer;
 
 /// What `talk` is to do, as its words say it. This profile.
@@ -19,4 +19,23 @@ pub struct TalkOrder {
     pub stay: u64,
     /// The name of its book, where it keeps one: any text, which the ports understand.
     pub book: Option<String>,
+}
+
+/// What `serve` is to do, as its words say it. This profile.
+#[derive(Debug, PartialEq, Eq, Drop)]
+pub struct ServeOrder {
+    /// The reflector's callsign.
+    pub call: CallAddress,
+    /// The modules that it serves.
+    pub modules: Modules,
+    /// Those among them that are parrots.
+    pub parrots: Modules,
+    /// How many places there are for all links together, 1 to 256.
+    pub places: u32,
+    /// For how many seconds it serves, 1 to 1,000,000; until it is stopped where none are named.
+    pub seconds: Option<u64>,
+    /// The folder of its traces and books, where it keeps them: any text, which the ports understand.
+    pub book: Option<String>,
+    /// Where its links are bound, 1 to 4: any texts, which the ports understand.
+    pub binds: Vec<String>,
 }

@@ -6,6 +6,7 @@ ghost use Rattle.m17_words.specs.First.{text_of_first};
 
 use crate::clap_words::{find, is_there, text_of, text_or};
 use crate::first::{FirstWord, first_word};
+use crate::serve_words::read_serve;
 use crate::tables::{judge_table, make_table, replay_table, show_table};
 use crate::talk_words::read_talk;
 use crate::{Command, WordsRefusal, values};
@@ -13,7 +14,7 @@ use clap::ArgMatches;
 use std::alloc::Global;
 
 /// The most places of a reflector.
-const PLACES_MAX: u64 = 256;
+pub(crate) const PLACES_MAX: u64 = 256;
 
 /// The most entries of a made evening.
 const ENTRIES_MAX: u64 = 100_000;
@@ -47,6 +48,7 @@ fn read_after(alloc: Global, word: FirstWord, words: &[String]) -> Result<Comman
         FirstWord::Replay => read_replay(alloc, words),
         FirstWord::Make => read_make(alloc, words),
         FirstWord::Talk => read_talk(alloc, words),
+        FirstWord::Serve => read_serve(alloc, words),
     }
 }
 

@@ -1,6 +1,6 @@
 ghost use Rattle.std.specs.Prelude.{◌≡◌, IfOk, IfErr, false};
 ghost use Rattle.clap.specs.Words.{app_of, rule_of, with_rule};
-ghost use Rattle.m17_words.specs.Tables.{bare, option, needed, flag, argument, judge_table, show_table, replay_table, make_table, needed_table, talk_table};
+ghost use Rattle.m17_words.specs.Tables.{bare, option, needed, flag, argument, arguments, judge_table, show_table, replay_table, make_table, needed_table, talk_table, plan_table, serve_table};
 
 use crate::WordsRefusal;
 use clap::{Arg, ArgAction, Command};
@@ -46,6 +46,14 @@ fn argument<'a>(alloc: Global, name: &'a str) -> Arg<'a>
     ensures own { result.global ≡ false }
 {
     Arg::new(alloc, name).required(true)
+}
+
+// An argument that has to be there once or more often.
+fn arguments<'a>(alloc: Global, name: &'a str) -> Arg<'a>
+    ensures rule { rule_of result ≡ arguments name.entry.now }
+    ensures own { result.global ≡ false }
+{
+    Arg::new(alloc, name).required(true).num_args(1..)
 }
 
 // The command with one more option or argument.
@@ -120,4 +128,26 @@ pub(crate) fn talk_table<'a>(alloc: Global) -> Result<Command<'a>, WordsRefusal>
     let command = with(needed_table(alloc)?, flag(alloc, "listen"))?;
     let command = with(command, option(alloc, "stay"))?;
     with(command, option(alloc, "book"))
+}
+
+// The part of the table of `serve` that says how the reflector is run.
+fn plan_table<'a>(alloc: Global) -> Result<Command<'a>, WordsRefusal>
+    ensures table { IfOk result (λ c. app_of c ≡ plan_table) }
+    ensures memory { IfErr result (λ e. e ≡ WordsRefusal.NoMemory) }
+{
+    let command = with(bare(alloc, "serve"), needed(alloc, "call"))?;
+    let command = with(command, option(alloc, "modules"))?;
+    let command = with(command, option(alloc, "parrots"))?;
+    with(command, option(alloc, "places"))
+}
+
+// The table of `serve`.
+#[tactic(auto, unfolding(crate::specs::Tables::serve_table))]
+pub(crate) fn serve_table<'a>(alloc: Global) -> Result<Command<'a>, WordsRefusal>
+    ensures table { IfOk result (λ c. app_of c ≡ serve_table) }
+    ensures memory { IfErr result (λ e. e ≡ WordsRefusal.NoMemory) }
+{
+    let command = with(plan_table(alloc)?, option(alloc, "for"))?;
+    let command = with(command, option(alloc, "book"))?;
+    with(command, arguments(alloc, "bind"))
 }

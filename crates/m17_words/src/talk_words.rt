@@ -88,7 +88,7 @@ fn talk_of(
 }
 
 // A text of its own.
-fn owned(alloc: Global, text: &str) -> Result<String, WordsRefusal>
+pub(crate) fn owned(alloc: Global, text: &str) -> Result<String, WordsRefusal>
     ensures same { IfOk result (λ s. string_bytes s ≡ text.now) }
     ensures memory { IfErr result (λ e. e ≡ WordsRefusal.NoMemory) }
 {
@@ -99,7 +99,7 @@ fn owned(alloc: Global, text: &str) -> Result<String, WordsRefusal>
 }
 
 // The name of a book, where there is one.
-fn book_of(alloc: Global, name: Option<&str>) -> Result<Option<String>, WordsRefusal>
+pub(crate) fn book_of(alloc: Global, name: Option<&str>) -> Result<Option<String>, WordsRefusal>
     ensures same { IfOk result (λ book. option_map string_bytes book
         ≡ option_map (λ s. s.now) name.entry) }
     ensures memory { IfErr result (λ e. e ≡ WordsRefusal.NoMemory) }

@@ -6,7 +6,7 @@ use std::alloc::Global;
 use std::test::Fail;
 
 // What the words of a line, between single spaces, are read as.
-fn read(alloc: Global, line: &str) -> Result<Result<Command, WordsRefusal>, Fail> {
+pub(crate) fn read(alloc: Global, line: &str) -> Result<Result<Command, WordsRefusal>, Fail> {
     let mut words = Vec::new(alloc);
     for word in line.split(' ') {
         words.push(String::from_str(alloc, word)?)?;

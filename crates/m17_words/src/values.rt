@@ -1,10 +1,10 @@
-ghost use Rattle.std.specs.Prelude.{◌≡◌, ◌≤◌, ◌<◌, ◌^◌, ◌↔◌, ℕ, List, All, IsTrue, IfSome, IfNone, option_map};
+ghost use Rattle.std.specs.Prelude.{◌≡◌, ◌≤◌, ◌<◌, ◌^◌, ◌↔◌, ℕ, List, All, IsTrue, IfSome, IfNone, Option, option_map};
 ghost use Rattle.m17_callsign.specs.Callsign.{IsCallsignOf};
 ghost use Rattle.m17_values.specs.declared.peer.Peer.{Peer};
 ghost use Rattle.m17_control.specs.declared.modules.Modules.{Modules};
 ghost use Rattle.m17_control.specs.Modules.{serves};
 ghost use Rattle.m17_peer.specs.Text.{IsTextOf};
-ghost use Rattle.m17_words.specs.Values.{IsNumber, NamesLetter, NamesModules, NamesParrots};
+ghost use Rattle.m17_words.specs.Values.{IsNumber, IsNumberIfAny, NamesLetter, NamesModules, NamesParrots};
 
 use m17_callsign::{CallAddress, encode};
 use m17_control::{ModuleLetter, Modules};
@@ -22,6 +22,22 @@ pub(crate) fn number(text: &str, least: u64, most: u64) -> Option<u64>
         Ok(n) if least <= n && n <= most => Some(n),
         Ok(_) => None,
         Err(_) => None,
+    }
+}
+
+// The number of a text, where there is one: none is a value too, and so the answer is a number that may be missing, or
+// nothing where the text is no such number.
+pub(crate) fn number_if_any(text: Option<&str>, least: u64, most: u64) -> Option<Option<u64>>
+    ensures some { IfSome result (IsNumberIfAny least most (option_map (λ s. s.now) text.entry)) }
+    ensures none { IfNone result ((n : Option ℕ)
+        → ¬ IsNumberIfAny least most (option_map (λ s. s.now) text.entry) n) }
+{
+    match text {
+        None => Some(None),
+        Some(text) => match number(text, least, most) {
+            Some(n) => Some(Some(n)),
+            None => None,
+        },
     }
 }
 

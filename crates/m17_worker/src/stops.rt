@@ -1,12 +1,10 @@
 //! When a worker has had its last event.
-ghost use Rattle.std.specs.Prelude.{◌≡◌, ◌↔◌, ℕ, ◌+◌, ◌<◌, ◌≤◌, true, List, [], ◌∷◌, ◌++◌, slice_get, Some, IsTrue};
+ghost use Rattle.std.specs.Prelude.{◌≡◌, ◌↔◌, ℕ, ◌<◌, ◌≤◌, true, List, [], ◌∷◌, ◌++◌, slice_get, Some, IsTrue};
 ghost use Rattle.m17_control.specs.declared.event.Event.{Event};
 ghost use Rattle.m17_worker.specs.Underway.{AreFlags};
 ghost use Rattle.m17_worker.specs.Taken.{is_stop};
 
-use crossbeam_utils::sync::EventCount;
 use m17_control::{Body, Event};
-use std::sync::Wait;
 
 /// A reflector has so many links at the most.
 pub(crate) const MOST_LINKS: usize = 4;
@@ -34,20 +32,6 @@ pub(crate) fn all_stopped(stopped: &[bool; MOST_LINKS], links: u32) -> bool
         }
     }
     true
-}
-
-// Counts one more. A count that has come to 2^64 - 1 waits for ever, asleep.
-pub(crate) fn count_one<R: Wait>(rt: &R, count: u64) -> u64
-    ensures { result ≡ count + 1 }
-{
-    if count < u64::MAX {
-        return count + 1;
-    }
-    let nobody = EventCount::new();
-    for _ in rt.forever() {
-        nobody.prepare_wait().wait(rt);
-    }
-    unreachable!()
 }
 
 fn is_stop_event(event: &Event) -> bool

@@ -14,12 +14,13 @@ use crate::Worker;
 use crate::book::write_if;
 use crate::gifts::hand_out;
 use crate::records::{is_replaced_leave, own_record, record_of_bye};
-use crate::stops::{MOST_LINKS, count_one, note_stop};
+use crate::stops::{MOST_LINKS, note_stop};
 use crate::tape::fill_tape;
 use m17_control::{Body, Event, Item};
 use m17_floor::{Verdict, laws as floor_laws};
 use m17_module::laws as module_laws;
 use m17_ports::Book;
+use m17_rows::count_one;
 use std::sync::Wait;
 
 impl<B: Book> Worker<B> {

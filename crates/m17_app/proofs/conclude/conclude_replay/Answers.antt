@@ -4,6 +4,9 @@ use Rattle.m17_app.proofs.conclude.conclude_replay.Goals.{in-Finished, in-Refuse
 pub returns-in-LinkLost : goal.returns-in-LinkLost
 returns-in-LinkLost g c = rw c.in-LinkLost.is c.end_with.ensures
 
+pub returns-in-CrewRefused : goal.returns-in-CrewRefused
+returns-in-CrewRefused g c = rw c.in-CrewRefused.is c.end_with-in-CrewRefused.ensures
+
 pub returns : goal.returns
 returns g c = λ left reads. elim c.match-ending.branch [
   | in-Finished w ↦

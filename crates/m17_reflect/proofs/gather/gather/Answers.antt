@@ -1,4 +1,4 @@
-use Rattle.std.proofs.Common.{◌≡◌, map, length, sym, ◌∙◌}
+use Rattle.std.proofs.Common.{map, length, sym, ◌∙◌}
 use Rattle.m17_reflect.proofs.Ends.{map_twice}
 use Rattle.m17_reflect.proofs.RowsLong.{rows_long}
 use Rattle.m17_reflect.proofs.gather.gather.Goals as goal

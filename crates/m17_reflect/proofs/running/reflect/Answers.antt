@@ -1,4 +1,4 @@
-use Rattle.std.proofs.Common.{◌≡◌, ℕ, suc, ◌+◌, ◌<◌, ◌≤◌, List, [], ◌∷◌, ◌++◌, map, length, All, vec_len, vec_capacity, sym, subst, refl, ap, ◌∙◌, arith}
+use Rattle.std.proofs.Common.{◌≡◌, ℕ, ◌≤◌, [], ◌∷◌, map, length, All, vec_len, vec_capacity, sym, subst, refl, ap, ◌∙◌, arith}
 use Rattle.std.specs.List.{AllZip}
 use Rattle.std.proofs.lemmas.List.{length-map}
 use Rattle.std.proofs.lemmas.List.Elements.{recursion_from_All}
@@ -9,28 +9,26 @@ use Rattle.m17_receiver.specs.ReceiverDid.{ReceiverDid}
 use Rattle.m17_worker.specs.WorkerDid.{WorkerDid}
 use Rattle.m17_sender.specs.Ready.{IsReady}
 use Rattle.m17_sender.specs.Sent.{SenderDid, told_by}
-use Rattle.m17_sender.specs.declared.sender.Sender.{Sender}
-use Rattle.m17_crew.specs.declared.order.Order.TheVariants.{Go, Stop, Quit}
+use Rattle.m17_crew.specs.declared.order.Order.TheVariants.{Stop, Quit}
 use Rattle.m17_crew.specs.Laws.{Ran}
 use Rattle.m17_launch.specs.Groups.{staff}
 use Rattle.m17_house.specs.declared.plan.Plan.{Plan}
 use Rattle.m17_wiring.specs.Jobs.{AreJobs}
 use Rattle.m17_wiring.specs.Planned.{module_count}
 use Rattle.m17_wiring.specs.Rooms.{IsRoom, HasRooms}
-use Rattle.m17_reflect.specs.Views.{Words, Kinds}
+use Rattle.m17_reflect.specs.Views.{Words}
 use Rattle.m17_reflect.proofs.Assembled.{ear_words, book_words}
-use Rattle.m17_reflect.proofs.Calls.{Cast, Raw, Finished, Back, receiver_ones, worker_ones, sender_ones, the_one, came_back, apart}
-use Rattle.m17_reflect.proofs.Gathering.{Apart, grid_ready, queues_ready, notes_ready, door_ready, cells_ready, seats_all}
+use Rattle.m17_reflect.proofs.Calls.{Cast, Raw, Finished, receiver_ones, worker_ones, sender_ones, the_one, came_back, apart}
+use Rattle.m17_reflect.proofs.Gathering.{grid_ready, queues_ready, notes_ready, door_ready, cells_ready, seats_all}
 use Rattle.m17_reflect.proofs.Gone.{receiver_order, worker_order, receivers_stayed, workers_stayed}
 use Rattle.m17_reflect.proofs.Known.{whole_laws, back_laws}
-use Rattle.m17_reflect.proofs.Launched.{zip_less, told_ones, told_came, told_long, ran_keeps, zip_ran, one_job}
+use Rattle.m17_reflect.proofs.Launched.{zip_less, told_ones, told_came, ran_keeps, zip_ran, one_job}
 use Rattle.m17_reflect.proofs.Lines.{sender_order, receiver_keeps, worker_keeps, sender_keeps, sender_went}
 use Rattle.m17_reflect.proofs.Heads.{heads_long, head_fits, sender_stays}
 use Rattle.m17_reflect.proofs.Modules.{inbox_of}
-use Rattle.m17_reflect.proofs.Over.{Gathered, HaveDevices, headline_of}
+use Rattle.m17_reflect.proofs.Over.{Gathered, headline_of}
 use Rattle.m17_reflect.proofs.SameDevices.{part_same, mouths_same}
 use Rattle.m17_reflect.proofs.Space.{shells_ready, rows_ready}
-use Rattle.m17_reflect.proofs.Whole.{Laws}
 use Rattle.m17_reflect.proofs.running.reflect.Goals as goal
 
 pub part-parted-requires-clause-ears : goal.part-parted-requires-clause-ears

@@ -1,4 +1,5 @@
-use Rattle.std.proofs.Common.{List, refl, sym, subst}
+use Rattle.std.proofs.Common.{ℕ, List, [], Some, refl, sym, ap, subst, ◌∙◌}
+use Rattle.std.proofs.lemmas.List.{append-nil}
 use Rattle.m17_io.specs.Faults.{HasCauses}
 use Rattle.m17_values.specs.declared.heard.Heard.{Heard}
 use Rattle.m17_book.specs.Book.{IsTrace}
@@ -21,7 +22,7 @@ returns-clause-ended g c = λ bytes told.
     let judged = c.in-Ok.ensures.judged in
     subst (λ (ending : ReplayEnding). ComesToReplay c.args.plan.now c.args.summary ending (streams bytes (g.S.Input.left c.read_heard.new.input) (g.K.Sink.written c.args.out.now) (g.K.Sink.written c.print_replayed-printed.new.out)))
     (sym c.ending_of.ensures)
-    (ended c.args.plan.now c.args.summary bytes c.deref.result.now c.in-Ok.replayed (subst (λ (heard : List Heard). IsTrace bytes heard) (sym c.deref.ensures.value) read.0) judged
+    (ended c.a_replay_there_is.ensures c.replay_text_is_free_of_places.ensures c.args.plan.now c.args.summary bytes c.in-Ok-Ok.heard.items c.in-Ok.replayed read.0 judged
     c.print_replayed-printed.result c.in-Ok.replayed.lost _ _ _ _ read.1 refl c.in-Ok-Ok.ensures.nothing_written
     (c.print_replayed-printed.ensures.writes c.args.plan.now judged.entries judged.stands))
 
@@ -42,3 +43,17 @@ pub returns-clause-appended : goal.returns-clause-appended
 returns-clause-appended g c =
     let judged = c.in-Ok.ensures.judged in
     grows_then _ _ _ (grows_none _ _ c.in-Ok-Ok.ensures.nothing_written) (writes_grow c.print_replayed-printed.result _ _ _ (c.print_replayed-printed.ensures.writes c.args.plan.now judged.entries judged.stands))
+
+pub returns-in-Ok-Err-clause-appended : goal.returns-in-Ok-Err-clause-appended
+returns-in-Ok-Err-clause-appended g c = grows_none _ _ c.in-Ok-Err.ensures.nothing_written
+
+pub returns-in-Err-clause-appended : goal.returns-in-Err-clause-appended
+returns-in-Err-clause-appended g c = grows_none _ _ c.in-Err.ensures.nothing_written
+
+pub returns-in-Err-Crew-clause-ended : goal.returns-in-Err-Crew-clause-ended
+returns-in-Err-Crew-clause-ended g c = λ bytes told.
+    let read = in_ok c.in-Ok-Ok.field-0 _ _ c.in-Ok-Ok.heard c.in-Ok-Ok.field-0-is (c.in-Ok-Ok.ensures.read bytes told) in
+    record {
+      said = ((c.in-Ok-Ok.heard.items, read.0), read.1);
+      printed = λ before is. ([], c.in-Ok-Ok.ensures.nothing_written ∙ is ∙ ap (λ (l : List ℕ). Some l) (sym (append-nil before)), refl);
+    }

@@ -1,4 +1,4 @@
-use Rattle.std.proofs.Common.{List, map, string_bytes, sym, subst, ap, ◌∙◌}
+use Rattle.std.proofs.Common.{sym, subst}
 use Rattle.m17_words.specs.Tables.{IsSimple}
 use Rattle.m17_words.proofs.Simple.{talk_simple}
 use Rattle.m17_words.proofs.talk_words.read_talk.Goals as goal

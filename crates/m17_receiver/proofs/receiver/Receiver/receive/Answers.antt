@@ -5,7 +5,7 @@ use Rattle.m17_values.specs.declared.heard.Heard.TheVariants.{End}
 use Rattle.m17_receiver.specs.declared.receiver.Receiver.{Receiver}
 use Rattle.m17_receiver.specs.Devices.{Words, HasHeard, HasTrace}
 use Rattle.m17_receiver.specs.SoFar.{plan_of}
-use Rattle.m17_receiver.proofs.Came.{same_devices, same_taped, come_none, come_on, come_end, same_kept, same_itself, plan_is, first_is, next_index, fewer, index_is, trace_stays, ear_stays, faults_stay, cell_put}
+use Rattle.m17_receiver.proofs.Came.{same_devices, same_taped, come_none, come_on, come_end, same_kept, same_itself, plan_is, first_is, next_index, index_is, trace_stays, ear_stays, faults_stay, cell_put}
 use Rattle.m17_receiver.proofs.Heard.{hears_one}
 use Rattle.m17_receiver.proofs.receiver.Receiver.receive.Goals as goal
 
@@ -59,10 +59,10 @@ loop-preserved g c =
           | inl earlier ↦ old.no_end earlier
           | inr now ↦ false≢true (sym c.if-has_ended.false ∙ c.has_ended.ensures ∙ c.enter-verdict.ensures.over now)
         ];
-        count = next_index c.loop.index c.saturating_add-index.result old.heard h old.count c.saturating_add-index.ensures;
-        come = λ few.
-            let was = old.come (fewer old.heard h few) in
-            let at = index_is j k old.heard h c.loop.noted c.loop.index was few old.count in
+        count = next_index c.loop.index c.count_one-next.result old.heard h old.count c.count_one-next.ensures;
+        come =
+            let was = old.come in
+            let at = index_is j k old.heard c.loop.noted c.loop.index was old.count in
             let says = c.enter-verdict.ensures.says in
             let through = c.enter-verdict.ensures.through (plan_of j) was.entries says.0 (plan_is j k₁ c.requires.made.places c.requires.made.modules
             (same_devices j k c.hear-entry.new.self c.write_trace.new.trace c.write_trace.new.failed between.same)) at says.1 was.so_far in
@@ -105,9 +105,10 @@ returns-then-has_ended-clause-gone g c =
           let risen = c.hear-entry.ensures.fault (c.is_fault-self.ensures.0 lost) in
           omega (arith, risen, old.ear.counted, faults_stay words k₁ s kept);
       trace = trace_stays words k₁ s (words.written j.trace, words.trace_faults j.trace) (old.heard ++ h ∷ []) kept traced;
-      received = λ few.
-          let was = old.come (fewer old.heard h few) in
-          let at = index_is j k old.heard h c.loop.noted c.loop.index was few old.count in
+      counted = omega (arith, next_index c.loop.index c.count_one-next.result old.heard h old.count c.count_one-next.ensures, c.count_one-next.type_inv);
+      received =
+          let was = old.come in
+          let at = index_is j k old.heard c.loop.noted c.loop.index was old.count in
           let says = c.enter-verdict.ensures.says in
           let through = c.enter-verdict.ensures.through (plan_of j) was.entries says.0 (plan_is j k₁ c.requires.made.places c.requires.made.modules
           (same_devices j k c.hear-entry.new.self c.write_trace.new.trace c.write_trace.new.failed between.same)) at says.1 was.so_far in

@@ -1,0 +1,7 @@
+mod Listed
+mod Given
+mod Carried
+mod Heads
+mod Told
+mod Asked
+mod Agreed

@@ -1,0 +1,71 @@
+-- A link of a run of the reflector as one end of a way, and what both ends of it agree on. This
+-- profile.
+use Rattle.std.specs.Prelude.{◌≡◌, ◌⊎◌, ℕ, true, List, ◌++◌, Contains, Some}
+use Rattle.m17_values.specs.declared.heard.Heard.{Heard}
+use Rattle.m17_values.specs.declared.heard.Heard.TheVariants as heard
+use Rattle.m17_values.specs.declared.member.Member.{Member}
+use Rattle.m17_stream.specs.declared.packet.StreamPacket.{StreamPacket}
+use Rattle.m17_control.specs.declared.event.Event.{Event}
+use Rattle.m17_ports.specs.Said.{MouthTold}
+use Rattle.m17_ports.specs.Told.{StartsEmpty}
+use Rattle.m17_floor.specs.Laws.{IsAdmittedPacket}
+use Rattle.m17_module.specs.Events.{acts_of}
+use Rattle.m17_module.specs.Echoes.{echo_at}
+use Rattle.m17_module.specs.Items as module_items
+use Rattle.m17_lane.specs.Ends.{TrailEnd}
+use Rattle.m17_receiver.specs.Devices.{Tells}
+use Rattle.m17_reflect.specs.Links.{At, setup_at}
+use Rattle.m17_reflect.specs.Run.{Run}
+use Rattle.m17_reflect.specs.Trails.{events_of}
+use Rattle.m17_client.specs.Standing.{Standing}
+use Rattle.m17_client.specs.Steps.{ClientStep, is_connected, standing_after}
+use Rattle.m17_client.specs.Way.{GotIn, KeepsWhatWasSaid, Way, keeps_of}
+
+-- The link with this number is the link's end of the way: its ear and its mouth were new, and they
+-- tell what the way says that the link heard and said. This profile.
+pub record IsLinksEnd {L : Type 0} (run : Run L) (i : ℕ) (way : Way) : Type 0 where
+  pub ear_before : Tells Heard
+  pub ear_after : Tells Heard
+  pub ear_was : At run.before.ears i ear_before
+  pub ear_is : At run.after.ears i ear_after
+  pub new_ear : StartsEmpty ear_before.0
+  pub heard : ear_after.0 ≡ Some way.link_heard
+  pub mouth_before : MouthTold L
+  pub mouth_after : MouthTold L
+  pub mouth_was : At run.before.mouths i mouth_before
+  pub mouth_is : At run.after.mouths i mouth_after
+  pub new_mouth : StartsEmpty mouth_before.said
+  pub said : mouth_after.said ≡ Some way.link_said
+
+-- A position of a module gives the packet out: the packet there is admitted, or the module is a
+-- parrot and plays the packet back there. This profile.
+abbrev pub GivesOut : module_items.Setup → List Event → ℕ → StreamPacket → Type 0
+GivesOut setup events n packet = (k : Member)
+    × (IsAdmittedPacket setup.places (acts_of events) n k packet
+    ⊎ ((setup.parrot ≡ true) × (echo_at setup.places (acts_of events) n ≡ Some (k, packet))))
+
+-- The packet is given out at a position of some module's trail. This profile.
+pub record IsInATrail {L : Type 0} (run : Run L) (packet : StreamPacket) : Type 0 where
+  pub m : ℕ
+  pub trail : TrailEnd Event
+  pub there : At run.handed.trails m trail
+  pub n : ℕ
+  pub gives : GivesOut (setup_at run.plan m) (events_of trail) n packet
+
+-- How a client got in, as both ends have it: the link heard the CONN or LSTN that the client had
+-- said before it heard its ACKN. This profile.
+pub record BothLetIn (way : Way) (first : Standing) (steps : List ClientStep) : Type 0 where
+  pub got_in : GotIn way first steps
+  pub at : ℕ
+  pub link_heard : Contains way.link_heard (heard.Datagram way.client at got_in.asking)
+
+-- What the ends agree on: the client keeps what was said to it; where it is connected, the link
+-- heard its request; and each packet that it keeps is an admitted one, or a parrot's echo, in some
+-- module's trail. This profile.
+pub record EndsAgree {L : Type 0} (run : Run L) (way : Way) (first : Standing)
+    (steps : List ClientStep) : Type 0 where
+  pub keeps : KeepsWhatWasSaid way first steps
+  pub let_in : (front rest : List ClientStep) → steps ≡ front ++ rest
+      → is_connected (standing_after first front).state ≡ true → BothLetIn way first front
+  pub in_trails : (packet : StreamPacket) → Contains (keeps_of steps) packet
+      → IsInATrail run packet

@@ -1,0 +1,25 @@
+-- What follows for a client and a link of a run of the reflector. This profile.
+use Rattle.std.specs.Prelude.{ℕ, List}
+use Rattle.m17_reflect.specs.Headline.{Headline}
+use Rattle.m17_reflect.specs.Run.{Run}
+use Rattle.m17_client.specs.Standing.{Standing}
+use Rattle.m17_client.specs.Laws.{IsTalkOver}
+use Rattle.m17_client.specs.Steps.{ClientStep}
+use Rattle.m17_client.specs.Talk.{TalkPlan, Turn, steps_of}
+use Rattle.m17_client.specs.Way.{IsClientsEnd, NothingInvented, Way}
+use Rattle.m17_ends.specs.BothEnds.{EndsAgree, IsLinksEnd}
+
+-- Of a run of the reflector that meets its headline, and a client at the other end of a way on which
+-- nothing is made up: both ends agree. This profile.
+abbrev pub BothEndsAgree : (L : Type 0) → Type 0
+BothEndsAgree L =
+    (run : Run L) (headline : Headline run) (i : ℕ) (way : Way) (first : Standing)
+    (steps : List ClientStep) → IsLinksEnd run i way → NothingInvented way
+    → IsClientsEnd way first steps → EndsAgree run way first steps
+
+-- The same of a run of `talk` as the client's end. This profile.
+abbrev pub TalksAgree : (L : Type 0) → Type 0
+TalksAgree L =
+    (run : Run L) (headline : Headline run) (i : ℕ) (way : Way) (plan : TalkPlan)
+    (turns : List Turn) → IsLinksEnd run i way → NothingInvented way
+    → IsTalkOver way plan turns → EndsAgree run way plan.client (steps_of turns)

@@ -1,0 +1,3 @@
+-- What it is to be at both ends, and what follows.
+pub mod BothEnds
+pub mod Laws

@@ -1,0 +1,18 @@
+//! What follows for a client and a link of a run of the reflector. Each function does nothing: its clause is the
+//! law. This profile.
+ghost use Rattle.m17_ends.specs.Laws as law;
+
+/// What both ends come to together, in every run of the reflector and of a client that meet the promises of their
+/// ends, whatever is lost, repeated or reordered between them; and so do a run of the reflector and a run of
+/// `talk`. `L` is the kind of the mouths' labels. This profile.
+pub fn both_ends_agree<L>()
+    ensures ends { law.BothEndsAgree L }
+    ensures talks { law.TalksAgree L }
+{
+    m17_client::laws::client_keeps_what_was_said();
+    m17_client::laws::talk_is_a_clients_end();
+    m17_control::laws::decoding_is_exact();
+    m17_stream::laws::one_spelling();
+    m17_directory::laws::peers_are_told_apart();
+    m17_directory::laws::door_carries_replies();
+}

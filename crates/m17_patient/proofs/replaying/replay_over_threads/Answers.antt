@@ -1,0 +1,95 @@
+use Rattle.std.proofs.Common.{◌≡◌, ℕ, List, [], ◌∷◌, length, map, vec_len, vec_capacity, refl, ap, sym, subst, ◌∙◌, arith, MatchResult, true, Option, Vec, Global}
+use Rattle.std.specs.List.{filter_map}
+use Rattle.m17_values.specs.declared.heard.Heard.{Heard}
+use Rattle.m17_port_memory.specs.Kept.{ScriptKept, TalliesKept}
+use Rattle.m17_port_memory.specs.Script.{heard_of, faults_of}
+use Rattle.m17_port_memory.specs.Peers.{named_in, tally_at}
+use Rattle.m17_directory.specs.declared.verdict.LinkVerdict.{LinkVerdict}
+use Rattle.m17_house.specs.declared.plan.Plan.{Plan}
+use Rattle.m17_house.specs.Replay.{IsPlan}
+use Rattle.m17_patient.proofs.Lists.{head_is, mapped_one}
+use Rattle.m17_patient.proofs.TapeSteps.{taken}
+use Rattle.m17_patient.proofs.Whole.{IsOver, IsTakenApart, freely_replayed, hears, tape_there, tells, ears_back, mouths_back}
+use Rattle.m17_patient.proofs.replaying.replay_over_threads.Goals as goal
+
+pub reflect-requires-clause-plan : goal.reflect-requires-clause-plan
+reflect-requires-clause-plan g c κs within =
+    subst IsPlan (sym c.patient_plan-patient.ensures) (record {
+      some_place = c.requires.plan.some_place;
+      at_most = c.requires.plan.at_most;
+      some_module = c.requires.plan.some_module;
+      parrots = c.requires.plan.parrots;
+    })
+
+pub take_apart-requires-clause-ear : goal.take_apart-requires-clause-ear
+take_apart-requires-clause-ear g c =
+    let it = ears_back c.in-Ok-reflect.returned.ears.items c.in-Ok-one.ears.items c.new.result c.in-Ok-one.ensures c.in-Ok-reflect.ensures.same_ears.0 in
+    (it.0, it.1)
+
+pub take_apart-requires-clause-mouth : goal.take_apart-requires-clause-mouth
+take_apart-requires-clause-mouth g c =
+    let it = mouths_back c.in-Ok-reflect.returned.mouths.items c.in-Ok-one-2.mouths.items c.args.mouth c.in-Ok-one-2.ensures c.in-Ok-reflect.ensures.same_mouths.0 in
+    (it.0, it.1)
+
+pub take_apart-requires-clause-tape : goal.take_apart-requires-clause-tape
+take_apart-requires-clause-tape g c =
+    let script = c.args.heard.items in
+    let it = ears_back c.in-Ok-reflect.returned.ears.items c.in-Ok-one.ears.items c.new.result c.in-Ok-one.ensures c.in-Ok-reflect.ensures.same_ears.0 in
+    let many : c.in-Ok.entries ≡ length script = c.in-Ok.ensures.1 ∙ c.count-len.ensures.count ∙ ap length c.deref.ensures.value in
+    let headline = c.in-Ok-reflect.ensures.headline in
+    let over : IsOver c.args.plan.now script _ = record {
+      plan_is = c.patient_plan-patient.ensures ∙ ap (λ n. let p : Plan = record c.args.plan.now { patient = true; entries = n } in p) many;
+      ends = c.requires.ends;
+      first = c.new.result;
+      new = c.new.ensures;
+      before = ap (map hears) c.in-Ok-one.ensures;
+      last = it.0;
+      same = it.2 ∙ ap (λ (e : ScriptKept). e.script) c.new.ensures;
+      after = ap (map hears) it.1;
+    } in
+    let tape = tape_there c.args.plan.now script _ headline over in
+    let v = mapped_one (λ (t : Vec (Option LinkVerdict) Global). t.items) c.in-Ok-reflect.returned.link_tapes.items tape.0 tape.1 in (
+      v.0,
+      v.1,
+      omega (arith, ap length v.2, tape.2, many, c.in-Ok.ensures.1, c.in-Ok-with_capacity.ensures.capacity),
+      omega (arith, ap length v.2, tape.2, many, c.in-Ok.ensures.1, c.in-Ok-with_capacity-2.ensures.capacity),
+    )
+
+pub returns-in-Ok-reflect-clause-same_heard : goal.returns-in-Ok-reflect-clause-same_heard
+returns-in-Ok-reflect-clause-same_heard g c =
+    let it = ears_back c.in-Ok-reflect.returned.ears.items c.in-Ok-one.ears.items c.new.result c.in-Ok-one.ensures c.in-Ok-reflect.ensures.same_ears.0 in
+    head_is c.take_apart.result.heard.items c.args.heard.items (sym c.take_apart.ensures.heard ∙ ap (map (λ (e : ScriptKept). e.script)) it.1 ∙ ap (λ (l : List Heard). l ∷ []) (it.2 ∙ ap (λ (e : ScriptKept). e.script) c.new.ensures))
+
+pub returns-in-Ok-reflect-clause-judged : goal.returns-in-Ok-reflect-clause-judged
+returns-in-Ok-reflect-clause-judged g c =
+    let script = c.args.heard.items in
+    let it = ears_back c.in-Ok-reflect.returned.ears.items c.in-Ok-one.ears.items c.new.result c.in-Ok-one.ensures c.in-Ok-reflect.ensures.same_ears.0 in
+    let many : c.in-Ok.entries ≡ length script = c.in-Ok.ensures.1 ∙ c.count-len.ensures.count ∙ ap length c.deref.ensures.value in
+    let headline = c.in-Ok-reflect.ensures.headline in
+    let over : IsOver c.args.plan.now script _ = record {
+      plan_is = c.patient_plan-patient.ensures ∙ ap (λ n. let p : Plan = record c.args.plan.now { patient = true; entries = n } in p) many;
+      ends = c.requires.ends;
+      first = c.new.result;
+      new = c.new.ensures;
+      before = ap (map hears) c.in-Ok-one.ensures;
+      last = it.0;
+      same = it.2 ∙ ap (λ (e : ScriptKept). e.script) c.new.ensures;
+      after = ap (map hears) it.1;
+    } in
+    let tape = tape_there c.args.plan.now script _ headline over in
+    let v = mapped_one (λ (t : Vec (Option LinkVerdict) Global). t.items) c.in-Ok-reflect.returned.link_tapes.items tape.0 tape.1 in
+    freely_replayed c.known_laws.ensures c.args.plan.now script _ headline over c.take_apart.result.verdicts.items c.take_apart.result.packets.items c.take_apart.result.mouth (record {
+      tape = tape.0;
+      tapes = tape.1;
+      verdicts_are = head_is c.take_apart.result.verdicts.items (taken tape.0)
+          (sym c.take_apart.ensures.verdicts ∙ ap (map (λ (t : Vec (Option LinkVerdict) Global). taken t.items)) v.1 ∙ ap (λ l. taken l ∷ []) v.2);
+      packets_are = c.take_apart.ensures.packets;
+      before = tells c.args.mouth;
+      after = tells c.take_apart.result.mouth;
+      is_before = ap (map tells) c.in-Ok-one-2.ensures;
+      is_after = ap (map tells) c.take_apart.ensures.mouth;
+      sound = refl;
+      still = refl;
+      nothing = c.requires.nothing_said;
+      told = λ y. refl;
+    })

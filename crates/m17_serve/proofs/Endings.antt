@@ -1,0 +1,112 @@
+-- How the command ends, and what caused it.
+use Rattle.std.proofs.Common.{◌≡◌, ℕ, Bool, true, false, List, Option, Result, Ok, Err, OnOk, OnErr, refl, sym, subst, ◌∙◌, arith, inl, inr}
+use Rattle.m17_io.specs.Faults.{HasCause, HasRisen}
+use Rattle.m17_reflect.specs.declared.returned.HouseRefusal.{HouseRefusal}
+use Rattle.m17_reflect.specs.declared.returned.HouseRefusal.TheVariants as refusals
+use Rattle.m17_reflect.specs.Run.{Handed}
+use Rattle.m17_reflect.specs.Views.{IsRefusedFor}
+use Rattle.m17_words.specs.declared.order.ServeOrder.{ServeOrder}
+use Rattle.m17_serve.specs.declared.served.ServeEnding.{ServeEnding}
+use Rattle.m17_serve.specs.declared.served.ServeEnding.TheVariants.{Finished, LinkLost, BookFailed, WriteFailed, PortFailed, CrewRefused, NoMemory}
+use Rattle.m17_serve.specs.Devices.{HouseTold}
+use Rattle.m17_serve.specs.Served.{Around, AsksNothing, ComesToServe, EndsServe, FailsAtPort, HasCauses, Refuses, RoseWhere, Serves, counts, ending_by, lines_of}
+use Rattle.m17_serve.specs.Steps.{Prints}
+
+stood : (cause : Type 0) (a b : ℕ) → (cause → ⊥) → b ≡ a → RoseWhere cause a b
+stood cause a b none same = record { rose = λ c. absurd (none c); stands = λ _. same }
+
+rose_by : (cause : Type 0) (a b : ℕ) → cause → HasRisen a b → RoseWhere cause a b
+rose_by cause a b c risen = record { rose = λ _. risen; stands = λ none. absurd (none c) }
+
+-- two endings that differ
+differ : (e x y : ServeEnding) → e ≡ x → (x ≡ y → ⊥) → e ≡ y → ⊥
+differ e x y is apart h = apart (sym is ∙ h)
+
+pub caused_memory : (e : ServeEnding) (p p' c c' s s' : ℕ) → e ≡ NoMemory → p' ≡ p → c' ≡ c → s' ≡ s → HasCauses e (counts p c s) (counts p' c' s')
+caused_memory e p p' c c' s s' is ports crew sink = record {
+  ports = stood _ p p' (differ e NoMemory PortFailed is (λ h. cc)) ports;
+  crew = stood _ c c' (differ e NoMemory CrewRefused is (λ h. cc)) crew;
+  sink = stood _ s s' (differ e NoMemory WriteFailed is (λ h. cc)) sink;
+  sink_counted = omega (arith, sink);
+}
+
+pub caused_port : (e : ServeEnding) (p p' c s : ℕ) → e ≡ PortFailed → HasRisen p p' → HasCauses e (counts p c s) (counts p' c s)
+caused_port e p p' c s is risen = record {
+  ports = rose_by _ p p' is risen;
+  crew = stood _ c c (differ e PortFailed CrewRefused is (λ h. cc)) refl;
+  sink = stood _ s s (differ e PortFailed WriteFailed is (λ h. cc)) refl;
+  sink_counted = omega arith;
+}
+
+pub caused_refusal : (why : HouseRefusal) (e : ServeEnding) (p p' c c' s : ℕ) → (why ≡ refusals.Crew → e ≡ CrewRefused) → (why ≡ refusals.NoMemory → e ≡ NoMemory)
+    → p' ≡ p → IsRefusedFor why c c' → HasCauses e (counts p c s) (counts p' c' s)
+caused_refusal refusals.Crew e p p' c c' s crew memory ports for = let is = crew refl in record {
+  ports = stood _ p p' (differ e CrewRefused PortFailed is (λ h. cc)) ports;
+  crew = rose_by _ c c' is (for.crew refl);
+  sink = stood _ s s (differ e CrewRefused WriteFailed is (λ h. cc)) refl;
+  sink_counted = omega arith;
+}
+caused_refusal refusals.NoMemory e p p' c c' s crew memory ports for = caused_memory e p p' c c' s s (memory refl) ports (for.no_memory refl) refl
+
+not_port : (lost failed : Bool) → ending_by lost failed ≡ PortFailed → ⊥
+not_port true failed h = cc
+not_port false true h = cc
+not_port false false h = cc
+
+not_crew : (lost failed : Bool) → ending_by lost failed ≡ CrewRefused → ⊥
+not_crew true failed h = cc
+not_crew false true h = cc
+not_crew false false h = cc
+
+not_sink : (lost failed : Bool) → ending_by lost failed ≡ WriteFailed → ⊥
+not_sink true failed h = cc
+not_sink false true h = cc
+not_sink false false h = cc
+
+pub caused_run : {T E : Type 0} (printed : Result T E) (lost failed : Bool) (e : ServeEnding) (p p' c c' s s' : ℕ) → OnOk printed (e ≡ ending_by lost failed)
+    → OnErr printed (e ≡ WriteFailed) → p' ≡ p → c' ≡ c → HasCause s s' printed → HasCauses e (counts p c s) (counts p' c' s')
+caused_run (Ok v) lost failed e p p' c c' s s' ok err ports crew cause = record {
+  ports = stood _ p p' (differ e (ending_by lost failed) PortFailed ok (not_port lost failed)) ports;
+  crew = stood _ c c' (differ e (ending_by lost failed) CrewRefused ok (not_crew lost failed)) crew;
+  sink = stood _ s s' (differ e (ending_by lost failed) WriteFailed ok (not_sink lost failed)) cause.no_fault;
+  sink_counted = cause.counted;
+}
+caused_run (Err v) lost failed e p p' c c' s s' ok err ports crew cause = record {
+  ports = stood _ p p' (differ e WriteFailed PortFailed err (λ h. cc)) ports;
+  crew = stood _ c c' (differ e WriteFailed CrewRefused err (λ h. cc)) crew;
+  sink = rose_by _ s s' err cause.failed;
+  sink_counted = cause.counted;
+}
+
+module _ {L : Type 0} where
+  by_flags : (order : ServeOrder) (e : ServeEnding) (run : Around L) (first written : Option (List ℕ)) (lost failed : Bool) → e ≡ ending_by lost failed
+      → EndsServe order e run first written → ComesToServe order e run first written
+  by_flags order e run first written true failed is ends =
+      subst (λ (x : ServeEnding). EndsServe order x run first written → ComesToServe order x run first written) (sym is) (λ h. h) ends
+  by_flags order e run first written false true is ends =
+      subst (λ (x : ServeEnding). EndsServe order x run first written → ComesToServe order x run first written) (sym is) (λ h. h) ends
+  by_flags order e run first written false false is ends =
+      subst (λ (x : ServeEnding). EndsServe order x run first written → ComesToServe order x run first written) (sym is) (λ h. h) ends
+
+  pub comes_run : {T E : Type 0} (printed : Result T E) (order : ServeOrder) (e : ServeEnding) (run : Around L) (devices : HouseTold L) (handed : Handed) (first written : Option (List ℕ))
+      → OnOk printed (e ≡ ending_by handed.lost handed.book_failed) → OnErr printed (e ≡ WriteFailed) → Serves order run devices handed
+      → Prints printed (lines_of order handed) first written → ComesToServe order e run first written
+  comes_run (Ok v) order e run devices handed first written ok err serves prints =
+      by_flags order e run first written handed.lost handed.book_failed ok (devices, handed, serves, ok, prints.all_of_it)
+  comes_run (Err v) order e run devices handed first written ok err serves prints =
+      subst (λ (x : ServeEnding). ComesToServe order x run first written) (sym err) (devices, handed, serves, prints.part_of_it)
+
+  pub comes_refusal : (why : HouseRefusal) (order : ServeOrder) (e : ServeEnding) (run : Around L) (first : Option (List ℕ)) → (why ≡ refusals.Crew → e ≡ CrewRefused)
+      → (why ≡ refusals.NoMemory → e ≡ NoMemory) → Refuses order why run → ComesToServe order e run first first
+  comes_refusal refusals.Crew order e run first crew memory refuses =
+      subst (λ (x : ServeEnding). ComesToServe order x run first first) (sym (crew refl)) (refuses, refl)
+  comes_refusal refusals.NoMemory order e run first crew memory refuses =
+      subst (λ (x : ServeEnding). ComesToServe order x run first first) (sym (memory refl)) (inr refuses, refl)
+
+  pub comes_memory : (order : ServeOrder) (e : ServeEnding) (run : Around L) (first : Option (List ℕ)) → e ≡ NoMemory → AsksNothing run → ComesToServe order e run first first
+  comes_memory order e run first is nothing =
+      subst (λ (x : ServeEnding). ComesToServe order x run first first) (sym is) (inl nothing, refl)
+
+  pub comes_port : (order : ServeOrder) (e : ServeEnding) (run : Around L) (first : Option (List ℕ)) → e ≡ PortFailed → FailsAtPort order run → ComesToServe order e run first first
+  comes_port order e run first is fails =
+      subst (λ (x : ServeEnding). ComesToServe order x run first first) (sym is) (fails, refl)

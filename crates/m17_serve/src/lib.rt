@@ -1,0 +1,21 @@
+//! The command `serve`: the ports are asked for the links of the words and, where a folder is named, for the trace of
+//! each link and the book of each module; the reflector runs over them; and a line for each module says what it admitted
+//! and what was left out. It promises what was asked and in which order; that the reflector of the words ran over new
+//! devices, which come back, and that the headline holds of that run; its lines; and that a failure is told exactly where
+//! the ports, the crew or the sink failed. Want of memory comes before anything was heard. How the reflector runs is left
+//! to `m17_reflect`, what the words say to `m17_words`, and the last line of the run to the program.
+#![tactic(auto)]
+
+#[cfg(test)]
+mod bench;
+mod letters;
+mod line;
+mod names;
+mod opening;
+mod serve_command;
+mod served;
+#[cfg(test)]
+mod tests;
+
+pub use serve_command::serve;
+pub use served::{ServeEnding, Served};

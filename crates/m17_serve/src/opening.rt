@@ -1,0 +1,209 @@
+//! The devices of a run, as the ports hand them out.
+ghost use Rattle.std.specs.Prelude.{◌≡◌, ◌↔◌, ◌≤◌, [], All, IfSome, IsSome, None, length, map, string_bytes, option_map, vec_len, vec_capacity, IfOk, OnOk};
+ghost use Rattle.m17_control.specs.Modules.{letters_of};
+ghost use Rattle.m17_ports.specs.declared.question.Question.TheVariants as questions;
+ghost use Rattle.m17_sender.specs.Sent.{told_by};
+ghost use Rattle.m17_talk.specs.Devices.{ports_told, ear_told, book_told, shelf_mark};
+ghost use Rattle.m17_serve.specs.Asked.{call_after, link_questions, questions_of, shelf_questions, until_of};
+ghost use Rattle.m17_serve.specs.Devices.{AreNew, AreNewOnes, eyes_by, house_told, IsNewEar, IsNewMouth, IsNewShelf, number_of_ear, number_of_mouth};
+ghost use Rattle.m17_serve.specs.Steps.{AreNames, Asks, HasRooms, kinds_opened};
+
+use crate::letters::room;
+use crate::names::Names;
+use m17_ports::{Ports, Shelf};
+use m17_values::{Failed, NoMemory};
+use m17_words::ServeOrder;
+use std::alloc::Global;
+
+/// How many milliseconds a second has.
+const SECOND_MS: u64 = 1_000;
+
+// The devices of a run: at first room for them, and then those that were handed out.
+#[derive(Drop)]
+pub(crate) struct Opened<E, M, B> {
+    pub ears: Vec<E>,
+    pub mouths: Vec<M>,
+    pub traces: Vec<Shelf<B>>,
+    pub books: Vec<Shelf<B>>,
+}
+
+// Room for the devices of so many links and modules.
+pub(crate) fn make_rooms<E: Drop, M: Drop, B: Drop>(
+    alloc: Global,
+    links: usize,
+    modules: usize,
+) -> Result<Opened<E, M, B>, NoMemory>
+    ensures { IfOk result (HasRooms links modules) }
+{
+    Ok(Opened {
+        ears: room(alloc, links)?,
+        mouths: room(alloc, links)?,
+        traces: room(alloc, links)?,
+        books: room(alloc, modules)?,
+    })
+}
+
+// Opens the links of these places, in order.
+pub(crate) fn open_links<P: Ports>(
+    binds: &[String],
+    until: Option<u64>,
+    ports: &mut P,
+    ears: &mut Vec<P::Ear>,
+    mouths: &mut Vec<P::Mouth>,
+) -> Result<(), Failed>
+    requires no_ears { ears.old.items ≡ [] }
+    requires room_for_ears { length binds.now ≤ vec_capacity ears.old }
+    requires no_mouths { mouths.old.items ≡ [] }
+    requires room_for_mouths { length binds.now ≤ vec_capacity mouths.old }
+    ensures asks { Asks result (link_questions (map string_bytes binds.now) until)
+        (ports_told (P.asked ports.old) (P.calls ports.old) (P.faults ports.old))
+        (ports_told (P.asked ports.new) (P.calls ports.new) (P.faults ports.new)) }
+    ensures ears { OnOk result (AreNewOnes IsNewEar number_of_ear (P.calls ports.old)
+        (length binds.now) (map (λ ear. ear_told (P.Ear.heard ear) (P.Ear.faults ear)
+        (P.Ear.mark ear)) ears.new.items)) }
+    ensures mouths { OnOk result (AreNewOnes IsNewMouth number_of_mouth (P.calls ports.old)
+        (length binds.now) (map (told_by P.Mouth.said P.Mouth.tallies P.Mouth.faults P.Mouth.mark
+        P.Mouth.label) mouths.new.items)) }
+{
+    for bind in binds {
+        let (ear, mouth) = match ports.link(bind.as_str(), until) {
+            Ok(link) => link,
+            Err(failed) => return Err(failed),
+        };
+        ears.push_reserved(ear);
+        mouths.push_reserved(mouth);
+    }
+    Ok(())
+}
+
+// Opens the books of these names, in order.
+pub(crate) fn open_books<P: Ports>(
+    names: &[String],
+    ports: &mut P,
+    shelves: &mut Vec<Shelf<P::Book>>,
+) -> Result<(), Failed>
+    requires none { shelves.old.items ≡ [] }
+    requires room { length names.now ≤ vec_capacity shelves.old }
+    ensures asks { Asks result (map questions.Book (map string_bytes names.now))
+        (ports_told (P.asked ports.old) (P.calls ports.old) (P.faults ports.old))
+        (ports_told (P.asked ports.new) (P.calls ports.new) (P.faults ports.new)) }
+    ensures new { OnOk result (AreNewOnes IsNewShelf shelf_mark (P.calls ports.old)
+        (length names.now) (map (λ shelf. option_map (λ b. book_told (P.Book.written b)
+        (P.Book.faults b) (P.Book.mark b)) shelf.inner) shelves.new.items)) }
+    ensures there { OnOk result (All (λ shelf. IsSome shelf.inner) shelves.new.items) }
+{
+    for name in names {
+        let book = match ports.book(name.as_str()) {
+            Ok(book) => book,
+            Err(failed) => return Err(failed),
+        };
+        shelves.push_reserved(Shelf { inner: Some(book) });
+    }
+    Ok(())
+}
+
+// Opens the traces and the books, where a folder is named, and leaves as many shelves empty where none is.
+fn open_shelves<P: Ports>(
+    order: &ServeOrder,
+    names: &Names,
+    modules: usize,
+    ports: &mut P,
+    traces: &mut Vec<Shelf<P::Book>>,
+    books: &mut Vec<Shelf<P::Book>>,
+) -> Result<(), Failed>
+    requires names { AreNames order.now names.now }
+    requires modules { modules ≡ length (letters_of order.now.modules) }
+    requires no_traces { traces.old.items ≡ [] }
+    requires room_for_traces { vec_len order.now.binds ≤ vec_capacity traces.old }
+    requires no_books { books.old.items ≡ [] }
+    requires room_for_books { modules ≤ vec_capacity books.old }
+    ensures asks { Asks result (shelf_questions order.now (option_map string_bytes order.now.book))
+        (ports_told (P.asked ports.old) (P.calls ports.old) (P.faults ports.old))
+        (ports_told (P.asked ports.new) (P.calls ports.new) (P.faults ports.new)) }
+    ensures traces { OnOk result (AreNewOnes IsNewShelf shelf_mark (P.calls ports.old)
+        (vec_len order.now.binds) (map (λ shelf. option_map (λ b. book_told (P.Book.written b)
+        (P.Book.faults b) (P.Book.mark b)) shelf.inner) traces.new.items)) }
+    ensures books { OnOk result (AreNewOnes IsNewShelf shelf_mark
+        (call_after (P.calls ports.old) (vec_len order.now.binds))
+        modules (map (λ shelf. option_map (λ b. book_told (P.Book.written b)
+        (P.Book.faults b) (P.Book.mark b)) shelf.inner) books.new.items)) }
+    ensures traces_there { OnOk result (All (λ shelf.
+        IsSome shelf.inner ↔ IsSome order.now.book) traces.new.items) }
+    ensures books_there { OnOk result (All (λ shelf.
+        IsSome shelf.inner ↔ IsSome order.now.book) books.new.items) }
+{
+    match &order.book {
+        Some(_) => match open_books(names.traces.as_slice(), ports, traces) {
+            Ok(()) => open_books(names.books.as_slice(), ports, books),
+            Err(failed) => Err(failed),
+        },
+        None => {
+            leave_empty(order.binds.len(), traces);
+            leave_empty(modules, books);
+            Ok(())
+        }
+    }
+}
+
+// The devices of a run, in the order of its questions.
+pub(crate) fn open<P: Ports>(
+    order: &ServeOrder,
+    names: &Names,
+    modules: usize,
+    ports: &mut P,
+    rooms: Opened<P::Ear, P::Mouth, P::Book>,
+) -> Result<Opened<P::Ear, P::Mouth, P::Book>, Failed>
+    requires names { AreNames order.now names.now }
+    requires modules { modules ≡ length (letters_of order.now.modules) }
+    requires rooms { HasRooms (vec_len order.now.binds) modules rooms }
+    requires seconds { IfSome order.now.seconds (λ seconds. seconds ≤ 1000000) }
+    ensures asks { Asks result (questions_of order.now)
+        (ports_told (P.asked ports.old) (P.calls ports.old) (P.faults ports.old))
+        (ports_told (P.asked ports.new) (P.calls ports.new) (P.faults ports.new)) }
+    ensures new { IfOk result (λ opened. AreNew order.now (P.calls ports.old)
+        (house_told (eyes_by P.Ear.heard P.Ear.faults P.Ear.mark
+        (told_by P.Mouth.said P.Mouth.tallies P.Mouth.faults P.Mouth.mark P.Mouth.label)
+        P.Book.written P.Book.faults P.Book.mark) (kinds_opened opened))) }
+{
+    let mut rooms = rooms;
+    let until = until_of(order.seconds);
+    let binds = order.binds.as_slice();
+    match open_links(binds, until, ports, &mut rooms.ears, &mut rooms.mouths) {
+        Ok(()) => {}
+        Err(failed) => return Err(failed),
+    }
+    match open_shelves(
+        order,
+        names,
+        modules,
+        ports,
+        &mut rooms.traces,
+        &mut rooms.books,
+    ) {
+        Ok(()) => Ok(rooms),
+        Err(failed) => Err(failed),
+    }
+}
+
+// When links end that serve for so many seconds.
+fn until_of(seconds: Option<u64>) -> Option<u64>
+    requires { IfSome seconds (λ seconds. seconds ≤ 1000000) }
+    ensures { result ≡ until_of seconds }
+{
+    match seconds {
+        Some(seconds) => Some(SECOND_MS * seconds),
+        None => None,
+    }
+}
+
+// As many shelves without a book.
+pub(crate) fn leave_empty<B>(count: usize, shelves: &mut Vec<Shelf<B>>)
+    requires none { shelves.old.items ≡ [] }
+    requires room { count ≤ vec_capacity shelves.old }
+    ensures count { vec_len shelves.new ≡ count }
+    ensures empty { All (λ shelf. shelf.inner ≡ None) shelves.new.items }
+{
+    for _left in 0..count {
+        shelves.push_reserved(Shelf { inner: None });
+    }
+}

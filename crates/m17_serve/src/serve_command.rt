@@ -1,0 +1,181 @@
+ghost use Rattle.std.specs.Prelude.{◌≡◌, ◌+◌, ◌≤◌, false, length, vec_len, None, IfOk, OnOk, OnErr};
+ghost use Rattle.m17_control.specs.Modules.{letters_of};
+ghost use Rattle.m17_print.specs.Endings.{Grows};
+ghost use Rattle.m17_reflect.specs.declared.returned.HouseRefusal.TheVariants as refusals;
+ghost use Rattle.m17_sender.specs.Sent.{told_by};
+ghost use Rattle.m17_talk.specs.Devices.{ports_told};
+ghost use Rattle.m17_serve.specs.Devices.{eyes_by, house_back, refused_back};
+ghost use Rattle.m17_serve.specs.Served.{around, counts, ending_by, plan_of, ComesToServe, HasCauses, IsServable};
+ghost use Rattle.m17_serve.specs.Steps.{AreNames, HasRooms};
+
+use crate::letters::served_letters;
+use crate::line::print_modules;
+use crate::names::{Names, make_names};
+use crate::opening::{Opened, make_rooms, open};
+use crate::{ServeEnding, Served};
+use m17_crew::Crew;
+use m17_house::Plan;
+use m17_io::Sink;
+use m17_ports::Ports;
+use m17_reflect::{HouseRefusal, reflect};
+use m17_values::{Failed, NoMemory};
+use m17_words::ServeOrder;
+use std::alloc::Global;
+use std::sync::Wait;
+use std::thread::Threads;
+
+// What is made before the ports are asked for anything: the letters of the modules, the names of what is kept, and room
+// for the devices.
+#[derive(Drop)]
+struct Made<E, M, B> {
+    letters: Vec<u8>,
+    names: Names,
+    rooms: Opened<E, M, B>,
+}
+
+/// Runs the reflector as its words say: asks the ports for its links, and, where a folder is named, for the trace of each
+/// link and the book of each module, runs the reflector over them, each job in a thread of its own, and writes a line for
+/// each module, in order of letters. The answer says how it ended, and hands the devices back; the last line is the
+/// caller's to write. It waits as long as the ears go on. Want of memory comes before anything was heard. This profile.
+pub fn serve<R: Threads + Wait + Copy + Send + 'static, P: Ports, C: Crew, K: Sink>(
+    rt: &R,
+    alloc: Global,
+    order: &ServeOrder,
+    ports: &mut P,
+    crew: &mut C,
+    out: &mut K,
+) -> Served<P::Ear, P::Mouth, P::Book>
+    requires servable { IsServable order.now }
+    // A failure is told exactly where the count of what failed rose.
+    ensures causes { HasCauses result.ending
+        (counts (P.faults ports.old) (C.refusals crew.old) (K.faults out.old))
+        (counts (P.faults ports.new) (C.refusals crew.new) (K.faults out.new)) }
+    // What the ending says of the ports and of what is handed back holds, and what it prints stands written.
+    ensures ended { ComesToServe order.now result.ending (around
+        (ports_told (P.asked ports.old) (P.calls ports.old) (P.faults ports.old))
+        (ports_told (P.asked ports.new) (P.calls ports.new) (P.faults ports.new))
+        (house_back (eyes_by P.Ear.heard P.Ear.faults P.Ear.mark
+        (told_by P.Mouth.said P.Mouth.tallies P.Mouth.faults P.Mouth.mark P.Mouth.label)
+        P.Book.written P.Book.faults P.Book.mark) result.house)
+        (refused_back (eyes_by P.Ear.heard P.Ear.faults P.Ear.mark
+        (told_by P.Mouth.said P.Mouth.tallies P.Mouth.faults P.Mouth.mark P.Mouth.label)
+        P.Book.written P.Book.faults P.Book.mark) result.refused))
+        (K.written out.old) (K.written out.new) }
+    ensures appended { Grows (K.written out.old) (K.written out.new) }
+{
+    let Ok(made) = make(alloc, order) else {
+        return without(ServeEnding::NoMemory);
+    };
+    let Made {
+        letters,
+        names,
+        rooms,
+    } = made;
+    let Ok(opened) = open(order, &names, letters.len(), ports, rooms) else {
+        return without(ServeEnding::PortFailed);
+    };
+    let plan = plan_of(order);
+    let ran = reflect(
+        rt,
+        alloc,
+        &plan,
+        opened.ears,
+        opened.mouths,
+        opened.traces,
+        opened.books,
+        crew,
+    );
+    match ran {
+        Ok(house) => {
+            let admitted = house.admitted.as_slice();
+            let missed = house.missed.as_slice();
+            let printed = print_modules(letters.as_slice(), admitted, missed, out);
+            Served {
+                ending: ending_of(house.lost, house.book_failed, printed),
+                house: Some(house),
+                refused: None,
+            }
+        }
+        Err(refused) => Served {
+            ending: ending_for(refused.why),
+            house: None,
+            refused: Some(refused),
+        },
+    }
+}
+
+// What is made first.
+fn make<E: Drop, M: Drop, B: Drop>(
+    alloc: Global,
+    order: &ServeOrder,
+) -> Result<Made<E, M, B>, NoMemory>
+    requires { vec_len order.now.binds ≤ 4 }
+    ensures letters { IfOk result (λ made. made.letters.items ≡ letters_of order.now.modules) }
+    ensures names { IfOk result (λ made. AreNames order.now made.names) }
+    ensures rooms { IfOk result (λ made.
+        HasRooms (vec_len order.now.binds) (length (letters_of order.now.modules)) made.rooms) }
+{
+    let letters = served_letters(alloc, order.modules)?;
+    let names = make_names(alloc, order, &letters)?;
+    let rooms = make_rooms(alloc, order.binds.len(), letters.len())?;
+    Ok(Made {
+        letters,
+        names,
+        rooms,
+    })
+}
+
+// The plan of the words.
+fn plan_of(order: &ServeOrder) -> Plan
+    ensures { result ≡ plan_of order.now }
+{
+    Plan {
+        name: order.call,
+        modules: order.modules,
+        parrots: order.parrots,
+        places: order.places,
+        patient: false,
+        entries: 0,
+    }
+}
+
+// What the command came to where nothing is handed back.
+fn without<E, M, B>(ending: ServeEnding) -> Served<E, M, B>
+    ensures ending { result.ending ≡ ending }
+    ensures house { result.house ≡ None }
+    ensures refused { result.refused ≡ None }
+{
+    Served {
+        ending,
+        house: None,
+        refused: None,
+    }
+}
+
+// How the command ends where the reflector ran.
+fn ending_of(lost: bool, book_failed: bool, printed: Result<(), Failed>) -> ServeEnding
+    ensures ok { OnOk printed (result ≡ ending_by lost book_failed) }
+    ensures err { OnErr printed (result ≡ ServeEnding.WriteFailed) }
+{
+    if printed.is_err() {
+        return ServeEnding::WriteFailed;
+    }
+    if lost {
+        return ServeEnding::LinkLost;
+    }
+    if book_failed {
+        return ServeEnding::BookFailed;
+    }
+    ServeEnding::Finished
+}
+
+// How it ends where the reflector refused to run.
+fn ending_for(why: HouseRefusal) -> ServeEnding
+    ensures crew { why ≡ refusals.Crew → result ≡ ServeEnding.CrewRefused }
+    ensures memory { why ≡ refusals.NoMemory → result ≡ ServeEnding.NoMemory }
+{
+    match why {
+        HouseRefusal::Crew => ServeEnding::CrewRefused,
+        HouseRefusal::NoMemory => ServeEnding::NoMemory,
+    }
+}

@@ -1,0 +1,33 @@
+use m17_ports::Shelf;
+use m17_reflect::{Refused, Returned};
+
+/// How `serve` came to its end. This profile.
+#[derive(Clone, Copy, Debug, PartialEq, Eq)]
+pub enum ServeEnding {
+    /// Each link came to its end. The lines were written.
+    Finished,
+    /// A link failed 16 times in a row. The lines were written.
+    LinkLost,
+    /// A trace or a book failed, and no link was lost. The lines were written.
+    BookFailed,
+    /// The reflector ran, and the sink failed.
+    WriteFailed,
+    /// The ports failed. Nothing was written.
+    PortFailed,
+    /// The crew refused to start a job. Nothing was written.
+    CrewRefused,
+    /// There was no memory. Nothing was heard or written.
+    NoMemory,
+}
+
+/// What `serve` came to: its ending, and the devices, with what went through the threads where the reflector ran, and with
+/// the reason where it refused to. This profile.
+#[derive(Drop)]
+pub struct Served<E, M, B> {
+    /// How it ended.
+    pub ending: ServeEnding,
+    /// What the reflector handed back, where it ran.
+    pub house: Option<Returned<E, M, Shelf<B>>>,
+    /// What it handed back where it refused to run.
+    pub refused: Option<Refused<E, M, Shelf<B>>>,
+}
