@@ -73,8 +73,6 @@ fn words_of(rt: HostRuntime) -> Option<Vec<String>> {
 #[cfg(test)]
 mod replay_tests;
 #[cfg(test)]
-mod serve_tests;
-#[cfg(test)]
 mod std_tests;
 #[cfg(test)]
 mod talk_tests;
