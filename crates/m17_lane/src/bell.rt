@@ -4,6 +4,7 @@ use crate::marks::Marks;
 use crossbeam_utils::sync::{EventCount, Key};
 use m17_values::NoMemory;
 use std::alloc::Global;
+use std::sync::atomic::{AtomicBool, Ordering};
 use std::sync::{Arc, Wait};
 
 /// Where a consumer sleeps while all its lanes are empty, and what a push rings. Several lanes may share one bell, so
@@ -38,10 +39,12 @@ pub struct Bell {
     mark: Option<u32>,
 }
 
-// What all owners of a bell share: the sleep of its consumer, and the marks, of which most bells have none.
+// What all owners of a bell share: the sleep of its consumer, whether one was announced since the last ringing, and the
+// marks, of which most bells have none.
 #[derive(Drop)]
 struct Rung {
     count: EventCount,
+    announced: AtomicBool,
     marks: Marks,
 }
 
@@ -54,8 +57,12 @@ impl Bell {
     /// A new bell with marks for that many lanes, from 0 on, of which none is set. `NoMemory` where there is none for it.
     pub fn make_marked(alloc: Global, lanes: u32) -> Result<Bell, NoMemory> {
         let marks = Marks::make(alloc, lanes)?;
-        let count = EventCount::new();
-        match Arc::new(alloc, Rung { count, marks }) {
+        let rung = Rung {
+            count: EventCount::new(),
+            announced: AtomicBool::new(false),
+            marks,
+        };
+        match Arc::new(alloc, rung) {
             Ok(rung) => Ok(Bell { rung, mark: None }),
             Err(_) => Err(NoMemory),
         }
@@ -110,28 +117,32 @@ impl Bell {
     /// Says that this thread will sleep until a push on a lane of this bell. Try each lane after it, then `sleep`; to go
     /// on in place of sleeping, drop what it answers.
     pub fn announce(&self) -> Announced<'_> {
-        Announced {
-            key: self.rung.count.prepare_wait(),
-        }
+        let key = self.rung.count.prepare_wait();
+        self.rung.announced.store(true, Ordering::SeqCst);
+        Announced { key }
     }
 
-    // Sets the lane's mark, if it has one, and wakes all who sleep on the bell, after a push. Where nobody announced a
-    // sleep the waking is one read of a word and no system call. It wakes all, and not one, since any of the lanes of a
-    // bell may be the one that its sleeper waits for.
+    // Sets the lane's mark, if it has one, and wakes who sleeps on the bell, after a push. The first push behind an
+    // announcement wakes, by a system call where somebody sleeps; for those that follow it is one read of a word, also
+    // while the one that was woken has not come to run yet. It wakes for a push on any lane of the bell.
     pub(crate) fn ring(&self) {
         if let Some(mark) = self.mark {
             self.rung.marks.set(mark);
         }
-        self.rung.count.notify_all();
+        let announced = &self.rung.announced;
+        if announced.load(Ordering::SeqCst) && announced.swap(false, Ordering::SeqCst) {
+            self.rung.count.notify_all();
+        }
     }
 }
 
 /// An announced sleep on a bell.
 ///
 /// No push is missed: a push puts its item into the queue first and then looks whether a sleep is announced. Where the
-/// announcement comes before that look, the push ends the sleep, also one that has not begun. Where it comes after, the
-/// item is in the queue when the lanes are tried. A lane that was tried before the announcement tells nothing: its item
-/// could come in between, and the thread would sleep on it. This profile.
+/// announcement comes before that look, the push ends the sleep, also one that has not begun, or finds that another push
+/// took the announcement and ends it. Where it comes after, the item is in the queue when the lanes are tried. The sleep is
+/// counted before it is announced, so who takes the announcement finds somebody to wake. A lane that was tried before the
+/// announcement tells nothing: its item could come in between, and the thread would sleep on it. This profile.
 pub struct Announced<'a> {
     key: Key<'a>,
 }

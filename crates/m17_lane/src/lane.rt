@@ -4,9 +4,9 @@ ghost use Rattle.crossbeam_queue.specs.Passes.{view, IsSamePass, IsPassOf, ruled
 ghost use Rattle.m17_lane.specs.Rule.{put_in, got_by, first_log, IsPusher, IsPopper};
 
 use crate::bell::Bell;
+use crate::room::Room;
 use crate::rule::{Gets, Hand, Line, Puts};
 use crossbeam_queue::Pass;
-use crossbeam_utils::sync::EventCount;
 use std::sync::Wait;
 
 /// The queue, the bell that pushes ring, and the place where producers sleep while the queue is full.
@@ -14,7 +14,7 @@ use std::sync::Wait;
 pub struct Lane<T> {
     pub line: Line<T>,
     pub filled: Bell,
-    pub drained: EventCount,
+    pub room: Room,
 }
 
 /// One try to push. After the item is in the queue it rings the consumer, and never before: see `Announced`.
@@ -40,14 +40,7 @@ pub fn put<T, R: Wait>(
     answer
 }
 
-/// One try to push, and where the queue is full a sleep until a pop.
-///
-/// No pop is missed, by the reason that `Announced` gives: announced first, tried then. One pop wakes one producer, and
-/// that is enough: a pop frees one place, each producer that sleeps wants one, and one that wakes up tries again. Where
-/// another producer took the place first, the queue is full again, and the pop that frees the next place wakes the next.
-/// The wake-up may go to a producer that announced after that, tried, and found the queue full: it sleeps again in vain,
-/// and nobody is left asleep beside a free place. For that it found the queue full says that the place was taken, and the
-/// one consumer rings after each pop and before its next, so the place that is freed next has a wake-up of its own.
+/// One try to push, and where the queue is full a sleep until there is room: see `Room`.
 pub fn put_or_rest<T, R: Wait>(
     rt: &R,
     lane: &Lane<T>,
@@ -61,15 +54,16 @@ pub fn put_or_rest<T, R: Wait>(
         (λ _. view pass.new ≡ put_in (view pass.old) item (view pass.new).seen)
         (λ back. (back ≡ item) × (view pass.new ≡ view pass.old)) }
 {
-    let key = lane.drained.prepare_wait();
+    let wanted = lane.room.want();
     let answer = put(rt, lane, pass, item);
     if answer.is_err() {
-        key.wait(rt);
+        wanted.sleep(rt);
     }
     answer
 }
 
-/// One try to pop. After the item has left the queue it wakes a producer that waits for the place, and never before.
+/// One try to pop. After the item has left the queue, and never before, it wakes the producers that sleep, where it is
+/// time to: see `Room`.
 pub fn get<T, R: Wait>(rt: &R, lane: &Lane<T>, pass: &mut Pass<T, Hand<T>>) -> Option<T>
     requires pass { IsPassOf lane.now.line pass.old }
     requires popper { IsPopper (view pass.old) }
@@ -78,8 +72,9 @@ pub fn get<T, R: Wait>(rt: &R, lane: &Lane<T>, pass: &mut Pass<T, Hand<T>>) -> O
         (λ x. view pass.new ≡ got_by (view pass.old) x) }
 {
     let item = lane.line.pop_as::<Gets, R>(rt, pass);
-    if item.is_some() {
-        lane.drained.notify_one();
+    if item.is_some() && lane.room.is_wanted() {
+        let held = lane.line.len_as::<Gets, R>(rt, pass);
+        lane.room.tell(held);
     }
     item
 }

@@ -18,6 +18,7 @@ mod mark_tests;
 mod marks;
 mod popper;
 mod pusher;
+mod room;
 mod rule;
 #[cfg(test)]
 mod tests;

@@ -9,9 +9,9 @@ use crate::bell::Bell;
 use crate::lane::Lane;
 use crate::popper::Popper;
 use crate::pusher::Pusher;
+use crate::room::Room;
 use crate::rule::{Declare, Hand, Hire, Line};
 use crossbeam_queue::Pass;
-use crossbeam_utils::sync::EventCount;
 use m17_values::NoMemory;
 use std::alloc::Global;
 use std::sync::Arc;
@@ -85,12 +85,8 @@ fn make_for<T: Drop>(
         return Err(NoMemory);
     };
     declare_all(&line, &mut pass, producers);
-    let drained = EventCount::new();
-    let lane = Lane {
-        line,
-        filled,
-        drained,
-    };
+    let room = Room::new(producers, capacity);
+    let lane = Lane { line, filled, room };
     let Ok(lane) = Arc::new(alloc, lane) else {
         return Err(NoMemory);
     };

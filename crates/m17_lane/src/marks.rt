@@ -17,7 +17,9 @@ const WORD_BITS: u32 = 64;
 /// mark is set before the consumer takes that word of marks has its item in the queue when the consumer pops. A push whose
 /// mark is set after sets the bit of the word after that too, which is after the consumer took it: there it stands for the
 /// next turn, or for `any`, which is asked once a sleep is announced. And where `any` was asked before the bit was set,
-/// the push rings after the announcement, and ends the sleep.
+/// the push rings after the announcement, and ends the sleep. A push that finds its mark set sets nothing: the mark is
+/// taken behind that look, and the item is in the queue when the consumer pops. Where another producer of the lane set it
+/// and not yet the bit of the word, that one does, and rings.
 #[derive(Drop)]
 pub(crate) struct Marks {
     of_lanes: Vec<AtomicU64>,
@@ -39,12 +41,15 @@ impl Marks {
         self.of_words.len()
     }
 
-    /// Sets a mark, and then the bit of its word. A mark that is not there sets nothing.
+    /// Sets a mark, and then the bit of its word, where the mark isn't set already: then it was not taken since, and it
+    /// stands for this push too. A mark that is not there sets nothing.
     pub(crate) fn set(&self, mark: u32) {
         let word = mark / WORD_BITS;
         let group = word / WORD_BITS;
-        set_bit(&self.of_lanes, word as usize, mark % WORD_BITS);
-        set_bit(&self.of_words, group as usize, word % WORD_BITS);
+        if !has_bit(&self.of_lanes, word as usize, mark % WORD_BITS) {
+            set_bit(&self.of_lanes, word as usize, mark % WORD_BITS);
+            set_bit(&self.of_words, group as usize, word % WORD_BITS);
+        }
     }
 
     pub(crate) fn take_words(&self, group: usize) -> u64 {
@@ -76,6 +81,15 @@ fn clear_words(alloc: Global, count: u32) -> Result<Vec<AtomicU64>, NoMemory> {
     Ok(words)
 }
 
+fn has_bit(words: &[AtomicU64], word: usize, bit: u32) -> bool
+    requires { bit < 64 }
+{
+    match words.get(word) {
+        Some(bits) => bits.load(Ordering::SeqCst) & (1 << bit) != 0,
+        None => false,
+    }
+}
+
 fn set_bit(words: &[AtomicU64], word: usize, bit: u32)
     requires { bit < 64 }
 {
@@ -84,9 +98,10 @@ fn set_bit(words: &[AtomicU64], word: usize, bit: u32)
     }
 }
 
+// Reads first: a word without marks stays as it is, and no other thread has to fetch it again.
 fn take_word(words: &[AtomicU64], word: usize) -> u64 {
     match words.get(word) {
-        Some(bits) => bits.swap(0, Ordering::SeqCst),
-        None => 0,
+        Some(bits) if bits.load(Ordering::SeqCst) != 0 => bits.swap(0, Ordering::SeqCst),
+        _ => 0,
     }
 }

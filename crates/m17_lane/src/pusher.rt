@@ -60,8 +60,9 @@ impl<T> Pusher<T> {
         }
     }
 
-    /// Pushes `item`, and waits while the lane is full: a short while awake, and then asleep until the consumer pops. It
-    /// returns only once the item is pushed, so a consumer that stops popping holds it for ever. This profile.
+    /// Pushes `item`, and waits while the lane is full: a short while awake, and then asleep until the consumer has made
+    /// room, half of it in a lane of one producer. It returns only once the item is pushed, so a consumer that stops
+    /// popping holds it for ever. This profile.
     pub fn push_waiting<R: Wait>(&mut self, rt: &R, item: T)
         ensures { self.new ≡ pushed_to self.old item }
     {
