@@ -1,4 +1,6 @@
 use crate::{Address, Gram, Heard, Member, Peer};
+use std::cmp::Ordering;
+use std::process::Abort;
 use std::test::Fail;
 
 #[test]
@@ -93,4 +95,67 @@ fn peers_are_ordered_by_family_address_and_port(rt: HostRuntime) {
         }
     );
     assert!(rt; low < Peer { port: 10, ..low });
+}
+
+// The first stands before the second, by every comparison.
+fn expect_order(rt: &impl Abort, low: &Peer, high: &Peer) {
+    assert_eq!(rt; low.cmp(high), Ordering::Less);
+    assert_eq!(rt; high.cmp(low), Ordering::Greater);
+    assert_eq!(rt; low.partial_cmp(high), Some(Ordering::Less));
+    assert!(rt; low != high);
+    let same = *low;
+    assert_eq!(rt; low.cmp(&same), Ordering::Equal);
+    assert!(rt; *low == same);
+}
+
+#[test]
+fn the_first_byte_that_differs_orders_two_addresses(rt: HostRuntime) {
+    for place in 0..16 {
+        // All that follows, the port too, would order them the other way round.
+        let mut low = Peer {
+            six: true,
+            ip: [0xff; 16],
+            port: u16::MAX,
+        };
+        let mut high = Peer {
+            six: true,
+            ip: [0; 16],
+            port: 0,
+        };
+        for before in 0..place {
+            low.ip[before] = 0x42;
+            high.ip[before] = 0x42;
+        }
+        low.ip[place] = 0x7f;
+        high.ip[place] = 0x80;
+        expect_order(&rt, &low, &high);
+        let next = Peer { ip: low.ip, ..high };
+        expect_order(&rt, &next, &low);
+    }
+}
+
+#[test]
+fn the_family_comes_first_and_the_port_last(rt: HostRuntime) {
+    let four = Peer {
+        six: false,
+        ip: [0xff; 16],
+        port: 0x00ff,
+    };
+    expect_order(
+        &rt,
+        &four,
+        &Peer {
+            port: 0x0100,
+            ..four
+        },
+    );
+    expect_order(
+        &rt,
+        &four,
+        &Peer {
+            six: true,
+            ip: [0; 16],
+            port: 0,
+        },
+    );
 }
