@@ -4,3 +4,4 @@ pub mod Reading
 pub mod Refused
 pub mod ModuleSets
 pub mod ModuleTexts
+mod ModuleRanks

@@ -15,6 +15,10 @@ serves m letter = nat_le 65 letter && nat_le letter 90 && bit_at m.0 (letter - 6
 abbrev pub letters_of : Modules → List ℕ
 letters_of m = filter (serves m) (range_with_len 65 26)
 
+-- the letters of the set before this one, in order
+abbrev pub letters_before : Modules → ℕ → List ℕ
+letters_before m letter = filter (serves m) (range_with_len 65 (letter - 65))
+
 -- the bytes before a place are letters of modules, each once
 pub record IsFront (text : List ℕ) (place : ℕ) : Type 0 where
   pub letters : (k : ℕ) → k < place → IsModule (slice_index text k)

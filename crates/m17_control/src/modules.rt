@@ -1,4 +1,4 @@
-ghost use Rattle.std.specs.Prelude.{◌≡◌, ◌≢◌, ◌↔◌, ℕ, false, true, length, IfOk, IsOk, IsTrue, Contains};
+ghost use Rattle.std.specs.Prelude.{◌≡◌, ◌≢◌, ◌↔◌, ℕ, false, true, length, IfOk, IsOk, IsTrue, MatchOption, Contains};
 ghost use Rattle.m17_control.specs.declared.modules.ModulesRefusal.{ModulesRefusal};
 
 /// A set of modules, A to Z. This profile.
@@ -18,7 +18,7 @@ pub enum ModulesRefusal {
 
 impl Modules {
     ghost use Rattle.m17_control.specs.Forms.{IsModule};
-    ghost use Rattle.m17_control.specs.Modules.{serves, letters_of, IsModulesText, IsModulesRefused};
+    ghost use Rattle.m17_control.specs.Modules.{serves, letters_of, letters_before, IsModulesText, IsModulesRefused};
 
     /// No module. This profile.
     pub fn none() -> Modules
@@ -73,6 +73,20 @@ impl Modules {
             }
         }
         count
+    }
+
+    /// How many modules of the set have letters before this one, where its module is in the set too. This profile.
+    #[inline]
+    pub fn rank(&self, letter: u8) -> Option<usize>
+        ensures { MatchOption result (serves self.now letter ≡ false)
+            (λ rank. (serves self.now letter ≡ true)
+            × (rank ≡ length (letters_before self.now letter))) }
+    {
+        if !self.has(letter) {
+            return None;
+        }
+        let before = self.0 & ((1 << (letter - b'A')) - 1);
+        Some(before.count_ones() as usize)
     }
 
     // Puts a module into the set.

@@ -134,7 +134,10 @@ fn texts_name_modules(rt: HostRuntime) -> Result<(), Fail> {
         (255, false),
     ] {
         assert_eq!(rt; some.has(letter), has);
+        assert_eq!(rt; some.rank(letter).is_some(), has);
     }
+    let ranks = (some.rank(b'A'), some.rank(b'C'), some.rank(b'Z'));
+    assert_eq!(rt; ranks, (Some(0), Some(1), Some(2)));
     assert_eq!(rt; Modules::read("ZYXWVUTSRQPONMLKJIHGFEDCBA")?.count(), 26);
     assert_eq!(rt; Modules::none().count(), 0);
     assert!(rt; !Modules::none().has(b'A'));

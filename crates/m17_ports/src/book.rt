@@ -1,4 +1,4 @@
-ghost use Rattle.std.specs.Prelude.{◌≡◌, ℕ, ◌-◌, ◌^◌, ◌≤◌, List, take, Option, OnOk, OnErr};
+ghost use Rattle.std.specs.Prelude.{◌≡◌, ℕ, ◌-◌, ◌^◌, ◌≤◌, List, take, Option, None, false, OnOk, OnErr};
 ghost use Rattle.m17_io.specs.Faults.{HasCause};
 ghost use Rattle.m17_ports.specs.Told.{told_then};
 
@@ -20,6 +20,15 @@ pub trait Book {
 
     /// Its label.
     ghost label: { Self → Self.Label };
+
+    /// Whether what is written to it is kept, which a writer may ask before it spells anything. A book that answers no
+    /// tells no bytes and no number: it keeps nothing, and what is written to it is told to nobody.
+    fn is_kept(&self) -> bool
+        ensures untold { result ≡ false
+            → (written self.now ≡ None) × (mark self.now ≡ None) }
+    {
+        true
+    }
 
     /// Appends all of the bytes. `Failed` where the device failed, and then some prefix of them was appended.
     fn write(&mut self, bytes: &[u8]) -> Result<(), Failed>

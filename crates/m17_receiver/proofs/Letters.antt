@@ -1,15 +1,14 @@
 -- Where the inbox of a module stands: letters stand in order.
-use Rattle.std.proofs.Common.{◌≡◌, ◌↔◌, ◌==◌, ℕ, zero, suc, ◌+◌, ◌-◌, ◌<◌, ◌≤◌, Bool, true, false, cond, List, [], ◌∷◌, ◌++◌, length, filter, get_or, refl, ap, sym, ◌∙◌, inl, inr, arith}
+use Rattle.std.proofs.Common.{◌≡◌, ◌↔◌, ◌==◌, ℕ, zero, suc, ◌+◌, ◌-◌, ◌<◌, ◌≤◌, Bool, true, false, cond, List, [], ◌∷◌, ◌++◌, length, filter, get_or, Option, None, Some, MatchOption, refl, ap, sym, ◌∙◌, inl, inr, arith}
 use Rattle.std.specs.List.{range_with_len}
 use Rattle.std.proofs.lemmas.Bool.{cases_lt, eq-eqb, ne_eqb, false≢true}
 use Rattle.std.proofs.lemmas.Bool.Decides.{eqb_tells}
-use Rattle.std.proofs.lemmas.List.{get_or_past, length-append}
+use Rattle.std.proofs.lemmas.List.{get_or_past}
 use Rattle.std.proofs.lemmas.List.Elements.{filter-append, filter_passes, All-get_or}
 use Rattle.m17_control.specs.declared.modules.Modules.{Modules}
-use Rattle.m17_control.specs.Modules.{serves, letters_of}
+use Rattle.m17_control.specs.Modules.{serves, letters_of, letters_before}
 use Rattle.m17_control.specs.Forms.{IsModule}
 use Rattle.m17_receiver.specs.Posting.{letter_at}
-use Rattle.m17_receiver.proofs.Lists.{range_more}
 
 -- a range in two parts, with a number between
 range_apart : (a j k n : ℕ) → n ≡ j + suc k → range_with_len a n ≡ range_with_len a j ++ (a + j) ∷ range_with_len (a + j + 1) k
@@ -68,10 +67,6 @@ tests_alike a b c d iff = elim (eqb_tells c d) [
   | inr apart ↦ ne_eqb a b (λ e. apart.1 (iff.0 (sym e))) ∙ sym apart.0
 ]
 
--- as many served letters stand before it
-abbrev pub letters_before : Modules → ℕ → List ℕ
-letters_before modules letter = filter (serves modules) (range_with_len 65 (letter - 65))
-
 filter_first : (p : ℕ → Bool) (x : ℕ) (xs : List ℕ) → p x ≡ true → filter p (x ∷ xs) ≡ x ∷ filter p xs
 filter_first p x xs is = ap (λ b. cond b (x ∷ filter p xs) (filter p xs)) is
 
@@ -103,31 +98,8 @@ unserved_at modules letter in_range served m = ne_eqb letter (letter_at modules 
   | inr past ↦ (let none : letter_at modules m ≡ 0 = get_or_past (letters_of modules) m 0 past in omega (arith, none, e, in_range.0))
 ])
 
--- one letter more
-pub before_first : (modules : Modules) → length (letters_before modules 65) ≡ 0
-before_first modules = refl
-
-test_counts : (p : ℕ → Bool) (x : ℕ) (b : Bool) → p x ≡ b → length (filter p (x ∷ [])) ≡ cond b 1 0
-test_counts p x true is = ap (λ u. length (cond u (x ∷ []) [])) is
-test_counts p x false is = ap (λ u. length (cond u (x ∷ []) [])) is
-
-pub before_more : (modules : Modules) (letter : ℕ) (b : Bool) → 65 ≤ letter → serves modules letter ≡ b → length (letters_before modules (letter + 1)) ≡ length (letters_before modules letter) + cond b 1 0
-before_more modules letter b l is =
-    let n : ℕ = letter - 65 in
-    let here : 65 + n ≡ letter = omega (arith, l) in
-    ap (λ m. length (filter (serves modules) (range_with_len 65 m))) (let e : letter + 1 - 65 ≡ suc n = omega (arith, l) in e)
-    ∙ ap (λ xs. length (filter (serves modules) xs)) (range_more 65 n)
-    ∙ ap length (filter-append (serves modules) (range_with_len 65 n) ((65 + n) ∷ []))
-    ∙ length-append (letters_before modules letter) (filter (serves modules) ((65 + n) ∷ []))
-    ∙ ap (λ m. length (letters_before modules letter) + m) (test_counts (serves modules) (65 + n) b (ap (serves modules) here ∙ is))
-
-few_by : (x : ℕ) (xs : List ℕ) (b : Bool) (m : ℕ) → length xs ≤ m → length (cond b (x ∷ xs) xs) ≤ suc m
-few_by x xs true m l = omega (arith, l)
-few_by x xs false m l = omega (arith, l)
-
-few : (p : ℕ → Bool) (a n : ℕ) → length (filter p (range_with_len a n)) ≤ n
-few p a zero = omega arith
-few p a (suc n) = few_by a (filter p (range_with_len (a + 1) n)) (p a) n (few p (a + 1) n)
-
-pub few_before : (modules : Modules) (letter : ℕ) → length (letters_before modules letter) ≤ letter - 65
-few_before modules letter = few (serves modules) 65 (letter - 65)
+pub ranked_at : (modules : Modules) (letter : ℕ) (rank : Option ℕ) → IsModule letter →
+    MatchOption rank (serves modules letter ≡ false) (λ at. (serves modules letter ≡ true) × (at ≡ length (letters_before modules letter))) →
+    MatchOption rank ((m : ℕ) → (letter == letter_at modules m) ≡ false) (λ at. (m : ℕ) → (letter == letter_at modules m) ≡ (m == at))
+ranked_at modules letter None in_range is = unserved_at modules letter in_range is
+ranked_at modules letter (Some at) in_range is = served_at modules letter at in_range is.0 is.1

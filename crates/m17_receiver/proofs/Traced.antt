@@ -61,6 +61,17 @@ stays_failed start book heard entry first iff h =
       cut = λ _. (less.0, was.1 ∙ ap (told_then start.0) (less.1 ∙ ap (take less.0) (sym (text_more_by first heard entry iff))), was.2);
     }
 
+-- a trace that tells nothing tells nothing of whatever was heard
+untold : (told : Option (List ℕ)) (xs ys : List ℕ) → told_then told xs ≡ None → told_then told ys ≡ None
+untold None xs ys e = refl
+untold (Some all) xs ys e = absurd (cc)
+
+pub stays_untold : (start book : Tells ℕ) (heard later : List Heard) (failed : Bool) → book.0 ≡ None → HasTrace start heard failed book → HasTrace start later failed book
+stays_untold start book heard later failed none h = record {
+  whole = λ e. (none ∙ sym (untold start.0 (trace_text heard) (trace_text later) (sym (h.whole e).0 ∙ none)), (h.whole e).1);
+  cut = λ e. (let was = h.cut e in (was.0, none ∙ sym (untold start.0 (take was.0 (trace_text heard)) (take was.0 (trace_text later)) (sym was.1 ∙ none)), was.2));
+}
+
 -- nothing more is to be written
 pub writes_nothing : (start book : Tells ℕ) (heard : List Heard) (entry : Heard) (first : Bool) → (first ≡ true) ↔ (heard ≡ []) → cond first trace_magic [] ++ entry_bytes entry ≡ [] → HasTrace start heard false book → HasTrace start (heard ++ entry ∷ []) false book
 unfolding new_bytes

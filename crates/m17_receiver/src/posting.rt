@@ -89,14 +89,5 @@ fn inbox_of(modules: Modules, letter: u8) -> Option<usize>
         ((m : ℕ) → (letter == letter_at modules m) ≡ false)
         (λ at. (m : ℕ) → (letter == letter_at modules m) ≡ (m == at)) }
 {
-    if !modules.has(letter) {
-        return None;
-    }
-    let mut at = 0;
-    'letters: for other in b'A'..letter {
-        if modules.has(other) {
-            at += 1;
-        }
-    }
-    Some(at)
+    modules.rank(letter)
 }

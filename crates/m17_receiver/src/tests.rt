@@ -1,16 +1,18 @@
 //! What no clause says: that a receiver goes through with ample memory, that it ends by itself, and what it does in the
 //! order that its documents say.
 ghost use Rattle.std.specs.Prelude.{None};
+ghost use Rattle.m17_ports.specs.Told.{StartsEmpty};
 
 use crate::bench::{
-    Plan, conn, disc, go, is_plan, make_bench, member, peer, ping, run_by, run_through, voice,
+    Bench, Plan, conn, disc, go, is_plan, make_bench, member, peer, ping, run_by, run_through,
+    voice,
 };
 use m17_control::{Body, Control, ModuleLetter};
 use m17_crew::Order;
 use m17_directory::{Act, LinkVerdict};
 use m17_lane::Bell;
-use m17_port_memory::ScriptEar;
-use m17_ports::{Book, Ear};
+use m17_port_memory::{ListBook, ScriptEar};
+use m17_ports::{Book, Ear, Shelf};
 use m17_values::{Failed, Heard};
 use std::alloc::Global;
 use std::process::Abort;
@@ -128,6 +130,79 @@ fn the_trace_holds_what_was_heard(rt: HostRuntime) -> Result<(), Fail> {
     assert!(rt; bytes.starts_with(b"M17TRACE"));
     assert_eq!(rt; bytes.len(), 8 + 5 * 17 + 11 + 54 + 10 + 11 + 10 + 9);
     assert!(rt; !b.receiver.lost && !b.receiver.trace_failed);
+    Ok(())
+}
+
+// A trace that keeps nothing and says so, and counts its writes.
+#[derive(Drop)]
+struct UnkeptTrace {
+    writes: u64,
+}
+
+impl Book for UnkeptTrace {
+    ghost use Rattle.std.proofs.Common.{lit≤};
+
+    type Label = ();
+
+    ghost faults = { λ _. 0 };
+
+    ghost written = { λ _. None };
+
+    ghost mark = { λ _. None };
+
+    ghost label = { λ _. tt };
+
+    ghost faults_fit = { λ _. lit≤ tt };
+
+    fn is_kept(&self) -> bool {
+        false
+    }
+
+    fn write(&mut self, _bytes: &[u8]) -> Result<(), Failed> {
+        self.writes = self.writes.saturating_add(1);
+        Ok(())
+    }
+}
+
+// A receiver that has gone over an evening with this trace.
+fn run_into<B: Book + Drop + Send + 'static, R: Abort + Wait>(
+    rt: &R,
+    alloc: Global,
+    trace: B,
+) -> Result<Bench<ScriptEar, B>, Fail>
+    requires { StartsEmpty (B.written trace) }
+{
+    if !is_plan(&ONE_MODULE) {
+        return Err("no plan".into());
+    }
+    let bell = Bell::make_marked(alloc, 1)?;
+    let ear = ScriptEar::new(an_evening(rt, alloc)?);
+    Ok(go(
+        rt,
+        make_bench(alloc, &ONE_MODULE, &bell, ear, trace)?,
+        Order::Go,
+    ))
+}
+
+#[test]
+fn a_trace_that_keeps_nothing_is_never_written(rt: HostRuntime) -> Result<(), Fail> {
+    let inner = Some(UnkeptTrace { writes: 0 });
+    let b = run_into(&rt, rt.alloc(), Shelf { inner })?;
+    let trace = b.receiver.trace.inner.as_ref().ok_or("no trace")?;
+    assert_eq!(rt; (trace.writes, b.receiver.trace_failed), (0, false));
+    assert_eq!(rt; cell(&b.receiver.tape, 6), Some(LinkVerdict::Ended));
+    Ok(())
+}
+
+#[test]
+fn a_shelf_with_a_trace_holds_what_was_heard(rt: HostRuntime) -> Result<(), Fail> {
+    let alloc = rt.alloc();
+    let inner = Some(ListBook::make(alloc, 1_000, Vec::new(alloc))?);
+    let b = run_into(&rt, alloc, Shelf { inner })?;
+    let trace = b.receiver.trace.inner.as_ref().ok_or("no trace")?;
+    let heard = an_evening(&rt, alloc)?;
+    let alone = run_through(&rt, alloc, &ONE_MODULE, heard, Vec::new(alloc))?;
+    assert_eq!(rt; trace.bytes(), alone.receiver.trace.bytes());
     Ok(())
 }
 

@@ -15,7 +15,7 @@ use m17_values::Heard;
 const SPELLED_BYTES: usize = 101;
 
 // Writes what was heard to the trace, before the first entry its header, in one write. A trace that failed is written
-// no more, and the end has no bytes.
+// no more, one that keeps nothing is never written, and nothing is spelled for them; the end has no bytes.
 pub(crate) fn write_trace<B: Book>(trace: &mut B, failed: &mut bool, first: bool, entry: &Heard)
     ensures traced { (start : Tells ℕ) (heard : List Heard) → (first ≡ true) ↔ (heard ≡ []) →
         HasTrace start heard failed.old (B.written trace.old, B.faults trace.old) →
@@ -24,7 +24,7 @@ pub(crate) fn write_trace<B: Book>(trace: &mut B, failed: &mut bool, first: bool
     ensures same_device { (B.mark trace.new ≡ B.mark trace.old)
         × (B.label trace.new ≡ B.label trace.old) }
 {
-    if *failed {
+    if *failed || !trace.is_kept() {
         return;
     }
     let bytes = spelled(first, entry);

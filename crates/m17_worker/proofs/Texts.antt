@@ -1,5 +1,5 @@
 -- What a book holds after more was to be written.
-use Rattle.std.proofs.Common.{◌≡◌, ℕ, Bool, true, false, List, [], ◌++◌, length, take, Result, Ok, Err, OnOk, OnErr, is_err, inl, inr, refl, ap, sym, subst, ◌+◌, ◌∙◌, arith}
+use Rattle.std.proofs.Common.{◌≡◌, ℕ, Bool, true, false, List, [], ◌++◌, length, take, Option, None, Some, Result, Ok, Err, OnOk, OnErr, is_err, inl, inr, refl, ap, sym, subst, ◌+◌, ◌∙◌, arith}
 use Rattle.std.proofs.lemmas.Bool.{true≢false, cases_lt}
 use Rattle.std.proofs.lemmas.List.{append-nil, take-append-le, take_all}
 use Rattle.m17_io.specs.Faults.{HasCause, HasRisen}
@@ -31,6 +31,17 @@ text_failed start book text more h =
       whole = λ e. absurd (true≢false e);
       cut = λ e. (b.0, s.1 ∙ ap (λ l. told_then start.0 l) b.1, s.2);
     }
+
+-- a book that tells nothing tells nothing of whatever was to be written
+untold : (told : Option (List ℕ)) (text later : List ℕ) → told_then told text ≡ None → told_then told later ≡ None
+untold None text later e = refl
+untold (Some all) text later e = absurd (cc)
+
+pub text_untold : (start book : Tells) (text later : List ℕ) (failed : Bool) → book.0 ≡ None → HasText start text failed book → HasText start later failed book
+text_untold start book text later failed none h = record {
+  whole = λ e. (none ∙ sym (untold start.0 text later (sym (h.whole e).0 ∙ none)), (h.whole e).1);
+  cut = λ e. (let was = h.cut e in (was.0, none ∙ sym (untold start.0 (take was.0 text) (take was.0 later) (sym was.1 ∙ none)), was.2));
+}
 
 -- one write more, which succeeds
 pub text_whole : ToldInTurn ℕ → (start old new : Tells) (text more : List ℕ) → new.0 ≡ told_then old.0 more → new.1 ≡ old.1

@@ -1,5 +1,5 @@
-//! What no clause says of offers: that they are taken where there is room, and that an offer that waits goes on when
-//! the consumer pops.
+//! What no clause says of offers: that they are taken where there is room, and that an offer that waits goes on once the
+//! consumer has popped half of the queue.
 ghost use Rattle.std.specs.Prelude.{◌≡◌, ◌<◌, ◌≤◌, ◌+◌, ◌^◌, [], ◌∷◌, IfOk};
 ghost use Rattle.m17_worker.specs.Offers.{AreQueues};
 
@@ -104,7 +104,8 @@ fn pop_late<R: Wait + Clock>(rt: &R, popper: Popper<Item>, count: u32) -> Popper
     popper
 }
 
-// Offers the item while another thread, which rests first, pops one from the queue.
+// Offers the item while another thread, which rests first, pops half of the queue: the only producer of a full lane is
+// woken no sooner.
 fn offer_to_a_late_consumer<R: Threads + Wait + Clock + Sync>(
     rt: &R,
     offers: LaneOffers,
@@ -121,7 +122,7 @@ fn offer_to_a_late_consumer<R: Threads + Wait + Clock + Sync>(
             requires { AreQueues 1 offers.queues.items × (item.member.place ≡ 0) }
             ensures { AreQueues 1 result.0.queues.items }
         { offer_by_value(rt, offers, item) },
-        move || -> Popper<Item> { pop_late(rt, popper, 1) },
+        move || -> Popper<Item> { pop_late(rt, popper, 32) },
     );
     offered
 }

@@ -1,6 +1,6 @@
 //! What no clause says of a worker: that it ends where each link was stopped, that its book, tape and queues hold what
 //! they should for a list of events that was worked out by hand, and what becomes of a book that fails at one write.
-ghost use Rattle.std.specs.Prelude.{◌↔◌, IsTrue};
+ghost use Rattle.std.specs.Prelude.{◌↔◌, IsTrue, None};
 ghost use Rattle.m17_book.specs.Records.{IsLow};
 ghost use Rattle.m17_worker.specs.Ready.{IsReady};
 
@@ -12,9 +12,9 @@ use m17_crew::Order;
 use m17_floor::Verdict;
 use m17_lane::Popper;
 use m17_port_memory::ListBook;
-use m17_ports::Book;
+use m17_ports::{Book, Shelf};
 use m17_samples::frame;
-use m17_values::Member;
+use m17_values::{Failed, Member};
 use std::alloc::Global;
 use std::process::Abort;
 use std::sync::Wait;
@@ -241,6 +241,58 @@ fn a_place_is_given_back_and_what_is_behind_the_stop_stays(rt: HostRuntime) -> R
     let behind = Some(event(6, 1_060, Body::Tick));
     assert_eq!(rt; bench.worker.inbox.try_pop(&rt), behind);
     assert_eq!(rt; bench.worker.inbox.try_pop(&rt), None);
+    Ok(())
+}
+
+// A book that keeps nothing and says so, and counts its writes.
+#[derive(Drop)]
+struct UnkeptBook {
+    writes: u64,
+}
+
+impl Book for UnkeptBook {
+    ghost use Rattle.std.proofs.Common.{lit≤};
+
+    type Label = ();
+
+    ghost faults = { λ _. 0 };
+
+    ghost written = { λ _. None };
+
+    ghost mark = { λ _. None };
+
+    ghost label = { λ _. tt };
+
+    ghost faults_fit = { λ _. lit≤ tt };
+
+    fn is_kept(&self) -> bool {
+        false
+    }
+
+    fn write(&mut self, _bytes: &[u8]) -> Result<(), Failed> {
+        self.writes = self.writes.saturating_add(1);
+        Ok(())
+    }
+}
+
+#[test]
+fn a_book_that_keeps_nothing_is_never_written(rt: HostRuntime) -> Result<(), Fail> {
+    let alloc = rt.alloc();
+    let inner = Some(UnkeptBook { writes: 0 });
+    let worker = go(&rt, lay(alloc, 2, Shelf { inner })?, Order::Go).worker;
+    let book = worker.book.inner.as_ref().ok_or("no book")?;
+    assert_eq!(rt; book.writes, 0);
+    assert_eq!(rt; (worker.book_failed, worker.module.admitted()), (false, 2));
+    Ok(())
+}
+
+#[test]
+fn a_shelf_with_a_book_holds_what_was_decided(rt: HostRuntime) -> Result<(), Fail> {
+    let alloc = rt.alloc();
+    let inner = Some(ListBook::make(alloc, 2_000, Vec::new(alloc))?);
+    let worker = go(&rt, lay(alloc, 2, Shelf { inner })?, Order::Go).worker;
+    let book = worker.book.inner.as_ref().ok_or("no book")?;
+    assert_eq!(rt; book.bytes(), written(&rt, alloc, 9)?.as_slice());
     Ok(())
 }
 

@@ -129,11 +129,37 @@ impl<B: Book> Worker<B> {
         ensures same_device { (B.mark self.new.book ≡ B.mark self.old.book)
             × (B.label self.new.book ≡ B.label self.old.book) }
     {
+        self.write_records(event, verdict, bye);
+        fill_tape(&mut self.tape, event, verdict);
+    }
+
+    // Writes the records of the event to the book; none is made where that keeps nothing.
+    fn write_records(&mut self, event: &Event, verdict: Option<Verdict>, bye: &Option<Item>)
+        requires link { event.now.tag.link < 4 }
+        requires place { ForSome (place_of event.now.body) (λ place. place < 256) }
+        requires verdict { ForSome verdict IsLowVerdict }
+        requires bye { ForSome bye.now (λ item. item.member.place < 256) }
+        ensures text { (start : Tells) (text : List ℕ) (places : ℕ) →
+            option_map_or (λ place. nat_lt place places) (place_of event.now.body) true ≡ true →
+            HasText start text self.old.book_failed
+            (B.written self.old.book, B.faults self.old.book) →
+            HasText start (noted_text text self.old.module.moment
+            (record { event = event.now; verdict = verdict; bye = bye.now; places = places }))
+            self.new.book_failed (B.written self.new.book, B.faults self.new.book) }
+        ensures rest { self.new ≡ record self.old {
+          book = self.new.book;
+          book_failed = self.new.book_failed;
+        } }
+        ensures same_device { (B.mark self.new.book ≡ B.mark self.old.book)
+            × (B.label self.new.book ≡ B.label self.old.book) }
+    {
+        if !self.book.is_kept() {
+            return;
+        }
         let moment = self.module.moment();
         let leave = record_of_bye(event.tag, moment, bye);
         let own = own_record(event, moment, verdict);
         write_if(&mut self.book, &mut self.book_failed, &leave);
         write_if(&mut self.book, &mut self.book_failed, &own);
-        fill_tape(&mut self.tape, event, verdict);
     }
 }

@@ -90,7 +90,7 @@ impl<B: Book> Worker<B> {
         unreachable!()
     }
 
-    // Writes the book's header.
+    // Writes the book's header, if the book keeps anything.
     fn begin(&mut self)
         requires { IsModule self.old.letter }
         ensures text { (start : Tells) (text : List ℕ) →
@@ -105,6 +105,9 @@ impl<B: Book> Worker<B> {
         ensures same_device { (B.mark self.new.book ≡ B.mark self.old.book)
             × (B.label self.new.book ≡ B.label self.old.book) }
     {
+        if !self.book.is_kept() {
+            return;
+        }
         match ModuleLetter::new(self.letter) {
             Some(letter) => {
                 write_whole(&mut self.book, &mut self.book_failed, &write_header(letter));

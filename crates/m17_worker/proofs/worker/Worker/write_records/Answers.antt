@@ -4,7 +4,9 @@ use Rattle.std.specs.List.{flat_map}
 use Rattle.m17_book.specs.Records.{record_bytes}
 use Rattle.m17_worker.specs.Taken.{place_of}
 use Rattle.m17_worker.proofs.Noting.{place_fits, writes_own, noted_is}
-use Rattle.m17_worker.proofs.worker.Worker.note.Goals as goal
+use Rattle.m17_worker.specs.Underway.{noted_text}
+use Rattle.m17_worker.proofs.Texts.{text_untold}
+use Rattle.m17_worker.proofs.worker.Worker.write_records.Goals as goal
 
 pub write_if-requires-2 : goal.write_if-requires-2
 write_if-requires-2 g c =
@@ -12,6 +14,13 @@ write_if-requires-2 g c =
     c.args.event.now.body c.own_record-own.result
     (c.own_record-own.ensures 256 (place_fits 256 (place_of c.args.event.now.body) c.requires.place))
     c.requires.link c.requires.place c.requires.verdict
+
+pub returns-then-not-is_kept-clause-text : goal.returns-then-not-is_kept-clause-text
+returns-then-not-is_kept-clause-text g c = λ start text places fits h.
+    text_untold start (g.B.Book.written c.args.self.now.book, g.B.Book.faults c.args.self.now.book) text
+    (noted_text text c.args.self.now.module.moment
+    (record { event = c.args.event.now; verdict = c.args.verdict; bye = c.args.bye.now; places = places }))
+    c.args.self.now.book_failed (c.is_kept.ensures.untold c.if-not-is_kept.true).0 h
 
 pub returns-clause-text : goal.returns-clause-text
 returns-clause-text g c = λ start text places fits h.
