@@ -9,3 +9,4 @@ mod Spoken
 mod Rests
 mod Ended
 mod Few
+mod Frames

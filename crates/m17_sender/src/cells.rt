@@ -1,31 +1,29 @@
 //! The cells for Hellos that are held back: a row for each module, in it one for each place.
-ghost use Rattle.std.specs.Prelude.{◌≡◌, ◌<◌, [], map, slice_set, length, None, Some, MatchOption, vec_len, option_to_list};
+ghost use Rattle.std.specs.Prelude.{◌≡◌, ◌<◌, [], ◌∷◌, map, slice_set, length, None, Some, option_to_list};
 ghost use Rattle.std.specs.Option.{option_copied};
+ghost use Rattle.m17_control.specs.declared.item.Item.{Item};
 ghost use Rattle.m17_sender.specs.Places.{held_at};
 ghost use Rattle.m17_sender.specs.Cells.{HasPlace, HoldsMore};
 
 use m17_control::Item;
 
-/// The item at a place, if one is held back there.
-pub(crate) fn cell_at(cells: &Vec<Vec<Option<Item>>>, row: usize, at: usize) -> Option<Item>
+/// The item that is held back at a place, if one is.
+pub(crate) fn cell_at(cells: &Vec<Vec<Option<Item>>>, row: usize, at: usize) -> Option<&Item>
     requires { HasPlace (map (λ row. row.items) cells.now.items) row at }
-    ensures { option_to_list result ≡ held_at (map (λ row. row.items) cells.now.items) row at }
+    ensures { option_to_list (option_copied result)
+        ≡ held_at (map (λ row. row.items) cells.now.items) row at }
 {
-    cells[row][at]
+    cells[row][at].as_ref()
 }
 
-/// Takes the item out of a place, if one is held back there.
-pub(crate) fn take_cell(cells: &mut Vec<Vec<Option<Item>>>, row: usize, at: usize) -> Option<Item>
+/// Empties a place where an item is held back.
+pub(crate) fn empty_cell(cells: &mut Vec<Vec<Option<Item>>>, row: usize, at: usize)
     requires { HasPlace (map (λ row. row.items) cells.old.items) row at }
-    ensures { MatchOption result
-        ((held_at (map (λ row. row.items) cells.old.items) row at ≡ [])
-        × (cells.new ≡ cells.old))
-        (λ item. HoldsMore (map (λ row. row.items) cells.new.items)
-        (map (λ row. row.items) cells.old.items) row at item) }
+    ensures { (item : Item) → held_at (map (λ row. row.items) cells.old.items) row at ≡ item ∷ []
+        → HoldsMore (map (λ row. row.items) cells.new.items)
+        (map (λ row. row.items) cells.old.items) row at item }
 {
-    let held = cell_at(cells, row, at)?;
     put(&mut cells[row], at, None);
-    Some(held)
 }
 
 /// Puts an item into a place where none is held back.

@@ -43,14 +43,13 @@ impl Hint {
     }
 
     fn look_at_group(&mut self, group: usize) {
-        let words = self.bell.marked_words(group);
-        if words == 0 {
-            return;
-        }
-        for bit in 0..WORD_BITS {
-            if words & (1 << bit) != 0 {
-                self.look_at_word(group, bit);
+        let mut words = self.bell.marked_words(group);
+        for _looked in 0..WORD_BITS {
+            if words == 0 {
+                return;
             }
+            self.look_at_word(group, words.trailing_zeros());
+            words &= words - 1;
         }
     }
 

@@ -14,6 +14,7 @@
 mod bench;
 mod cells;
 mod hint;
+mod kept;
 mod queue;
 mod run;
 mod saying;

@@ -9,17 +9,15 @@ ghost use Rattle.m17_sender.specs.Sent.{bye_on, told_by};
 ghost use Rattle.m17_sender.specs.SoFar.{at_rest, GoesOn, IsHeldBack, IsIdle, IsNoted, is_did, OnVain, RestsAt, with_item};
 
 use crate::Sender;
-use crate::cells::{cell_at, fill_cell, take_cell};
-use crate::saying::say_item;
+use crate::cells::{cell_at, empty_cell, fill_cell};
+use crate::kept::{Kept, LINKS};
+use crate::saying::say_kept;
 use m17_control::{Item, Said};
 use m17_lane::Pusher;
 use m17_ports::Mouth;
 use m17_rows::{pop_in, push_at};
 use m17_values::Member;
 use std::sync::Wait;
-
-/// How many links a number of 8 bits names.
-pub(crate) const LINKS: usize = 256;
 
 /// How a queue's turn went.
 #[derive(Clone, Copy, Debug, PartialEq, Eq)]
@@ -46,7 +44,7 @@ impl<M: Mouth> Sender<M> {
     pub(crate) fn try_queue<R: Wait>(
         &mut self,
         rt: &R,
-        noted: &mut [u64; LINKS],
+        kept: &mut Kept,
         row: usize,
         at: usize,
     ) -> Tried
@@ -54,23 +52,36 @@ impl<M: Mouth> Sender<M> {
         requires row { row < vec_len self.old.queues }
         requires at { at < self.old.places }
         ensures goes_on { GoesOn (told_by M.said M.tallies M.faults M.mark M.label)
-            (at_rest self.old noted.old) (at_rest self.new noted.new) }
-        ensures vain { OnVain result (IsIdle self.old self.new noted.old noted.new
-            × RestsAt self.new noted.new row at) }
+            (at_rest self.old kept.old.noted) (at_rest self.new kept.new.noted) }
+        ensures vain { OnVain result (IsIdle self.old self.new kept.old.noted kept.new.noted
+            × RestsAt self.new kept.new.noted row at) }
     {
-        if let Some(held) = cell_at(&self.held, row, at)
-            && waits(&held, noted)
-        {
+        if self.is_held_up(&kept.noted, row, at) {
             return Tried::Waiting;
         }
-        match self.next(rt, row, at) {
+        let next = self.next(rt, row, at);
+        match &next {
             Some(item) => {
-                self.take(rt, noted, row, at, item);
+                self.take(rt, kept, row, at, item);
                 Tried::Did
             }
             None => Tried::Empty,
         }
     }
+
+    // Whether a Hello is held back in a queue, and waits on.
+    fn is_held_up(&self, noted: &[u64; LINKS], row: usize, at: usize) -> bool
+        requires shaped { IsShaped self.now }
+        requires row { row < vec_len self.now.queues }
+        requires at { at < self.now.places }
+        ensures { result ≡ true → RestsAt self.now noted.now row at }
+    {
+        match cell_at(&self.held, row, at) {
+            Some(held) => waits(held, noted),
+            None => false,
+        }
+    }
+
     // The next item of a queue: the one that is held back, or else the oldest in its lane.
     fn next<R: Wait>(&mut self, rt: &R, row: usize, at: usize) -> Option<Item>
         requires shaped { IsShaped self.old }
@@ -84,50 +95,52 @@ impl<M: Mouth> Sender<M> {
     {
         m17_rows::laws::grids_pop::<Item>();
         m17_rows::laws::rows_pop::<Item>();
-        match take_cell(&mut self.held, row, at) {
-            Some(item) => Some(item),
-            None => pop_in(rt, &mut self.queues, row, at),
+        if let Some(held) = cell_at(&self.held, row, at) {
+            let item = *held;
+            empty_cell(&mut self.held, row, at);
+            return Some(item);
         }
+        pop_in(rt, &mut self.queues, row, at)
     }
 
     // Says an item that was taken out of a queue, or holds it back there, or passes it over.
-    fn take<R: Wait>(&mut self, rt: &R, noted: &mut [u64; LINKS], row: usize, at: usize, item: Item)
+    fn take<R: Wait>(&mut self, rt: &R, kept: &mut Kept, row: usize, at: usize, item: &Item)
         requires shaped { IsShaped self.old }
         requires row { row < vec_len self.old.queues }
         requires at { at < self.old.places }
         requires free { held_at (cells_of self.old) row at ≡ [] }
         ensures goes_on { GoesOn (told_by M.said M.tallies M.faults M.mark M.label)
-            (with_item self.old noted.old row at (Some item))
-            (at_rest self.new noted.new) }
+            (with_item self.old kept.old.noted row at (Some item.now))
+            (at_rest self.new kept.new.noted) }
     {
-        if !self.is_said(&item) {
+        if !self.is_said(item) {
             return;
         }
-        if waits(&item, noted) {
-            fill_cell(&mut self.held, row, at, item);
+        if waits(item, &kept.noted) {
+            fill_cell(&mut self.held, row, at, *item);
         } else {
-            self.say(rt, noted, &item);
+            self.say(rt, kept, item);
         }
     }
 
     // Says an item, and notes a Bye to its link.
-    fn say<R: Wait>(&mut self, rt: &R, noted: &mut [u64; LINKS], item: &Item)
+    fn say<R: Wait>(&mut self, rt: &R, kept: &mut Kept, item: &Item)
         requires shaped { IsShaped self.old }
         requires there { is_said self.old item.now ≡ true }
         requires link { item.now.link < 256 }
         requires in_turn { (after : ℕ) → item.now.body ≡ Hello after
-            → after ≤ slice_index noted.old item.now.link }
+            → after ≤ slice_index kept.old.noted item.now.link }
         ensures goes_on { (m q : ℕ) → held_at (cells_of self.old) m q ≡ []
             → GoesOn (told_by M.said M.tallies M.faults M.mark M.label)
-            (with_item self.old noted.old m q (Some item.now))
-            (at_rest self.new noted.new) }
+            (with_item self.old kept.old.noted m q (Some item.now))
+            (at_rest self.new kept.new.noted) }
     {
         m17_rows::laws::rows_push::<Member>();
         m17_ports::laws::mouths_say_in_turn::<M::Label>();
         m17_turns::laws::turns_grow();
         m17_turns::laws::spelled_part_by_part();
-        say_item(&mut self.mouths, self.name, item);
-        note(rt, &mut self.notes, noted, item);
+        say_kept(&mut self.mouths, self.name, item, &mut kept.last);
+        note(rt, &mut self.notes, &mut kept.noted, item);
     }
 
     // Whether an item is said: any other is passed over.

@@ -5,7 +5,7 @@ ghost use Rattle.m17_sender.specs.Sent.{HasStopped, Sent, told_by};
 ghost use Rattle.m17_sender.specs.SoFar.{at_rest, GoesOn, Grows, HasPassed, RestsAt};
 
 use crate::Sender;
-use crate::queue::LINKS;
+use crate::kept::{Kept, LINKS};
 use m17_crew::Order;
 use m17_lane::Popper;
 use m17_ports::Mouth;
@@ -22,16 +22,19 @@ impl<M: Mouth> Sender<M> {
         m17_rows::laws::rows_push::<Member>();
         m17_ports::laws::mouths_say_in_turn::<M::Label>();
         m17_turns::laws::turns_grow();
-        let mut noted = [0u64; LINKS];
-        self.serve(rt, &mut noted);
-        self.finish(rt, &mut noted);
+        let mut kept = Kept {
+            noted: [0; LINKS],
+            last: None,
+        };
+        self.serve(rt, &mut kept);
+        self.finish(rt, &mut kept);
     }
 
     // Turn by turn until the stop order; it sleeps where a turn found nothing.
-    fn serve<R: Wait>(&mut self, rt: &R, noted: &mut [u64; LINKS])
+    fn serve<R: Wait>(&mut self, rt: &R, kept: &mut Kept)
         requires shaped { IsShaped self.old }
         ensures grows { Grows (told_by M.said M.tallies M.faults M.mark M.label)
-            (at_rest self.old noted.old) (at_rest self.new noted.new) }
+            (at_rest self.old kept.old.noted) (at_rest self.new kept.new.noted) }
         ensures stopped { HasStopped self.old.order self.new.order }
     {
         for _ in rt.forever() {
@@ -39,7 +42,7 @@ impl<M: Mouth> Sender<M> {
             if hears_stop(rt, &mut self.order) {
                 return;
             }
-            if !self.turn(rt, noted) {
+            if !self.turn(rt, kept) {
                 self.hint.rest(rt);
             }
         }
@@ -47,14 +50,14 @@ impl<M: Mouth> Sender<M> {
     }
 
     // Turns over all queues until one finds nothing.
-    fn finish<R: Wait>(&mut self, rt: &R, noted: &mut [u64; LINKS])
+    fn finish<R: Wait>(&mut self, rt: &R, kept: &mut Kept)
         requires shaped { IsShaped self.old }
         ensures goes_on { GoesOn (told_by M.said M.tallies M.faults M.mark M.label)
-            (at_rest self.old noted.old) (at_rest self.new noted.new) }
-        ensures rests { (m q : ℕ) → RestsAt self.new noted.new m q }
+            (at_rest self.old kept.old.noted) (at_rest self.new kept.new.noted) }
+        ensures rests { (m q : ℕ) → RestsAt self.new kept.new.noted m q }
     {
         for _ in rt.forever() {
-            if !self.whole_turn(rt, noted) {
+            if !self.whole_turn(rt, kept) {
                 return;
             }
         }

@@ -1,7 +1,6 @@
 //! The sender, and how it goes from its order to its end.
 
 use crate::Hint;
-use crate::queue::LINKS;
 use m17_callsign::CallAddress;
 use m17_control::{Direct, Item};
 use m17_crew::{Order, Work};

@@ -3,12 +3,16 @@ ghost use Rattle.std.specs.Prelude.{IfOk};
 ghost use Rattle.m17_sender.specs.Ready.{IsReady};
 
 use crate::Sender;
-use crate::bench::{Far, Laid, answer, bye, callsign, done, hello, lay, ping, push_five, reply};
+use crate::bench::{
+    Far, Laid, answer, bye, callsign, done, hello, item, lay, ping, push_five, reply,
+};
 use m17_callsign::CallAddress;
-use m17_control::Direct;
+use m17_control::{Direct, Item, Said};
 use m17_crew::Order;
 use m17_lane::{Pusher, make_one};
 use m17_port_memory::ListMouth;
+use m17_samples::frame;
+use m17_stream::{FRAME_NUMBERS, StreamPacket, write};
 use m17_values::NoMemory;
 use std::alloc::Global;
 use std::sync::Wait;
@@ -260,5 +264,117 @@ fn bursts_over_several_queues_wake_the_sender(rt: HostRuntime) -> Result<(), Fai
     assert_eq!(rt; count_to(&sent, 1), 750);
     assert_eq!(rt; count_to(&sent, 2), 500);
     assert_eq!(rt; count_to(&sent, 9), 300);
+    Ok(())
+}
+
+// Whether the datagram at this place went to this port, and holds the packet's bytes and no more.
+fn says_packet(sender: &Sender<ListMouth>, at: usize, port: u16, packet: &StreamPacket) -> bool {
+    match sender.mouths.first().and_then(|mouth| mouth.list().get(at)) {
+        Some((to, gram)) => to.port == port && gram.bytes() == write(packet).as_slice(),
+        None => false,
+    }
+}
+
+// A frame for the member at a place, and an echo.
+fn told(place: u32, packet: &StreamPacket) -> Item {
+    let packet = *packet;
+    item(
+        place,
+        0,
+        Said::Frame {
+            position: 0,
+            packet,
+        },
+    )
+}
+
+fn echoed(place: u32, packet: &StreamPacket) -> Item {
+    let packet = *packet;
+    item(
+        place,
+        0,
+        Said::Echo {
+            position: 0,
+            packet,
+        },
+    )
+}
+
+// A frame to three listeners, and to the first of them another one, the same again, and an echo.
+fn push_frames<R: Wait>(rt: &R, far: &mut Far, one: &StreamPacket, other: &StreamPacket) {
+    far.first.push_waiting(rt, told(0, one));
+    far.first.push_waiting(rt, told(0, other));
+    far.first.push_waiting(rt, told(0, one));
+    far.first.push_waiting(rt, echoed(0, other));
+    far.second.push_waiting(rt, told(1, one));
+    far.third.push_waiting(rt, told(2, one));
+}
+
+#[test]
+fn frames_and_echoes_are_said_with_their_bytes(rt: HostRuntime) -> Result<(), Fail> {
+    let name = callsign().ok_or("no callsign")?;
+    let Laid { sender, mut far } = lay_list(rt.alloc(), name, Vec::new(rt.alloc()))?;
+    far.orders.push_waiting(&rt, Order::Go);
+    far.orders.push_waiting(&rt, Order::Stop);
+    let one = frame(0x1234, 7, false);
+    let other = frame(!0x1234, 7, false);
+    push_frames(&rt, &mut far, &one, &other);
+    let sent = done(&rt, sender);
+    for at in 0..3u16 {
+        assert!(rt; says_packet(&sent, at as usize, at, &one));
+    }
+    assert!(rt; says_packet(&sent, 3, 0, &other));
+    assert!(rt; says_packet(&sent, 4, 0, &one));
+    assert!(rt; says_packet(&sent, 5, 0, &other));
+    assert_eq!(rt; said_by(&sent, 6), None);
+    Ok(())
+}
+
+// A frame that differs from this one in one field.
+fn unlike(packet: &StreamPacket, field: u32) -> StreamPacket {
+    let mut other = *packet;
+    match field {
+        0 => other.sid = !other.sid,
+        1 => other.number = (other.number + 1) % FRAME_NUMBERS,
+        2 => other.last = !other.last,
+        3 => other.payload[0] = 1,
+        4 => other.payload[15] = 1,
+        _ => {
+            let mut lsd = other.lsd;
+            match field {
+                5 => lsd.dst = lsd.src,
+                6 => lsd.src = lsd.dst,
+                7 => lsd.kind = !lsd.kind,
+                _ => lsd.meta[13] = 1,
+            }
+            other.lsd = lsd;
+        }
+    }
+    other
+}
+
+// A frame nine times, and behind each another that is unlike it in one field.
+fn push_unlike<R: Wait>(rt: &R, end: &mut Pusher<Item>, packet: &StreamPacket) {
+    for field in 0..9u32 {
+        end.push_waiting(rt, told(0, packet));
+        end.push_waiting(rt, told(0, &unlike(packet, field)));
+    }
+}
+
+#[test]
+fn a_frame_unlike_the_last_in_one_field_is_said_as_it_is(rt: HostRuntime) -> Result<(), Fail> {
+    let name = callsign().ok_or("no callsign")?;
+    let Laid { sender, mut far } = lay_list(rt.alloc(), name, Vec::new(rt.alloc()))?;
+    far.orders.push_waiting(&rt, Order::Go);
+    far.orders.push_waiting(&rt, Order::Stop);
+    let packet = frame(0x1234, 7, false);
+    push_unlike(&rt, &mut far.first, &packet);
+    let sent = done(&rt, sender);
+    for field in 0..9u32 {
+        let at = 2 * field as usize;
+        assert!(rt; says_packet(&sent, at, 0, &packet), "before field {field}");
+        let other = unlike(&packet, field);
+        assert!(rt; says_packet(&sent, at + 1, 0, &other), "field {field}");
+    }
     Ok(())
 }

@@ -6,7 +6,8 @@ ghost use Rattle.m17_sender.specs.Sent.{told_by};
 ghost use Rattle.m17_sender.specs.SoFar.{at_rest, GoesOn, IsIdle, RestsAt, with_reply};
 
 use crate::Sender;
-use crate::queue::{LINKS, Tried};
+use crate::kept::Kept;
+use crate::queue::Tried;
 use crate::saying::say_reply;
 use m17_control::Direct;
 use m17_ports::Mouth;
@@ -19,26 +20,26 @@ const DOOR_CAPACITY: u32 = 256;
 impl<M: Mouth> Sender<M> {
     /// A turn: what the door holds, and at most one item of each queue that may have something. Says whether anything
     /// was popped or said.
-    pub(crate) fn turn<R: Wait>(&mut self, rt: &R, noted: &mut [u64; LINKS]) -> bool
+    pub(crate) fn turn<R: Wait>(&mut self, rt: &R, kept: &mut Kept) -> bool
         requires shaped { IsShaped self.old }
         ensures goes_on { GoesOn (told_by M.said M.tallies M.faults M.mark M.label)
-            (at_rest self.old noted.old) (at_rest self.new noted.new) }
+            (at_rest self.old kept.old.noted) (at_rest self.new kept.new.noted) }
     {
         let answered = self.pass_door(rt);
-        let said = self.pass_marked(rt, noted);
+        let said = self.pass_marked(rt, kept);
         answered || said
     }
 
     /// A turn over all queues. Says whether anything was popped or said; where not, each Hello that is held back waits.
-    pub(crate) fn whole_turn<R: Wait>(&mut self, rt: &R, noted: &mut [u64; LINKS]) -> bool
+    pub(crate) fn whole_turn<R: Wait>(&mut self, rt: &R, kept: &mut Kept) -> bool
         requires shaped { IsShaped self.old }
         ensures goes_on { GoesOn (told_by M.said M.tallies M.faults M.mark M.label)
-            (at_rest self.old noted.old) (at_rest self.new noted.new) }
+            (at_rest self.old kept.old.noted) (at_rest self.new kept.new.noted) }
         ensures vain { result ≡ false
-            → (m q : ℕ) → RestsAt self.new noted.new m q }
+            → (m q : ℕ) → RestsAt self.new kept.new.noted m q }
     {
         let answered = self.pass_door(rt);
-        let said = self.pass_all(rt, noted);
+        let said = self.pass_all(rt, kept);
         answered || said
     }
 
@@ -74,10 +75,10 @@ impl<M: Mouth> Sender<M> {
     }
 
     // The turns of the queues that may have something.
-    fn pass_marked<R: Wait>(&mut self, rt: &R, noted: &mut [u64; LINKS]) -> bool
+    fn pass_marked<R: Wait>(&mut self, rt: &R, kept: &mut Kept) -> bool
         requires shaped { IsShaped self.old }
         ensures goes_on { GoesOn (told_by M.said M.tallies M.faults M.mark M.label)
-            (at_rest self.old noted.old) (at_rest self.new noted.new) }
+            (at_rest self.old kept.old.noted) (at_rest self.new kept.new.noted) }
     {
         let mut did = false;
         let mut from = 0;
@@ -85,7 +86,7 @@ impl<M: Mouth> Sender<M> {
             let Some(number) = self.hint.next(from) else {
                 return did;
             };
-            if self.try_number(rt, noted, number) {
+            if self.try_number(rt, kept, number) {
                 did = true;
             }
             from = number.saturating_add(1);
@@ -94,12 +95,12 @@ impl<M: Mouth> Sender<M> {
     }
 
     // The turn of the queue with this number, counted module by module; one that is not there has nothing.
-    fn try_number<R: Wait>(&mut self, rt: &R, noted: &mut [u64; LINKS], number: u32) -> bool
+    fn try_number<R: Wait>(&mut self, rt: &R, kept: &mut Kept, number: u32) -> bool
         requires shaped { IsShaped self.old }
         ensures goes_on { GoesOn (told_by M.said M.tallies M.faults M.mark M.label)
-            (at_rest self.old noted.old) (at_rest self.new noted.new) }
+            (at_rest self.old kept.old.noted) (at_rest self.new kept.new.noted) }
     {
-        match self.try_there(rt, noted, number) {
+        match self.try_there(rt, kept, number) {
             Tried::Did => true,
             Tried::Waiting => false,
             Tried::Empty => {
@@ -109,10 +110,10 @@ impl<M: Mouth> Sender<M> {
         }
     }
 
-    fn try_there<R: Wait>(&mut self, rt: &R, noted: &mut [u64; LINKS], number: u32) -> Tried
+    fn try_there<R: Wait>(&mut self, rt: &R, kept: &mut Kept, number: u32) -> Tried
         requires shaped { IsShaped self.old }
         ensures goes_on { GoesOn (told_by M.said M.tallies M.faults M.mark M.label)
-            (at_rest self.old noted.old) (at_rest self.new noted.new) }
+            (at_rest self.old kept.old.noted) (at_rest self.new kept.new.noted) }
     {
         if self.places == 0 {
             return Tried::Empty;
@@ -120,23 +121,23 @@ impl<M: Mouth> Sender<M> {
         let row = (number / self.places) as usize;
         let at = (number % self.places) as usize;
         if row < self.queues.len() {
-            self.try_queue(rt, noted, row, at)
+            self.try_queue(rt, kept, row, at)
         } else {
             Tried::Empty
         }
     }
 
     // The turns of all queues.
-    fn pass_all<R: Wait>(&mut self, rt: &R, noted: &mut [u64; LINKS]) -> bool
+    fn pass_all<R: Wait>(&mut self, rt: &R, kept: &mut Kept) -> bool
         requires shaped { IsShaped self.old }
         ensures goes_on { GoesOn (told_by M.said M.tallies M.faults M.mark M.label)
-            (at_rest self.old noted.old) (at_rest self.new noted.new) }
+            (at_rest self.old kept.old.noted) (at_rest self.new kept.new.noted) }
         ensures vain { result ≡ false
-            → (m q : ℕ) → RestsAt self.new noted.new m q }
+            → (m q : ℕ) → RestsAt self.new kept.new.noted m q }
     {
         let mut did = false;
         for row in 0..self.queues.len() {
-            if self.pass_row(rt, noted, row) {
+            if self.pass_row(rt, kept, row) {
                 did = true;
             }
         }
@@ -144,17 +145,17 @@ impl<M: Mouth> Sender<M> {
     }
 
     // The turns of the queues of one module.
-    fn pass_row<R: Wait>(&mut self, rt: &R, noted: &mut [u64; LINKS], row: usize) -> bool
+    fn pass_row<R: Wait>(&mut self, rt: &R, kept: &mut Kept, row: usize) -> bool
         requires shaped { IsShaped self.old }
         requires row { row < vec_len self.old.queues }
         ensures goes_on { GoesOn (told_by M.said M.tallies M.faults M.mark M.label)
-            (at_rest self.old noted.old) (at_rest self.new noted.new) }
-        ensures vain { result ≡ false → IsIdle self.old self.new noted.old noted.new
-            × ((q : ℕ) → q < self.old.places → RestsAt self.new noted.new row q) }
+            (at_rest self.old kept.old.noted) (at_rest self.new kept.new.noted) }
+        ensures vain { result ≡ false → IsIdle self.old self.new kept.old.noted kept.new.noted
+            × ((q : ℕ) → q < self.old.places → RestsAt self.new kept.new.noted row q) }
     {
         let mut did = false;
         for at in 0..self.places {
-            if self.try_queue(rt, noted, row, at as usize).did() {
+            if self.try_queue(rt, kept, row, at as usize).did() {
                 did = true;
             }
         }

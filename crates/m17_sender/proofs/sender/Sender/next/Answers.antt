@@ -1,11 +1,16 @@
-use Rattle.std.proofs.Common.{refl, ap, map, arith}
+use Rattle.std.proofs.Common.{refl, sym, arith}
 use Rattle.m17_sender.proofs.Queued.{goes_from_cell, goes_from_lane}
 use Rattle.m17_sender.proofs.Shapes.{held_place, queue_at, queue_place}
 use Rattle.m17_sender.specs.Sent.{told_by}
 use Rattle.m17_sender.proofs.sender.Sender.next.Goals as goal
 
-pub take_cell-requires : goal.take_cell-requires
-take_cell-requires g c =
+pub cell_at-requires : goal.cell_at-requires
+cell_at-requires g c =
+    held_place c.args.self.now c.args.row c.args.at c.requires.shaped (omega (arith, c.requires.row, c.args.self.now.queues.ok.0))
+    c.requires.at
+
+pub empty_cell-requires : goal.empty_cell-requires
+empty_cell-requires g c =
     held_place c.args.self.now c.args.row c.args.at c.requires.shaped (omega (arith, c.requires.row, c.args.self.now.queues.ok.0))
     c.requires.at
 
@@ -17,15 +22,16 @@ pop_in-requires-clause-at g c =
 pub returns-in-Some-clause-goes_on : goal.returns-in-Some-clause-goes_on
 returns-in-Some-clause-goes_on g c = λ noted.
     goes_from_cell (told_by g.M.Mouth.said g.M.Mouth.tallies g.M.Mouth.faults g.M.Mouth.mark g.M.Mouth.label) c.args.self.now
-    (record c.args.self.now { held = c.take_cell.new.cells }) noted c.args.row c.args.at c.in-Some.item
-    (record { name = refl; places = refl; mouths = refl; notes = refl; door = refl; order = refl }) refl refl c.in-Some.ensures
+    (record c.args.self.now { held = c.empty_cell.new.cells }) noted c.args.row c.args.at c.in-Some.held.now
+    (record { name = refl; places = refl; mouths = refl; notes = refl; door = refl; order = refl }) refl refl
+    (c.empty_cell.ensures c.in-Some.held.now (sym c.in-Some.ensures))
 
-pub returns-in-None-clause-goes_on : goal.returns-in-None-clause-goes_on
-returns-in-None-clause-goes_on g c = λ noted.
+pub returns-clause-goes_on : goal.returns-clause-goes_on
+returns-clause-goes_on g c = λ noted.
     goes_from_lane (told_by g.M.Mouth.said g.M.Mouth.tallies g.M.Mouth.faults g.M.Mouth.mark g.M.Mouth.label) c.rows_pop.ensures
     c.grids_pop.ensures c.pop_in.result c.args.self.now
-    (record c.args.self.now { held = c.take_cell.new.cells; queues = c.pop_in.new.grid }) noted c.args.row c.args.at
+    (record c.args.self.now { queues = c.pop_in.new.grid }) noted c.args.row c.args.at
     (record { name = refl; places = refl; mouths = refl; notes = refl; door = refl; order = refl })
     (queue_place c.args.self.now c.args.row c.args.at c.requires.shaped
     (omega (arith, c.requires.row, c.args.self.now.queues.ok.0)) c.requires.at)
-    c.pop_in.ensures.grid (ap (λ cells. map (λ row. row.items) cells.items) c.in-None.ensures.1)
+    c.pop_in.ensures.grid refl

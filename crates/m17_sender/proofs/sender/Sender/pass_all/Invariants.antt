@@ -8,7 +8,7 @@ abbrev pub invariant-loop-row : goal.invariant-loop-row
 invariant-loop-row g l = record {
   shaped : IsShaped l.self;
   goes_on : GoesOn (told_by g.M.Mouth.said g.M.Mouth.tallies g.M.Mouth.faults g.M.Mouth.mark g.M.Mouth.label)
-      (at_rest l.initial.self l.initial.noted) (at_rest l.self l.noted);
+      (at_rest l.initial.self l.initial.kept.noted) (at_rest l.self l.kept.noted);
   vain : l.did ≡ false → (m : ℕ) → m < l.row → (q : ℕ) → q < l.initial.self.places
-      → RestsAt l.self l.noted m q;
+      → RestsAt l.self l.kept.noted m q;
 }

@@ -7,6 +7,6 @@ pub loop-tried-preserved : goal.loop-tried-preserved
 loop-tried-preserved g c = record {
   shaped = c.try_number.ensures.goes_on.grows.shaped c.loop-tried.invariant.shaped;
   goes_on = goes_on (told_by g.M.Mouth.said g.M.Mouth.tallies g.M.Mouth.faults g.M.Mouth.mark g.M.Mouth.label)
-      (at_rest c.args.self.now c.args.noted.now) (at_rest c.loop-tried.self c.loop-tried.noted)
-      (at_rest c.try_number.new.self c.try_number.new.noted) c.loop-tried.invariant.goes_on c.try_number.ensures.goes_on;
+      (at_rest c.args.self.now c.args.kept.now.noted) (at_rest c.loop-tried.self c.loop-tried.kept.noted)
+      (at_rest c.try_number.new.self c.try_number.new.kept.noted) c.loop-tried.invariant.goes_on c.try_number.ensures.goes_on;
 }

@@ -7,5 +7,5 @@ abbrev pub invariant-loop-tried : goal.invariant-loop-tried
 invariant-loop-tried g l = record {
   shaped : IsShaped l.self;
   goes_on : GoesOn (told_by g.M.Mouth.said g.M.Mouth.tallies g.M.Mouth.faults g.M.Mouth.mark g.M.Mouth.label)
-      (at_rest l.initial.self l.initial.noted) (at_rest l.self l.noted);
+      (at_rest l.initial.self l.initial.kept.noted) (at_rest l.self l.kept.noted);
 }

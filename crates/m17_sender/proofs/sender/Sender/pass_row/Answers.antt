@@ -10,12 +10,12 @@ pub loop-at-preserved : goal.loop-at-preserved
 loop-at-preserved g c = record {
   shaped = c.try_queue.ensures.goes_on.grows.shaped c.loop-at.invariant.shaped;
   goes_on = goes_on (told_by g.M.Mouth.said g.M.Mouth.tallies g.M.Mouth.faults g.M.Mouth.mark g.M.Mouth.label)
-      (at_rest c.args.self.now c.args.noted.now) (at_rest c.loop-at.self c.loop-at.noted)
-      (at_rest c.try_queue.new.self c.try_queue.new.noted) c.loop-at.invariant.goes_on c.try_queue.ensures.goes_on;
+      (at_rest c.args.self.now c.args.kept.now.noted) (at_rest c.loop-at.self c.loop-at.kept.noted)
+      (at_rest c.try_queue.new.self c.try_queue.new.kept.noted) c.loop-at.invariant.goes_on c.try_queue.ensures.goes_on;
   vain = λ e. elim c.if-did.branch [
     | then-did w ↦ absurd (let is = w.did-is in let bad : ⊥ = cc in bad)
-    | else-did w ↦ row_rests c.args.self.now c.loop-at.self c.try_queue.new.self c.args.noted.now c.loop-at.noted
-        c.try_queue.new.noted c.args.row c.loop-at.at (c.loop-at.invariant.vain (sym w.did-is ∙ e))
+    | else-did w ↦ row_rests c.args.self.now c.loop-at.self c.try_queue.new.self c.args.kept.now.noted c.loop-at.kept.noted
+        c.try_queue.new.kept.noted c.args.row c.loop-at.at (c.loop-at.invariant.vain (sym w.did-is ∙ e))
         (in_vain c.try_queue.result _ (sym c.did.ensures ∙ w.if-did.false) c.try_queue.ensures.vain)
   ];
 }

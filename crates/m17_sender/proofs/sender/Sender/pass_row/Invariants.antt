@@ -8,7 +8,7 @@ abbrev pub invariant-loop-at : goal.invariant-loop-at
 invariant-loop-at g l = record {
   shaped : IsShaped l.self;
   goes_on : GoesOn (told_by g.M.Mouth.said g.M.Mouth.tallies g.M.Mouth.faults g.M.Mouth.mark g.M.Mouth.label)
-      (at_rest l.initial.self l.initial.noted) (at_rest l.self l.noted);
-  vain : l.did ≡ false → IsIdle l.initial.self l.self l.initial.noted l.noted
-      × ((q : ℕ) → q < l.at → RestsAt l.self l.noted l.row q);
+      (at_rest l.initial.self l.initial.kept.noted) (at_rest l.self l.kept.noted);
+  vain : l.did ≡ false → IsIdle l.initial.self l.self l.initial.kept.noted l.kept.noted
+      × ((q : ℕ) → q < l.at → RestsAt l.self l.kept.noted l.row q);
 }

@@ -14,7 +14,7 @@ returns g c =
     let served = c.serve.ensures.grows.on c.args.self.now [] start in
     let ended = c.finish.ensures.goes_on.grows.on c.args.self.now ([] ++ served.0) served.1 in
     has_sent (told_by g.M.Mouth.said g.M.Mouth.tallies g.M.Mouth.faults g.M.Mouth.mark g.M.Mouth.label)
-    c.args.self.now c.finish.new.self c.args.self.now.order (([] ++ served.0) ++ ended.0) c.finish.new.noted ended.1
+    c.args.self.now c.finish.new.self c.args.self.now.order (([] ++ served.0) ++ ended.0) c.finish.new.kept.noted ended.1
     c.finish.ensures.rests
     (subst (λ (o : PopEnd Order). HasStopped c.args.self.now.order o) (sym c.finish.ensures.goes_on.same_order)
     c.serve.ensures.stopped)

@@ -14,13 +14,13 @@ returns-then-hears_stop-clause-stopped g c =
 pub loop-preserved-then-not-turn : goal.loop-preserved-then-not-turn
 loop-preserved-then-not-turn g c =
     let between = grows_on (told_by g.M.Mouth.said g.M.Mouth.tallies g.M.Mouth.faults g.M.Mouth.mark g.M.Mouth.label)
-    (at_rest c.args.self.now c.args.noted.now) (at_rest c.loop.self c.loop.noted)
-    (at_rest (record c.loop.self { hint = c.look.new.self; order = c.hears_stop.new.orders }) c.loop.noted) c.loop.invariant.grows
-    (other_order (told_by g.M.Mouth.said g.M.Mouth.tallies g.M.Mouth.faults g.M.Mouth.mark g.M.Mouth.label) c.loop.self c.hears_stop.new.orders c.look.new.self c.loop.noted) in record {
+    (at_rest c.args.self.now c.args.kept.now.noted) (at_rest c.loop.self c.loop.kept.noted)
+    (at_rest (record c.loop.self { hint = c.look.new.self; order = c.hears_stop.new.orders }) c.loop.kept.noted) c.loop.invariant.grows
+    (other_order (told_by g.M.Mouth.said g.M.Mouth.tallies g.M.Mouth.faults g.M.Mouth.mark g.M.Mouth.label) c.loop.self c.hears_stop.new.orders c.look.new.self c.loop.kept.noted) in record {
       shaped = c.turn.ensures.goes_on.grows.shaped (between.shaped c.requires.shaped);
       grows = grows_on (told_by g.M.Mouth.said g.M.Mouth.tallies g.M.Mouth.faults g.M.Mouth.mark g.M.Mouth.label)
-          (at_rest c.args.self.now c.args.noted.now) (at_rest (record c.loop.self { hint = c.look.new.self; order = c.hears_stop.new.orders }) c.loop.noted)
-          (at_rest c.turn.new.self c.turn.new.noted) between c.turn.ensures.goes_on.grows;
+          (at_rest c.args.self.now c.args.kept.now.noted) (at_rest (record c.loop.self { hint = c.look.new.self; order = c.hears_stop.new.orders }) c.loop.kept.noted)
+          (at_rest c.turn.new.self c.turn.new.kept.noted) between c.turn.ensures.goes_on.grows;
       passed = subst (λ (o : PopEnd Order). HasPassed c.args.self.now.order o) (sym c.turn.ensures.goes_on.same_order)
           (passed_on c.args.self.now.order c.loop.self.order c.hears_stop.new.orders c.loop.invariant.passed c.if-hears_stop.ensures);
     }
@@ -28,13 +28,13 @@ loop-preserved-then-not-turn g c =
 pub loop-preserved : goal.loop-preserved
 loop-preserved g c =
     let between = grows_on (told_by g.M.Mouth.said g.M.Mouth.tallies g.M.Mouth.faults g.M.Mouth.mark g.M.Mouth.label)
-    (at_rest c.args.self.now c.args.noted.now) (at_rest c.loop.self c.loop.noted)
-    (at_rest (record c.loop.self { hint = c.look.new.self; order = c.hears_stop.new.orders }) c.loop.noted) c.loop.invariant.grows
-    (other_order (told_by g.M.Mouth.said g.M.Mouth.tallies g.M.Mouth.faults g.M.Mouth.mark g.M.Mouth.label) c.loop.self c.hears_stop.new.orders c.look.new.self c.loop.noted) in record {
+    (at_rest c.args.self.now c.args.kept.now.noted) (at_rest c.loop.self c.loop.kept.noted)
+    (at_rest (record c.loop.self { hint = c.look.new.self; order = c.hears_stop.new.orders }) c.loop.kept.noted) c.loop.invariant.grows
+    (other_order (told_by g.M.Mouth.said g.M.Mouth.tallies g.M.Mouth.faults g.M.Mouth.mark g.M.Mouth.label) c.loop.self c.hears_stop.new.orders c.look.new.self c.loop.kept.noted) in record {
       shaped = c.turn.ensures.goes_on.grows.shaped (between.shaped c.requires.shaped);
       grows = grows_on (told_by g.M.Mouth.said g.M.Mouth.tallies g.M.Mouth.faults g.M.Mouth.mark g.M.Mouth.label)
-          (at_rest c.args.self.now c.args.noted.now) (at_rest (record c.loop.self { hint = c.look.new.self; order = c.hears_stop.new.orders }) c.loop.noted)
-          (at_rest c.turn.new.self c.turn.new.noted) between c.turn.ensures.goes_on.grows;
+          (at_rest c.args.self.now c.args.kept.now.noted) (at_rest (record c.loop.self { hint = c.look.new.self; order = c.hears_stop.new.orders }) c.loop.kept.noted)
+          (at_rest c.turn.new.self c.turn.new.kept.noted) between c.turn.ensures.goes_on.grows;
       passed = subst (λ (o : PopEnd Order). HasPassed c.args.self.now.order o) (sym c.turn.ensures.goes_on.same_order)
           (passed_on c.args.self.now.order c.loop.self.order c.hears_stop.new.orders c.loop.invariant.passed c.if-hears_stop.ensures);
     }

@@ -7,6 +7,6 @@ abbrev pub invariant-loop : goal.invariant-loop
 invariant-loop g l = record {
   shaped : IsShaped l.self;
   grows : Grows (told_by g.M.Mouth.said g.M.Mouth.tallies g.M.Mouth.faults g.M.Mouth.mark g.M.Mouth.label)
-      (at_rest l.initial.self l.initial.noted) (at_rest l.self l.noted);
+      (at_rest l.initial.self l.initial.kept.noted) (at_rest l.self l.kept.noted);
   passed : HasPassed l.initial.self.order l.self.order;
 }

@@ -7,7 +7,7 @@ use Rattle.m17_sender.proofs.sender.Sender.take.Goals as goal
 pub returns-then-not-is_said : goal.returns-then-not-is_said
 returns-then-not-is_said g c = record {
   goes_on = goes_past (told_by g.M.Mouth.said g.M.Mouth.tallies g.M.Mouth.faults g.M.Mouth.mark g.M.Mouth.label)
-      c.args.self.now c.args.noted.now c.args.row c.args.at c.args.item (sym c.is_said.ensures.there ∙ c.if-not-is_said.true);
+      c.args.self.now c.args.kept.now.noted c.args.row c.args.at c.args.item.now (sym c.is_said.ensures.there ∙ c.if-not-is_said.true);
 }
 
 pub fill_cell-requires-clause-place : goal.fill_cell-requires-clause-place
@@ -18,7 +18,7 @@ fill_cell-requires-clause-place g c =
 pub returns-then-waits : goal.returns-then-waits
 returns-then-waits g c = record {
   goes_on = goes_back (told_by g.M.Mouth.said g.M.Mouth.tallies g.M.Mouth.faults g.M.Mouth.mark g.M.Mouth.label)
-      c.args.self.now (record c.args.self.now { held = c.fill_cell.new.cells }) c.args.noted.now c.args.row c.args.at c.args.item
+      c.args.self.now (record c.args.self.now { held = c.fill_cell.new.cells }) c.args.kept.now.noted c.args.row c.args.at c.args.item.now
       (record { name = refl; places = refl; mouths = refl; notes = refl; door = refl; order = refl }) refl refl c.fill_cell.ensures
       (sym c.is_said.ensures.there ∙ c.if-not-is_said.false);
 }

@@ -5,20 +5,20 @@ use Rattle.m17_sender.proofs.sender.Sender.turn.Goals as goal
 
 pub pass_marked-said-requires : goal.pass_marked-said-requires
 pass_marked-said-requires g c =
-    record { shaped = (c.pass_door-answered.ensures.goes_on c.args.noted.now).grows.shaped c.requires.shaped }
+    record { shaped = (c.pass_door-answered.ensures.goes_on c.args.kept.now.noted).grows.shaped c.requires.shaped }
 
 pub returns-then-answered : goal.returns-then-answered
 returns-then-answered g c = record {
   goes_on = goes_on (told_by g.M.Mouth.said g.M.Mouth.tallies g.M.Mouth.faults g.M.Mouth.mark g.M.Mouth.label)
-      (at_rest c.args.self.now c.args.noted.now) (at_rest c.pass_door-answered.new.self c.args.noted.now)
-      (at_rest c.pass_marked-said.new.self c.pass_marked-said.new.noted) (c.pass_door-answered.ensures.goes_on c.args.noted.now)
+      (at_rest c.args.self.now c.args.kept.now.noted) (at_rest c.pass_door-answered.new.self c.args.kept.now.noted)
+      (at_rest c.pass_marked-said.new.self c.pass_marked-said.new.kept.noted) (c.pass_door-answered.ensures.goes_on c.args.kept.now.noted)
       c.pass_marked-said.ensures.goes_on;
 }
 
 pub returns-else-answered : goal.returns-else-answered
 returns-else-answered g c = record {
   goes_on = goes_on (told_by g.M.Mouth.said g.M.Mouth.tallies g.M.Mouth.faults g.M.Mouth.mark g.M.Mouth.label)
-      (at_rest c.args.self.now c.args.noted.now) (at_rest c.pass_door-answered.new.self c.args.noted.now)
-      (at_rest c.pass_marked-said.new.self c.pass_marked-said.new.noted) (c.pass_door-answered.ensures.goes_on c.args.noted.now)
+      (at_rest c.args.self.now c.args.kept.now.noted) (at_rest c.pass_door-answered.new.self c.args.kept.now.noted)
+      (at_rest c.pass_marked-said.new.self c.pass_marked-said.new.kept.noted) (c.pass_door-answered.ensures.goes_on c.args.kept.now.noted)
       c.pass_marked-said.ensures.goes_on;
 }
