@@ -1,6 +1,6 @@
 -- What the queues of a patient run carry weighs what its modules give.
-use Rattle.std.proofs.Common.{◌≡◌, ◌==◌, ℕ, zero, suc, ◌+◌, ◌<◌, Bool, true, false, cond, List, [], ◌∷◌, ◌++◌, length, map, Option, None, Some, sym, subst, refl, ap, ◌∙◌, arith}
-use Rattle.std.specs.Prelude.{◌&&◌, slice_get, filter, sum_by, take, All}
+use Rattle.std.proofs.Common.{◌≡◌, ◌==◌, ℕ, zero, suc, ◌+◌, ◌<◌, Bool, true, false, cond, List, [], ◌∷◌, ◌++◌, length, map, Some, sym, subst, refl, ap, ◌∙◌, arith}
+use Rattle.std.specs.Prelude.{◌&&◌, slice_get, filter, sum_by}
 use Rattle.std.specs.List.{AllByRecursion, flat_map, range_with_len}
 use Rattle.std.proofs.lemmas.Bool.Decides.{nat_tests}
 use Rattle.std.proofs.lemmas.List.Elements.{recursion_from_All, All-from_recursion}
@@ -14,9 +14,8 @@ use Rattle.m17_lane.specs.Orders as lane
 use Rattle.m17_module.specs.Items.{Setup, items_at, items_given}
 use Rattle.m17_module.specs.Laws.{ItemsAreAtPlaces, ItemsKeepLinks}
 use Rattle.m17_worker.specs.Offers.{Try, queued_for}
-use Rattle.m17_reflect.specs.Links.{At}
 use Rattle.m17_reflect.specs.Queues.{Carriers, Carry}
-use Rattle.m17_patient.proofs.Lists.{at_below, below_at, of_number, numbered_sum, sum_beside, sum_flat, sum_same}
+use Rattle.m17_patient.proofs.Lists.{of_number, numbered_sum, sum_beside, sum_flat}
 
 module _ {A : Type 0} where
   pub all_at : (P : A → Type 0) (xs : List A) → AllByRecursion P xs → (i : ℕ) (x : A) → slice_get xs i ≡ Some x → P x

@@ -1,14 +1,13 @@
 -- The claims of a patient run over one link are given freely, so that its entries are a free replay.
-use Rattle.std.proofs.Common.{◌≡◌, ℕ, ◌<◌, ◌≤◌, Bool, true, false, List, [], ◌∷◌, length, nat_lt, Option, None, Some, MatchBool, sym, subst, refl, ap, ◌∙◌, arith}
+use Rattle.std.proofs.Common.{◌≡◌, ℕ, ◌<◌, ◌≤◌, Bool, true, false, List, length, nat_lt, Option, None, Some, MatchBool, sym, subst, refl, ap, ◌∙◌, arith}
 use Rattle.std.specs.Prelude.{◌&&◌, slice_get}
 use Rattle.std.specs.List.{list_any, AllByRecursion}
 use Rattle.std.proofs.lemmas.Bool.Decides.{nat_tests}
 use Rattle.std.proofs.lemmas.List.Elements.{recursion_from_All}
 use Rattle.m17_values.specs.declared.heard.Heard.{Heard}
-use Rattle.m17_directory.specs.declared.known.Known.{Known}
 use Rattle.m17_directory.specs.Entries.{Claim, Entry, Setup, claim_at}
 use Rattle.m17_directory.specs.Fits.{OthersFitThePlaces}
-use Rattle.m17_directory.specs.Given.{IsOfFreePlace, IsGivenAt, AreGivenFreely}
+use Rattle.m17_directory.specs.Given.{IsOfFreePlace, AreGivenFreely}
 use Rattle.m17_directory.specs.Outcome.{has_place}
 use Rattle.m17_directory.specs.Routed.{past_at, asks_at, others_at}
 use Rattle.m17_receiver.specs.Claims.{IsPatientAt}

@@ -1,14 +1,15 @@
 -- Tapes, one by one.
-use Rattle.std.proofs.Common.{◌≡◌, ℕ, suc, ◌+◌, ◌<◌, ◌≤◌, Bool, true, false, List, [], ◌∷◌, ◌++◌, length, map, take, drop, get_or, is_some, Option, None, Some, Vec, Global, refl, sym, ap, ◌∙◌, arith}
-use Rattle.std.specs.Prelude.{slice_get}
-use Rattle.std.specs.List.{filter_map}
+use Rattle.std.proofs.Common.{◌≡◌, ℕ, zero, suc, ◌+◌, ◌<◌, ◌≤◌, true, false, cond, List, [], ◌∷◌, length, map, drop, get_or, is_some, Option, None, Some, Vec, Global, refl, sym, ap, ◌∙◌, arith}
+use Rattle.std.specs.Prelude.{slice_get, count_by}
+use Rattle.std.specs.List.{range_with_len}
 use Rattle.std.specs.Option.{option_map, option_or}
-use Rattle.std.proofs.lemmas.List.{append-nil, length-map, take_more}
-use Rattle.std.proofs.lemmas.List.Elements.{filter_map-append}
-use Rattle.std.proofs.lemmas.Option.{slice_get-map, slice_get_read}
+use Rattle.std.proofs.lemmas.List.{length-map}
+use Rattle.std.proofs.lemmas.List.Sums.{sum_by-cons}
+use Rattle.std.proofs.lemmas.List.FromFn.{get_or-map-range_with_len, length-map-range_with_len}
+use Rattle.std.proofs.lemmas.Option.{same_Some, slice_get-get_or, slice_get-map, slice_get_read}
 use Rattle.m17_floor.specs.declared.verdict.Verdict.{Verdict}
 use Rattle.m17_directory.specs.declared.verdict.LinkVerdict.{LinkVerdict}
-use Rattle.m17_patient.specs.Tapes.{cell_at, packet_on}
+use Rattle.m17_patient.specs.Tapes.{IsFilledInOrder, cell_at, packet_on, verdicts_on}
 use Rattle.m17_patient.proofs.Lists.{drop_all, drop_step}
 
 abbrev pub lists_of : List (Vec (Option Verdict) Global) → List (List (Option Verdict))
@@ -51,19 +52,37 @@ pub no_tape : (tapes : List (Vec (Option Verdict) Global)) (n i : ℕ) → lengt
 no_tape tapes n i le before =
     sym (before ∙ ap (λ l. packet_on l n) (drop_all (lists_of tapes) i (omega (arith, length-map tapes (λ (tape : Vec (Option Verdict) Global). tape.items)))))
 
-abbrev pub taken : List (Option LinkVerdict) → List LinkVerdict
-taken cells = filter_map (λ (cell : Option LinkVerdict). cell) cells
+-- Cells that are filled up to a number, and empty behind it.
+none_behind : (tape : List (Option LinkVerdict)) → ((i : ℕ) → i < length tape → slice_get tape i ≡ Some None) → verdicts_on tape ≡ []
+none_behind [] empty = refl
+none_behind (None ∷ tape) empty = none_behind tape (λ i lt. empty (suc i) (omega arith))
+none_behind (Some v ∷ tape) empty = absurd (let wrong : Some v ≡ None = same_Some (Some v) None (empty 0 (omega arith)) in cc)
 
--- one cell more, with a verdict or without
-cell_more : (tape : List (Option LinkVerdict)) (i : ℕ) (cell : Option LinkVerdict) → i < length tape → cell ≡ get_or tape i cell → taken (take (i + 1) tape) ≡ taken (take i tape) ++ taken (cell ∷ [])
-cell_more tape i cell lt is =
-    ap taken (take_more tape i cell lt ∙ ap (λ c. take i tape ++ c ∷ []) (sym is))
-    ∙ filter_map-append (λ (cell : Option LinkVerdict). cell) (take i tape) (cell ∷ [])
+pub in_order : (n : ℕ) (tape : List (Option LinkVerdict)) → ((i : ℕ) → i < n → (v : LinkVerdict) × (slice_get tape i ≡ Some (Some v))) → ((i : ℕ) → n ≤ i → i < length tape → slice_get tape i ≡ Some None) → IsFilledInOrder tape
+in_order n [] filled empty = tt
+in_order zero (None ∷ tape) filled empty = none_behind tape (λ i lt. empty (suc i) (omega arith) (omega arith))
+in_order zero (Some v ∷ tape) filled empty = absurd (let wrong : Some v ≡ None = same_Some (Some v) None (empty 0 (omega arith) (omega arith)) in cc)
+in_order (suc n) (None ∷ tape) filled empty =
+    let (v, at) = filled 0 (omega arith) in
+    absurd (let wrong : None ≡ Some v = same_Some None (Some v) at in cc)
+in_order (suc n) (Some v ∷ tape) filled empty = in_order n tape (λ i lt. filled (suc i) (omega arith)) (λ i le lt. empty (suc i) (omega arith) (omega arith))
 
-pub cells_with : (tape : List (Option LinkVerdict)) (i : ℕ) (cell : Option LinkVerdict) (v : LinkVerdict) (before after : List LinkVerdict) → i < length tape → cell ≡ get_or tape i cell → cell ≡ Some v → before ≡ taken (take i tape) → after ≡ before ++ v ∷ [] → after ≡ taken (take (i + 1) tape)
-cells_with tape i cell v before after lt is some e pushed =
-    pushed ∙ ap (λ l. l ++ v ∷ []) e ∙ ap (λ c. taken (take i tape) ++ taken (c ∷ [])) (sym some) ∙ sym (cell_more tape i cell lt is)
+-- In such a tape the verdicts stand in the first cells.
+pub first_cells : (tape : List (Option LinkVerdict)) → IsFilledInOrder tape → (n : ℕ) → n < length (verdicts_on tape) → (v : LinkVerdict) × (slice_get tape n ≡ Some (Some v)) × (slice_get (verdicts_on tape) n ≡ Some v)
+first_cells [] in_it n lt = absurd (omega arith)
+first_cells (None ∷ tape) in_it n lt = absurd (omega (arith, ap length in_it))
+first_cells (Some v ∷ tape) in_it zero lt = (v, refl, refl)
+first_cells (Some v ∷ tape) in_it (suc n) lt = first_cells tape in_it n (omega arith)
 
-pub cells_without : (tape : List (Option LinkVerdict)) (i : ℕ) (cell : Option LinkVerdict) (before : List LinkVerdict) → i < length tape → cell ≡ get_or tape i cell → cell ≡ None → before ≡ taken (take i tape) → before ≡ taken (take (i + 1) tape)
-cells_without tape i cell before lt is none e =
-    e ∙ sym (append-nil (taken (take i tape))) ∙ ap (λ c. taken (take i tape) ++ taken (c ∷ [])) (sym none) ∙ sym (cell_more tape i cell lt is)
+-- so many cells have one
+pub filled_count : (tape : List (Option LinkVerdict)) → count_by (λ (cell : Option LinkVerdict). is_some cell) tape ≡ length (verdicts_on tape)
+filled_count [] = refl
+filled_count (None ∷ tape) = omega (arith, filled_count tape, sum_by-cons (λ (cell : Option LinkVerdict). cond (is_some cell) 1 0) None tape)
+filled_count (Some v ∷ tape) = omega (arith, filled_count tape, sum_by-cons (λ (cell : Option LinkVerdict). cond (is_some cell) 1 0) (Some v) tape)
+
+-- the packet of an entry
+pub packet_there : (tapes : List (List (Option Verdict))) (n count : ℕ) → n < count → slice_get (map (packet_on tapes) (range_with_len 0 count)) n ≡ Some (packet_on tapes n)
+packet_there tapes n count lt =
+    let all = map (packet_on tapes) (range_with_len 0 count) in
+    slice_get-get_or all n None (omega (arith, length-map-range_with_len (packet_on tapes) 0 count))
+    ∙ ap Some (get_or-map-range_with_len (packet_on tapes) 0 count n n None lt (omega arith))

@@ -1,6 +1,6 @@
 -- What the one link routes is the trail of its module, and its tape has its verdicts.
 use Rattle.std.proofs.Common.{◌≡◌, ◌==◌, ℕ, zero, suc, ◌+◌, ◌<◌, ◌≤◌, Bool, true, false, cond, List, [], ◌∷◌, length, map, Option, None, Some, sym, subst, refl, ap, ◌∙◌, arith}
-use Rattle.std.specs.Prelude.{slice_get, All}
+use Rattle.std.specs.Prelude.{slice_get}
 use Rattle.std.specs.List.{AllByRecursion, filter_map, cons_option, range_with_len}
 use Rattle.std.proofs.lemmas.Bool.{eq-eqb}
 use Rattle.std.proofs.lemmas.List.Elements.{recursion_from_All}
@@ -14,7 +14,7 @@ use Rattle.m17_lane.specs.Orders.{picked}
 use Rattle.m17_house.specs.declared.plan.Plan.{Plan}
 use Rattle.m17_house.specs.Replay.{setup_of}
 use Rattle.m17_reflect.specs.Judged.{IsLinkTape}
-use Rattle.m17_reflect.specs.Links.{Link, At}
+use Rattle.m17_reflect.specs.Links.{Link}
 use Rattle.m17_reflect.specs.Trails.{events_of, IsTrail}
 
 pick_step : (b : Bool) (x : Event) (xs kept : List Event) → b ≡ true → kept ≡ xs → cond b (x ∷ kept) kept ≡ x ∷ xs

@@ -1,16 +1,16 @@
 -- What is told to a peer in a patient run over one link is as many packets of each kind as the replay says to it.
-use Rattle.std.proofs.Common.{◌≡◌, ◌==◌, ℕ, zero, suc, ◌+◌, ◌-◌, ◌^◌, ◌<◌, ◌≤◌, Bool, true, false, cond, not, List, [], ◌∷◌, ◌++◌, length, map, min, Option, None, Some, sym, subst, refl, ap, ◌∙◌, arith}
-use Rattle.std.specs.Prelude.{◌&&◌, slice_get, slice_index, filter, sum_by, count_by}
-use Rattle.std.specs.List.{AllByRecursion, AllZip, flat_map, filter_map, items_where_true}
+use Rattle.std.proofs.Common.{◌≡◌, ◌==◌, ℕ, zero, suc, ◌+◌, ◌<◌, Bool, true, false, cond, not, List, [], ◌∷◌, length, map, Option, None, Some, sym, subst, refl, ap, ◌∙◌, arith}
+use Rattle.std.specs.Prelude.{◌&&◌, slice_get, filter, sum_by, count_by}
+use Rattle.std.specs.List.{flat_map, items_where_true}
 use Rattle.std.specs.Option.{option_map_or}
 use Rattle.std.proofs.lemmas.List.Filters.{sum_by-filter_both}
 use Rattle.std.proofs.lemmas.List.Sums.{sum_by-cons, sum_by-append}
-use Rattle.std.proofs.lemmas.Option.{same_Some, none-some, get_or_from_slice_get}
+use Rattle.std.proofs.lemmas.Option.{get_or_from_slice_get}
 use Rattle.m17_values.specs.declared.heard.Heard.{Heard}
 use Rattle.m17_values.specs.declared.peer.Peer.{Peer}
 use Rattle.m17_ports.specs.declared.tally.Tally.{Tally}
 use Rattle.m17_ports.specs.Mouth.{Datagram}
-use Rattle.m17_ports.specs.Said.{AreTallied, MouthTold, SaidOf}
+use Rattle.m17_ports.specs.Said.{AreTallied, MouthTold}
 use Rattle.m17_ports.specs.Tallies.{no_tally}
 use Rattle.m17_control.specs.declared.event.Event.{Event}
 use Rattle.m17_control.specs.declared.item.Item.{Item}
@@ -19,7 +19,6 @@ use Rattle.m17_control.specs.declared.packet.Packet.TheVariants as packets
 use Rattle.m17_control.specs.Modules.{letters_of}
 use Rattle.m17_control.specs.Spelled.{packet_said}
 use Rattle.m17_directory.specs.Entries.{Entry, is_peer}
-use Rattle.m17_directory.specs.Laws.{RouteCarriesLink}
 use Rattle.m17_directory.specs.Routed.{direct_replies, routed}
 use Rattle.m17_lane.specs.Ends.{TrailEnd}
 use Rattle.m17_module.specs.Items.{items_given}
@@ -27,7 +26,7 @@ use Rattle.m17_turns.specs.Orders.{IsInterleaving}
 use Rattle.m17_turns.specs.Joined.{goes_to, items_of, packets_of}
 use Rattle.m17_house.specs.declared.plan.Plan.{Plan}
 use Rattle.m17_house.specs.Replay.{module_setup, packet_to, said_by_module, said_to, setup_of, tally_of}
-use Rattle.m17_reflect.specs.Links.{Link, At, letter_of}
+use Rattle.m17_reflect.specs.Links.{At, letter_of}
 use Rattle.m17_reflect.specs.Queues.{all_carried, carried}
 use Rattle.m17_reflect.specs.Run.{Run}
 use Rattle.m17_reflect.specs.Sendings.{memberships, IsToldAs}

@@ -1,5 +1,5 @@
 -- A patient run over one link is a replay in which places are given freely.
-use Rattle.std.proofs.Common.{◌≡◌, ℕ, zero, suc, ◌+◌, ◌<◌, ◌≤◌, ◌^◌, true, List, [], ◌∷◌, ◌++◌, length, map, Option, None, Some, sym, subst, refl, ap, ◌∙◌, arith}
+use Rattle.std.proofs.Common.{◌≡◌, ℕ, ◌<◌, ◌≤◌, true, List, [], ◌∷◌, length, map, Option, None, Some, subst, refl, ap, ◌∙◌, arith}
 use Rattle.std.specs.Prelude.{slice_get, option_and_then, unwrap_or}
 use Rattle.std.specs.List.{filter_map, range_with_len}
 use Rattle.std.proofs.lemmas.List.{length-append}
@@ -21,20 +21,21 @@ use Rattle.m17_directory.specs.Entries.{Entry, SaysEach}
 use Rattle.m17_directory.specs.Routed.{link_verdict, routed}
 use Rattle.m17_worker.specs.Tape.{verdict_on}
 use Rattle.m17_house.specs.declared.plan.Plan.{Plan}
-use Rattle.m17_house.specs.Free.{IsFreelyReplayed, IsFreeReplayOf}
+use Rattle.m17_house.specs.Free.{IsFreelyReplayed}
 use Rattle.m17_house.specs.Replay.{packet_verdict, said_to, setup_of, tally_of, verdict_among, verdicts_of}
 use Rattle.m17_reflect.specs.Headline.{Headline}
 use Rattle.m17_reflect.specs.Judged.{IsModuleTape}
-use Rattle.m17_reflect.specs.Links.{At, letter_of}
+use Rattle.m17_reflect.specs.Links.{letter_of, link_setup}
 use Rattle.m17_reflect.specs.Run.{Run}
 use Rattle.m17_reflect.specs.Trails.{events_of}
 use Rattle.m17_patient.specs.Ending.{HasAnEnd}
 use Rattle.m17_patient.specs.Known.{Laws}
-use Rattle.m17_patient.specs.Tapes.{cell_at, packet_on}
+use Rattle.m17_patient.specs.Tapes.{IsFilledInOrder, cell_at, packet_on}
 use Rattle.m17_patient.proofs.Alone.{IsAlone, HasRun, has_run}
 use Rattle.m17_patient.proofs.Freely.{is_free, is_link, link_at}
 use Rattle.m17_patient.proofs.Lists.{at_below, below_at, map_range, mapped_one, one_of}
 use Rattle.m17_patient.proofs.Packets.{AreCells, packet_is, verdict_same}
+use Rattle.m17_patient.proofs.TapeSteps.{in_order}
 use Rattle.m17_patient.proofs.Taped.{verdicts_are}
 use Rattle.m17_patient.proofs.Told.{of_link, tallies_are, trail_is}
 
@@ -60,6 +61,11 @@ pub record IsTakenApart {L : Type 0} (run : Run L) (verdicts : List LinkVerdict)
   pub nothing : (y : Peer) (t : Tally) → before.tallies y ≡ Some t → t ≡ no_tally
   pub told : (y : Peer) → after.tallies y ≡ tally_at mouth.entries y
 
+-- no more entries than were to be heard
+few_entries : {L : Type 0} (run : Run L) (script : List Heard) (alone : IsAlone run script) (h : HasRun run script) → length h.link.entries ≤ run.plan.entries
+few_entries run script alone h =
+    omega (arith, alone.cells, ap length h.whole, length-append h.link.heard h.rest, length_says h.link.heard h.link.entries (is_link run script alone h).says)
+
 module _ {L : Type 0} (laws : Laws) (run : Run L) (script : List Heard) (alone : IsAlone run script) (h : HasRun run script) where
   abbrev plan : Plan
   plan = run.plan
@@ -67,15 +73,13 @@ module _ {L : Type 0} (laws : Laws) (run : Run L) (script : List Heard) (alone :
   abbrev entries : List Entry
   entries = h.link.entries
 
-  -- no more entries than were to be heard
-  pub few_entries : length entries ≤ run.plan.entries
-  few_entries =
-      omega (arith, alone.cells, ap length h.whole, length-append h.link.heard h.rest, length_says h.link.heard entries (is_link run script alone h).says)
+  few : length entries ≤ run.plan.entries
+  few = few_entries run script alone h
 
   cell_is : (m n : ℕ) (events : List Event) (tape : List (Option Verdict)) → n < length entries → IsModuleTape plan.places events plan.entries tape → events ≡ routed (setup_of plan) entries (letter_of plan m)
       → cell_at tape n ≡ verdict_among plan.places n (routed (setup_of plan) entries (letter_of plan m))
   cell_is m n events tape lt taped is =
-      ap (option_and_then (λ (cell : Option Verdict). cell)) (taped.verdicts n (omega (arith, few_entries, taped.length_is)))
+      ap (option_and_then (λ (cell : Option Verdict). cell)) (taped.verdicts n (omega (arith, few, taped.length_is)))
       ∙ ap (λ es. verdict_on plan.places es n) is
       ∙ verdict_same plan.places n (routed (setup_of plan) entries (letter_of plan m)) (of_link laws run script alone h (letter_of plan m))
 
@@ -91,7 +95,7 @@ module _ {L : Type 0} (laws : Laws) (run : Run L) (script : List Heard) (alone :
   pub replayed : (verdicts : List LinkVerdict) (packets : List (Option Verdict)) (mouth : TalliesKept) → IsTakenApart run verdicts packets mouth → IsFreelyReplayed plan script verdicts packets mouth
   replayed verdicts packets mouth t =
       let taped = h.carried.judged.link_tapes 0 h.link t.tape (link_at run script alone h) (ap (λ ts. slice_get ts 0) t.tapes) in
-      let each : verdicts ≡ verdicts_of plan entries = t.verdicts_are ∙ verdicts_are (setup_of plan) entries plan.entries t.tape taped few_entries in
+      let each : verdicts ≡ verdicts_of plan entries = t.verdicts_are ∙ verdicts_are (setup_of plan) entries plan.entries t.tape taped few in
       let many : length verdicts ≡ length entries = ap length each ∙ length-map-range_with_len (link_verdict (setup_of plan) entries) 0 (length entries) in
       record {
         entries = entries;
@@ -166,14 +170,20 @@ alone_of plan script run o = record {
   told = ap (λ (l : List Heard). Some (heard_of l o.last.calls)) o.same;
 }
 
--- Its one link tape.
-pub tape_there : (plan : Plan) (script : List Heard) (run : Run (Unit {0})) → Headline run → IsOver plan script run → (tape : List (Option LinkVerdict)) × (run.handed.link_tapes ≡ tape ∷ []) × (length tape ≡ length script)
+-- Its one link tape, whose first cells have the verdicts.
+pub tape_there : (plan : Plan) (script : List Heard) (run : Run (Unit {0})) → Headline run → IsOver plan script run → (tape : List (Option LinkVerdict)) × (run.handed.link_tapes ≡ tape ∷ []) × IsFilledInOrder tape
 tape_there plan script run headline o =
     let alone = alone_of plan script run o in
     let h = has_run run script headline alone in
     let (tape, only) = one_of run.handed.link_tapes (h.carried.judged.link_tape_count ∙ ap length h.links_are) in
     let taped = h.carried.judged.link_tapes 0 h.link tape (link_at run script alone h) (ap (λ ts. slice_get ts 0) only) in
-    (tape, only, taped.length_is ∙ alone.cells)
+    let entries = h.link.entries in
+    let few = few_entries run script alone h in (
+      tape,
+      only,
+      in_order (length entries) tape (λ i lt. (link_verdict (link_setup run.plan 0) entries i, taped.filled i (omega (arith, few)) lt))
+          (λ i le lt. taped.empty i (omega (arith, taped.length_is)) le),
+    )
 
 -- The replay of the plan that such a run is.
 pub freely_replayed : Laws → (plan : Plan) (script : List Heard) (run : Run (Unit {0})) → Headline run → IsOver plan script run → (verdicts : List LinkVerdict) (packets : List (Option Verdict)) (mouth : TalliesKept) → IsTakenApart run verdicts packets mouth → IsFreelyReplayed plan script verdicts packets mouth

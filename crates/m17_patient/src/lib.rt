@@ -8,9 +8,10 @@
 
 mod devices;
 mod laws;
+mod outcomes;
 mod replaying;
-mod tapes;
 #[cfg(test)]
 mod tests;
 
-pub use replaying::{Replay, replay_over_threads};
+pub use outcomes::Outcomes;
+pub use replaying::{Refused, Replay, replay_over_threads};

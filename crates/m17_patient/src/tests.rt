@@ -1,7 +1,7 @@
 ghost use Rattle.std.specs.Prelude.{◌<◌, IfOk};
 ghost use Rattle.m17_house.specs.Replay.{IsPlan};
 
-use crate::replay_over_threads;
+use crate::{Refused, replay_over_threads};
 use m17_callsign::{CallAddress, encode};
 use m17_control::{Control, ModuleLetter, Modules, write};
 use m17_crew::{RefusingCrew, StdCrew};
@@ -122,8 +122,13 @@ fn expect_the_plain_one<R: Threads + Wait + Abort + Copy + Send + 'static>(
     let Ok(replay) = replay_over_threads(rt, alloc, &plan, entries, mouth, &mut crew) else {
         return Err("no replay".into());
     };
-    assert_eq!(rt; replay.verdicts.as_slice(), verdicts.as_slice());
-    assert_eq!(rt; replay.packets.as_slice(), packets.as_slice());
+    let count = replay.outcomes.count();
+    assert_eq!(rt; count, verdicts.len());
+    assert_eq!(rt; count, packets.len());
+    for n in 0..count {
+        assert_eq!(rt; *replay.outcomes.verdict(n), verdicts[n]);
+        assert_eq!(rt; replay.outcomes.packet(n), packets[n]);
+    }
     assert_eq!(rt; replay.heard.len(), rows.len() + 1);
     for peer in &peers {
         assert!(rt; replay.mouth.tally(peer).is_some());
@@ -186,9 +191,17 @@ fn sixteen_faults_end_it_as_in_the_plain_one(rt: HostRuntime) -> Result<(), Fail
     expect_the_plain_one(&rt, rt.alloc(), 64, &[(0, 0, Say::Fault); 20])
 }
 
+// What comes back where nothing was run: the one entry that was to be heard, and the mouth without a tally.
+fn expect_all_back(rt: &impl Abort, refused: Refused, why: HouseRefusal) {
+    assert_eq!(rt; refused.why, why);
+    assert_eq!(rt; refused.heard.as_slice(), [Heard::End].as_slice());
+    let tally = refused.mouth.tally(&peer(1));
+    assert_eq!(rt; tally.map(|tally| tally.ackn), Some(0));
+}
+
 // Whichever start is refused, of the link's job, the three modules' and the sender's.
 #[test]
-fn a_refused_start_is_told(rt: HostRuntime) -> Result<(), Fail> {
+fn a_refused_start_is_told_and_hands_all_back(rt: HostRuntime) -> Result<(), Fail> {
     let alloc = rt.alloc();
     let plan = plan(&rt, 64);
     for start in 0..5 {
@@ -197,9 +210,25 @@ fn a_refused_start_is_told(rt: HostRuntime) -> Result<(), Fail> {
         let mouth = TallyMouth::make(alloc, &[peer(1)])?;
         let mut crew = RefusingCrew::new(Vec::from_array(alloc, [start])?);
         match replay_over_threads(&rt, alloc, &plan, entries, mouth, &mut crew) {
-            Err(HouseRefusal::Crew) => {}
-            _ => return Err("no refusal".into()),
+            Ok(_) => return Err("no refusal".into()),
+            Err(refused) => expect_all_back(&rt, refused, HouseRefusal::Crew),
         }
+    }
+    Ok(())
+}
+
+// Want of memory, where there is any, comes before the run.
+#[test]
+fn want_of_memory_hands_all_back(rt: HostRuntime) -> Result<(), Fail> {
+    let alloc = rt.alloc();
+    let plan = plan(&rt, 64);
+    let mut entries = Vec::new(alloc);
+    entries.push(Heard::End)?;
+    let mouth = TallyMouth::make(alloc, &[peer(1)])?;
+    let mut crew = StdCrew::new();
+    match replay_over_threads(&rt, alloc, &plan, entries, mouth, &mut crew) {
+        Ok(replay) => assert_eq!(rt; replay.outcomes.count(), 1),
+        Err(refused) => expect_all_back(&rt, refused, HouseRefusal::NoMemory),
     }
     Ok(())
 }

@@ -79,6 +79,8 @@ pub fn reflect<
         × (r.books.items ≡ books.items)) }
     ensures cause { MatchResult result (λ _. C.refusals crew.new ≡ C.refusals crew.old)
         (λ r. IsRefusedFor r.why (C.refusals crew.old) (C.refusals crew.new)) }
+    // Want of memory comes before the crew is asked for anything: no thread was started.
+    ensures unasked { IfErr result (λ r. r.why ≡ refusals.NoMemory → crew.new ≡ crew.old) }
 {
     of_lanes();
     of_links();

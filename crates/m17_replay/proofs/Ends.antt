@@ -1,25 +1,22 @@
 -- What is written of a replay, and how `replay` comes to its end.
-use Rattle.std.proofs.Common.{◌≡◌, ℕ, Bool, true, false, List, [], ◌∷◌, ◌++◌, length, map, take, drop, Option, None, Some, Result, Ok, Err, refl, sym, ap, subst, ◌∙◌, inr, append_assoc, arith, MatchResult}
+use Rattle.std.proofs.Common.{◌≡◌, ℕ, Bool, true, false, List, [], ◌++◌, length, map, take, drop, Option, None, Some, Result, Ok, Err, refl, sym, ap, subst, ◌∙◌, inr, arith, MatchResult}
 use Rattle.std.specs.List.{flat_map, range_with_len}
 use Rattle.std.proofs.lemmas.List.{take-append-drop}
 use Rattle.m17_values.specs.declared.failures.Failed.{Failed}
 use Rattle.m17_io.specs.Faults.{HasCause, HasCauses, HasRisen}
 use Rattle.m17_values.specs.declared.peer.Peer.{Peer}
-use Rattle.m17_ports.specs.declared.tally.Tally.{Tally}
-use Rattle.m17_floor.specs.declared.verdict.Verdict.{Verdict}
-use Rattle.m17_directory.specs.declared.verdict.LinkVerdict.{LinkVerdict}
 use Rattle.m17_values.specs.declared.heard.Heard.{Heard}
 use Rattle.m17_book.specs.Book.{IsTrace}
 use Rattle.m17_directory.specs.Entries.{Entry, peers_named}
 use Rattle.m17_house.specs.declared.plan.Plan.{Plan}
 use Rattle.m17_house.specs.Laws.{AReplayThereIs}
-use Rattle.m17_report.specs.Summary.{counts_text, peer_line, peers_text}
+use Rattle.m17_report.specs.Summary.{counts_text, peers_text}
 use Rattle.m17_replay.specs.declared.judging.Replayed.{Replayed}
 use Rattle.m17_replay.specs.Laws.{TextIsFreeOfPlaces}
 use Rattle.m17_replay.specs.Replay.{failed_device, heard_count, line_of, lines_text, outcome_of, replay_text, streams, summary_text, tally_at, ComesToReplay, EndsBeforeText, IsReplayText}
-use Rattle.m17_replay.specs.Run.{judged_ending, AreVerdicts, IsJudged, Writes}
+use Rattle.m17_replay.specs.Run.{judged_ending, IsJudged, Writes}
 use Rattle.m17_replay.proofs.PlainText.{plain_text}
-use Rattle.m17_replay.proofs.Writing.{writes_part, writes_same, writes_then}
+use Rattle.m17_replay.proofs.Writing.{writes_same}
 
 -- the lines of so many entries are the text without a summary
 lines_are : (plan : Plan) (entries : List Entry) (count : ℕ) → count ≡ heard_count entries → flat_map (line_of plan entries) (range_with_len 0 count) ≡ lines_text plan entries
@@ -111,29 +108,6 @@ in_ok result P Q value e says = subst (λ (r : Result _ _). MatchResult r P Q) e
 
 pub in_err : {T E : Type 0} (result : Result T E) (P : T → Type 0) (Q : E → Type 0) (failure : E) → result ≡ Err failure → MatchResult result P Q → Q failure
 in_err result P Q failure e says = subst (λ (r : Result _ _). MatchResult r P Q) e says
-
--- verdicts by other names
-pub are_verdicts : (plan : Plan) (entries : List Entry) (verdicts these : List LinkVerdict) (packets those : List (Option Verdict)) → these ≡ verdicts → those ≡ packets
-    → AreVerdicts plan entries verdicts packets → AreVerdicts plan entries these those
-are_verdicts plan entries verdicts these packets those e f are = record { each = e ∙ are.each; each_packet = f ∙ are.each_packet }
-
--- the line of a peer, and then those of the others
-pub peer_written : (tally : Peer → Tally) (peer : Peer) (old new : List Peer) (all done : List ℕ) (x y z : Option (List ℕ)) → old ≡ peer ∷ new
-    → Writes {T = Unit {0}} {E = Failed} (Ok tt) done x y × (done ++ peers_text tally old ≡ all) → Writes {T = Unit {0}} {E = Failed} (Ok tt) (peer_line peer (tally peer)) y z
-    → (more : List ℕ) × Writes {T = Unit {0}} {E = Failed} (Ok tt) more x z × (more ++ peers_text tally new ≡ all)
-peer_written tally peer old new all done x y z e before line = (
-  done ++ peer_line peer (tally peer),
-  writes_then tt (Ok tt) done (peer_line peer (tally peer)) x y z before.0 line,
-  append_assoc done (peer_line peer (tally peer)) (peers_text tally new) ∙ ap (λ peers. done ++ peers_text tally peers) (sym e) ∙ before.1,
-)
-
-pub peer_failed : (failed : Failed) (tally : Peer → Tally) (peer : Peer) (old new : List Peer) (all done : List ℕ) (x y z : Option (List ℕ)) → old ≡ peer ∷ new
-    → Writes {T = Unit {0}} {E = Failed} (Ok tt) done x y × (done ++ peers_text tally old ≡ all) → Writes {T = Unit {0}} (Err failed) (peer_line peer (tally peer)) y z
-    → Writes {T = Unit {0}} (Err failed) all x z
-peer_failed failed tally peer old new all done x y z e before part =
-    let line = peer_line peer (tally peer) in
-    writes_same (Err failed) ((done ++ line) ++ peers_text tally new) all x z (append_assoc done line (peers_text tally new) ∙ ap (λ peers. done ++ peers_text tally peers) (sym e) ∙ before.1)
-    (writes_part failed failed (done ++ line) (peers_text tally new) x z (writes_then tt (Err failed) done line x y z before.0 part))
 
 -- the counts, and then the peers that are named
 pub summary_named : (plan : Plan) (entries : List Entry) (count : ℕ) (named : List Peer) → count ≡ heard_count entries → named ≡ peers_named entries (length entries)

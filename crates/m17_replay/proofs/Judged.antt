@@ -1,8 +1,6 @@
 -- What is kept of a replay, once it was judged.
-use Rattle.std.proofs.Common.{◌≡◌, ℕ, zero, suc, ◌-◌, ◌<◌, ◌≤◌, Bool, true, false, List, [], ◌∷◌, ◌++◌, length, take, get_or, Contains, Option, Some, slice_get, if◌then◌else◌, refl, sym, ap, subst, ◌∙◌, arith, length-append}
-use Rattle.std.specs.List.{filter_map}
+use Rattle.std.proofs.Common.{◌≡◌, ℕ, zero, suc, ◌-◌, ◌<◌, ◌≤◌, Bool, true, false, List, [], ◌∷◌, ◌++◌, length, take, get_or, Contains, Option, Some, slice_get, if◌then◌else◌, refl, sym, ap, subst, ◌∙◌, arith}
 use Rattle.std.proofs.lemmas.List.{take_all, take-append-le}
-use Rattle.std.proofs.lemmas.List.Elements.{filter_map-append, Contains-append_left}
 use Rattle.std.proofs.lemmas.List.FromFn.{length-map-range_with_len}
 use Rattle.std.proofs.lemmas.Option.{slice_get-get_or}
 use Rattle.m17_values.specs.declared.heard.Heard.{Heard}
@@ -11,6 +9,7 @@ use Rattle.m17_values.specs.declared.peer.Peer.{Peer}
 use Rattle.m17_floor.specs.declared.verdict.Verdict.{Verdict}
 use Rattle.m17_directory.specs.declared.verdict.LinkVerdict.{LinkVerdict}
 use Rattle.m17_directory.specs.Entries.{Entry, notice_at, peers_named, SaysEach}
+use Rattle.m17_directory.specs.Laws.{EndsOnce}
 use Rattle.m17_directory.specs.Routed.{link_verdict}
 use Rattle.m17_port_memory.specs.Kept.{TalliesKept}
 use Rattle.m17_port_memory.specs.Peers.{named_in}
@@ -19,37 +18,37 @@ use Rattle.m17_house.specs.Free.{IsFreelyReplayed}
 use Rattle.m17_house.specs.Replay.{setup_of, packet_verdict}
 use Rattle.m17_replay.specs.declared.judging.Replayed.{Replayed}
 use Rattle.m17_replay.specs.Replay.{is_lost}
-use Rattle.m17_replay.specs.Run.{is_fault_heard, sender_of, AreNamed, CanPrint, IsJudged}
-use Rattle.m17_replay.proofs.HeardLemmas.{length_says, says_at, says_fault, named_sent, nobody}
+use Rattle.m17_replay.specs.Run.{is_fault_heard, AreNamed, CanPrint, IsJudged}
+use Rattle.m17_replay.proofs.HeardLemmas.{length_says, says_at, says_fault}
 
-module _ (plan : Plan) (heard : List Heard) (verdicts : List LinkVerdict) (packets : List (Option Verdict)) (mouth : TalliesKept) (is : IsFreelyReplayed plan heard verdicts packets mouth) where
-  -- a verdict for each entry, and there is one
+-- so many of these are heard, up to the first that ends the link
+abbrev pub IsToEnd : List Heard → ℕ → Type 0
+IsToEnd heard len =
+    (entries : List Entry) (front rest : List Heard) → heard ≡ front ++ rest → SaysEach front entries → EndsOnce entries → len ≡ length entries
+
+module _ (plan : Plan) (heard : List Heard) (len : ℕ) (to_end : IsToEnd heard len) (verdicts : List LinkVerdict) (packets : List (Option Verdict)) (mouth : TalliesKept) (is : IsFreelyReplayed plan heard verdicts packets mouth) where
+  len_is : len ≡ length is.entries
+  len_is = to_end is.entries is.replay.front is.replay.rest is.replay.heard_is is.replay.says is.replay.ends
+
+  -- a verdict for each entry
   verdicts_count : length verdicts ≡ length is.entries
   verdicts_count = ap length is.each ∙ length-map-range_with_len (link_verdict (setup_of plan) is.entries) 0 (length is.entries)
 
   packets_count : length packets ≡ length is.entries
   packets_count = ap length is.each_packet ∙ length-map-range_with_len (packet_verdict plan is.entries) 0 (length is.entries)
 
-  pub some_verdict : 0 < length verdicts
-  some_verdict = omega (arith, verdicts_count, is.replay.ends.is_last)
-
   front_count : length is.replay.front ≡ length is.entries
   front_count = length_says is.replay.front is.entries is.replay.says
 
-  -- no more than was heard
-  pub heard_enough : length verdicts ≤ length heard
-  heard_enough = omega (arith, verdicts_count, front_count, ap length is.replay.heard_is, length-append is.replay.front is.replay.rest)
-
   -- what was heard up to the end of the link
-  front_is : take (length verdicts) heard ≡ is.replay.front
+  front_is : take len heard ≡ is.replay.front
   front_is =
-      ap (take (length verdicts)) is.replay.heard_is
-      ∙ take-append-le (length verdicts) is.replay.front is.replay.rest (omega (arith, verdicts_count, front_count))
-      ∙ take_all (length verdicts) is.replay.front (omega (arith, verdicts_count, front_count))
+      ap (take len) is.replay.heard_is
+      ∙ take-append-le len is.replay.front is.replay.rest (omega (arith, len_is, front_count))
+      ∙ take_all len is.replay.front (omega (arith, len_is, front_count))
 
   -- whether the link was lost
-  lost_is : (lost : Bool) → ((h : Heard) → slice_get (take (length verdicts) heard) (length (take (length verdicts) heard) - 1) ≡ Some h → lost ≡ is_fault_heard h)
-      → is_lost is.entries ≡ lost
+  lost_is : (lost : Bool) → ((h : Heard) → slice_get (take len heard) (length (take len heard) - 1) ≡ Some h → lost ≡ is_fault_heard h) → is_lost is.entries ≡ lost
   lost_is lost tells =
       let told : (h : Heard) → slice_get is.replay.front (length is.replay.front - 1) ≡ Some h → lost ≡ is_fault_heard h =
       subst (λ (front : List Heard). (h : Heard) → slice_get front (length front - 1) ≡ Some h → lost ≡ is_fault_heard h) front_is tells in
@@ -61,31 +60,13 @@ module _ (plan : Plan) (heard : List Heard) (verdicts : List LinkVerdict) (packe
       ∙ sym (told last (ap (slice_get is.replay.front) same ∙ at))
 
   -- the peers that are named
-  named_is : (summary : Bool) (named : List Peer)
-      → ((entries : List Entry) → SaysEach (take (length verdicts) heard) entries → named ≡ (if summary then peers_named entries (length entries) else []))
+  named_is : (summary : Bool) (named : List Peer) → ((entries : List Entry) → SaysEach (take len heard) entries → named ≡ (if summary then peers_named entries (length entries) else []))
       → named ≡ (if summary then peers_named is.entries (length is.entries) else [])
   named_is summary named names = names is.entries (subst (λ (front : List Heard). SaysEach front is.entries) (sym front_is) is.replay.says)
 
-  -- they sent datagrams
-  sent : (x : Peer) → Contains (peers_named is.entries (length is.entries)) x → Contains (filter_map sender_of heard) x
-  sent x has =
-      let all : filter_map sender_of heard ≡ filter_map sender_of is.replay.front ++ filter_map sender_of is.replay.rest =
-      ap (filter_map sender_of) is.replay.heard_is ∙ filter_map-append sender_of is.replay.front is.replay.rest in
-      subst (λ (senders : List Peer). Contains senders x) (sym all)
-      (Contains-append_left (filter_map sender_of is.replay.front) (filter_map sender_of is.replay.rest) x
-      (named_sent is.replay.front is.entries (length is.entries) (omega (arith, front_count)) is.replay.says x has))
-
-  -- each that is named has a tally
-  all_named : (summary : Bool) (named : List Peer) (first : TalliesKept) → named ≡ (if summary then peers_named is.entries (length is.entries) else [])
-      → (summary ≡ true → AreNamed (filter_map sender_of heard) first) → named_in mouth.entries ≡ named_in first.entries → AreNamed named mouth
-  all_named false named first names were same = λ x has. absurd (nobody x (subst (λ (peers : List Peer). Contains peers x) names has))
-  all_named true named first names were same = λ x has.
-      subst (λ (peers : List Peer). Contains peers x) (sym same) (were refl x (sent x (subst (λ (peers : List Peer). Contains peers x) names has)))
-
-  named_so : (summary : Bool) (named : List Peer) → named ≡ (if summary then peers_named is.entries (length is.entries) else [])
-      → summary ≡ true → named ≡ peers_named is.entries (length is.entries)
-  named_so true named names so = names
-  named_so false named names so = cc
+named_so : (summary : Bool) (named peers : List Peer) → named ≡ (if summary then peers else []) → summary ≡ true → named ≡ peers
+named_so true named peers names so = names
+named_so false named peers names so = cc
 
 -- how many entries were heard before the end
 count_is : (len len' count : ℕ) (lost lost' : Bool) → len ≡ len' → lost' ≡ lost → count ≡ (if lost then len else len - 1) → count ≡ (if lost' then len' else len' - 1)
@@ -96,63 +77,40 @@ count_within len count true is = omega arith
 count_within len count false is = omega arith
 
 -- so it is kept
-pub judged : (plan : Plan) (summary : Bool) (heard : List Heard) (replayed : Replayed) (is : IsFreelyReplayed plan heard replayed.verdicts.items replayed.packets.items replayed.mouth)
-    → ((entries : List Entry) → SaysEach (take (length replayed.verdicts.items) heard) entries → replayed.named.keys ≡ (if summary then peers_named entries (length entries) else []))
-    → ((h : Heard) → slice_get (take (length replayed.verdicts.items) heard) (length (take (length replayed.verdicts.items) heard) - 1) ≡ Some h → replayed.lost ≡ is_fault_heard h)
-    → replayed.count ≡ (if replayed.lost then length replayed.verdicts.items else length replayed.verdicts.items - 1)
+pub judged : (plan : Plan) (summary : Bool) (heard : List Heard) (replayed : Replayed) (len size : ℕ) → IsToEnd heard len → size ≡ len
+    → IsFreelyReplayed plan heard replayed.outcomes.verdicts replayed.outcomes.packets replayed.mouth
+    → ((entries : List Entry) → SaysEach (take len heard) entries → replayed.named.items ≡ (if summary then peers_named entries (length entries) else []))
+    → ((h : Heard) → slice_get (take len heard) (length (take len heard) - 1) ≡ Some h → replayed.lost ≡ is_fault_heard h)
+    → replayed.count ≡ (if replayed.lost then size else size - 1)
     → IsJudged plan summary heard replayed
-judged plan summary heard replayed is names tells count =
-    let lost = lost_is plan heard _ _ _ is replayed.lost tells in
-    let names_are = named_is plan heard _ _ _ is summary replayed.named.keys names in
+judged plan summary heard replayed len size to_end same is names tells count =
+    let lost = lost_is plan heard len to_end _ _ _ is replayed.lost tells in
+    let names_are = named_is plan heard len to_end _ _ _ is summary replayed.named.items names in
     record {
       entries = is.entries;
       is_replay = is.replay;
       is_lost_so = lost;
       stands = record {
         verdicts = record { each = is.each; each_packet = is.each_packet };
-        count_is = count_is (length replayed.verdicts.items) (length is.entries) replayed.count replayed.lost (is_lost is.entries) (verdicts_count plan heard _ _ _ is) lost count;
+        count_is = count_is size (length is.entries) replayed.count replayed.lost (is_lost is.entries) (same ∙ len_is plan heard len to_end _ _ _ is) lost count;
         tallies = is.tallies;
-        named_are = named_so plan heard _ _ _ is summary replayed.named.keys names_are;
+        named_are = named_so summary replayed.named.items (peers_named is.entries (length is.entries)) names_are;
       };
     }
 
-pub can_print : (plan : Plan) (summary : Bool) (heard : List Heard) (replayed : Replayed) (first : TalliesKept) (is : IsFreelyReplayed plan heard replayed.verdicts.items replayed.packets.items replayed.mouth)
-    → ((entries : List Entry) → SaysEach (take (length replayed.verdicts.items) heard) entries → replayed.named.keys ≡ (if summary then peers_named entries (length entries) else []))
-    → replayed.count ≡ (if replayed.lost then length replayed.verdicts.items else length replayed.verdicts.items - 1)
-    → (summary ≡ true → AreNamed (filter_map sender_of heard) first) → named_in replayed.mouth.entries ≡ named_in first.entries
+pub can_print : (plan : Plan) (heard : List Heard) (replayed : Replayed) (first : TalliesKept) (len size : ℕ) → IsToEnd heard len → size ≡ len
+    → IsFreelyReplayed plan heard replayed.outcomes.verdicts replayed.outcomes.packets replayed.mouth
+    → replayed.count ≡ (if replayed.lost then size else size - 1)
+    → AreNamed replayed.named.items first → named_in replayed.mouth.entries ≡ named_in first.entries
     → CanPrint replayed
-can_print plan summary heard replayed first is names count were same =
-    let within = count_within (length replayed.verdicts.items) replayed.count replayed.lost count in
+can_print plan heard replayed first len size to_end same is count named peers =
+    let within = count_within size replayed.count replayed.lost count in
+    let many = len_is plan heard len to_end _ _ _ is in
     record {
-      verdicts_reach = within;
-      packets_reach = omega (arith, within, verdicts_count plan heard _ _ _ is, packets_count plan heard _ _ _ is);
-      all_named = all_named plan heard _ _ _ is summary replayed.named.keys first (named_is plan heard _ _ _ is summary replayed.named.keys names) were same;
+      verdicts_reach = omega (arith, within, same, many, verdicts_count plan heard len to_end _ _ _ is);
+      packets_reach = omega (arith, within, same, many, packets_count plan heard len to_end _ _ _ is);
+      all_named = λ x has. subst (λ (all : List Peer). Contains all x) (sym peers) (named x has);
     }
-
--- the same where the count of the verdicts has other names
-pub judged_at : (plan : Plan) (summary : Bool) (heard : List Heard) (replayed : Replayed) (len size : ℕ) (is : IsFreelyReplayed plan heard replayed.verdicts.items replayed.packets.items replayed.mouth)
-    → len ≡ length replayed.verdicts.items → size ≡ length replayed.verdicts.items
-    → ((entries : List Entry) → SaysEach (take len heard) entries → replayed.named.keys ≡ (if summary then peers_named entries (length entries) else []))
-    → ((h : Heard) → slice_get (take len heard) (length (take len heard) - 1) ≡ Some h → replayed.lost ≡ is_fault_heard h)
-    → replayed.count ≡ (if replayed.lost then size else size - 1)
-    → IsJudged plan summary heard replayed
-judged_at plan summary heard replayed len size is e f names tells count =
-    judged plan summary heard replayed is
-    (subst (λ (n : ℕ). (entries : List Entry) → SaysEach (take n heard) entries → replayed.named.keys ≡ (if summary then peers_named entries (length entries) else [])) e names)
-    (subst (λ (n : ℕ). (h : Heard) → slice_get (take n heard) (length (take n heard) - 1) ≡ Some h → replayed.lost ≡ is_fault_heard h) e tells)
-    (subst (λ (n : ℕ). replayed.count ≡ (if replayed.lost then n else n - 1)) f count)
-
-pub can_print_at : (plan : Plan) (summary : Bool) (heard : List Heard) (replayed : Replayed) (first : TalliesKept) (len size : ℕ) (is : IsFreelyReplayed plan heard replayed.verdicts.items replayed.packets.items replayed.mouth)
-    → len ≡ length replayed.verdicts.items → size ≡ length replayed.verdicts.items
-    → ((entries : List Entry) → SaysEach (take len heard) entries → replayed.named.keys ≡ (if summary then peers_named entries (length entries) else []))
-    → replayed.count ≡ (if replayed.lost then size else size - 1)
-    → (summary ≡ true → AreNamed (filter_map sender_of heard) first) → named_in replayed.mouth.entries ≡ named_in first.entries
-    → CanPrint replayed
-can_print_at plan summary heard replayed first len size is e f names count were same =
-    can_print plan summary heard replayed first is
-    (subst (λ (n : ℕ). (entries : List Entry) → SaysEach (take n heard) entries → replayed.named.keys ≡ (if summary then peers_named entries (length entries) else [])) e names)
-    (subst (λ (n : ℕ). replayed.count ≡ (if replayed.lost then n else n - 1)) f count)
-    were same
 
 -- so many of a list that has them
 pub taken : (n : ℕ) (xs : List Heard) → n ≤ length xs → n ≡ length (take n xs)

@@ -7,3 +7,4 @@ mod OneText
 mod Lost
 mod FreeText
 mod PlainText
+mod ToEnd

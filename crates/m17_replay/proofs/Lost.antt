@@ -26,7 +26,7 @@ get_drop [] (suc k) i j is = refl
 get_drop (x ∷ xs) (suc k) i zero is = absurd (omega arith)
 get_drop (x ∷ xs) (suc k) i (suc j) is = get_drop xs k i j (omega arith)
 
-get_before : {A : Type 0} (xs ys : List A) (n : ℕ) → n < length xs → slice_get (xs ++ ys) n ≡ slice_get xs n
+pub get_before : {A : Type 0} (xs ys : List A) (n : ℕ) → n < length xs → slice_get (xs ++ ys) n ≡ slice_get xs n
 get_before [] ys n below = absurd (omega arith)
 get_before (x ∷ xs) ys zero below = refl
 get_before (x ∷ xs) ys (suc n) below = get_before xs ys n (omega arith)
@@ -84,7 +84,7 @@ no_end (h ∷ entries) body zero each is = subst FitsEntry (same_Some h heard.En
 no_end (h ∷ entries) body (suc i) each is = no_end entries each.1 i each.3 is
 
 -- a link that ends at a fault ends at the last of a row of 16
-row_at : (entries : List Entry) (a m i : ℕ) → list_all (λ k. is_fault (notice_at entries k)) (range_with_len a m) ≡ true → a ≤ i → i < a + m → is_fault (notice_at entries i) ≡ true
+pub row_at : (entries : List Entry) (a m i : ℕ) → list_all (λ k. is_fault (notice_at entries k)) (range_with_len a m) ≡ true → a ≤ i → i < a + m → is_fault (notice_at entries i) ≡ true
 row_at entries a zero i row from below = absurd (omega arith)
 row_at entries a (suc m) i row from below =
     let parts = and_parts (is_fault (notice_at entries a)) (list_all (λ k. is_fault (notice_at entries k)) (range_with_len (a + 1) m)) row in
@@ -93,7 +93,7 @@ row_at entries a (suc m) i row from below =
       | inr first ↦ let e : a ≡ i = omega arith in subst (λ (n : ℕ). is_fault (notice_at entries n) ≡ true) e parts.0
     ]
 
-row_of : (entries : List Entry) (n : ℕ) → ends_at entries n ≡ true
+pub row_of : (entries : List Entry) (n : ℕ) → ends_at entries n ≡ true
     → (is_end (notice_at entries n) ≡ true) ⊎ ((most_faults ≤ suc n) × (list_all (λ k. is_fault (notice_at entries k)) (range_with_len (suc n - most_faults) most_faults) ≡ true))
 unfolding ends_at
 row_of entries n ends = elim (or_cases (is_end (notice_at entries n)) _ ends) [

@@ -1,9 +1,10 @@
 -- One entry, and one more.
-use Rattle.std.proofs.Common.{◌≡◌, ℕ, zero, suc, ◌+◌, ◌-◌, ◌<◌, List, [], ◌∷◌, ◌++◌, length, map, get_or, take, drop, Option, Ok, Err, sym, ap, ◌∙◌, arith}
+use Rattle.std.proofs.Common.{◌≡◌, ℕ, zero, suc, ◌+◌, ◌-◌, ◌<◌, List, [], ◌∷◌, ◌++◌, length, map, get_or, take, drop, slice_get, Option, Some, Ok, Err, sym, ap, ◌∙◌, arith}
 use Rattle.std.specs.List.{flat_map, range_with_len}
 use Rattle.std.proofs.lemmas.List.FromFn.{get_or-map-range_with_len, length-map-range_with_len, map-range_with_len_more}
 use Rattle.std.proofs.lemmas.List.Concat.{flat_map-append}
 use Rattle.std.proofs.lemmas.List.{append-nil, map-id, take_more, take-append-drop}
+use Rattle.std.proofs.lemmas.Option.{same_Some, slice_get-get_or, slice_get_within}
 use Rattle.m17_values.specs.declared.failures.Failed.{Failed}
 use Rattle.m17_floor.specs.declared.verdict.Verdict.{Verdict}
 use Rattle.m17_directory.specs.declared.verdict.LinkVerdict.{LinkVerdict}
@@ -16,18 +17,13 @@ use Rattle.m17_replay.specs.Replay.{outcome_of}
 use Rattle.m17_replay.specs.Run.{AreVerdicts, Writes}
 use Rattle.m17_replay.proofs.Writing.{writes_then, writes_part, writes_same}
 
-module _ {X : Type 0} (f : ℕ → X) where
-  -- what stands in a list that is made of its positions
-  pub made_at : (xs : List X) (size n : ℕ) (x : X) → xs ≡ map f (range_with_len 0 size) → n < length xs → x ≡ get_or xs n x → x ≡ f n
-  made_at xs size n x made within read =
-      let below : n < size = omega (arith, ap length made, length-map-range_with_len f 0 size) in
-      read ∙ ap (λ ys. get_or ys n x) made ∙ get_or-map-range_with_len f 0 size n n x below (omega arith)
-
-  -- the same with some value for what is past its end
-  pub made_or : (xs : List X) (size n : ℕ) (d : X) → xs ≡ map f (range_with_len 0 size) → n < length xs → get_or xs n d ≡ f n
-  made_or xs size n d made within =
-      let below : n < size = omega (arith, ap length made, length-map-range_with_len f 0 size) in
-      ap (λ ys. get_or ys n d) made ∙ get_or-map-range_with_len f 0 size n n d below (omega arith)
+-- what stands in a list that is made of its positions
+pub made_at : {X : Type 0} (f : ℕ → X) (xs : List X) (size n : ℕ) (x : X) → xs ≡ map f (range_with_len 0 size) → slice_get xs n ≡ Some x → x ≡ f n
+made_at f xs size n x made at =
+    let within : n < size = omega (arith, slice_get_within xs n x at, ap length made, length-map-range_with_len f 0 size) in
+    same_Some x (f n)
+    (sym at ∙ slice_get-get_or xs n x (slice_get_within xs n x at)
+    ∙ ap Some (ap (λ ys. get_or ys n x) made ∙ get_or-map-range_with_len f 0 size n n x within (omega arith)))
 
 -- one more position
 pub range_more : (n : ℕ) → range_with_len 0 (n + 1) ≡ range_with_len 0 n ++ n ∷ []
@@ -95,12 +91,12 @@ module _ {X : Type 0} (f : X → List ℕ) where
       writes_same (Err failed) _ _ x z whole (writes_part failed failed (flat_map f (take (i + 1) xs)) (flat_map f (drop (i + 1) xs)) x z so_far)
 
 -- one more entry to be counted
-pub counted_more : (plan : Plan) (entries : List Entry) (verdicts : List LinkVerdict) (packets : List (Option Verdict)) (n : ℕ) (l : LinkVerdict) (d : Option Verdict) → AreVerdicts plan entries verdicts packets
-    → n < length verdicts → n < length packets → l ≡ get_or verdicts n l
-    → map (outcome_of plan entries) (range_with_len 0 n) ++ (l, get_or packets n d) ∷ [] ≡ map (outcome_of plan entries) (range_with_len 0 (n + 1))
-counted_more plan entries verdicts packets n l d are below among read =
-    let it = made_at (link_verdict (setup_of plan) entries) verdicts (length entries) n l are.each below read in
-    let its_packet = made_or (packet_verdict plan entries) packets (length entries) n d are.each_packet among in
-    ap (λ (one : LinkVerdict). let o : Outcome = (one, get_or packets n d) in map (outcome_of plan entries) (range_with_len 0 n) ++ o ∷ []) it
+pub counted_more : (plan : Plan) (entries : List Entry) (verdicts : List LinkVerdict) (packets : List (Option Verdict)) (n : ℕ) (l : LinkVerdict) (v : Option Verdict) → AreVerdicts plan entries verdicts packets
+    → slice_get verdicts n ≡ Some l → slice_get packets n ≡ Some v
+    → map (outcome_of plan entries) (range_with_len 0 n) ++ (l, v) ∷ [] ≡ map (outcome_of plan entries) (range_with_len 0 (n + 1))
+counted_more plan entries verdicts packets n l v are at at_packet =
+    let it = made_at (link_verdict (setup_of plan) entries) verdicts (length entries) n l are.each at in
+    let its_packet = made_at (packet_verdict plan entries) packets (length entries) n v are.each_packet at_packet in
+    ap (λ (one : LinkVerdict). let o : Outcome = (one, v) in map (outcome_of plan entries) (range_with_len 0 n) ++ o ∷ []) it
     ∙ ap (λ (one : Option Verdict). let o : Outcome = (link_verdict (setup_of plan) entries n, one) in map (outcome_of plan entries) (range_with_len 0 n) ++ o ∷ []) its_packet
     ∙ sym (map-range_with_len_more (outcome_of plan entries) 0 n n (omega arith))

@@ -48,11 +48,6 @@ judged_ending (Ok _) true = LinkLost
 judged_ending (Ok _) false = Finished
 judged_ending (Err _) lost = WriteFailed
 
--- who a datagram came from
-abbrev pub sender_of : Heard → Option Peer
-sender_of (heard.Datagram from at bytes) = Some from
-sender_of _ = None
-
 -- the peers that were named before, and the sender of what is heard next
 abbrev pub with_heard : Heard → List Peer → List Peer
 with_heard (heard.Datagram from at bytes) peers = with_peer from peers
@@ -62,6 +57,11 @@ with_heard _ peers = peers
 abbrev pub is_fault_heard : Heard → Bool
 is_fault_heard heard.Fault = true
 is_fault_heard _ = false
+
+-- what was heard is that nothing more comes
+abbrev pub is_end_heard : Heard → Bool
+is_end_heard heard.End = true
+is_end_heard _ = false
 
 -- These are the verdicts of the entries of a replay.
 pub record AreVerdicts (plan : Plan) (entries : List Entry) (verdicts : List LinkVerdict)
@@ -79,17 +79,17 @@ TalliesAre tally kept =
 
 -- All that is printed is there: the verdicts reach so far, and each peer that is named has a tally.
 pub record CanPrint (replayed : Replayed) : Type 0 where
-  pub verdicts_reach : replayed.count ≤ length replayed.verdicts.items
-  pub packets_reach : replayed.count ≤ length replayed.packets.items
-  pub all_named : AreNamed replayed.named.keys replayed.mouth
+  pub verdicts_reach : replayed.count ≤ length replayed.outcomes.verdicts
+  pub packets_reach : replayed.count ≤ length replayed.outcomes.packets
+  pub all_named : AreNamed replayed.named.items replayed.mouth
 
 -- What is kept of the replay of these entries is what the replay says.
 pub record StandsFor (plan : Plan) (summary : Bool) (entries : List Entry) (replayed : Replayed)
     : Type 0 where
-  pub verdicts : AreVerdicts plan entries replayed.verdicts.items replayed.packets.items
+  pub verdicts : AreVerdicts plan entries replayed.outcomes.verdicts replayed.outcomes.packets
   pub count_is : replayed.count ≡ heard_count entries
   pub tallies : TalliesAre (tally_at plan entries) replayed.mouth
-  pub named_are : summary ≡ true → replayed.named.keys ≡ peers_named entries (length entries)
+  pub named_are : summary ≡ true → replayed.named.items ≡ peers_named entries (length entries)
 
 -- The trace was judged: this is kept of its replay, in which places were given freely.
 pub record IsJudged (plan : Plan) (summary : Bool) (heard : List Heard) (replayed : Replayed)

@@ -1,42 +1,40 @@
-ghost use Rattle.std.specs.Prelude.{◌≡◌, ◌<◌, ◌-◌, length, slice_get, Some, IfOk, MatchResult, if◌then◌else◌};
+ghost use Rattle.std.specs.Prelude.{◌≡◌, ◌<◌, ◌-◌, length, slice_get, Some, IfOk, IfErr, MatchResult, if◌then◌else◌};
 ghost use Rattle.m17_values.specs.declared.heard.Heard.{Heard};
 ghost use Rattle.m17_book.specs.Answers.{HasEnd};
 ghost use Rattle.m17_house.specs.Replay.{IsPlan};
+ghost use Rattle.m17_reflect.specs.declared.returned.HouseRefusal.TheVariants as refusals;
 ghost use Rattle.m17_reflect.specs.Views.{IsRefusedFor};
 ghost use Rattle.m17_replay.specs.Run.{is_fault_heard, CanPrint, IsJudged};
 
+use crate::hearing::{count_to_end, is_fault};
 use crate::peers::{make_mouth, name_peers_for};
 use m17_crew::Crew;
-use m17_directory::LinkVerdict;
-use m17_floor::Verdict;
 use m17_house::Plan;
-use m17_patient::{Replay, replay_over_threads};
+use m17_patient::{Outcomes, Replay, replay_over_threads};
 use m17_port_memory::TallyMouth;
 use m17_reflect::HouseRefusal;
 use m17_values::{Heard, Peer};
 use std::alloc::Global;
-use std::collections::BTreeSet;
 use std::sync::Wait;
 use std::thread::Threads;
 
 // What a replay came to, before it is printed.
 #[derive(Drop)]
 pub(crate) struct Replayed {
-    // What each entry came to.
-    pub verdicts: Vec<LinkVerdict>,
-    // The floor rule's verdict on the packet of each, where it has one.
-    pub packets: Vec<Option<Verdict>>,
+    // What each entry came to, and the floor rule's verdict on its packet, where it has one.
+    pub outcomes: Outcomes,
     // What was said to each peer, where a summary is asked for.
     pub mouth: TallyMouth,
     // The peers that are named in the summary.
-    pub named: BTreeSet<Peer>,
+    pub named: Vec<Peer>,
     // Whether the link was lost.
     pub lost: bool,
     // How many entries were heard before the end.
     pub count: usize,
 }
 
-// Judges what was heard, over threads, and names the peers of the summary, where one is asked for.
+// Judges what was heard, over threads, once the peers of the summary are named, where one is asked for. All that printing
+// needs is made before the run.
 pub(crate) fn judge_heard<C: Crew, R: Threads + Wait + Copy + Send + 'static>(
     rt: &R,
     alloc: Global,
@@ -51,36 +49,46 @@ pub(crate) fn judge_heard<C: Crew, R: Threads + Wait + Copy + Send + 'static>(
     ensures can_print { IfOk result CanPrint }
     ensures cause { MatchResult result (λ _. C.refusals crew.new ≡ C.refusals crew.old)
         (λ why. IsRefusedFor why (C.refusals crew.old) (C.refusals crew.new)) }
+    // Want of memory comes before the crew is asked for anything: no thread was started.
+    ensures unasked { IfErr result (λ why. why ≡ refusals.NoMemory → crew.new ≡ crew.old) }
 {
-    let mouth = match make_mouth(alloc, summary, &heard) {
-        Ok(mouth) => mouth,
-        Err(_) => return Err(HouseRefusal::NoMemory),
-    };
-    let replay = match replay_over_threads(rt, alloc, plan, heard, mouth, crew) {
-        Ok(replay) => replay,
-        Err(why) => return Err(why),
-    };
-    let Replay {
-        verdicts,
-        packets,
-        mouth,
-        heard,
-    } = replay;
-    let front = &heard[..verdicts.len()];
-    let named = match name_peers_for(alloc, summary, front) {
-        Ok(named) => named,
-        Err(_) => return Err(HouseRefusal::NoMemory),
-    };
+    let front = &heard[..count_to_end(&heard)];
     let lost = ends_in_fault(front);
-    let count = count_heard(verdicts.len(), lost);
-    Ok(Replayed {
-        verdicts,
-        packets,
+    let count = count_heard(front.len(), lost);
+    let Ok(named) = name_peers_for(alloc, summary, front) else {
+        return Err(HouseRefusal::NoMemory);
+    };
+    let Ok(mouth) = make_mouth(alloc, &named) else {
+        return Err(HouseRefusal::NoMemory);
+    };
+    match replay_over_threads(rt, alloc, plan, heard, mouth, crew) {
+        Ok(replay) => Ok(kept_of(replay, named, lost, count)),
+        Err(refused) => Err(refused.why),
+    }
+}
+
+// What is kept of a replay for printing. What was heard is let go.
+fn kept_of(replay: Replay, named: Vec<Peer>, lost: bool, count: usize) -> Replayed
+    ensures { result ≡ record {
+      outcomes = replay.outcomes;
+      mouth = replay.mouth;
+      named = named;
+      lost = lost;
+      count = count;
+    } }
+{
+    let Replay {
+        outcomes,
+        mouth,
+        ..
+    } = replay;
+    Replayed {
+        outcomes,
         mouth,
         named,
         lost,
         count,
-    })
+    }
 }
 
 // The last that was heard is that the socket failed.
@@ -91,16 +99,6 @@ fn ends_in_fault(heard: &[Heard]) -> bool
     match heard.last() {
         Some(one) => is_fault(one),
         None => false,
-    }
-}
-
-// The socket failed.
-fn is_fault(heard: &Heard) -> bool
-    ensures { result ≡ is_fault_heard heard.now }
-{
-    match heard {
-        Heard::Fault => true,
-        _ => false,
     }
 }
 

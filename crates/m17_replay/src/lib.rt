@@ -5,6 +5,7 @@
 #![tactic(auto)]
 
 mod ending;
+mod hearing;
 mod judging;
 pub mod laws;
 mod lines;

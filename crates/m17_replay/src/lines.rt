@@ -6,9 +6,8 @@ ghost use Rattle.m17_house.specs.declared.plan.Plan.{Plan};
 ghost use Rattle.m17_replay.specs.Replay.{line_of};
 ghost use Rattle.m17_replay.specs.Run.{AreVerdicts, Writes};
 
-use m17_directory::LinkVerdict;
-use m17_floor::Verdict;
 use m17_io::Sink;
+use m17_patient::Outcomes;
 use m17_print::Line;
 use m17_report::make_verdict_line;
 use m17_values::Failed;
@@ -25,37 +24,36 @@ pub(crate) fn write_line<K: Sink>(line: &Line, out: &mut K) -> Result<(), Failed
 fn print_entry<K: Sink>(
     line: &mut Line,
     n: usize,
-    verdicts: &[LinkVerdict],
-    packets: &[Option<Verdict>],
+    outcomes: &Outcomes,
     out: &mut K,
 ) -> Result<(), Failed>
-    requires there { (n < length verdicts.now) × (n < length packets.now) }
+    requires there { (n < length outcomes.now.verdicts) × (n < length outcomes.now.packets) }
     ensures cause { HasCause (K.faults out.old) (K.faults out.new) result }
     ensures writes { (plan : Plan) → (entries : List Entry) →
-        AreVerdicts plan entries verdicts.now packets.now →
+        AreVerdicts plan entries outcomes.now.verdicts outcomes.now.packets →
         Writes result (line_of plan entries n) (K.written out.old) (K.written out.new) }
 {
-    make_verdict_line(line, n as u64, &verdicts[n], &packets[n]);
+    make_verdict_line(line, n as u64, outcomes.verdict(n), &outcomes.packet(n));
     write_line(line, out)
 }
 
 // Writes the lines of the first `count` entries, in order.
 pub(crate) fn print_lines<K: Sink>(
-    verdicts: &[LinkVerdict],
-    packets: &[Option<Verdict>],
+    outcomes: &Outcomes,
     count: usize,
     out: &mut K,
 ) -> Result<(), Failed>
-    requires there { (count ≤ length verdicts.now) × (count ≤ length packets.now) }
+    requires there { (count ≤ length outcomes.now.verdicts)
+        × (count ≤ length outcomes.now.packets) }
     ensures cause { HasCause (K.faults out.old) (K.faults out.new) result }
     ensures writes { (plan : Plan) → (entries : List Entry) →
-        AreVerdicts plan entries verdicts.now packets.now →
+        AreVerdicts plan entries outcomes.now.verdicts outcomes.now.packets →
         Writes result (flat_map (line_of plan entries) (range_with_len 0 count))
         (K.written out.old) (K.written out.new) }
 {
     let mut line = Line::new();
     for n in 0..count {
-        match print_entry(&mut line, n, verdicts, packets, out) {
+        match print_entry(&mut line, n, outcomes, out) {
             Ok(()) => {}
             Err(failed) => return Err(failed),
         }

@@ -1,60 +1,19 @@
-ghost use Rattle.std.specs.Prelude.{◌≡◌, true, List, [], ◌∷◌, ◌++◌, length, IfOk, OnOk, if◌then◌else◌};
-ghost use Rattle.std.specs.List.{filter_map};
+ghost use Rattle.std.specs.Prelude.{◌≡◌, true, List, [], ◌∷◌, length, IfOk, OnOk, if◌then◌else◌};
 ghost use Rattle.m17_directory.specs.Entries.{Entry, peers_named, SaysEach};
 ghost use Rattle.m17_house.specs.Replay.{HasNoTallies};
-ghost use Rattle.m17_replay.specs.Run.{sender_of, with_heard, AreNamed};
+ghost use Rattle.m17_replay.specs.Run.{with_heard, AreNamed};
 
 use m17_port_memory::TallyMouth;
 use m17_values::{Heard, NoMemory, Peer};
 use std::alloc::Global;
 use std::collections::BTreeSet;
 
-// Adds the sender of a datagram.
-fn add_sender(peers: &mut Vec<Peer>, one: &Heard) -> Result<(), NoMemory>
-    ensures { OnOk result (peers.new.items ≡ peers.old.items
-        ++ filter_map sender_of (one.now ∷ [])) }
-{
-    match one {
-        Heard::Datagram { from, .. } => match peers.push(*from) {
-            Ok(()) => Ok(()),
-            Err(_) => Err(NoMemory),
-        },
-        _ => Ok(()),
-    }
-}
-
-// Who each datagram came from, one after another.
-fn senders_of(alloc: Global, heard: &[Heard]) -> Result<Vec<Peer>, NoMemory>
-    ensures { IfOk result (λ peers. peers.items ≡ filter_map sender_of heard.now) }
-{
-    let mut peers = Vec::new(alloc);
-    for one in heard {
-        match add_sender(&mut peers, one) {
-            Ok(()) => {}
-            Err(no_memory) => return Err(no_memory),
-        }
-    }
-    Ok(peers)
-}
-
-// A mouth that keeps a tally of each peer that a datagram came from, where a summary is asked for, and else of nobody.
-pub(crate) fn make_mouth(
-    alloc: Global,
-    summary: bool,
-    heard: &[Heard],
-) -> Result<TallyMouth, NoMemory>
+// A mouth that keeps a tally of each of these peers.
+pub(crate) fn make_mouth(alloc: Global, named: &[Peer]) -> Result<TallyMouth, NoMemory>
     ensures empty { IfOk result (λ mouth. HasNoTallies mouth) }
-    ensures named { IfOk result (λ mouth. summary ≡ true →
-        AreNamed (filter_map sender_of heard.now) mouth) }
+    ensures named { IfOk result (λ mouth. AreNamed named.now mouth) }
 {
-    if !summary {
-        let nobody = Vec::new(alloc);
-        return TallyMouth::make(alloc, &nobody);
-    }
-    match senders_of(alloc, heard) {
-        Ok(peers) => TallyMouth::make(alloc, &peers),
-        Err(no_memory) => Err(no_memory),
-    }
+    TallyMouth::make(alloc, named)
 }
 
 // Names the sender of a datagram, unless it is named.
@@ -85,18 +44,30 @@ fn name_peers(alloc: Global, heard: &[Heard]) -> Result<BTreeSet<Peer>, NoMemory
     Ok(named)
 }
 
-// The same where a summary is asked for, and else nobody.
+// The peers of a set, in their order.
+fn list_peers(alloc: Global, named: &BTreeSet<Peer>) -> Result<Vec<Peer>, NoMemory>
+    ensures { IfOk result (λ peers. peers.items ≡ named.now.keys) }
+{
+    match named.iter().copied().collect(alloc) {
+        Ok(peers) => Ok(peers),
+        Err(_) => Err(NoMemory),
+    }
+}
+
+// The peers that datagrams came from, each once, in their order, where a summary is asked for, and else nobody.
 pub(crate) fn name_peers_for(
     alloc: Global,
     summary: bool,
     heard: &[Heard],
-) -> Result<BTreeSet<Peer>, NoMemory>
+) -> Result<Vec<Peer>, NoMemory>
     ensures { IfOk result (λ named. (entries : List Entry) → SaysEach heard.now entries →
-        named.keys ≡ (if summary then peers_named entries (length entries) else [])) }
+        named.items ≡ (if summary then peers_named entries (length entries) else [])) }
 {
-    if summary {
-        name_peers(alloc, heard)
-    } else {
-        Ok(BTreeSet::new(alloc))
+    if !summary {
+        return Ok(Vec::new(alloc));
+    }
+    match name_peers(alloc, heard) {
+        Ok(named) => list_peers(alloc, &named),
+        Err(no_memory) => Err(no_memory),
     }
 }

@@ -25,7 +25,7 @@ use std::thread::Threads;
 /// Replays a trace: reads it whole, has the reflector of this plan hear it again over threads, patiently, and writes a
 /// line for each entry, or with `summary` one page of counts. Nothing is written before the input was read to its end.
 /// The input is refused with the place and reason of the form of traces; the answer says how the run ended, and the last
-/// line is the caller's to write. `NoMemory` where there is none, before anything is written. This profile.
+/// line is the caller's to write. `NoMemory` where there is none, before an entry is heard. This profile.
 pub fn replay<S: Input<K>, K: Sink, C: Crew, R: Threads + Wait + Copy + Send + 'static>(
     rt: &R,
     alloc: Global,
@@ -51,7 +51,9 @@ pub fn replay<S: Input<K>, K: Sink, C: Crew, R: Threads + Wait + Copy + Send + '
     ensures crew { MatchResult result
         (λ ending. TellsCrew ending (C.refusals crew.old) (C.refusals crew.new))
         (λ _. C.refusals crew.new ≡ C.refusals crew.old) }
-    // Want of memory comes before anything is written, and no device has failed then.
+    // Want of memory comes before the crew is asked for anything: no thread was started, and no entry was heard.
+    ensures unasked { OnErr result (crew.new ≡ crew.old) }
+    // Nor was anything written, and no device has failed then.
     ensures untouched { OnErr result (K.written out.new ≡ K.written out.old) }
     ensures no_fault { OnErr result ((S.faults input.new ≡ S.faults input.old)
         × (K.faults out.new ≡ K.faults out.old)) }
@@ -63,13 +65,13 @@ pub fn replay<S: Input<K>, K: Sink, C: Crew, R: Threads + Wait + Copy + Send + '
         Ok(Err(ending)) => return Ok(ending),
         Err(no_memory) => return Err(no_memory),
     };
-    let mut replayed = match judge_heard(rt, alloc, plan, summary, heard, crew) {
+    let replayed = match judge_heard(rt, alloc, plan, summary, heard, crew) {
         Ok(replayed) => replayed,
         Err(HouseRefusal::Crew) => return Ok(ReplayEnding::CrewRefused),
         Err(HouseRefusal::NoMemory) => return Err(NoMemory),
     };
     let lost = replayed.lost;
-    let printed = print_replayed(summary, &mut replayed, out);
+    let printed = print_replayed(summary, &replayed, out);
     Ok(ending_of(printed, lost))
 }
 
@@ -90,33 +92,29 @@ fn ending_of(printed: Result<(), Failed>, lost: bool) -> ReplayEnding
 }
 
 // Writes the summary, where one is asked for, or else the lines of the entries.
-fn print_replayed<K: Sink>(
-    summary: bool,
-    replayed: &mut Replayed,
-    out: &mut K,
-) -> Result<(), Failed>
-    requires can { CanPrint replayed.old }
+fn print_replayed<K: Sink>(summary: bool, replayed: &Replayed, out: &mut K) -> Result<(), Failed>
+    requires can { CanPrint replayed.now }
     ensures cause { HasCause (K.faults out.old) (K.faults out.new) result }
     ensures writes { (plan : Plan) → (entries : List Entry) →
-        StandsFor plan summary entries replayed.old →
+        StandsFor plan summary entries replayed.now →
         Writes result (replay_text plan summary entries) (K.written out.old) (K.written out.new) }
 {
     if summary {
         return print_summary(replayed, out);
     }
-    print_lines(&replayed.verdicts, &replayed.packets, replayed.count, out)
+    print_lines(&replayed.outcomes, replayed.count, out)
 }
 
 // Writes the summary.
-fn print_summary<K: Sink>(replayed: &mut Replayed, out: &mut K) -> Result<(), Failed>
-    requires can { CanPrint replayed.old }
+fn print_summary<K: Sink>(replayed: &Replayed, out: &mut K) -> Result<(), Failed>
+    requires can { CanPrint replayed.now }
     ensures cause { HasCause (K.faults out.old) (K.faults out.new) result }
     ensures writes { (plan : Plan) → (entries : List Entry) →
-        StandsFor plan true entries replayed.old →
+        StandsFor plan true entries replayed.now →
         Writes result (summary_text plan entries) (K.written out.old) (K.written out.new) }
 {
-    match print_counts(&replayed.verdicts, &replayed.packets, replayed.count, out) {
-        Ok(()) => print_peers(&mut replayed.named, &replayed.mouth, out),
+    match print_counts(&replayed.outcomes, replayed.count, out) {
+        Ok(()) => print_peers(&replayed.named, &replayed.mouth, out),
         Err(failed) => Err(failed),
     }
 }

@@ -12,14 +12,12 @@ ghost use Rattle.m17_replay.specs.Replay.{outcome_of};
 ghost use Rattle.m17_replay.specs.Run.{kind_line, kinds_text, AreNamed, AreVerdicts, TalliesAre, Writes};
 
 use crate::lines::write_line;
-use m17_directory::LinkVerdict;
-use m17_floor::Verdict;
 use m17_io::Sink;
+use m17_patient::Outcomes;
 use m17_port_memory::TallyMouth;
 use m17_print::Line;
 use m17_report::{Counts, Kind, make_entries_line, make_kind_line, make_peer_line};
 use m17_values::{Failed, Peer};
-use std::collections::BTreeSet;
 
 // The kinds of entries, in the order of the summary.
 const KINDS: [Kind; 20] = [
@@ -46,15 +44,16 @@ const KINDS: [Kind; 20] = [
 ];
 
 // Counts the first `count` entries by their kinds.
-fn count_entries(verdicts: &[LinkVerdict], packets: &[Option<Verdict>], count: usize) -> Counts
-    requires there { (count ≤ length verdicts.now) × (count ≤ length packets.now) }
+fn count_entries(outcomes: &Outcomes, count: usize) -> Counts
+    requires there { (count ≤ length outcomes.now.verdicts)
+        × (count ≤ length outcomes.now.packets) }
     ensures { (plan : Plan) → (entries : List Entry) →
-        AreVerdicts plan entries verdicts.now packets.now →
+        AreVerdicts plan entries outcomes.now.verdicts outcomes.now.packets →
         CountsAre result (map (outcome_of plan entries) (range_with_len 0 count)) }
 {
     let mut counts = Counts::new();
     for n in 0..count {
-        counts.count(&verdicts[n], &packets[n]);
+        counts.count(outcomes.verdict(n), &outcomes.packet(n));
     }
     counts
 }
@@ -96,19 +95,19 @@ fn print_kinds<K: Sink>(
 
 // Writes how many entries there are, and how many of each kind.
 pub(crate) fn print_counts<K: Sink>(
-    verdicts: &[LinkVerdict],
-    packets: &[Option<Verdict>],
+    outcomes: &Outcomes,
     count: usize,
     out: &mut K,
 ) -> Result<(), Failed>
-    requires there { (count ≤ length verdicts.now) × (count ≤ length packets.now) }
+    requires there { (count ≤ length outcomes.now.verdicts)
+        × (count ≤ length outcomes.now.packets) }
     ensures cause { HasCause (K.faults out.old) (K.faults out.new) result }
     ensures writes { (plan : Plan) → (entries : List Entry) →
-        AreVerdicts plan entries verdicts.now packets.now →
+        AreVerdicts plan entries outcomes.now.verdicts outcomes.now.packets →
         Writes result (counts_text count (map (outcome_of plan entries) (range_with_len 0 count)))
         (K.written out.old) (K.written out.new) }
 {
-    let counts = count_entries(verdicts, packets, count);
+    let counts = count_entries(outcomes, count);
     let mut line = Line::new();
     make_entries_line(&mut line, count as u64);
     match write_line(&line, out) {
@@ -135,20 +134,20 @@ fn print_peer<K: Sink>(
     write_line(line, out)
 }
 
-// Writes the lines of the peers that are named, in order, and names nobody then.
+// Writes the lines of the peers that are named, in order.
 pub(crate) fn print_peers<K: Sink>(
-    named: &mut BTreeSet<Peer>,
+    named: &[Peer],
     mouth: &TallyMouth,
     out: &mut K,
 ) -> Result<(), Failed>
-    requires named { AreNamed named.old.keys mouth.now }
+    requires named { AreNamed named.now mouth.now }
     ensures cause { HasCause (K.faults out.old) (K.faults out.new) result }
     ensures writes { (tally : Peer → Tally) → TalliesAre tally mouth.now →
-        Writes result (peers_text tally named.old.keys) (K.written out.old) (K.written out.new) }
+        Writes result (peers_text tally named.now) (K.written out.old) (K.written out.new) }
 {
     let mut line = Line::new();
-    while let Some(peer) = named.pop_first() {
-        match print_peer(&mut line, &peer, mouth, out) {
+    for peer in named {
+        match print_peer(&mut line, peer, mouth, out) {
             Ok(()) => {}
             Err(failed) => return Err(failed),
         }

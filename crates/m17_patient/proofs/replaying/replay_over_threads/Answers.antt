@@ -1,15 +1,14 @@
-use Rattle.std.proofs.Common.{◌≡◌, ℕ, List, [], ◌∷◌, length, map, vec_len, vec_capacity, refl, ap, sym, subst, ◌∙◌, arith, MatchResult, true, Option, Vec, Global}
-use Rattle.std.specs.List.{filter_map}
+use Rattle.std.proofs.Common.{◌≡◌, [], ◌∷◌, ◌++◌, length, map, refl, ap, sym, subst, ◌∙◌, List, true, Option, Vec, Global}
+use Rattle.std.specs.List.{range_with_len}
 use Rattle.m17_values.specs.declared.heard.Heard.{Heard}
-use Rattle.m17_port_memory.specs.Kept.{ScriptKept, TalliesKept}
-use Rattle.m17_port_memory.specs.Script.{heard_of, faults_of}
-use Rattle.m17_port_memory.specs.Peers.{named_in, tally_at}
+use Rattle.m17_port_memory.specs.Kept.{ScriptKept}
 use Rattle.m17_directory.specs.declared.verdict.LinkVerdict.{LinkVerdict}
 use Rattle.m17_house.specs.declared.plan.Plan.{Plan}
 use Rattle.m17_house.specs.Replay.{IsPlan}
+use Rattle.m17_patient.specs.Tapes.{IsFilledInOrder, OutcomesKept, outcomes_on, packet_on}
 use Rattle.m17_patient.proofs.Lists.{head_is, mapped_one}
-use Rattle.m17_patient.proofs.TapeSteps.{taken}
-use Rattle.m17_patient.proofs.Whole.{IsOver, IsTakenApart, freely_replayed, hears, tape_there, tells, ears_back, mouths_back}
+use Rattle.m17_patient.proofs.TapeSteps.{lists_of}
+use Rattle.m17_patient.proofs.Whole.{IsOver, freely_replayed, hears, tape_there, tells, ears_back, mouths_back}
 use Rattle.m17_patient.proofs.replaying.replay_over_threads.Goals as goal
 
 pub reflect-requires-clause-plan : goal.reflect-requires-clause-plan
@@ -23,18 +22,21 @@ reflect-requires-clause-plan g c κs within =
 
 pub take_apart-requires-clause-ear : goal.take_apart-requires-clause-ear
 take_apart-requires-clause-ear g c =
-    let it = ears_back c.in-Ok-reflect.returned.ears.items c.in-Ok-one.ears.items c.new.result c.in-Ok-one.ensures c.in-Ok-reflect.ensures.same_ears.0 in
+    let one_ear : c.push_reserved.new.self.items ≡ c.new.result ∷ [] = c.push_reserved.ensures.items ∙ ap (λ l. l ++ c.new.result ∷ []) c.in-Ok-make_rooms.ensures.no_ear in
+    let it = ears_back c.in-Ok-reflect.returned.ears.items c.push_reserved.new.self.items c.new.result one_ear c.in-Ok-reflect.ensures.same_ears.0 in
     (it.0, it.1)
 
 pub take_apart-requires-clause-mouth : goal.take_apart-requires-clause-mouth
 take_apart-requires-clause-mouth g c =
-    let it = mouths_back c.in-Ok-reflect.returned.mouths.items c.in-Ok-one-2.mouths.items c.args.mouth c.in-Ok-one-2.ensures c.in-Ok-reflect.ensures.same_mouths.0 in
+    let one_mouth : c.push_reserved-2.new.self.items ≡ c.args.mouth ∷ [] = c.push_reserved-2.ensures.items ∙ ap (λ l. l ++ c.args.mouth ∷ []) c.in-Ok-make_rooms.ensures.no_mouth in
+    let it = mouths_back c.in-Ok-reflect.returned.mouths.items c.push_reserved-2.new.self.items c.args.mouth one_mouth c.in-Ok-reflect.ensures.same_mouths.0 in
     (it.0, it.1)
 
 pub take_apart-requires-clause-tape : goal.take_apart-requires-clause-tape
 take_apart-requires-clause-tape g c =
     let script = c.args.heard.items in
-    let it = ears_back c.in-Ok-reflect.returned.ears.items c.in-Ok-one.ears.items c.new.result c.in-Ok-one.ensures c.in-Ok-reflect.ensures.same_ears.0 in
+    let one_ear : c.push_reserved.new.self.items ≡ c.new.result ∷ [] = c.push_reserved.ensures.items ∙ ap (λ l. l ++ c.new.result ∷ []) c.in-Ok-make_rooms.ensures.no_ear in
+    let it = ears_back c.in-Ok-reflect.returned.ears.items c.push_reserved.new.self.items c.new.result one_ear c.in-Ok-reflect.ensures.same_ears.0 in
     let many : c.in-Ok.entries ≡ length script = c.in-Ok.ensures.1 ∙ c.count-len.ensures.count ∙ ap length c.deref.ensures.value in
     let headline = c.in-Ok-reflect.ensures.headline in
     let over : IsOver c.args.plan.now script _ = record {
@@ -42,51 +44,53 @@ take_apart-requires-clause-tape g c =
       ends = c.requires.ends;
       first = c.new.result;
       new = c.new.ensures;
-      before = ap (map hears) c.in-Ok-one.ensures;
-      last = it.0;
-      same = it.2 ∙ ap (λ (e : ScriptKept). e.script) c.new.ensures;
-      after = ap (map hears) it.1;
-    } in
-    let tape = tape_there c.args.plan.now script _ headline over in
-    let v = mapped_one (λ (t : Vec (Option LinkVerdict) Global). t.items) c.in-Ok-reflect.returned.link_tapes.items tape.0 tape.1 in (
-      v.0,
-      v.1,
-      omega (arith, ap length v.2, tape.2, many, c.in-Ok.ensures.1, c.in-Ok-with_capacity.ensures.capacity),
-      omega (arith, ap length v.2, tape.2, many, c.in-Ok.ensures.1, c.in-Ok-with_capacity-2.ensures.capacity),
-    )
-
-pub returns-in-Ok-reflect-clause-same_heard : goal.returns-in-Ok-reflect-clause-same_heard
-returns-in-Ok-reflect-clause-same_heard g c =
-    let it = ears_back c.in-Ok-reflect.returned.ears.items c.in-Ok-one.ears.items c.new.result c.in-Ok-one.ensures c.in-Ok-reflect.ensures.same_ears.0 in
-    head_is c.take_apart.result.heard.items c.args.heard.items (sym c.take_apart.ensures.heard ∙ ap (map (λ (e : ScriptKept). e.script)) it.1 ∙ ap (λ (l : List Heard). l ∷ []) (it.2 ∙ ap (λ (e : ScriptKept). e.script) c.new.ensures))
-
-pub returns-in-Ok-reflect-clause-judged : goal.returns-in-Ok-reflect-clause-judged
-returns-in-Ok-reflect-clause-judged g c =
-    let script = c.args.heard.items in
-    let it = ears_back c.in-Ok-reflect.returned.ears.items c.in-Ok-one.ears.items c.new.result c.in-Ok-one.ensures c.in-Ok-reflect.ensures.same_ears.0 in
-    let many : c.in-Ok.entries ≡ length script = c.in-Ok.ensures.1 ∙ c.count-len.ensures.count ∙ ap length c.deref.ensures.value in
-    let headline = c.in-Ok-reflect.ensures.headline in
-    let over : IsOver c.args.plan.now script _ = record {
-      plan_is = c.patient_plan-patient.ensures ∙ ap (λ n. let p : Plan = record c.args.plan.now { patient = true; entries = n } in p) many;
-      ends = c.requires.ends;
-      first = c.new.result;
-      new = c.new.ensures;
-      before = ap (map hears) c.in-Ok-one.ensures;
+      before = ap (map hears) one_ear;
       last = it.0;
       same = it.2 ∙ ap (λ (e : ScriptKept). e.script) c.new.ensures;
       after = ap (map hears) it.1;
     } in
     let tape = tape_there c.args.plan.now script _ headline over in
     let v = mapped_one (λ (t : Vec (Option LinkVerdict) Global). t.items) c.in-Ok-reflect.returned.link_tapes.items tape.0 tape.1 in
-    freely_replayed c.known_laws.ensures c.args.plan.now script _ headline over c.take_apart.result.verdicts.items c.take_apart.result.packets.items c.take_apart.result.mouth (record {
+    (v.0, v.1, subst IsFilledInOrder (sym v.2) tape.2)
+
+pub returns-in-Ok-reflect-clause-same_heard : goal.returns-in-Ok-reflect-clause-same_heard
+returns-in-Ok-reflect-clause-same_heard g c =
+    let one_ear : c.push_reserved.new.self.items ≡ c.new.result ∷ [] = c.push_reserved.ensures.items ∙ ap (λ l. l ++ c.new.result ∷ []) c.in-Ok-make_rooms.ensures.no_ear in
+    let it = ears_back c.in-Ok-reflect.returned.ears.items c.push_reserved.new.self.items c.new.result one_ear c.in-Ok-reflect.ensures.same_ears.0 in
+    head_is c.take_apart.result.heard.items c.args.heard.items (sym c.take_apart.ensures.heard ∙ ap (map (λ (e : ScriptKept). e.script)) it.1 ∙ ap (λ (l : List Heard). l ∷ []) (it.2 ∙ ap (λ (e : ScriptKept). e.script) c.new.ensures))
+
+pub returns-in-Ok-reflect-clause-judged : goal.returns-in-Ok-reflect-clause-judged
+returns-in-Ok-reflect-clause-judged g c =
+    let script = c.args.heard.items in
+    let one_ear : c.push_reserved.new.self.items ≡ c.new.result ∷ [] = c.push_reserved.ensures.items ∙ ap (λ l. l ++ c.new.result ∷ []) c.in-Ok-make_rooms.ensures.no_ear in
+    let it = ears_back c.in-Ok-reflect.returned.ears.items c.push_reserved.new.self.items c.new.result one_ear c.in-Ok-reflect.ensures.same_ears.0 in
+    let many : c.in-Ok.entries ≡ length script = c.in-Ok.ensures.1 ∙ c.count-len.ensures.count ∙ ap length c.deref.ensures.value in
+    let headline = c.in-Ok-reflect.ensures.headline in
+    let over : IsOver c.args.plan.now script _ = record {
+      plan_is = c.patient_plan-patient.ensures ∙ ap (λ n. let p : Plan = record c.args.plan.now { patient = true; entries = n } in p) many;
+      ends = c.requires.ends;
+      first = c.new.result;
+      new = c.new.ensures;
+      before = ap (map hears) one_ear;
+      last = it.0;
+      same = it.2 ∙ ap (λ (e : ScriptKept). e.script) c.new.ensures;
+      after = ap (map hears) it.1;
+    } in
+    let tape = tape_there c.args.plan.now script _ headline over in
+    let v = mapped_one (λ (t : Vec (Option LinkVerdict) Global). t.items) c.in-Ok-reflect.returned.link_tapes.items tape.0 tape.1 in
+    let one_mouth : c.push_reserved-2.new.self.items ≡ c.args.mouth ∷ [] = c.push_reserved-2.ensures.items ∙ ap (λ l. l ++ c.args.mouth ∷ []) c.in-Ok-make_rooms.ensures.no_mouth in
+    let tapes = lists_of c.in-Ok-reflect.returned.tapes.items in
+    let outcomes : c.take_apart.result.outcomes ≡ outcomes_on tape.0 tapes =
+    head_is c.take_apart.result.outcomes (outcomes_on tape.0 tapes)
+    (sym c.take_apart.ensures.outcomes ∙ ap (map (λ (t : Vec (Option LinkVerdict) Global). outcomes_on t.items tapes)) v.1 ∙ ap (λ l. outcomes_on l tapes ∷ []) v.2) in
+    freely_replayed c.known_laws.ensures c.args.plan.now script _ headline over c.take_apart.result.outcomes.verdicts c.take_apart.result.outcomes.packets c.take_apart.result.mouth (record {
       tape = tape.0;
       tapes = tape.1;
-      verdicts_are = head_is c.take_apart.result.verdicts.items (taken tape.0)
-          (sym c.take_apart.ensures.verdicts ∙ ap (map (λ (t : Vec (Option LinkVerdict) Global). taken t.items)) v.1 ∙ ap (λ l. taken l ∷ []) v.2);
-      packets_are = c.take_apart.ensures.packets;
+      verdicts_are = ap (λ (o : OutcomesKept). o.verdicts) outcomes;
+      packets_are = ap (λ (o : OutcomesKept). o.packets) outcomes ∙ ap (λ (l : List LinkVerdict). map (packet_on tapes) (range_with_len 0 (length l))) (sym (ap (λ (o : OutcomesKept). o.verdicts) outcomes));
       before = tells c.args.mouth;
       after = tells c.take_apart.result.mouth;
-      is_before = ap (map tells) c.in-Ok-one-2.ensures;
+      is_before = ap (map tells) one_mouth;
       is_after = ap (map tells) c.take_apart.ensures.mouth;
       sound = refl;
       still = refl;

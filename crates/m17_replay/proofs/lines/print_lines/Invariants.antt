@@ -11,6 +11,6 @@ use Rattle.m17_replay.proofs.lines.print_lines.Given as goal
 abbrev pub invariant-loop-n : goal.invariant-loop-n
 invariant-loop-n g l = record {
   faults : g.K.Sink.faults l.out ≡ g.K.Sink.faults l.fn.out;
-  writes : (plan : Plan) → (entries : List Entry) → AreVerdicts plan entries l.fn.verdicts l.fn.packets
+  writes : (plan : Plan) → (entries : List Entry) → AreVerdicts plan entries l.fn.outcomes.verdicts l.fn.outcomes.packets
       → Writes {T = Unit {0}} {E = Failed} (Ok tt) (flat_map (line_of plan entries) (range_with_len 0 l.n)) (g.K.Sink.written l.fn.out) (g.K.Sink.written l.out);
 }

@@ -1,8 +1,6 @@
 use Rattle.std.proofs.Common.{ℕ, List, [], Some, refl, sym, ap, subst, ◌∙◌}
 use Rattle.std.proofs.lemmas.List.{append-nil}
 use Rattle.m17_io.specs.Faults.{HasCauses}
-use Rattle.m17_values.specs.declared.heard.Heard.{Heard}
-use Rattle.m17_book.specs.Book.{IsTrace}
 use Rattle.m17_print.proofs.Grown.{grows_none, grows_then}
 use Rattle.m17_replay.specs.declared.ending.ReplayEnding.{ReplayEnding}
 use Rattle.m17_replay.specs.Replay.{failed_device, streams, ComesToReplay, EndsBeforeText}

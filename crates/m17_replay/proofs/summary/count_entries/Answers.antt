@@ -13,4 +13,4 @@ loop-n-preserved c = λ plan entries are.
     let size = length-map-range_with_len (outcome_of plan entries) 0 c.loop-n.n in
     let more = c.count.ensures _ (omega (arith, size)) (c.loop-n.invariant plan entries are) in
     subst (λ outcomes. CountsAre c.count.new.self outcomes)
-    (counted_more plan entries c.args.verdicts.now c.args.packets.now c.loop-n.n _ _ are (omega (arith, c.requires.there)) (omega (arith, c.requires.there)) c.index-verdicts-n.is) more
+    (counted_more plan entries c.args.outcomes.now.verdicts c.args.outcomes.now.packets c.loop-n.n _ _ are c.verdict.ensures c.packet.ensures) more

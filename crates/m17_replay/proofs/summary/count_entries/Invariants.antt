@@ -9,4 +9,4 @@ use Rattle.m17_replay.proofs.summary.count_entries.Given as goal
 
 -- so many were counted
 abbrev pub invariant-loop-n : goal.invariant-loop-n
-invariant-loop-n l = (plan : Plan) → (entries : List Entry) → AreVerdicts plan entries l.fn.verdicts l.fn.packets → CountsAre l.counts (map (outcome_of plan entries) (range_with_len 0 l.n))
+invariant-loop-n l = (plan : Plan) → (entries : List Entry) → AreVerdicts plan entries l.fn.outcomes.verdicts l.fn.outcomes.packets → CountsAre l.counts (map (outcome_of plan entries) (range_with_len 0 l.n))

@@ -1,6 +1,6 @@
 use Rattle.std.proofs.Common.{◌≡◌, drop, map}
 use Rattle.m17_patient.specs.Tapes.{packet_on}
-use Rattle.m17_patient.proofs.tapes.packet_verdict.Given as goal
+use Rattle.m17_patient.proofs.outcomes.packet_verdict.Given as goal
 
 -- so many tapes have nothing there
 abbrev pub invariant-loop-tape : goal.invariant-loop-tape

@@ -1,8 +1,7 @@
-use Rattle.std.proofs.Common.{◌≡◌, List, map, drop, ap, sym, ◌∙◌, arith, suc}
-use Rattle.std.specs.Option.{option_or}
-use Rattle.m17_patient.specs.Tapes.{cell_at, packet_on}
+use Rattle.std.proofs.Common.{ap, sym, ◌∙◌}
+use Rattle.m17_patient.specs.Tapes.{cell_at}
 use Rattle.m17_patient.proofs.TapeSteps.{has_cell, no_cell, tape_at}
-use Rattle.m17_patient.proofs.tapes.packet_verdict.Goals as goal
+use Rattle.m17_patient.proofs.outcomes.packet_verdict.Goals as goal
 
 pub returns-then-is_some : goal.returns-then-is_some
 returns-then-is_some c =
