@@ -1,9 +1,9 @@
-//! The program. `run` reads the words, runs their command over any source and sink, writes the last line and answers the
-//! status; it promises what was written for the bytes that came in, the cause of each status, and that the sink holds
-//! nothing back at the end. `main` hands it the standard streams, the ports of the machine (`m17_net`) and the
-//! system's threads (`m17_crew`), and ends with its answer. `StdIn` and `StdOut` are the trusted edge: one call of the system each, counted faults, and no content
-//! told. What lies between them and `run` is left to `m17_buffers`, sockets and files to `m17_net`, and what the commands
-//! print to their own crates.
+//! The program. `run` reads the words, runs their command over any source and sink, writes the last line and answers
+//! the status; it promises what was written for the bytes that came in, the cause of each status, and that the sink
+//! holds nothing back at the end. `main` hands it the standard streams, the ports of the machine (`m17_net`) and the
+//! system's threads (`m17_crew`), and ends with its answer. `StdIn` and `StdOut` are the trusted edge: one call of the
+//! system each, counted faults, and no content told. What lies between them and `run` is left to `m17_buffers`,
+//! sockets and files to `m17_net`, and what the commands print to their own crates.
 #![tactic(auto)]
 
 mod conclude;

@@ -120,10 +120,10 @@ fn run_command<R: Threads + Wait + Copy + Send + 'static, P: Ports, C: Crew, S: 
 
 /// Does all that the program does: reads the words, runs their command over the ports, the crew, the source and the
 /// sink, and answers the status: 0 where the command went to its end, 1 where the input is refused, 2 where the words
-/// are, 3 where the source failed, 4 where the sink failed, in place of all others, 5 where the ports failed, 6 where the
-/// crew refused a start, 7 where a link was lost, 8 where a book failed, and 70 where there was no memory. Only `talk` and
-/// `serve` ask the ports for anything; where they ran, their devices are handed back. Only `replay` and `serve` have the
-/// crew start threads. `make` reads no input, and ends with 0 or 4. This profile.
+/// are, 3 where the source failed, 4 where the sink failed, in place of all others, 5 where the ports failed, 6 where
+/// the crew refused a start, 7 where a link was lost, 8 where a book failed, and 70 where there was no memory. Only
+/// `talk` and `serve` ask the ports for anything; where they ran, their devices are handed back. Only `replay` and
+/// `serve` have the crew start threads. `make` reads no input, and ends with 0 or 4. This profile.
 pub fn run<R: Threads + Wait + Copy + Send + 'static, P: Ports, C: Crew, S: Input<K>, K: Sink>(
     rt: &R,
     alloc: Global,

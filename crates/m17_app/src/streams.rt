@@ -13,8 +13,8 @@ use std::io::Read;
 use std::sync::Wait;
 use std::thread::Threads;
 
-/// Runs the program over these ports and this crew, on a reader and on what prints, both buffered. `NoMemory` also where there is none
-/// for the buffers.
+/// Runs the program over these ports and this crew, on a reader and on what prints, both buffered. `NoMemory` also
+/// where there is none for the buffers.
 pub fn run_on<
     H: Threads + Wait + Copy + Send + 'static,
     Q: Ports,
