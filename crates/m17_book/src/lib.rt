@@ -34,6 +34,8 @@ pub use spell_record::{write_header, write_record};
 pub use trace::{read_trace, read_trace_for};
 
 #[cfg(test)]
+mod pieces_tests;
+#[cfg(test)]
 mod plain_tests;
 #[cfg(test)]
 mod tests;

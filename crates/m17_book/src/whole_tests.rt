@@ -19,7 +19,7 @@ const TRACE: &[u8; 68] = b"M17TRACE\
 const ENDS: [usize; 5] = [8, 29, 58, 67, 68];
 
 /// AB1CD joins module A and sends four frames; N0CALL comes to listen behind the first, and leaves behind the third.
-const TALK: &[u8; 375] = b"M17TRACE\
+pub(crate) const TALK: &[u8; 375] = b"M17TRACE\
 \x01\x00\x00\x00\x00\x00\x00\x00\x00\x04\x0a\x00\x00\x01\x42\x68\x0b\
 CONN\x00\x00\x00\x9f\xdd\x51A\
 \x01\x00\x00\x00\x00\x00\x00\x00\x28\x04\x0a\x00\x00\x01\x42\x68\x36\
@@ -73,7 +73,7 @@ impl Source for Bytewise {
     }
 }
 
-fn source(alloc: Global, bytes: &[u8], fails: &[u64]) -> Result<BytesSource, Fail> {
+pub(crate) fn source(alloc: Global, bytes: &[u8], fails: &[u64]) -> Result<BytesSource, Fail> {
     Ok(BytesSource::new(bytes.to_vec(alloc)?, fails.to_vec(alloc)?))
 }
 

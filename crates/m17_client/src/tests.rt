@@ -300,3 +300,36 @@ fn a_closed_client_stays_closed(rt: HostRuntime) -> Result<(), Fail> {
     }
     Ok(())
 }
+
+/// Nothing is heard in each state, up to a millisecond before its wait is over, and then at that moment.
+#[test]
+fn each_wait_is_over_at_its_moment(rt: HostRuntime) -> Result<(), Fail> {
+    let quiet = |at: u64| Input::Quiet { at };
+    let tries = |tries: u32| State::Connecting { tries };
+    let mut c = client(false).ok_or("no client")?;
+    expect(&rt, &mut c, &quiet(5), &CONN, tries(1));
+    expect(&rt, &mut c, &quiet(1_004), &[], tries(1));
+    expect(&rt, &mut c, &quiet(1_005), &CONN, tries(2));
+    expect(&rt, &mut c, &quiet(2_004), &[], tries(2));
+    let inside = State::Connected { heard_at: 2_004 };
+    expect(&rt, &mut c, &datagram(2_004, b"ACKN"), &[], inside);
+    expect(&rt, &mut c, &quiet(32_003), &[], inside);
+    expect(&rt, &mut c, &Input::Leave, &PART, State::Leaving);
+    expect(&rt, &mut c, &quiet(33_002), &[], State::Leaving);
+    let asked = State::Closed(Ending::Asked);
+    expect(&rt, &mut c, &quiet(33_003), &[], asked);
+    expect(&rt, &mut c, &quiet(99_999), &[], asked);
+    let mut lost = client(false).ok_or("no client")?;
+    expect(&rt, &mut lost, &quiet(0), &CONN, tries(1));
+    let inside = State::Connected { heard_at: 0 };
+    expect(&rt, &mut lost, &datagram(0, b"ACKN"), &[], inside);
+    expect(&rt, &mut lost, &quiet(29_999), &[], inside);
+    expect(
+        &rt,
+        &mut lost,
+        &quiet(30_000),
+        &[],
+        State::Closed(Ending::Lost),
+    );
+    Ok(())
+}

@@ -21,6 +21,8 @@ pub use order::{ServeOrder, TalkOrder};
 pub use reading::read_words;
 
 #[cfg(test)]
+mod edge_tests;
+#[cfg(test)]
 mod serve_tests;
 #[cfg(test)]
 mod tests;

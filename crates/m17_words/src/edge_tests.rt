@@ -1,0 +1,80 @@
+//! Each option and each argument at the edges of what it may be.
+use crate::tests::read;
+use std::alloc::Global;
+use std::test::Fail;
+
+// A value that is missing, one that stands twice, values just past their bounds, also past those of 64 bits, and words
+// that no command has.
+const REFUSED: [&str; 37] = [
+    "replay --call",
+    "replay --call=",
+    "replay --call ABCDEFGHIJ",
+    "replay --call=A_B",
+    "replay --call A --call A",
+    "replay --modules",
+    "replay --modules A1",
+    "replay --modules [",
+    "replay --modules=A --modules A",
+    "replay --parrots=",
+    "replay --parrots AA",
+    "replay --parrots A --parrots=A",
+    "replay --modules AB --parrots ABC",
+    "replay --places 00",
+    "replay --places 0x10",
+    "replay --places 64 --places=64",
+    "replay --places 18446744073709551680",
+    "replay --summary x",
+    "replay -- --summary",
+    "replay -s",
+    "make",
+    "make --",
+    "make 0",
+    "make 0 1 2",
+    "make -1 0",
+    "make 0 -1",
+    "make 0 +1",
+    "make 0 １",
+    "make １ 0",
+    "make 0x1 1",
+    "make 1e3 1",
+    "make --seed 0 1",
+    "make 0 1 --x",
+    "make 18446744073709551617 0",
+    "make 0 18446744073709551617",
+    "judge --x",
+    "show -- --",
+];
+
+// The least and the greatest values, and where a lone `--` may stand.
+const TAKEN: [&str; 13] = [
+    "replay --places 1",
+    "replay --places 00000000000000000001",
+    "replay --places 10 --",
+    "replay --call .........",
+    "replay --call -",
+    "replay --modules ABCDEFGHIJKLMNOPQRSTUVWXYZ",
+    "replay --modules ZYX --parrots XYZ",
+    "replay --parrots A",
+    "make 00 00",
+    "make 0 -- 1",
+    "make 0 1 --",
+    "make -- 0 1",
+    "show --",
+];
+
+// The first of these lines that is taken or refused otherwise.
+fn first_other<'a>(alloc: Global, lines: &[&'a str], taken: bool) -> Result<Option<&'a str>, Fail> {
+    for line in lines {
+        if read(alloc, line)?.is_ok() != taken {
+            return Ok(Some(*line));
+        }
+    }
+    Ok(None)
+}
+
+#[test]
+fn each_value_is_taken_up_to_its_edge(rt: HostRuntime) -> Result<(), Fail> {
+    assert_eq!(rt; first_other(rt.alloc(), &TAKEN, true)?, None);
+    assert_eq!(rt; first_other(rt.alloc(), &REFUSED, false)?, None);
+    Ok(())
+}
