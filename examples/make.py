@@ -1,6 +1,6 @@
 #!/usr/bin/env python3
-"""Writes the example inputs beside this file: judge.bin for `m17 judge`, show.hex for `m17 show`, and evening.trace for
-`m17 replay`.
+"""Writes the example inputs beside this file: judge.bin for `m17 judge`, show.hex for `m17 show`, evening.trace for
+`m17 replay`, and talk.script for `m17 talk`.
 
 The packets are made here from their layouts, and their CRCs by the plain division, so that the examples owe nothing to
 the program that reads them. All numbers have their highest byte first.
@@ -136,6 +136,19 @@ def evening():
     )
 
 
+def script():
+    """What a client says in one second: 25 frames of one stream, the last with the end bit. A record has 62 bytes: the
+    milliseconds since the client became connected, and the packet.
+    """
+    frames = 25
+    records = []
+    for number in range(frames):
+        field = number | END_BIT if number == frames - 1 else number
+        packet = stream_packet(0x1234, field, "AB1CD", bytes([number]) * 16)
+        records.append((40 * number).to_bytes(8, "big") + packet)
+    return b"".join(records)
+
+
 def main():
     folder = os.path.dirname(os.path.abspath(__file__))
     with open(os.path.join(folder, "judge.bin"), "wb") as out:
@@ -145,6 +158,8 @@ def main():
             out.write(packet.hex().upper() + "\n")
     with open(os.path.join(folder, "evening.trace"), "wb") as out:
         out.write(evening())
+    with open(os.path.join(folder, "talk.script"), "wb") as out:
+        out.write(script())
 
 
 if __name__ == "__main__":
