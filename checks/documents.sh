@@ -82,18 +82,61 @@ check "links and paths in the documents lead to something" paths_are_there
 one_version() {
     told=$("$top/m17" version | sed -n 's/^m17 //p')
     newest=$(sed -n 's/^## \([0-9][0-9.]*\).*/\1/p' "$top/CHANGELOG.md" | head -n 1)
-    [ -n "$told" ] && [ "$told" = "$newest" ] || {
-        echo "m17 version says $told, and CHANGELOG.md begins with $newest"
+    paged=$(sed -n 's/^\.TH .*"m17 \([0-9.]*\)".*/\1/p' "$top/docs/m17.1")
+    [ -n "$told" ] && [ "$told" = "$newest" ] && [ "$told" = "$paged" ] || {
+        echo "m17 version says $told, CHANGELOG.md begins with $newest, and docs/m17.1 is of $paged"
         return 1
     }
 }
-check "m17 version and CHANGELOG.md name the same version" one_version
+check "m17 version, CHANGELOG.md and the manual page name the same version" one_version
+
+# Its commands, options and statuses are those of `m17 help`.
+manual_page() {
+    sed 's/\\-/-/g; s/\\f[BIR]//g' "$top/docs/m17.1" >page
+    "$top/m17" help >help || return 1
+    for text in help page; do
+        grep -o -e '--[a-z][a-z]*' $text | sort -u >$text.options
+    done
+    cmp help.options page.options || return 1
+    sed -n 's/^\(usage:\)\{0,1\} *\(m17 [a-z]*\) .*/\2/p' help | sort -u >commands
+    sed -n 's/^\(status\)\{0,1\} *\([0-9][0-9]*\)  .*/.B \2/p' help >statuses
+    [ "$(wc -l <commands)" -ge 10 ] && [ "$(wc -l <statuses)" -ge 10 ] || return 1
+    while read -r line; do
+        grep -qx -e "$line.*" page || {
+            echo "docs/m17.1 has no line: $line"
+            return 1
+        }
+    done <<END
+$(cat commands statuses)
+END
+}
+check "the manual page has the commands, options and statuses of m17 help" manual_page
+
+manual_page_is_set() {
+    needs groff
+    groff -man -ww -z "$top/docs/m17.1" >said 2>&1
+    ended=$?
+    cat said
+    [ $ended -eq 0 ] && [ ! -s said ]
+}
+check "the manual page is set without a warning" manual_page_is_set
+
+# The unit names a program of a prefix; here it is one that is there.
+service_unit() {
+    needs systemd-analyze
+    sed 's|/usr/local/bin/m17|/bin/true|' "$top/examples/m17.service" >m17.service
+    timeout 60 systemd-analyze verify --man=no ./m17.service >said 2>&1
+    ended=$?
+    cat said
+    [ $ended -eq 0 ] && ! grep -F m17.service said
+}
+check "systemd takes the unit of examples/m17.service" service_unit
 
 made_examples() {
     needs python3
     cp "$top/examples/make.py" . && python3 make.py || return 1
     cmp judge.bin "$top/examples/judge.bin" && cmp show.hex "$top/examples/show.hex" &&
-        cmp evening.trace "$top/examples/evening.trace"
+        cmp evening.trace "$top/examples/evening.trace" && cmp talk.script "$top/examples/talk.script"
 }
 check "examples/make.py makes the example inputs" made_examples
 

@@ -194,10 +194,11 @@ installed() {
     [ ! -s err ] && prog judge <"$top/examples/judge.bin" | cmp - got || return 1
     without_rt 'a prefix/bin/m17' version >got && has got 'rattle-kit-of-the-checks' || return 1
     without_rt 'a prefix/bin/m17' help >got && has got 'm17 judge' || return 1
-    for text in README.md docs/operating.md examples/show.hex LICENSE-MIT; do
+    for text in README.md docs/operating.md examples/show.hex examples/m17.service LICENSE-MIT; do
         cmp "$top/$text" "a prefix/share/doc/m17/$text" || return 1
     done
-    find 'a prefix' -type f -name '*.[0-9]*' | grep . && return 1
+    cmp "$top/docs/m17.1" 'a prefix/share/man/man1/m17.1' || return 1
+    find 'a prefix' -type f -name '*.[0-9]*' ! -name m17.1 | grep . && return 1
     for words in build 'install elsewhere'; do
         # shellcheck disable=SC2086  # two words
         without_rt 'a prefix/bin/m17' $words 2>err

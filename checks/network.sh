@@ -31,7 +31,7 @@ gone() {
 
 # talks STATUS TEXT BIND TO BOOK: a talk of AB1CD in module A.
 talks() {
-    gives "$1" "$2" prog talk --call AB1CD --module A --bind "$3" --to "$4" --stay 200 --book "$5" <script
+    gives "$1" "$2" prog talk --call AB1CD --module A --bind "$3" --to "$4" --stay 800 --book "$5" <script
 }
 
 has_ipv6() {

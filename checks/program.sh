@@ -42,7 +42,10 @@ words_that_are_not_utf8() {
         refused "$(printf '\303')" &&
         refused judge "$(printf '\377')" &&
         refused "$(printf '\377')" judge &&
-        refused "$(printf '\355\240\200')"
+        refused "$(printf '\355\240\200')" &&
+        refused replay --call "$(printf 'A\377')" &&
+        refused replay "--modules=$(printf 'A\303')" &&
+        refused make 0 "$(printf '1\200')"
 }
 check "words that are not UTF-8 are refused" words_that_are_not_utf8
 

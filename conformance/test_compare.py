@@ -26,6 +26,9 @@ FOLDER = os.path.dirname(os.path.abspath(__file__))
 FILES = ("packets.py", "reflector.py", "files.py", "made.py", "reference.py")
 CASES = 400
 
+# The kinds of all commands, those that the program doesn't have yet among them.
+ALL = "judge,show,replay,make,check,words"
+
 
 RUNNER = """
 import pickle, sys
@@ -98,8 +101,21 @@ class Compare(unittest.TestCase):
 
     def test_the_vectors_pass(self):
         program = "%s %s" % (sys.executable, os.path.join(FOLDER, "reference.py"))
-        status, lines = compare("--program", program, "--vectors", make_vectors.FOLDER)
+        status, lines = compare("--program", program, "--vectors", make_vectors.FOLDER, "--only", ALL)
         self.assertEqual((status, lines[-1]), (0, "%d passed, 0 failed" % len(make_vectors.VECTORS)))
+
+    def test_a_command_that_is_not_there_yet_is_left_out(self):
+        with tempfile.TemporaryDirectory() as folder:
+            changed_folder(folder, "reference", 'if command in ("judge", "show", "check"):', 'if command in ("judge", "show"):')
+            program = "%s %s" % (sys.executable, os.path.join(folder, "reference.py"))
+            words = ("--program", program, "--failures", os.path.join(folder, "failures"))
+            told = "left out, since the program doesn't have it yet: check"
+            for more in (("--cases", "40"), ("--vectors", make_vectors.FOLDER), ("--cases", "20", "--only", "words")):
+                status, lines = compare(*words, *more)
+                self.assertEqual((status, told in lines, lines[-1].endswith(" passed, 0 failed")), (0, True, True))
+            for more in (("--cases", "10", "--only", "check"), ("--vectors", make_vectors.FOLDER, "--only", ALL)):
+                status, lines = compare(*words, *more)
+                self.assertEqual((status, told in lines), (1, False))
 
     def test_a_failure_is_printed_kept_and_repeated(self):
         with tempfile.TemporaryDirectory() as folder:

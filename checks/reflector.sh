@@ -1,0 +1,420 @@
+# Checks of the built program as a reflector on the loopback: its words, who hears whom, hostile datagrams, its files and
+# how it ends. Part of checks/run, behind program.sh and network.sh, whose helpers it uses.
+# shellcheck shell=sh
+
+# all_refused COMMAND: each line of the input is words behind the command, as the shell reads them, and refused.
+all_refused() {
+    while read -r line; do
+        eval "refused $1 $line" || return 1
+    done
+}
+
+# all_taken COMMAND: each line is words that are taken, with a port that cannot be opened.
+all_taken() {
+    while read -r line; do
+        eval "gives 5 'port failed\\n' prog $1 $line" </dev/null || return 1
+    done
+}
+
+words_of_serve() {
+    all_refused serve <<'END' || return 1
+
+x
+--call M17-TST
+--call m17-tst x
+--call '' x
+--call 'A ' x
+--call ABCDEFGHIJ x
+--call M17-TST --call M17-TST x
+--call M17-TST 1 2 3 4 5
+--call M17-TST --modules '' x
+--call M17-TST --modules AA x
+--call M17-TST --modules a x
+--call M17-TST --parrots D x
+--call M17-TST --modules A --parrots AB x
+--call M17-TST --places 0 x
+--call M17-TST --places 257 x
+--call M17-TST --places +1 x
+--call M17-TST --places= x
+--call M17-TST --for 0 x
+--call M17-TST --for 1000001 x
+--call M17-TST --for 1.5 x
+--call M17-TST --for '1 ' x
+--call M17-TST --for 18446744073709551617 x
+--call M17-TST --book a --book b x
+--call M17-TST x --book
+--call M17-TST --summary x
+--call M17-TST --bind x
+--call M17-TST --listen x
+-h
+--help
+END
+    all_taken serve <<'END'
+--call M17-TST x
+x --call=M17-TST
+--call M17-TST 1 2 3 4
+--call ABCDEFGHI x
+--call=-A x
+--call M17-TST --modules ZYXWVUTSRQPONMLKJIHGFEDCBA --parrots AZ x
+--call M17-TST --places 1 x
+--call M17-TST --places 256 x
+--call M17-TST --places 00064 x
+--call M17-TST --for 1 x
+--call M17-TST --for 1000000 x
+--call M17-TST --book= x
+--call M17-TST --book d x
+--call M17-TST -- --x
+END
+}
+check "the words of serve are taken up to their bounds, and refused past them" words_of_serve
+
+words_of_talk() {
+    rest='--call AB1CD --module A --bind x --to 10.0.0.9:17000'
+    all_refused talk <<END || return 1
+
+--module A --bind x --to 10.0.0.9:17000
+--call AB1CD --bind x --to 10.0.0.9:17000
+--call AB1CD --module A --to 10.0.0.9:17000
+--call AB1CD --module A --bind x
+--call ab1cd --module A --bind x --to 10.0.0.9:17000
+--call AB1CD --module a --bind x --to 10.0.0.9:17000
+--call AB1CD --module AB --bind x --to 10.0.0.9:17000
+--call AB1CD --module '' --bind x --to 10.0.0.9:17000
+--call AB1CD --module A --bind x --to localhost:17000
+--call AB1CD --module A --bind x --to 10.0.0.9
+--call AB1CD --module A --bind x --to 10.0.0.9:65536
+--call AB1CD --module A --bind x --to 10.0.0.09:17000
+--call AB1CD --module A --bind x --to 10.0.0.256:17000
+--call AB1CD --module A --bind x --to [::1]:17000
+--call AB1CD --module A --bind x --to [0000:0000:0000:0000:0000:0000:0000:000A]:17000
+$rest --stay 86400001
+$rest --stay -1
+$rest --stay ''
+$rest --stay 1 --stay 1
+$rest --listen --listen
+$rest --listen=yes
+$rest --for 1
+$rest --modules A
+$rest x
+END
+    all_taken talk <<END
+$rest
+$rest --stay 0
+$rest --stay 86400000 --listen --book b
+$rest --stay=000086400000
+$rest --book=
+$rest --
+--call AB1CD --module Z --bind '' --to 255.255.255.255:65535
+--call AB1CD --module A --bind x --to 0.0.0.0:0
+--call AB1CD --module A --bind x --to [0000:0000:0000:0000:0000:0000:0000:000a]:17000
+END
+}
+check "the words of talk are taken up to their bounds, and refused past them" words_of_talk
+
+# serves WORD..: starts a reflector with these words, and waits until it listens. Its files are in `kept`, what it prints
+# goes to `served`, and its process is $server.
+serves() {
+    needs python3
+    rm -rf kept && mkdir kept || return 1
+    timeout 60 "$program" serve --call M17-TST --book kept "$@" >served &
+    server=$!
+    joined 0
+}
+
+# joined COUNT: waits until so many have joined module A. A join has 37 bytes in its book.
+joined() {
+    has_bytes kept/A.book $((9 + 37 * $1))
+}
+
+# has_bytes FILE COUNT: waits until the file is there and has so many.
+has_bytes() {
+    tries=0
+    until [ -f "$1" ] && [ "$(wc -c <"$1")" -ge "$2" ]; do
+        tries=$((tries + 1))
+        [ $tries -lt 400 ] || {
+            echo "$1 never had $2 bytes"
+            return 1
+        }
+        sleep 0.05
+    done
+}
+
+# ends STATUS TEXT: whether the reflector ends so, with just that text.
+ends() {
+    wait "$server"
+    ended=$?
+    # shellcheck disable=SC2059  # the text is a format
+    printf "$2" | cmp - served && [ $ended -eq "$1" ] || {
+        echo "serve ended with status $ended, and not $1; it wrote"
+        cat served
+        return 1
+    }
+}
+
+# joins SCRIPT FILE TO WORD..: a talk of module A to the reflector at TO in the background, which prints into FILE.
+joins() {
+    script=$1 file=$2 to=$3
+    shift 3
+    prog talk --call AB1CD --module A --bind "${bind:-127.0.0.1:0}" --to "$to" "$@" <"$script" >"$file" &
+}
+
+# stays FILE TO WORD..: the same without a script, until the reflector ends.
+stays() {
+    joins /dev/null "$@" --stay 86400000
+}
+
+# said FILE TEXT: whether a talk that has ended printed that.
+said() {
+    [ "$(cat "$1")" = "$2" ] || {
+        echo "$1: wrote '$(cat "$1")', and not '$2'"
+        return 1
+    }
+}
+
+# free_ports: two ports of UDP that nothing has, $port and $other.
+free_ports() {
+    needs python3
+    # shellcheck disable=SC2046  # two numbers
+    set -- $(python3 -c '
+import socket
+two = [socket.socket(socket.AF_INET, socket.SOCK_DGRAM) for _ in range(2)]
+for one in two:
+    one.bind(("127.0.0.1", 0))
+print(*(one.getsockname()[1] for one in two))')
+    port=$1 other=$2
+}
+
+# frames MOMENT: the script of three packets of one stream, 40 ms apart, the first at that moment.
+frames() {
+    python3 -B -c '
+import sys
+sys.path.insert(0, sys.argv[1])
+from make import END_BIT, stream_packet
+start = int(sys.argv[2])
+for number in range(3):
+    packet = stream_packet(0x1234 + start, number | END_BIT * (number == 2), "AB1CD")
+    sys.stdout.buffer.write((start + 40 * number).to_bytes(8, "big") + packet)' "$top/examples" "$1"
+}
+
+two_links() {
+    free_ports
+    frames 0 >script
+    serves --modules A --for 3 "127.0.0.1:$port" "127.0.0.1:$other" || return 1
+    stays listener "127.0.0.1:$other" --listen --book heard
+    listener=$!
+    joined 1 || return 1
+    joins script talker "127.0.0.1:$port"
+    wait $! && wait $listener || return 1
+    said talker 'closed asked kept 0' && said listener 'closed dropped kept 3' || return 1
+    gives 0 '0 opened\n1 continued\n2 continued\n' prog judge <heard || return 1
+    ends 0 'A admitted 3 missed 0\n' || return 1
+    prog replay --modules A <kept/link0.trace | grep -c 'A opened\|A continued' >count && said count 3 || return 1
+    prog replay --modules A <kept/link1.trace | grep -c 'A join' >count && said count 1
+}
+check "of two links with a peer each, one hears what is said on the other" two_links
+
+# On a port of both families, and on a second link of IPv6 alone.
+both_families() {
+    needs python3
+    has_ipv6 || {
+        echo "there is no IPv6 here"
+        exit 77
+    }
+    free_ports
+    frames 0 >script
+    serves --modules A --for 4 "[::]:$port" "[::1]:$other" || return 1
+    here=0000:0000:0000:0000:0000:0000:0000:0001
+    bind='[::1]:0'
+    stays six "[$here]:$port" --listen
+    six=$!
+    stays alone "[$here]:$other" --listen
+    alone=$!
+    bind=127.0.0.1:0
+    stays four "127.0.0.1:$port" --listen
+    four=$!
+    joined 3 || return 1
+    bind='[::1]:0'
+    joins script talker "[$here]:$port"
+    wait $! && wait $six && wait $alone && wait $four || return 1
+    for name in six alone four; do said $name 'closed dropped kept 3' || return 1; done
+    said talker 'closed asked kept 0' && ends 0 'A admitted 3 missed 0\n'
+}
+check "peers of IPv6 and of IPv4, on one link and on two, hear one another" both_families
+
+# Each hears the other's three packets, and its own three played back: the one's before the other speaks.
+parrot_and_two() {
+    free_ports
+    frames 0 >early
+    frames 2500 >late
+    serves --modules A --parrots A --for 6 "127.0.0.1:$port" || return 1
+    joins late second "127.0.0.1:$port" --stay 86400000 --book second.book
+    second=$!
+    joined 1 || return 1
+    joins early first "127.0.0.1:$port" --stay 86400000 --book first.book
+    wait $! && wait $second || return 1
+    said first 'closed dropped kept 6' && said second 'closed dropped kept 6' || return 1
+    ends 0 'A admitted 6 missed 0\n' || return 1
+    # The stream ids are 1234 and 1BF8, and of echoes their complements.
+    ids first.book >got && printf 'EDCB\nEDCB\nEDCB\n1BF8\n1BF8\n1BF8\n' | cmp - got || return 1
+    ids second.book >got && printf '1234\n1234\n1234\nE407\nE407\nE407\n' | cmp - got
+}
+
+# ids BOOK: the stream ids of a client's book, bytes 14 and 15 of each record, a line each.
+ids() {
+    python3 -c '
+import sys
+data = open(sys.argv[1], "rb").read()
+for at in range(0, len(data), 64):
+    print(data[at + 14 : at + 16].hex().upper())' "$1"
+}
+check "two in a parrot module hear one another, and each what it said itself" parrot_and_two
+
+# hostile_for SECONDS: all of them, beside a talk, while the reflector serves for so long.
+hostile_for() {
+    free_ports
+    serves --modules AB --for "$1" "127.0.0.1:$port" || return 1
+    joins "$top/examples/talk.script" talker "127.0.0.1:$port"
+    talker=$!
+    python3 "$top/checks/hostile.py" "$port" >sent
+    all=$?
+    wait $talker
+    wait "$server" || return 1
+    [ $all -eq 0 ] && said talker 'closed asked kept 0' || {
+        cat sent
+        return 1
+    }
+    printf 'A admitted 25 missed 0\nB admitted 0 missed 0\n' | cmp - served || return 1
+    prog replay --modules AB <kept/link0.trace | grep -c ' refused ' | cmp - sent
+}
+
+# Where the machine is so busy that the reflector ends before all were sent, it gets more time.
+hostile() {
+    hostile_for 2 || hostile_for 10
+}
+check "4,500 hostile datagrams of 0 to 40,000 bytes are refused, and a talk goes on beside them" hostile
+
+end_of_serve() {
+    free_ports
+    serves --modules A --for 2 "127.0.0.1:$port" || return 1
+    stays talker "127.0.0.1:$port" --listen
+    wait $! || return 1
+    said talker 'closed dropped kept 0' && ends 0 'A admitted 0 missed 0\n'
+}
+check "serve --for ends, and each member gets a DISC" end_of_serve
+
+# What was written until then stays, and ends with a whole entry and a whole record.
+stopped() {
+    free_ports
+    rm -rf kept && mkdir kept || return 1
+    "$program" serve --call M17-TST --modules A --book kept "127.0.0.1:$port" >served &
+    server=$!
+    joined 0 || return 1
+    joins "$top/examples/talk.script" talker "127.0.0.1:$port" --stay 400
+    whole=$((9 + 37 + 25 * 97))
+    has_bytes kept/A.book $whole && kill "$server" || return 1
+    wait $! || return 1
+    said talker 'closed asked kept 0' && ends 143 '' || return 1
+    prog replay --modules A <kept/link0.trace >lines && [ "$(grep -c 'A opened\|A continued' lines)" -eq 25 ]
+}
+check "a reflector that is stopped by a signal says nothing, and leaves whole files" stopped
+
+ports_and_folders() {
+    free_ports
+    set -- prog serve --call M17-TST
+    gives 5 'port failed\n' "$@" --book no/such/folder "127.0.0.1:$port" &&
+        gives 5 'port failed\n' "$@" --book "$top/README.md" "127.0.0.1:$port" &&
+        gives 5 'port failed\n' "$@" --book '' "127.0.0.1:$port/" &&
+        gives 5 'port failed\n' "$@" "127.0.0.1:$port" "127.0.0.1:$port" &&
+        gives 5 'port failed\n' "$@" "localhost:$port" &&
+        gives 5 'port failed\n' "$@" 203.0.113.9:0 || return 1
+    serves --modules A --for 2 "127.0.0.1:$port" || return 1
+    gives 5 'port failed\n' "$@" "127.0.0.1:$port" && gives 5 'port failed\n' "$@" "127.0.0.1:$other" "0.0.0.0:$port" &&
+        ends 0 'A admitted 0 missed 0\n'
+}
+check "a port in use, no such address and no such folder give port failed at once" ports_and_folders
+
+full_book() {
+    [ -c /dev/full ] || {
+        echo "there is no /dev/full here"
+        exit 77
+    }
+    free_ports
+    mkdir full && ln -s /dev/full full/A.book || return 1
+    gives 8 'A admitted 0 missed 0\nbook failed\n' \
+        prog serve --call M17-TST --modules A --for 1 --book full "127.0.0.1:$port" && [ -s full/link0.trace ]
+}
+check "a book that cannot be written does not end serve, and gives 8 at its end" full_book
+
+# The largest plan takes about 70 MB.
+little_memory() {
+    # shellcheck disable=SC3045  # shells that lack it skip the check
+    (ulimit -v 20000) 2>/dev/null || {
+        echo "memory cannot be limited here"
+        exit 77
+    }
+    set -- serve --call M17-TST --modules ABCDEFGHIJKLMNOPQRSTUVWXYZ --places 256 --for 1 127.0.0.1:0
+    gives 70 '' sh -c 'ulimit -v 20000; exec "$@"' sh timeout 60 "$program" "$@"
+}
+check "serve without memory for its plan ends with 70, and says nothing" little_memory
+
+# Of two links the first is lost: the other goes on to its end. What is shut from outside is the socket of the process.
+lost_link() {
+    free_ports
+    serves --modules A --for 3 "127.0.0.1:$port" "127.0.0.1:$other" || return 1
+    children=$(cat "/proc/$server/task/$server/children" 2>/dev/null)
+    python3 "$top/checks/shut_socket.py" "${children%% *}" "$port" || exit 77
+    joins "$top/examples/talk.script" talker "127.0.0.1:$other"
+    wait $! && said talker 'closed asked kept 0' || return 1
+    ends 7 'A admitted 25 missed 0\nlink lost\n' || return 1
+    gives 7 'fault\nlink lost\n' sh -c '"$1" replay --modules A <kept/link0.trace >lines; ended=$?
+        sed -n "s/^[0-9]* fault/fault/p; \$p" lines | uniq; exit $ended' sh "$program"
+}
+check "where a socket fails its link is lost, the others go on, and serve gives 7" lost_link
+
+# reads STATUS LINES WORD..: whether contrib/m17-book ends so, and writes just these lines on standard output.
+reads() {
+    gives "$1" "$2" timeout 20 "$top/contrib/m17-book" "$3" ${4:+"$4"} 2>why
+}
+
+# The book is that of docs/protocol.md.
+read_book() {
+    needs python3
+    python3 -c 'import sys; sys.stdout.buffer.write(bytes.fromhex(sys.argv[1]))' \
+        "4d3137424f4f4b3143 0101000000000000000500000000
+        0000000a00000002000000000000000101 0000009fdd51
+        0201000000000000000500000000 0000000a000000020000000000000001 03" >book || return 1
+    reads 0 '10 C join AB1CD listens\n10 C leave AB1CD silent\n' book || return 1
+    head -c 76 book >cut
+    reads 1 '10 C join AB1CD listens\n' cut && grep -q 'refused at 76: cut' why || return 1
+    { cat book && printf 9; } >kind
+    reads 1 '10 C join AB1CD listens\n10 C leave AB1CD silent\n' kind && grep -q 'refused at 77: kind 39' why || return 1
+    reads 1 '' "$top/README.md" && grep -q 'refused at 0: field' why || return 1
+    reads 3 '' no/such/book && reads 2 '' --other book || return 1
+    [ -c /dev/full ] || return 0
+    "$top/contrib/m17-book" book >/dev/full
+    [ $? -eq 4 ]
+}
+check "m17-book says what a book holds, and why another file is none" read_book
+
+followed_book() {
+    free_ports
+    frames 0 >script
+    serves --modules A --for 3 "127.0.0.1:$port" || return 1
+    timeout 30 "$top/contrib/m17-book" --follow kept/A.book >lines &
+    follows=$!
+    joins script talker "127.0.0.1:$port"
+    wait $! && ends 0 'A admitted 3 missed 0\n' || return 1
+    tries=0
+    until [ "$(wc -l <lines)" -ge 5 ] || [ $tries -ge 200 ]; do
+        tries=$((tries + 1))
+        sleep 0.05
+    done
+    kill $follows
+    sed 's/^[0-9]* //' lines >got
+    printf '%s\n' 'A join AB1CD' 'A opened AB1CD stream 1234 number 0' 'A continued AB1CD stream 1234 number 1' \
+        'A continued AB1CD stream 1234 number 2 last' 'A leave AB1CD asked' | cmp - got || {
+        cat lines
+        return 1
+    }
+}
+check "m17-book --follow says who joins and speaks while a reflector runs" followed_book
