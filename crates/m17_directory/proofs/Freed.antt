@@ -17,7 +17,7 @@ use Rattle.m17_directory.specs.Entries.{Claim, Entry, Setup, notice_at, claim_at
 use Rattle.m17_directory.specs.Known.{Past, now, known_at}
 use Rattle.m17_directory.specs.Given.{IsOfFreePlace, AreGivenFreely}
 use Rattle.m17_directory.specs.Outcome.{Outcome, leave, has_place}
-use Rattle.m17_directory.specs.Routed.{here_of, heard_at, others_at, settled_at, asks_at, both, past_at, posts_at, posted, event_for, routed}
+use Rattle.m17_directory.specs.Routed.{here_of, unclaimed_at, others_at, settled_at, asks_at, both, past_at, posts_at, posted, event_for, routed}
 use Rattle.m17_control.specs.declared.event.Why.TheVariants.{Replaced}
 use Rattle.m17_directory.specs.Laws.{is_join, join_event, ClaimsAreAsked, JoinsTakeFreePlaces}
 use Rattle.m17_directory.proofs.Same.{length_asked, length_more}
@@ -256,7 +256,7 @@ module _ (setup : Setup) (entries : List Entry) (letter : ℕ) (given : AreGiven
   by_entry n = filter_map (event_for letter) (posts_at setup entries n)
 
   abbrev by_heard : ℕ → List Event
-  by_heard n = filter_map (event_for letter) (heard_at (past_at setup entries n)).posts
+  by_heard n = filter_map (event_for letter) (unclaimed_at (past_at setup entries n)).posts
 
   so_far_suc : (n : ℕ) → so_far (suc n) ≡ so_far n ++ by_entry n
   so_far_suc n =
@@ -264,7 +264,7 @@ module _ (setup : Setup) (entries : List Entry) (letter : ℕ) (given : AreGiven
       ∙ filter_map-append (event_for letter) (flat_map (posts_at setup entries) (range_with_len 0 n)) (posts_at setup entries n)
 
   heard_joins_none : (n : ℕ) → NoJoins (by_heard n)
-  heard_joins_none n = no_joins (by_heard n) (joins_of_events letter (heard_at (past_at setup entries n)).posts ∙ none_heard letter (past_at setup entries n))
+  heard_joins_none n = no_joins (by_heard n) (joins_of_events letter (unclaimed_at (past_at setup entries n)).posts ∙ none_heard letter (past_at setup entries n))
 
   -- a Join comes behind
   record Put (n : ℕ) : Type 0 where
@@ -277,7 +277,7 @@ module _ (setup : Setup) (entries : List Entry) (letter : ℕ) (given : AreGiven
     is : by_entry n ≡ by_heard n ++ event ∷ []
 
   abbrev out : ℕ → Bool → Option Claim → List Dispatch
-  out n u claim = (cond u (both (heard_at (past_at setup entries n)) (settled_at (past_at setup entries n) claim)) (heard_at (past_at setup entries n))).posts
+  out n u claim = (cond u (both (unclaimed_at (past_at setup entries n)) (settled_at (past_at setup entries n) claim)) (unclaimed_at (past_at setup entries n))).posts
 
   posts_are : (n : ℕ) → posts_at setup entries n ≡ out n (asks_at (past_at setup entries n)) (claim_at entries n)
   unfolding posts_at
@@ -288,7 +288,7 @@ module _ (setup : Setup) (entries : List Entry) (letter : ℕ) (given : AreGiven
       let past : Past = past_at setup entries n in
       let one : AsksFor (notice_at entries (now past)) = asks_one past e in
       ap (filter_map (event_for letter)) (posts_are n ∙ ap (λ u. out n u (claim_at entries n)) e ∙ ap (out n true) none)
-      ∙ filter_map-append (event_for letter) (heard_at past).posts (settled_at past None).posts
+      ∙ filter_map-append (event_for letter) (unclaimed_at past).posts (settled_at past None).posts
       ∙ ap (λ (o : Outcome). by_heard n ++ filter_map (event_for letter) o.posts) (settled_view past None one.from one.at one.packet one.request one.says one.wants)
       ∙ append-nil (by_heard n)
   with_none n false e none = ap (filter_map (event_for letter)) (posts_are n ∙ ap (λ u. out n u (claim_at entries n)) e)
@@ -307,7 +307,7 @@ module _ (setup : Setup) (entries : List Entry) (letter : ℕ) (given : AreGiven
       ∙ ap (λ ks. map (leave (here_of past) Replaced) ks ++ ToModule one.request.letter event ∷ []) (none_has (has_place of.it.member.place) (others_at past) of.free) in
       put_if n (eqb one.request.letter letter) of.it event asks of.below of.free refl
       (ap (filter_map (event_for letter)) (posts_are n ∙ ap (λ u. out n u (claim_at entries n)) asks ∙ ap (out n true) of.is_it)
-      ∙ filter_map-append (event_for letter) (heard_at past).posts (settled_at past (Some of.it)).posts
+      ∙ filter_map-append (event_for letter) (unclaimed_at past).posts (settled_at past (Some of.it)).posts
       ∙ ap (λ ds. by_heard n ++ filter_map (event_for letter) ds) settles)
 
   and_first : (x y : Bool) → (x && y) ≡ true → x ≡ true
@@ -325,9 +325,9 @@ module _ (setup : Setup) (entries : List Entry) (letter : ℕ) (given : AreGiven
   abbrev known : Member → ℕ → ℕ
   known m n = count (is_such letter (is_it m)) (known_at (past_at setup entries n))
 
-  heard_leaves : (m : Member) (n : ℕ) → leaves_of m (by_heard n) ≡ count (is_such letter (is_it m)) (heard_at (past_at setup entries n)).left
+  heard_leaves : (m : Member) (n : ℕ) → leaves_of m (by_heard n) ≡ count (is_such letter (is_it m)) (unclaimed_at (past_at setup entries n)).left
   unfolding leaves_of
-  heard_leaves m n = left_is letter (is_it m) (heard_at (past_at setup entries n)) (leaves_heard (past_at setup entries n))
+  heard_leaves m n = left_is letter (is_it m) (unclaimed_at (past_at setup entries n)) (leaves_heard (past_at setup entries n))
 
   heard_le : (m : Member) (n : ℕ) → leaves_of m (by_heard n) ≤ known m n
   heard_le m n = omega (arith, heard_leaves m n, heard_count (past_at setup entries n) (is_such letter (is_it m)) (such_heard letter (is_it m)))
@@ -379,7 +379,7 @@ module _ (setup : Setup) (entries : List Entry) (letter : ℕ) (given : AreGiven
       let inside : i < length (so_far n) = joins_within (so_far n) (by_heard n) i m (heard_joins_none n) e in
       let before : 0 < leaves_of m (drop (suc i) (so_far n)) + known m n = left_or_known n (omega arith) i m (sym (joiner_before (so_far n) (by_heard n) i inside) ∙ e) in
       let others : count such (others_at past) ≡ 0 = none_such letter put.claim.member.place m (others_at past) at put.free in
-      let all : count such (others_at past) + count such (heard_at past).left ≡ known m n = ap (λ ks. count such ks + count such (heard_at past).left) (sym (others_are past put.asks)) ∙ heard_count past such (such_heard letter (is_it m)) in
+      let all : count such (others_at past) + count such (unclaimed_at past).left ≡ known m n = ap (λ ks. count such ks + count such (unclaimed_at past).left) (sym (others_are past put.asks)) ∙ heard_count past such (such_heard letter (is_it m)) in
       let parts : leaves_of m (drop (suc i) (so_far n ++ by_heard n)) ≡ leaves_of m (drop (suc i) (so_far n)) + leaves_of m (by_heard n) =
       ap (leaves_of m) (drop-append-le (suc i) (so_far n) (by_heard n) (omega arith)) ∙ leaves_append m (drop (suc i) (so_far n)) (by_heard n) in
       let left = heard_leaves m n in

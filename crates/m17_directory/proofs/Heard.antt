@@ -17,7 +17,7 @@ use Rattle.m17_control.specs.declared.packet.Packet.TheVariants as packets
 use Rattle.m17_control.specs.declared.packet.Control.TheVariants.{Conn, Lstn, Ackn, Nack, Ping, Pong, Disc}
 use Rattle.m17_control.specs.Modules.{serves}
 use Rattle.m17_directory.specs.Outcome.{Here, Outcome, only, posting, to_door, of_other, of_packet}
-use Rattle.m17_directory.specs.Routed.{here_of, row_for, heard_at, is_asks, asks_at, asked_before, past_at, others_than, others_at}
+use Rattle.m17_directory.specs.Routed.{here_of, row_for, unclaimed_at, is_asks, asks_at, asked_before, past_at, others_than, others_at}
 use Rattle.m17_directory.specs.StandsFor.{Kept, StandsFor, IsAsked, IsHeard, faults_before, unclaimed, with_left}
 use Rattle.m17_directory.specs.Steps.{Lists, IsComeTo, IsTaken, is_other, rows_by, still_by, said_by, heard_by, known_by, asked_as, asked_by, asks_by}
 use Rattle.m17_directory.proofs.Positions.{get_before, get_end}
@@ -201,7 +201,7 @@ module _ (old new : Kept) (entries : List Entry) (notice : Notice) (stood : Stan
       ap (λ i. record { setup = old.setup; index = i; moment = moment_at longer i }) now_is
       ∙ ap (λ m. record { setup = old.setup; index = n; moment = m }) moment_is
 
-  heard_now_is : heard_at past ≡ heard_by here old.moment ends old.known notice
+  heard_now_is : unclaimed_at past ≡ heard_by here old.moment ends old.known notice
   heard_now_is =
       heard_is past
       ∙ ap (λ i. heard_by (here_of past) (moment_before longer i) (ends_at longer i) (known_at past) (notice_at longer i)) now_is

@@ -14,7 +14,7 @@ use Rattle.m17_directory.specs.declared.verdict.LinkVerdict.TheVariants as verdi
 use Rattle.m17_directory.specs.Entries.{Notice, Claim, Entry, Setup, notice_at, claim_at, ends_at}
 use Rattle.m17_directory.specs.Known.{Past, now, request_in, known_at}
 use Rattle.m17_directory.specs.Outcome.{Here, Outcome, only, to_module, to_door, posting, leaving, is_what, known_asks, other_asks, of_packet}
-use Rattle.m17_directory.specs.Routed.{here_of, row_for, heard_at, settled_by, settled_at, asks_at, both, past_at, link_verdict}
+use Rattle.m17_directory.specs.Routed.{here_of, row_for, unclaimed_at, settled_by, settled_at, asks_at, both, past_at, link_verdict}
 use Rattle.m17_directory.specs.Laws.{is_full, is_joining, AskersJoinOrAreFull, AskersAskForServedModules}
 use Rattle.m17_directory.specs.Steps.{still_by, said_by}
 use Rattle.m17_directory.proofs.Same.{length_asked, heard_is}
@@ -69,7 +69,7 @@ said_neither at true rows still Notice.Fault = (refl, refl)
 said_neither at false rows still Notice.Fault = (refl, refl)
 said_neither at ends rows still Notice.End = (refl, refl)
 
-heard_neither : (past : Past) → Neither (heard_at past)
+heard_neither : (past : Past) → Neither (unclaimed_at past)
 heard_neither past =
     let at : Here = here_of past in
     let rows : List Known = known_at past in
@@ -85,7 +85,7 @@ settled_is past claim one =
     ∙ ap (settled_by past claim (Notice.Sent one.from one.at one.packet)) one.wants
 
 abbrev comes : Past → Bool → Option Claim → Outcome
-comes past b claim = cond b (both (heard_at past) (settled_at past claim)) (heard_at past)
+comes past b claim = cond b (both (unclaimed_at past) (settled_at past claim)) (unclaimed_at past)
 
 full_by : (past : Past) (b : Bool) (claim : Option Claim) → asks_at past ≡ b → is_full (comes past b claim).verdict ≡ (b && not (is_some claim))
 full_by past true None e = ap (λ (o : Outcome). is_full o.verdict) (settled_is past None (asks_one past e))

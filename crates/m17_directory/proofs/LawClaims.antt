@@ -10,7 +10,7 @@ use Rattle.m17_directory.specs.declared.known.Known.{Known}
 use Rattle.m17_directory.specs.Entries.{Notice, Claim, Entry, Setup, notice_at, claim_at}
 use Rattle.m17_directory.specs.Known.{Past, now, request_in, known_at}
 use Rattle.m17_directory.specs.Outcome.{Here, has_place}
-use Rattle.m17_directory.specs.Routed.{here_of, heard_at, others_at, settled_at, asks_at, both, past_at, outcome_at}
+use Rattle.m17_directory.specs.Routed.{here_of, unclaimed_at, others_at, settled_at, asks_at, both, past_at, outcome_at}
 use Rattle.m17_directory.specs.StandsFor.{departed_of}
 use Rattle.m17_directory.specs.Laws.{ClaimsAreAsked, joiner_of, join_by, all_joins, joined_by, joined_before, claimed_members, EachClaimJoins, LeaversWereKnown}
 use Rattle.m17_directory.proofs.Same.{length_asked}
@@ -122,26 +122,26 @@ module _ (test : Departed → Bool) where
   abbrev such : Known → Bool
   such k = test (departed_of k)
 
-  heard_few : (past : Past) → count such (heard_at past).left ≤ count such (known_at past)
+  heard_few : (past : Past) → count such (unclaimed_at past).left ≤ count such (known_at past)
   heard_few past =
       let sum = heard_count past such (seat_heard test) in
       omega (arith, sum)
 
-  asking_few : (past : Past) (claim : Option Claim) → asks_at past ≡ true → count such (both (heard_at past) (settled_at past claim)).left ≤ count such (known_at past)
+  asking_few : (past : Past) (claim : Option Claim) → asks_at past ≡ true → count such (both (unclaimed_at past) (settled_at past claim)).left ≤ count such (known_at past)
   asking_few past None asks =
-      let sum : count such ((heard_at past).left ++ (settled_at past None).left) ≡ count such (heard_at past).left + 0 =
-      count_append such (heard_at past).left (settled_at past None).left ∙ ap (λ ks. count such (heard_at past).left + count such ks) (none_settled past) in
+      let sum : count such ((unclaimed_at past).left ++ (settled_at past None).left) ≡ count such (unclaimed_at past).left + 0 =
+      count_append such (unclaimed_at past).left (settled_at past None).left ∙ ap (λ ks. count such (unclaimed_at past).left + count such ks) (none_settled past) in
       omega (arith, sum, heard_few past)
   asking_few past (Some claim) asks =
       let replaced : List Known = filter (has_place claim.member.place) (others_at past) in
-      let sum : count such ((heard_at past).left ++ (settled_at past (Some claim)).left) ≡ count such (heard_at past).left + count such replaced =
-      count_append such (heard_at past).left (settled_at past (Some claim)).left
-      ∙ ap (λ ks. count such (heard_at past).left + count such ks) (settled_some past claim (asks_one past asks)) in
-      let heard : count such (others_at past) + count such (heard_at past).left ≡ count such (known_at past) =
-      ap (λ ks. count such ks + count such (heard_at past).left) (sym (others_are past asks)) ∙ heard_count past such (seat_heard test) in
+      let sum : count such ((unclaimed_at past).left ++ (settled_at past (Some claim)).left) ≡ count such (unclaimed_at past).left + count such replaced =
+      count_append such (unclaimed_at past).left (settled_at past (Some claim)).left
+      ∙ ap (λ ks. count such (unclaimed_at past).left + count such ks) (settled_some past claim (asks_one past asks)) in
+      let heard : count such (others_at past) + count such (unclaimed_at past).left ≡ count such (known_at past) =
+      ap (λ ks. count such ks + count such (unclaimed_at past).left) (sym (others_are past asks)) ∙ heard_count past such (seat_heard test) in
       omega (arith, sum, heard, count_parts such (has_place claim.member.place) (others_at past))
 
-  few_by : (past : Past) (claim : Option Claim) (b : Bool) → asks_at past ≡ b → count such (cond b (both (heard_at past) (settled_at past claim)) (heard_at past)).left ≤ count such (known_at past)
+  few_by : (past : Past) (claim : Option Claim) (b : Bool) → asks_at past ≡ b → count such (cond b (both (unclaimed_at past) (settled_at past claim)) (unclaimed_at past)).left ≤ count such (known_at past)
   few_by past claim true asks = asking_few past claim asks
   few_by past claim false asks = heard_few past
 

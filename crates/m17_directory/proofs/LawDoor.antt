@@ -8,7 +8,7 @@ use Rattle.m17_directory.specs.declared.dispatch.Dispatch.{Dispatch}
 use Rattle.m17_directory.specs.declared.dispatch.Dispatch.TheVariants.{ToModule, ToDoor}
 use Rattle.m17_directory.specs.Entries.{Entry, Setup, claim_at}
 use Rattle.m17_directory.specs.Known.{Past, now}
-use Rattle.m17_directory.specs.Routed.{heard_at, settled_at, asks_at, both, past_at, posts_at, posted, reply_for, direct_replies}
+use Rattle.m17_directory.specs.Routed.{unclaimed_at, settled_at, asks_at, both, past_at, posts_at, posted, reply_for, direct_replies}
 use Rattle.m17_directory.specs.Laws.{direct_of, door_replies, told_to, is_door_reply, DoorCarriesReplies, PeersAreToldApart, ClaimsCompleteAskers}
 use Rattle.m17_directory.proofs.Peers.{is_peer_same, is_peer_self}
 use Rattle.m17_directory.proofs.Same.{length_asked}
@@ -52,11 +52,11 @@ told_apart = record { same = is_peer_same; itself = is_peer_self }
 
 -- by whether it asks, and by the position of its claim
 by_asking : (past : Past) (b : Bool) (m : ℕ) → asks_at past ≡ b → now past ≡ m
-    → cond (asks_at past) (both (heard_at past) (settled_at past (claim_at past.entries (now past)))) (heard_at past)
-    ≡ cond b (both (heard_at past) (settled_at past (claim_at past.entries m))) (heard_at past)
+    → cond (asks_at past) (both (unclaimed_at past) (settled_at past (claim_at past.entries (now past)))) (unclaimed_at past)
+    ≡ cond b (both (unclaimed_at past) (settled_at past (claim_at past.entries m))) (unclaimed_at past)
 by_asking past b m e l =
-    ap (λ t. cond t (both (heard_at past) (settled_at past (claim_at past.entries (now past)))) (heard_at past)) e
-    ∙ ap (λ i. cond b (both (heard_at past) (settled_at past (claim_at past.entries i))) (heard_at past)) l
+    ap (λ t. cond t (both (unclaimed_at past) (settled_at past (claim_at past.entries (now past)))) (unclaimed_at past)) e
+    ∙ ap (λ i. cond b (both (unclaimed_at past) (settled_at past (claim_at past.entries i))) (unclaimed_at past)) l
 
 pub completes : ClaimsCompleteAskers
 completes = record {

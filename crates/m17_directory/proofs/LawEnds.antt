@@ -7,7 +7,7 @@ use Rattle.m17_directory.specs.declared.verdict.LinkVerdict.{LinkVerdict}
 use Rattle.m17_directory.specs.declared.verdict.LinkVerdict.TheVariants as verdict
 use Rattle.m17_directory.specs.Entries.{Entry, Setup, notice_at, is_from, ends_at}
 use Rattle.m17_directory.specs.Known.{row_at, known_at}
-use Rattle.m17_directory.specs.Routed.{heard_at, is_asks, asks_at, asked_before, past_at}
+use Rattle.m17_directory.specs.Routed.{unclaimed_at, is_asks, asks_at, asked_before, past_at}
 use Rattle.m17_directory.specs.Laws.{is_ended, NobodyIsKnownBehindTheEnd}
 use Rattle.m17_directory.proofs.Same.{past_of, length_asked}
 use Rattle.m17_directory.proofs.Later.{goes}
@@ -42,7 +42,7 @@ known_after_end setup entries n ends =
     let l : List Bool = asked_before setup entries n in
     let v : Bool = asks_at (past_at setup entries n) in
     let there : ends_at entries (length l) ≡ true = ap (ends_at entries) (length_asked setup entries n) ∙ ends in
-    known_gone setup entries l v there (ended_asks (heard_at (past_at setup entries n)).verdict (ended_where setup entries n ∙ ends))
+    known_gone setup entries l v there (ended_asks (unclaimed_at (past_at setup entries n)).verdict (ended_where setup entries n ∙ ends))
 
 pub nobody_known : NobodyIsKnownBehindTheEnd
 nobody_known setup entries once =

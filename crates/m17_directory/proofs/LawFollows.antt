@@ -25,7 +25,7 @@ use Rattle.m17_directory.specs.declared.verdict.Act.TheVariants as act
 use Rattle.m17_directory.specs.Entries.{Notice, Claim, Entry, Setup, notice_at, claim_at, passes_time, is_peer, is_from, moment_before, ends_at}
 use Rattle.m17_directory.specs.Known.{Past, now, request_in, row_at, known_at}
 use Rattle.m17_directory.specs.Outcome.{Here, Outcome, only, to_module, to_each_module, to_door, leave, posting, leaving, is_what, has_place, known_asks, other_asks, of_packet, of_end, settled}
-use Rattle.m17_directory.specs.Routed.{tick_ms, here_of, is_silent, row_for, heard_at, others_at, settled_by, settled_at, asks_at, both, past_at, posts_at, posted, event_for, routed}
+use Rattle.m17_directory.specs.Routed.{tick_ms, here_of, is_silent, row_for, unclaimed_at, others_at, settled_by, settled_at, asks_at, both, past_at, posts_at, posted, event_for, routed}
 use Rattle.m17_directory.specs.Laws.{is_join, join_event, joins_by, joins_at, IsClaimedAgain, LeavesFollowJoins}
 use Rattle.m17_directory.specs.Steps.{silent_by, ticks_by, still_by, said_by, heard_by}
 use Rattle.m17_directory.proofs.Same.{length_asked, heard_is}
@@ -165,9 +165,9 @@ module _ (P : ℕ → Member → Why → Type 0) where
       let past : Past = past_at setup entries n in
       let ends : Bool = ends_at past.entries (now past) in
       let notice : Notice = notice_at past.entries (now past) in
-      let first : SuchLeaves (heard_at past).posts = subst (λ (o : Outcome). SuchLeaves o.posts) (sym (heard_is past)) (heard_go (here_of past) (moment_before past.entries (now past)) ends (known_at past) notice h) in
+      let first : SuchLeaves (unclaimed_at past).posts = subst (λ (o : Outcome). SuchLeaves o.posts) (sym (heard_is past)) (heard_go (here_of past) (moment_before past.entries (now past)) ends (known_at past) notice h) in
       let second : SuchLeaves (settled_at past (claim_at entries (now past))).posts = settled_by_go past (claim_at entries (now past)) notice (request_in notice) r in
-      comes_go (asks_at past) (heard_at past) (settled_at past (claim_at entries (now past))) first second
+      comes_go (asks_at past) (unclaimed_at past) (settled_at past (claim_at entries (now past))) first second
 
   -- .. among the events of a module
   event_step : (letter to : ℕ) (event : Event) (rest : List Event) (b : Bool) → eqb to letter ≡ b → OfLeave to event.body → AllByRecursion (λ (e : Event). OfLeave letter e.body) rest → AllByRecursion (λ (e : Event). OfLeave letter e.body) (cons_option (cond b (Some event) None) rest)

@@ -20,7 +20,7 @@ use Rattle.m17_directory.specs.declared.verdict.Act.TheVariants as act
 use Rattle.m17_directory.specs.Entries.{Notice, Claim, Entry, Setup, notice_at, claim_at, moment_before, ends_at}
 use Rattle.m17_directory.specs.Known.{Past, now, request_in, known_at}
 use Rattle.m17_directory.specs.Outcome.{Here, Outcome, only, to_module, to_each_module, to_door, leave, posting, leaving, is_what, has_place, known_asks, other_asks, of_packet, of_end}
-use Rattle.m17_directory.specs.Routed.{here_of, row_for, heard_at, others_at, settled_by, settled_at, asks_at, both, past_at, link_verdict, posts_at, posted, event_for, routed}
+use Rattle.m17_directory.specs.Routed.{here_of, row_for, unclaimed_at, others_at, settled_by, settled_at, asks_at, both, past_at, link_verdict, posts_at, posted, event_for, routed}
 use Rattle.m17_directory.specs.Laws.{is_packet, packet_letter, packet_routed, packet_index, is_packet_for, PacketsAreOfEntries, is_join, join_event, joins_by, joins_at, JoinsAreTheClaims}
 use Rattle.m17_directory.specs.Steps.{silent_by, still_by, said_by}
 use Rattle.m17_directory.proofs.Same.{length_asked, heard_is}
@@ -158,7 +158,7 @@ none_said letter at ends rows still (Notice.Quiet m) = refl
 none_said letter at ends rows still Notice.Fault = either (JoinsNone letter) ends (of_end at rows) (only verdict.Faulted) (none_end letter at rows) refl
 none_said letter at ends rows still Notice.End = none_end letter at rows
 
-pub none_heard : (letter : ℕ) (past : Past) → JoinsNone letter (heard_at past)
+pub none_heard : (letter : ℕ) (past : Past) → JoinsNone letter (unclaimed_at past)
 none_heard letter past =
     let at : Here = here_of past in
     let ends : Bool = ends_at past.entries (now past) in
@@ -203,7 +203,7 @@ unfolding posts_at joins_at
 joins_posted setup entries letter n =
     let past : Past = past_at setup entries n in
     let f : ℕ → List Event = λ m. joins_by (here_of past) letter (notice_at entries m) (request_in (notice_at entries m)) (claim_at entries m) in
-    joins_comes letter (asks_at past) (heard_at past) (settled_at past (claim_at entries (now past))) (f (now past)) (none_heard letter past) (joins_settled letter past (claim_at entries (now past)))
+    joins_comes letter (asks_at past) (unclaimed_at past) (settled_at past (claim_at entries (now past))) (f (now past)) (none_heard letter past) (joins_settled letter past (claim_at entries (now past)))
     ∙ ap (λ m. cond (asks_at past) (f m) []) (length_asked setup entries n)
 
 pub joins_claims : JoinsAreTheClaims

@@ -14,7 +14,7 @@ use Rattle.m17_directory.specs.declared.known.Request.{Request}
 use Rattle.m17_directory.specs.Entries.{Notice, Claim, Entry, Setup, notice_at, claim_at, peers_named}
 use Rattle.m17_directory.specs.Known.{Past, now, request_in, known_at}
 use Rattle.m17_directory.specs.Outcome.{Here, Outcome, has_place}
-use Rattle.m17_directory.specs.Routed.{here_of, heard_at, others_at, settled_by, settled_at, asks_at, both, comes_to, asked_before, past_at, posts_at, posted, event_for, routed}
+use Rattle.m17_directory.specs.Routed.{here_of, unclaimed_at, others_at, settled_by, settled_at, asks_at, both, comes_to, asked_before, past_at, posts_at, posted, event_for, routed}
 use Rattle.m17_directory.specs.Laws.{EndsOnce, leaver_of, is_join, join_event, joins_by, joins_at, ClaimsAreAsked, joiner_of, joined_count, left_count, WhoJoinsLeaves}
 use Rattle.m17_directory.proofs.Same.{length_asked}
 use Rattle.m17_directory.proofs.LawMore.{posted_upto}
@@ -158,21 +158,21 @@ module _ (letter : ℕ) (test : Member → Bool) where
 
     -- the outcome of a position, by whether it asks and by its claim
     abbrev out : ℕ → Bool → Option Claim → Outcome
-    out n asks claim = cond asks (both (heard_at (past_at setup entries n)) (settled_at (past_at setup entries n) claim)) (heard_at (past_at setup entries n))
+    out n asks claim = cond asks (both (unclaimed_at (past_at setup entries n)) (settled_at (past_at setup entries n) claim)) (unclaimed_at (past_at setup entries n))
 
     left_at_is : (n : ℕ) → left_at n ≡ count such (out n (asks_at (past_at setup entries n)) (claim_at entries n)).left
     unfolding posts_at
     left_at_is n =
         let past : Past = past_at setup entries n in
-        left_is (comes_to past) (leaves_step (heard_at past) (settled_at past (claim_at entries (now past))) (asks_at past) (leaves_heard past) (leaves_settled past (claim_at entries (now past))))
+        left_is (comes_to past) (leaves_step (unclaimed_at past) (settled_at past (claim_at entries (now past))) (asks_at past) (leaves_heard past) (leaves_settled past (claim_at entries (now past))))
         ∙ ap (λ m. count such (out n (asks_at past) (claim_at entries m)).left) (length_asked setup entries n)
 
     abbrev Step : ℕ → Bool → Option Claim → Type 0
     Step n asks claim = known_count (suc n) + count such (out n asks claim).left ≡ known_count n + count test (filter_map joiner (claim_joins n asks claim))
 
-    none_next : (n : ℕ) → claim_at entries n ≡ None → known_count (suc n) + count such (heard_at (past_at setup entries n)).left ≡ known_count n
+    none_next : (n : ℕ) → claim_at entries n ≡ None → known_count (suc n) + count such (unclaimed_at (past_at setup entries n)).left ≡ known_count n
     none_next n none =
-        ap (λ ks. count such ks + count such (heard_at (past_at setup entries n)).left) (known_next setup entries n none) ∙ heard_count (past_at setup entries n) such (such_heard letter test)
+        ap (λ ks. count such ks + count such (unclaimed_at (past_at setup entries n)).left) (known_next setup entries n none) ∙ heard_count (past_at setup entries n) such (such_heard letter test)
 
     step_claim : (n : ℕ) → n < length entries → (asks : asks_at (past_at setup entries n) ≡ true) (claim : Claim) → claim_at entries n ≡ Some claim → Step n true (Some claim)
     step_claim n l asks claim given =
@@ -180,30 +180,30 @@ module _ (letter : ℕ) (test : Member → Bool) where
         let one : AsksFor (notice_at entries (now past)) = asks_one past asks in
         let len : length (asked_before setup entries n) ≡ n = length_asked setup entries n in
         let replaced : List Known = filter (has_place claim.member.place) (others_at past) in
-        let left : count such ((heard_at past).left ++ (settled_at past (Some claim)).left) ≡ count such (heard_at past).left + count such replaced =
-        count_append such (heard_at past).left (settled_at past (Some claim)).left
-        ∙ ap (λ ks. count such (heard_at past).left + count such ks) (settled_some past claim one) in
+        let left : count such ((unclaimed_at past).left ++ (settled_at past (Some claim)).left) ≡ count such (unclaimed_at past).left + count such replaced =
+        count_append such (unclaimed_at past).left (settled_at past (Some claim)).left
+        ∙ ap (λ ks. count such (unclaimed_at past).left + count such ks) (settled_some past claim one) in
         let joins : joins_by (here_of past) letter (notice_at entries n) (request_in (notice_at entries n)) (Some claim) ≡ cond (eqb one.request.letter letter) (join_event (here_of past) one.from one.request claim ∷ []) [] =
         ap (λ m. joins_by (here_of past) letter (notice_at entries m) (request_in (notice_at entries m)) (Some claim)) (sym len)
         ∙ ap (λ y. joins_by (here_of past) letter y (request_in y) (Some claim)) one.says
         ∙ ap (λ o. joins_by (here_of past) letter (Notice.Sent one.from one.at one.packet) o (Some claim)) one.wants in
         let joined : count test (filter_map joiner (joins_by (here_of past) letter (notice_at entries n) (request_in (notice_at entries n)) (Some claim))) ≡ cond (eqb one.request.letter letter && test claim.member) 1 0 =
         ap (λ xs. count test (filter_map joiner xs)) joins ∙ one_joins (eqb one.request.letter letter) (join_event (here_of past) one.from one.request claim) claim.member refl in
-        step_sum (known_count (suc n)) (known_count n) (count such (heard_at past).left) (count such replaced) _ _ _ left joined (claim_count setup entries n l asks claim given such (such_heard letter test))
+        step_sum (known_count (suc n)) (known_count n) (count such (unclaimed_at past).left) (count such replaced) _ _ _ left joined (claim_count setup entries n l asks claim given such (such_heard letter test))
 
     step_none : (n : ℕ) → claim_at entries n ≡ None → Step n true None
     step_none n none =
         let past : Past = past_at setup entries n in
-        let left : count such ((heard_at past).left ++ (settled_at past None).left) ≡ count such (heard_at past).left + 0 =
-        count_append such (heard_at past).left (settled_at past None).left ∙ ap (λ ks. count such (heard_at past).left + count such ks) (none_settled past) in
+        let left : count such ((unclaimed_at past).left ++ (settled_at past None).left) ≡ count such (unclaimed_at past).left + 0 =
+        count_append such (unclaimed_at past).left (settled_at past None).left ∙ ap (λ ks. count such (unclaimed_at past).left + count such ks) (none_settled past) in
         let joined : count test (filter_map joiner (joins_by (here_of past) letter (notice_at entries n) (request_in (notice_at entries n)) None)) ≡ 0 =
         ap (λ xs. count test (filter_map joiner xs)) (joins_none (here_of past) letter (notice_at entries n) (request_in (notice_at entries n))) in
-        none_sum (known_count (suc n)) (known_count n) (count such (heard_at past).left) _ _ left joined (none_next n none)
+        none_sum (known_count (suc n)) (known_count n) (count such (unclaimed_at past).left) _ _ left joined (none_next n none)
 
     step_by : (n : ℕ) (b : Bool) (o : Option Claim) → n < length entries → asks_at (past_at setup entries n) ≡ b → claim_at entries n ≡ o → (b ≡ false → claim_at entries n ≡ None) → Step n b o
     step_by n true (Some claim) l asks given h = step_claim n l asks claim given
     step_by n true None l asks given h = step_none n given
-    step_by n false o l asks given h = no_more (known_count (suc n) + count such (heard_at (past_at setup entries n)).left) (known_count n) (none_next n (h refl))
+    step_by n false o l asks given h = no_more (known_count (suc n) + count such (unclaimed_at (past_at setup entries n)).left) (known_count n) (none_next n (h refl))
 
     pub step : (n : ℕ) → n < length entries → ClaimsAreAsked setup entries → known_count (suc n) + left_at n ≡ known_count n + joined_at n
     step n l claims =

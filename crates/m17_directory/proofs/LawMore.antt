@@ -12,7 +12,7 @@ use Rattle.m17_directory.specs.declared.known.Request.{Request}
 use Rattle.m17_directory.specs.Entries.{Notice, Claim, Entry, Setup, notice_of, notice_at, claim_at}
 use Rattle.m17_directory.specs.Known.{Past, now, request_in, known_at}
 use Rattle.m17_directory.specs.Outcome.{Here, Outcome, settled}
-use Rattle.m17_directory.specs.Routed.{here_of, heard_at, others_than, others_at, settled_by, settled_at, is_asks, both, comes_to, asked_before, past_at, outcome_at, posts_at, posted, event_for, reply_for, routed, direct_replies}
+use Rattle.m17_directory.specs.Routed.{here_of, unclaimed_at, others_than, others_at, settled_by, settled_at, is_asks, both, comes_to, asked_before, past_at, outcome_at, posts_at, posted, event_for, reply_for, routed, direct_replies}
 use Rattle.m17_directory.specs.Laws.{LaterEntriesChangeNothing, OneEntryMore, EntriesBeforeDecide}
 use Rattle.m17_directory.specs.Steps.{still_by}
 use Rattle.m17_directory.proofs.Positions.{get_before, range_more}
@@ -68,8 +68,8 @@ comes_same setup a b l says claims =
     let before : Claims a b n = claims_less a b (suc n) n (omega arith) claims in
     let f : Outcome → Outcome → Outcome = λ o s. cond (is_asks o.verdict) (both o s) o in
     ap (λ o. f o (settled_at p (claim_at a n))) (heard_same setup a b l says before)
-    ∙ ap (f (heard_at q)) (settled_same setup a b l (claim_at a n) says before)
-    ∙ ap (λ claim. f (heard_at q) (settled_at q claim)) (claims n (omega arith))
+    ∙ ap (f (unclaimed_at q)) (settled_same setup a b l (claim_at a n) says before)
+    ∙ ap (λ claim. f (unclaimed_at q) (settled_at q claim)) (claims n (omega arith))
 
 pub outcome_same : (setup : Setup) (a b : List Entry) (n : ℕ) → Says a b (suc n) → Claims a b (suc n) → outcome_at setup a n ≡ outcome_at setup b n
 outcome_same setup a b n says claims =

@@ -21,7 +21,7 @@ use Rattle.m17_directory.specs.declared.verdict.Act.TheVariants as act
 use Rattle.m17_directory.specs.Entries.{Notice, Claim, Entry, Setup, notice_at, claim_at, passes_time, is_peer, moment_before, ends_at}
 use Rattle.m17_directory.specs.Known.{Past, now, request_in, row_at, known_at}
 use Rattle.m17_directory.specs.Outcome.{Here, Outcome, only, to_module, to_each_module, to_door, leave, posting, leaving, is_what, has_place, known_asks, other_asks, of_packet, of_end, settled}
-use Rattle.m17_directory.specs.Routed.{tick_ms, here_of, is_silent, row_for, heard_at, others_than, others_at, settled_by, settled_at, asks_at, both, past_at, posts_at, posted, event_for, routed}
+use Rattle.m17_directory.specs.Routed.{tick_ms, here_of, is_silent, row_for, unclaimed_at, others_than, others_at, settled_by, settled_at, asks_at, both, past_at, posts_at, posted, event_for, routed}
 use Rattle.m17_directory.specs.Laws.{member_of, RouteIsOfClaimed}
 use Rattle.m17_directory.specs.Steps.{silent_by, still_by, ticks_by, said_by, heard_by}
 use Rattle.m17_directory.proofs.Same.{heard_is}
@@ -170,10 +170,10 @@ module _ (test : Member → Bool) where
         let ends : Bool = ends_at past.entries (now past) in
         let notice : Notice = notice_at past.entries (now past) in
         let rows : Such (known_at past) = such_known n in
-        let first : AllOfSuch (heard_at past).posts = subst (λ (o : Outcome). AllOfSuch o.posts) (sym (heard_is past)) (such_heard here (moment_before past.entries (now past)) ends (known_at past) notice rows) in
+        let first : AllOfSuch (unclaimed_at past).posts = subst (λ (o : Outcome). AllOfSuch o.posts) (sym (heard_is past)) (such_heard here (moment_before past.entries (now past)) ends (known_at past) notice rows) in
         let others : Such (others_at past) = subst Such (sym (others_is past)) (such_than notice _ (such_still here (known_at past) notice rows)) in
         let second : AllOfSuch (settled_at past (claim_at entries (now past))).posts = such_settled_by past (claim_at entries (now past)) notice (request_in notice) others (λ c e. claims (now past) c e) in
-        such_comes (asks_at past) (heard_at past) (settled_at past (claim_at entries (now past))) first second
+        such_comes (asks_at past) (unclaimed_at past) (settled_at past (claim_at entries (now past))) first second
 
     such_posted : AllOfSuch (posted setup entries)
     unfolding posted

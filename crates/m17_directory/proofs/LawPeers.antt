@@ -11,7 +11,7 @@ use Rattle.m17_directory.specs.declared.known.Known.{Known}
 use Rattle.m17_directory.specs.Entries.{Notice, Claim, Entry, Setup, notice_at, claim_at, is_peer, is_from, peers_named}
 use Rattle.m17_directory.specs.Known.{Past, now, known_at}
 use Rattle.m17_directory.specs.Outcome.{Outcome, has_place}
-use Rattle.m17_directory.specs.Routed.{heard_at, others_than, others_at, settled_at, asks_at, both, asked_before, past_at, outcome_at}
+use Rattle.m17_directory.specs.Routed.{unclaimed_at, others_than, others_at, settled_at, asks_at, both, asked_before, past_at, outcome_at}
 use Rattle.m17_directory.specs.StandsFor.{departed_of}
 use Rattle.m17_directory.specs.Laws.{ClaimsAreAsked, joined_by, joined_before, left_before, is_of_peer, PeersComeAndGo}
 use Rattle.m17_directory.specs.Steps.{heard_now, is_other}
@@ -49,7 +49,7 @@ module _ (setup : Setup) (entries : List Entry) (test : Departed → Bool) where
   known_count n = count such (known_at (past_at setup entries n))
 
   abbrev out : ℕ → Bool → Option Claim → Outcome
-  out n asks claim = cond asks (both (heard_at (past_at setup entries n)) (settled_at (past_at setup entries n) claim)) (heard_at (past_at setup entries n))
+  out n asks claim = cond asks (both (unclaimed_at (past_at setup entries n)) (settled_at (past_at setup entries n) claim)) (unclaimed_at (past_at setup entries n))
 
   abbrev joins : ℕ → Bool → Option Claim → List Departed
   joins n asks claim = cond asks (joined_by (notice_at entries n) claim) []
@@ -57,9 +57,9 @@ module _ (setup : Setup) (entries : List Entry) (test : Departed → Bool) where
   abbrev Step : ℕ → Bool → Option Claim → Type 0
   Step n asks claim = known_count (suc n) + count such (out n asks claim).left ≡ known_count n + count test (joins n asks claim)
 
-  none_next : (n : ℕ) → claim_at entries n ≡ None → known_count (suc n) + count such (heard_at (past_at setup entries n)).left ≡ known_count n
+  none_next : (n : ℕ) → claim_at entries n ≡ None → known_count (suc n) + count such (unclaimed_at (past_at setup entries n)).left ≡ known_count n
   none_next n none =
-      ap (λ ks. count such ks + count such (heard_at (past_at setup entries n)).left) (known_next setup entries n none) ∙ heard_count (past_at setup entries n) such (seat_heard test)
+      ap (λ ks. count such ks + count such (unclaimed_at (past_at setup entries n)).left) (known_next setup entries n none) ∙ heard_count (past_at setup entries n) such (seat_heard test)
 
   step_claim : (n : ℕ) → n < length entries → (asks : asks_at (past_at setup entries n) ≡ true) (claim : Claim) → claim_at entries n ≡ Some claim → Step n true (Some claim)
   step_claim n l asks claim given =
@@ -67,28 +67,28 @@ module _ (setup : Setup) (entries : List Entry) (test : Departed → Bool) where
       let one : AsksFor (notice_at entries (now past)) = asks_one past asks in
       let len : length (asked_before setup entries n) ≡ n = length_asked setup entries n in
       let replaced : List Known = filter (has_place claim.member.place) (others_at past) in
-      let left : count such ((heard_at past).left ++ (settled_at past (Some claim)).left) ≡ count such (heard_at past).left + count such replaced =
-      count_append such (heard_at past).left (settled_at past (Some claim)).left
-      ∙ ap (λ ks. count such (heard_at past).left + count such ks) (settled_some past claim one) in
+      let left : count such ((unclaimed_at past).left ++ (settled_at past (Some claim)).left) ≡ count such (unclaimed_at past).left + count such replaced =
+      count_append such (unclaimed_at past).left (settled_at past (Some claim)).left
+      ∙ ap (λ ks. count such (unclaimed_at past).left + count such ks) (settled_some past claim one) in
       let who : Departed = record { member = claim.member; peer = one.from } in
       let joined : count test (joined_by (notice_at entries n) (Some claim)) ≡ cond (test who) 1 0 =
       ap (λ m. count test (joined_by (notice_at entries m) (Some claim))) (sym len)
       ∙ ap (λ y. count test (joined_by y (Some claim))) one.says
       ∙ plus_zero (cond (test who) 1 0) in
-      step_sum (known_count (suc n)) (known_count n) (count such (heard_at past).left) (count such replaced) _ _ _ left joined (claim_count setup entries n l asks claim given such (seat_heard test))
+      step_sum (known_count (suc n)) (known_count n) (count such (unclaimed_at past).left) (count such replaced) _ _ _ left joined (claim_count setup entries n l asks claim given such (seat_heard test))
 
   step_none : (n : ℕ) → claim_at entries n ≡ None → Step n true None
   step_none n none =
       let past : Past = past_at setup entries n in
-      let left : count such ((heard_at past).left ++ (settled_at past None).left) ≡ count such (heard_at past).left + 0 =
-      count_append such (heard_at past).left (settled_at past None).left ∙ ap (λ ks. count such (heard_at past).left + count such ks) (none_settled past) in
+      let left : count such ((unclaimed_at past).left ++ (settled_at past None).left) ≡ count such (unclaimed_at past).left + 0 =
+      count_append such (unclaimed_at past).left (settled_at past None).left ∙ ap (λ ks. count such (unclaimed_at past).left + count such ks) (none_settled past) in
       let joined : count test (joined_by (notice_at entries n) None) ≡ 0 = ap (count test) (joined_none (notice_at entries n)) in
-      none_sum (known_count (suc n)) (known_count n) (count such (heard_at past).left) _ _ left joined (none_next n none)
+      none_sum (known_count (suc n)) (known_count n) (count such (unclaimed_at past).left) _ _ left joined (none_next n none)
 
   step_by : (n : ℕ) (b : Bool) (o : Option Claim) → n < length entries → asks_at (past_at setup entries n) ≡ b → claim_at entries n ≡ o → (b ≡ false → claim_at entries n ≡ None) → Step n b o
   step_by n true (Some claim) l asks given h = step_claim n l asks claim given
   step_by n true None l asks given h = step_none n given
-  step_by n false o l asks given h = no_more (known_count (suc n) + count such (heard_at (past_at setup entries n)).left) (known_count n) (none_next n (h refl))
+  step_by n false o l asks given h = no_more (known_count (suc n) + count such (unclaimed_at (past_at setup entries n)).left) (known_count n) (none_next n (h refl))
 
   left_count : (n : ℕ) → count test (map departed_of (outcome_at setup entries n).left) ≡ count such (out n (asks_at (past_at setup entries n)) (claim_at entries n)).left
   left_count n =
@@ -167,22 +167,22 @@ none_than x Notice.Fault rows e = absurd (false≢true e)
 none_than x Notice.End rows e = absurd (false≢true e)
 
 asking : (setup : Setup) (entries : List Entry) (n : ℕ) (x : Peer) (test : Member → Bool) → ClaimsAreAsked setup entries → n < length entries → asks_at (past_at setup entries n) ≡ true → is_from x (notice_at entries n) ≡ true
-    → count_by (is_of_peer x test) (joined_before setup entries n) ≡ count_by (is_of_peer x test) (left_before setup entries n ++ map departed_of (heard_at (past_at setup entries n)).left)
+    → count_by (is_of_peer x test) (joined_before setup entries n) ≡ count_by (is_of_peer x test) (left_before setup entries n ++ map departed_of (unclaimed_at (past_at setup entries n)).left)
 asking setup entries n x test claims l asks from =
     let past : Past = past_at setup entries n in
     let p : Departed → Bool = is_of_peer x test in
     let such : Known → Bool = λ k. p (departed_of k) in
     let now_from : is_from x (notice_at entries (now past)) ≡ true = ap (λ m. is_from x (notice_at entries m)) (length_asked setup entries n) ∙ from in
     let none : count such (others_at past) ≡ 0 = ap (count such) (others_is past) ∙ none_counted x test (others_than (notice_at entries (now past)) (still past)) (none_than x (notice_at entries (now past)) (still past) now_from) in
-    let heard : count such (others_at past) + count such (heard_at past).left ≡ count such (known_at past) =
-    ap (λ ks. count such ks + count such (heard_at past).left) (sym (others_are past asks)) ∙ heard_count past such (seat_heard p) in
+    let heard : count such (others_at past) + count such (unclaimed_at past).left ≡ count such (known_at past) =
+    ap (λ ks. count such ks + count such (unclaimed_at past).left) (sym (others_are past asks)) ∙ heard_count past such (seat_heard p) in
     let before : count p (joined_before setup entries n) ≡ count p (left_before setup entries n) + count such (known_at past) = upto setup entries p n (omega arith) claims in
-    let left : count p (left_before setup entries n ++ map departed_of (heard_at past).left) ≡ count p (left_before setup entries n) + count such (heard_at past).left =
-    count_append p (left_before setup entries n) (map departed_of (heard_at past).left)
-    ∙ ap (λ m. count p (left_before setup entries n) + m) (count_map p such departed_of (heard_at past).left (λ k. refl)) in
+    let left : count p (left_before setup entries n ++ map departed_of (unclaimed_at past).left) ≡ count p (left_before setup entries n) + count such (unclaimed_at past).left =
+    count_append p (left_before setup entries n) (map departed_of (unclaimed_at past).left)
+    ∙ ap (λ m. count p (left_before setup entries n) + m) (count_map p such departed_of (unclaimed_at past).left (λ k. refl)) in
     count_is p (joined_before setup entries n)
-    ∙ peer_sum (count p (joined_before setup entries n)) (count p (left_before setup entries n)) (count such (known_at past)) (count such (others_at past)) (count such (heard_at past).left) _ before heard none left
-    ∙ sym (count_is p (left_before setup entries n ++ map departed_of (heard_at past).left))
+    ∙ peer_sum (count p (joined_before setup entries n)) (count p (left_before setup entries n)) (count such (known_at past)) (count such (others_at past)) (count such (unclaimed_at past).left) _ before heard none left
+    ∙ sym (count_is p (left_before setup entries n ++ map departed_of (unclaimed_at past).left))
 
 pub come_and_go : PeersComeAndGo
 come_and_go = record { so_far = so_far; asking = asking }

@@ -24,7 +24,7 @@ use Rattle.m17_directory.specs.declared.verdict.Act.TheVariants as act
 use Rattle.m17_directory.specs.Entries.{Notice, Claim, Entry, notice_at, claim_at, is_fault, is_end, moment_before, ends_at}
 use Rattle.m17_directory.specs.Known.{Past, now, request_in, known_at}
 use Rattle.m17_directory.specs.Outcome.{Here, Outcome, only, to_module, to_each_module, to_door, leave, posting, leaving, is_what, has_place, known_asks, other_asks, of_packet, of_end}
-use Rattle.m17_directory.specs.Routed.{tick_ms, here_of, row_for, heard_at, others_at, settled_by, settled_at, is_asks, asks_at, both, past_at, link_verdict, posts_at}
+use Rattle.m17_directory.specs.Routed.{tick_ms, here_of, row_for, unclaimed_at, others_at, settled_by, settled_at, is_asks, asks_at, both, past_at, link_verdict, posts_at}
 use Rattle.m17_directory.specs.Laws.{packet_letter, packet_routed, PacketsAreRouted, leaver_of, left_member, EachWhoLeavesIsPosted, is_ended, EndedWhereItEnds}
 use Rattle.m17_directory.specs.StandsFor.{faults_before}
 use Rattle.m17_directory.specs.Steps.{silent_by, still_by, ticks_by, said_by, heard_by}
@@ -111,7 +111,7 @@ packs_said here ends rows still (Notice.Quiet at) = refl
 packs_said here ends rows still Notice.Fault = either Packs ends (of_end here rows) (only verdict.Faulted) (packs_end here rows) refl
 packs_said here ends rows still Notice.End = packs_end here rows
 
-packs_heard : (past : Past) → Packs (heard_at past)
+packs_heard : (past : Past) → Packs (unclaimed_at past)
 packs_heard past =
     let here : Here = here_of past in
     let ends : Bool = ends_at past.entries (now past) in
@@ -161,7 +161,7 @@ unfolding posts_at link_verdict
 packets_routed setup entries n =
     let past : Past = past_at setup entries n in
     let settles : Outcome = settled_at past (claim_at entries (now past)) in
-    packs_step (heard_at past) settles (asks_at past) refl (packs_heard past) (packs_settled past (claim_at entries (now past)))
+    packs_step (unclaimed_at past) settles (asks_at past) refl (packs_heard past) (packs_settled past (claim_at entries (now past)))
 
 -- an outcome posts the Leaves of those that leave
 abbrev pub seat_of : Known → ℕ × Member
@@ -219,7 +219,7 @@ leaves_said here ends rows still (Notice.Quiet at) = refl
 leaves_said here ends rows still Notice.Fault = either Leaves ends (of_end here rows) (only verdict.Faulted) (leaves_end here rows) refl
 leaves_said here ends rows still Notice.End = leaves_end here rows
 
-pub leaves_heard : (past : Past) → Leaves (heard_at past)
+pub leaves_heard : (past : Past) → Leaves (unclaimed_at past)
 leaves_heard past =
     let here : Here = here_of past in
     let ends : Bool = ends_at past.entries (now past) in
@@ -271,7 +271,7 @@ leaves_members o h = left_members o.posts ∙ ap (map (λ (s : ℕ × Member). s
 
 pub leaves_posted : EachWhoLeavesIsPosted
 leaves_posted = record {
-  heard = λ past. leaves_members (heard_at past) (leaves_heard past);
+  heard = λ past. leaves_members (unclaimed_at past) (leaves_heard past);
   settled = λ past claim. leaves_members (settled_at past claim) (leaves_settled past claim);
 }
 

@@ -11,7 +11,7 @@ use Rattle.m17_directory.specs.declared.known.Request.{Request}
 use Rattle.m17_directory.specs.Entries.{Notice, Claim, Entry, Setup, notice_at, claim_at, is_end, moment_before, ends_at}
 use Rattle.m17_directory.specs.Known.{Past, now, request_in, known_at}
 use Rattle.m17_directory.specs.Outcome.{Here, Outcome}
-use Rattle.m17_directory.specs.Routed.{here_of, heard_at, others_than, others_at, settled_by, settled_at, asks_at, both, comes_to, past_at, posts_at, posted, event_for, routed}
+use Rattle.m17_directory.specs.Routed.{here_of, unclaimed_at, others_than, others_at, settled_by, settled_at, asks_at, both, comes_to, past_at, posts_at, posted, event_for, routed}
 use Rattle.m17_directory.specs.Laws.{EventsCarryTheirIndex, RouteCarriesLink, OnlyServedAreRouted, is_door_reply}
 use Rattle.m17_directory.specs.StandsFor.{faults_before}
 use Rattle.m17_directory.proofs.Faults.{ends_is}
@@ -39,7 +39,7 @@ module _ (past : Past) (served : Served (here_of past) (known_at past)) where
   abbrev ends : Bool
   ends = ends_at past.entries (now past)
 
-  heard_sent : AllSent here ends (heard_at past).posts
+  heard_sent : AllSent here ends (unclaimed_at past).posts
   heard_sent =
       subst (λ (o : Outcome). AllSent here ends o.posts) (sym (heard_is past))
       (sent_heard here (moment_before past.entries (now past)) ends (known_at past) notice (end_is_end past.entries (now past)) served)
@@ -59,8 +59,8 @@ module _ (past : Past) (served : Served (here_of past) (known_at past)) where
   unfolding settled_at
   settled_sent claim asks = settled_sent_by claim notice (request_in notice) (λ r e. asks_served past r asks e)
 
-  comes_step : (claim : Option Claim) (b : Bool) → b ≡ asks_at past → AllSent here ends (cond b (both (heard_at past) (settled_at past claim)) (heard_at past)).posts
-  comes_step claim true e = all_append (IsSent here ends) (heard_at past).posts (settled_at past claim).posts heard_sent (settled_sent claim (sym e))
+  comes_step : (claim : Option Claim) (b : Bool) → b ≡ asks_at past → AllSent here ends (cond b (both (unclaimed_at past) (settled_at past claim)) (unclaimed_at past)).posts
+  comes_step claim true e = all_append (IsSent here ends) (unclaimed_at past).posts (settled_at past claim).posts heard_sent (settled_sent claim (sym e))
   comes_step claim false e = heard_sent
 
   comes_sent : AllSent here ends (comes_to past).posts

@@ -16,7 +16,7 @@ use Rattle.m17_directory.specs.declared.verdict.LinkVerdict.TheVariants as verdi
 use Rattle.m17_directory.specs.Entries.{Notice, Entry, Setup, notice_at, claim_at, moment_before, ends_at}
 use Rattle.m17_directory.specs.Known.{Past, now, known_at}
 use Rattle.m17_directory.specs.Outcome.{Here, Outcome, only, to_each_module, leave, of_end}
-use Rattle.m17_directory.specs.Routed.{here_of, heard_at, settled_at, is_asks, asks_at, both, comes_to, past_at, posts_at, posted, event_for, routed}
+use Rattle.m17_directory.specs.Routed.{here_of, unclaimed_at, settled_at, is_asks, asks_at, both, comes_to, past_at, posts_at, posted, event_for, routed}
 use Rattle.m17_directory.specs.Laws.{is_stop, RouteEndsInOneStop}
 use Rattle.m17_directory.specs.StandsFor.{faults_before}
 use Rattle.m17_directory.specs.Steps.{silent_by, still_by, ticks_by, said_by}
@@ -111,7 +111,7 @@ module _ (past : Past) (served : Served (here_of past) (known_at past)) (ended :
   abbrev leaves : List Dispatch
   leaves = map (leave at why.Stopped) rows
 
-  heard_ended : heard_at past ≡ record { verdict = verdict.Ended; posts = front ++ (leaves ++ to_each_module at body.Stop); left = silent_by at rows notice ++ rows }
+  heard_ended : unclaimed_at past ≡ record { verdict = verdict.Ended; posts = front ++ (leaves ++ to_each_module at body.Stop); left = silent_by at rows notice ++ rows }
   heard_ended =
       let f : Outcome → Outcome = λ said. record { verdict = said.verdict; posts = front ++ said.posts; left = silent_by at rows notice ++ said.left } in
       heard_is past
@@ -119,7 +119,7 @@ module _ (past : Past) (served : Served (here_of past) (known_at past)) (ended :
 
   comes_ended : (comes_to past).posts ≡ front ++ (leaves ++ to_each_module at body.Stop)
   comes_ended =
-      ap (λ (o : Outcome). o.posts) (cond-false (asks_at past) (both (heard_at past) (settled_at past (claim_at past.entries (now past)))) (heard_at past) (ap (λ (o : Outcome). is_asks o.verdict) heard_ended))
+      ap (λ (o : Outcome). o.posts) (cond-false (asks_at past) (both (unclaimed_at past) (settled_at past (claim_at past.entries (now past)))) (unclaimed_at past) (ap (λ (o : Outcome). is_asks o.verdict) heard_ended))
       ∙ ap (λ (o : Outcome). o.posts) heard_ended
 
   module _ (letter : ℕ) (is_served : serves past.setup.modules letter ≡ true) where

@@ -8,7 +8,7 @@ use Rattle.m17_directory.specs.declared.known.Request.{Request}
 use Rattle.m17_directory.specs.Entries.{Notice, Claim, Entry, Setup, notice_of, notice_at, claim_at, moment_at, ends_at}
 use Rattle.m17_directory.specs.Known.{Past, now, request_of, known_at}
 use Rattle.m17_directory.specs.Outcome.{Here, Outcome, has_place}
-use Rattle.m17_directory.specs.Routed.{here_of, row_for, heard_at, others_than, others_at, is_asks, asks_at, asked_before, past_at}
+use Rattle.m17_directory.specs.Routed.{here_of, row_for, unclaimed_at, others_than, others_at, is_asks, asks_at, asked_before, past_at}
 use Rattle.m17_directory.specs.StandsFor.{unclaimed}
 use Rattle.m17_directory.specs.Steps.{heard_now, is_other, with_row, silent_by, still_by, said_by, known_by}
 use Rattle.m17_directory.proofs.Same.{Says, Claims, past_of, says_less, claims_less, length_asked, asked_same, heard_is, heard_at_same}
@@ -63,7 +63,7 @@ module _ (past : Past) where
   pub asks_one : asks_at past ≡ true → AsksFor notice
   asks_one e = asks_for_one here ends rows still notice (asks_said e)
 
-  pub heard_count : (such : Known → Bool) → ((x : Peer) (m : ℕ) (k : Known) → such (heard_now x m k) ≡ such k) → count such (known_by here ends rows still notice) + count such (heard_at past).left ≡ count such rows
+  pub heard_count : (such : Known → Bool) → ((x : Peer) (m : ℕ) (k : Known) → such (heard_now x m k) ≡ such k) → count such (known_by here ends rows still notice) + count such (unclaimed_at past).left ≡ count such rows
   heard_count such keeps =
       let left : List Known = (said_by here ends rows still notice).left in
       ap (λ (o : Outcome). count such (known_by here ends rows still notice) + count such o.left) (heard_is past)
@@ -164,10 +164,10 @@ module _ (setup : Setup) (entries : List Entry) (n : ℕ) (within : n < length e
         all_filter (λ (k : Known). is_other one.from k ≡ true) (λ k. not (has_place claim.member.place k)) (others_at past)
         (subst (NoneOf one.from) (sym others) (others_none one.from (still past)))
 
-    pub claim_count : (such : Known → Bool) → ((x : Peer) (m : ℕ) (k : Known) → such (heard_now x m k) ≡ such k) → count such (known_at (past_at setup entries (suc n))) + (count such (heard_at past).left + count such (filter (has_place claim.member.place) (others_at past)))
+    pub claim_count : (such : Known → Bool) → ((x : Peer) (m : ℕ) (k : Known) → such (heard_now x m k) ≡ such k) → count such (known_at (past_at setup entries (suc n))) + (count such (unclaimed_at past).left + count such (filter (has_place claim.member.place) (others_at past)))
         ≡ count such (known_at past) + cond (such row) 1 0
     claim_count such keeps =
         let put : count such (known_at (past_at setup entries (suc n))) ≡ cond (such row) 1 0 + count such staying = ap (count such) known_claim ∙ put_count such row staying staying_none in
         let parts : count such (filter (has_place claim.member.place) (others_at past)) + count such staying ≡ count such (others_at past) = count_parts such (has_place claim.member.place) (others_at past) in
-        let heard : count such (others_at past) + count such (heard_at past).left ≡ count such (known_at past) = ap (λ ks. count such ks + count such (heard_at past).left) (sym (others_are past asks)) ∙ heard_count past such keeps in
+        let heard : count such (others_at past) + count such (unclaimed_at past).left ≡ count such (known_at past) = ap (λ ks. count such ks + count such (unclaimed_at past).left) (sym (others_are past asks)) ∙ heard_count past such keeps in
         omega (arith, put, parts, heard)

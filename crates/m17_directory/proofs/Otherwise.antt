@@ -18,7 +18,7 @@ use Rattle.m17_directory.specs.Entries.{Notice, Claim, Entry, Setup, notice_of, 
 use Rattle.m17_directory.specs.Known.{Past, now, request_of, request_in, known_at}
 use Rattle.m17_directory.specs.Given.{IsOfFreePlace, SayTheSame, gives, stands_for}
 use Rattle.m17_directory.specs.Outcome.{Here, Outcome, has_place, settled}
-use Rattle.m17_directory.specs.Routed.{here_of, heard_at, others_than, others_at, settled_by, settled_at, is_asks, asks_at, both, asked_before, past_at, outcome_at, link_verdict, posts_at, posted, event_for, reply_for, routed, direct_replies}
+use Rattle.m17_directory.specs.Routed.{here_of, unclaimed_at, others_than, others_at, settled_by, settled_at, is_asks, asks_at, both, asked_before, past_at, outcome_at, link_verdict, posts_at, posted, event_for, reply_for, routed, direct_replies}
 use Rattle.m17_directory.specs.Laws.{AreGivenOtherwise, PlacesChangeNoVerdict}
 use Rattle.m17_directory.specs.Steps.{still_by, heard_by, known_by}
 use Rattle.m17_directory.proofs.Same.{moment_same, ends_same, heard_is, length_asked}
@@ -162,11 +162,11 @@ module _ (setup : Setup) (a b : List Entry) (given : AreGivenOtherwise setup a b
 
   -- where the same are known before a position
   module _ (n : ℕ) (known : Rows stands (known_at (pa n)) (known_at (pb n))) where
-    heard : Same stands (heard_at (pa n)) (heard_at (pb n))
+    heard : Same stands (unclaimed_at (pa n)) (unclaimed_at (pb n))
     heard =
         let there = heard_view (here_of (pa n)) (here_of (pb n)) (moment_before a (now (pa n))) (moment_before b (now (pb n))) (ends_at a (now (pa n))) (ends_at b (now (pb n))) (known_at (pb n)) (notice_at a (now (pa n))) (notice_at b (now (pb n)))
         (here_same n) (moment_before_same n) (ends_at_same n) (notice_same n) ∙ sym (heard_is (pb n)) in
-        subst (λ (o : Outcome). Same stands (heard_at (pa n)) o) there
+        subst (λ (o : Outcome). Same stands (unclaimed_at (pa n)) o) there
         (subst (λ (o : Outcome). Same stands o (heard_by (here_of (pa n)) (moment_before a (now (pa n))) (ends_at a (now (pa n))) (known_at (pb n)) (notice_at a (now (pa n))))) (sym (heard_is (pa n)))
         (heard_same stands (here_of (pa n)) (moment_before a (now (pa n))) (ends_at a (now (pa n))) (known_at (pa n)) (known_at (pb n)) (notice_at a (now (pa n))) known))
 
@@ -284,17 +284,17 @@ module _ (setup : Setup) (a b : List Entry) (given : AreGivenOtherwise setup a b
       | inr two ↦ settled_pair two
     ]
 
-    outcome_by : (u : Bool) → asks_at (pa n) ≡ u → n < length a → Same stands (cond u (both (heard_at (pa n)) (settled_at (pa n) (claim_at a n))) (heard_at (pa n))) (cond u (both (heard_at (pb n)) (settled_at (pb n) (claim_at b n))) (heard_at (pb n)))
-    outcome_by true e l = both_same stands (heard_at (pa n)) (heard_at (pb n)) (settled_at (pa n) (claim_at a n)) (settled_at (pb n) (claim_at b n)) heard (settled_same l e)
+    outcome_by : (u : Bool) → asks_at (pa n) ≡ u → n < length a → Same stands (cond u (both (unclaimed_at (pa n)) (settled_at (pa n) (claim_at a n))) (unclaimed_at (pa n))) (cond u (both (unclaimed_at (pb n)) (settled_at (pb n) (claim_at b n))) (unclaimed_at (pb n)))
+    outcome_by true e l = both_same stands (unclaimed_at (pa n)) (unclaimed_at (pb n)) (settled_at (pa n) (claim_at a n)) (settled_at (pb n) (claim_at b n)) heard (settled_same l e)
     outcome_by false e l = heard
 
     outcome : n < length a → Same stands (outcome_at setup a n) (outcome_at setup b n)
     outcome l =
-        let view_a : outcome_at setup a n ≡ cond (asks_at (pa n)) (both (heard_at (pa n)) (settled_at (pa n) (claim_at a n))) (heard_at (pa n)) =
-        ap (λ m. cond (asks_at (pa n)) (both (heard_at (pa n)) (settled_at (pa n) (claim_at a m))) (heard_at (pa n))) (now_a n) in
-        let view_b : outcome_at setup b n ≡ cond (asks_at (pa n)) (both (heard_at (pb n)) (settled_at (pb n) (claim_at b n))) (heard_at (pb n)) =
-        ap (λ m. cond (asks_at (pb n)) (both (heard_at (pb n)) (settled_at (pb n) (claim_at b m))) (heard_at (pb n))) (now_b n)
-        ∙ ap (λ u. cond u (both (heard_at (pb n)) (settled_at (pb n) (claim_at b n))) (heard_at (pb n))) (sym asks_same) in
+        let view_a : outcome_at setup a n ≡ cond (asks_at (pa n)) (both (unclaimed_at (pa n)) (settled_at (pa n) (claim_at a n))) (unclaimed_at (pa n)) =
+        ap (λ m. cond (asks_at (pa n)) (both (unclaimed_at (pa n)) (settled_at (pa n) (claim_at a m))) (unclaimed_at (pa n))) (now_a n) in
+        let view_b : outcome_at setup b n ≡ cond (asks_at (pa n)) (both (unclaimed_at (pb n)) (settled_at (pb n) (claim_at b n))) (unclaimed_at (pb n)) =
+        ap (λ m. cond (asks_at (pb n)) (both (unclaimed_at (pb n)) (settled_at (pb n) (claim_at b m))) (unclaimed_at (pb n))) (now_b n)
+        ∙ ap (λ u. cond u (both (unclaimed_at (pb n)) (settled_at (pb n) (claim_at b n))) (unclaimed_at (pb n))) (sym asks_same) in
         same_from stands _ _ _ _ view_a view_b (outcome_by (asks_at (pa n)) refl l)
 
     next : n < length a → Rows stands (known_at (pa (suc n))) (known_at (pb (suc n)))

@@ -7,7 +7,7 @@ use Rattle.m17_directory.specs.declared.known.Known.{Known}
 use Rattle.m17_directory.specs.Entries.{Claim, Entry, Setup, notice_at, claim_at, moment_of, moment_before, moment_at, passes_time, is_from, is_fault, is_end, says_disc, last_heard, silence_ms, is_silent_at, ends_at, with_sender, peers_named}
 use Rattle.m17_directory.specs.Known.{Past, now, asks_for, turns, is_of_place, last_given, is_position, request_in, row_of, row_by, row_at, known_at}
 use Rattle.m17_directory.specs.Outcome.{Here}
-use Rattle.m17_directory.specs.Routed.{here_of, heard_at, is_asks, asks_at, asked_before, past_at}
+use Rattle.m17_directory.specs.Routed.{here_of, unclaimed_at, is_asks, asks_at, asked_before, past_at}
 use Rattle.m17_directory.specs.StandsFor.{faults_before}
 use Rattle.m17_directory.specs.Steps.{heard_by}
 use Rattle.m17_directory.proofs.Faults.{ends_is}
@@ -147,11 +147,11 @@ known_same setup a b l says claims =
     ∙ ap (filter_map (row_at (past_of setup b l))) (peers_same a b (length l) says)
 
 -- what an entry comes to, by what is kept before it
-pub heard_is : (past : Past) → heard_at past ≡ heard_by (here_of past) (moment_before past.entries (now past)) (ends_at past.entries (now past)) (known_at past) (notice_at past.entries (now past))
-unfolding heard_at
+pub heard_is : (past : Past) → unclaimed_at past ≡ heard_by (here_of past) (moment_before past.entries (now past)) (ends_at past.entries (now past)) (known_at past) (notice_at past.entries (now past))
+unfolding unclaimed_at
 heard_is past = refl
 
-pub heard_same : (setup : Setup) (a b : List Entry) (l : List Bool) → Says a b (suc (length l)) → Claims a b (length l) → heard_at (past_of setup a l) ≡ heard_at (past_of setup b l)
+pub heard_same : (setup : Setup) (a b : List Entry) (l : List Bool) → Says a b (suc (length l)) → Claims a b (length l) → unclaimed_at (past_of setup a l) ≡ unclaimed_at (past_of setup b l)
 heard_same setup a b l says claims =
     let n : ℕ = length l in
     let less : Says a b n = says_less a b (suc n) n (omega arith) says in
@@ -192,9 +192,9 @@ known_at_same setup a b n says claims =
     known_same setup a b l (says_less a b n (length l) (omega arith) says) (claims_less a b n (length l) (omega arith) claims)
     ∙ ap (λ m. known_at (past_of setup b m)) (asked_same setup a b n says claims)
 
-pub heard_at_same : (setup : Setup) (a b : List Entry) (n : ℕ) → Says a b (suc n) → Claims a b n → heard_at (past_at setup a n) ≡ heard_at (past_at setup b n)
+pub heard_at_same : (setup : Setup) (a b : List Entry) (n : ℕ) → Says a b (suc n) → Claims a b n → unclaimed_at (past_at setup a n) ≡ unclaimed_at (past_at setup b n)
 heard_at_same setup a b n says claims =
     let l : List Bool = asked_before setup a n in
     let len : length l ≡ n = length_asked setup a n in
     heard_same setup a b l (says_less a b (suc n) (suc (length l)) (omega arith) says) (claims_less a b n (length l) (omega arith) claims)
-    ∙ ap (λ m. heard_at (past_of setup b m)) (asked_same setup a b n (says_less a b (suc n) n (omega arith) says) claims)
+    ∙ ap (λ m. unclaimed_at (past_of setup b m)) (asked_same setup a b n (says_less a b (suc n) n (omega arith) says) claims)

@@ -29,7 +29,7 @@ use Rattle.m17_directory.specs.Entries.{Notice, Says, Claim, Entry, Setup, notic
 use Rattle.m17_directory.specs.Known.{Past, request_in, known_at}
 use Rattle.m17_directory.specs.Given.{AreGivenFreely, SayTheSame, stands_for, IsRenamedRow}
 use Rattle.m17_directory.specs.Outcome.{Here}
-use Rattle.m17_directory.specs.Routed.{here_of, heard_at, others_at, settled_at, asks_at, both, past_at, outcome_at, link_verdict, posts_at, posted, event_for, reply_for, routed, direct_replies}
+use Rattle.m17_directory.specs.Routed.{here_of, unclaimed_at, others_at, settled_at, asks_at, both, past_at, outcome_at, link_verdict, posts_at, posted, event_for, reply_for, routed, direct_replies}
 use Rattle.m17_directory.specs.StandsFor.{departed_of}
 
 -- What comes later changes nothing of what an entry comes to. This profile.
@@ -56,7 +56,7 @@ pub record OneEntryMore : Type 0 where
 pub record EntriesBeforeDecide : Type 0 where
   pub heard : (setup : Setup) (a b : List Entry) (n : ℕ) → take n a ≡ take n b →
       notice_at a n ≡ notice_at b n →
-      heard_at (past_at setup a n) ≡ heard_at (past_at setup b n)
+      unclaimed_at (past_at setup a n) ≡ unclaimed_at (past_at setup b n)
   pub others : (setup : Setup) (a b : List Entry) (n : ℕ) → take n a ≡ take n b →
       notice_at a n ≡ notice_at b n →
       others_at (past_at setup a n) ≡ others_at (past_at setup b n)
@@ -97,8 +97,8 @@ left_member (ToDoor direct) = None
 -- Those whose Leaves are posted are those that leave, in order. This profile.
 pub record EachWhoLeavesIsPosted : Type 0 where
   pub heard : (past : Past) →
-      filter_map left_member (heard_at past).posts
-      ≡ map (λ (k : Known). k.member) (heard_at past).left
+      filter_map left_member (unclaimed_at past).posts
+      ≡ map (λ (k : Known). k.member) (unclaimed_at past).left
   pub settled : (past : Past) (claim : Option Claim) →
       filter_map left_member (settled_at past claim).posts
       ≡ map (λ (k : Known). k.member) (settled_at past claim).left
@@ -111,7 +111,7 @@ is_ended _ = false
 abbrev pub EndedWhereItEnds : Type 0
 EndedWhereItEnds =
     (setup : Setup) (entries : List Entry) (n : ℕ) →
-    is_ended (heard_at (past_at setup entries n)).verdict ≡ ends_at entries n
+    is_ended (unclaimed_at (past_at setup entries n)).verdict ≡ ends_at entries n
 
 -- The link has ended, at its last entry, and at no entry before. This profile.
 pub record EndsOnce (entries : List Entry) : Type 0 where
@@ -320,7 +320,7 @@ pub record PeersComeAndGo : Type 0 where
       asks_at (past_at setup entries n) ≡ true → is_from x (notice_at entries n) ≡ true →
       count_by (is_of_peer x test) (joined_before setup entries n)
       ≡ count_by (is_of_peer x test)
-      (left_before setup entries n ++ map departed_of (heard_at (past_at setup entries n)).left)
+      (left_before setup entries n ++ map departed_of (unclaimed_at (past_at setup entries n)).left)
 
 -- A reply past all modules, if this is one; and all that a link answers so, in order. This profile.
 abbrev pub direct_of : Dispatch → Option Direct
@@ -363,11 +363,11 @@ pub record PeersAreToldApart : Type 0 where
 pub record ClaimsCompleteAskers : Type 0 where
   pub asking : (setup : Setup) (entries : List Entry) (n : ℕ) →
       asks_at (past_at setup entries n) ≡ true → outcome_at setup entries n
-      ≡ both (heard_at (past_at setup entries n))
+      ≡ both (unclaimed_at (past_at setup entries n))
       (settled_at (past_at setup entries n) (claim_at entries n))
   pub other : (setup : Setup) (entries : List Entry) (n : ℕ) →
       asks_at (past_at setup entries n) ≡ false →
-      outcome_at setup entries n ≡ heard_at (past_at setup entries n)
+      outcome_at setup entries n ≡ unclaimed_at (past_at setup entries n)
 
 -- The member that an event is of, if it is of one. This profile.
 abbrev pub member_of : Body → Option Member

@@ -70,8 +70,8 @@ ticks_at past =
 
 -- What the entry comes to before a claim: first the silent leave, in order of peers, then come the
 -- ticks, and then what it says. This profile.
-unfoldable pub heard_at : Past → Outcome
-heard_at past =
+unfoldable pub unclaimed_at : Past → Outcome
+unclaimed_at past =
     let said = said_at past (notice_at past.entries (now past)) in
     record {
       verdict = said.verdict;
@@ -106,7 +106,7 @@ is_asks Asks = true
 is_asks _ = false
 
 abbrev pub asks_at : Past → Bool
-asks_at past = is_asks (heard_at past).verdict
+asks_at past = is_asks (unclaimed_at past).verdict
 
 -- All that the entry comes to. This profile.
 abbrev pub both : Outcome → Outcome → Outcome
@@ -118,8 +118,8 @@ both first second = record {
 
 abbrev pub comes_to : Past → Outcome
 comes_to past =
-    if asks_at past then both (heard_at past) (settled_at past (claim_at past.entries (now past)))
-    else heard_at past
+    if asks_at past then both (unclaimed_at past) (settled_at past (claim_at past.entries (now past)))
+    else unclaimed_at past
 
 -- of each position below n, whether its entry asks for a place
 unfoldable pub asked_before : Setup → List Entry → ℕ → List Bool

@@ -14,7 +14,7 @@ use Rattle.m17_directory.specs.Entries.{Notice, Claim, Entry, Setup, notice_at, 
 use Rattle.m17_directory.specs.Known.{known_at, request_of}
 use Rattle.m17_directory.specs.Outcome.{Outcome}
 use Rattle.m17_directory.specs.declared.verdict.LinkVerdict.TheVariants.{Asks}
-use Rattle.m17_directory.specs.Routed.{past_at, asks_at, heard_at, settled_at, others_at}
+use Rattle.m17_directory.specs.Routed.{past_at, asks_at, unclaimed_at, settled_at, others_at}
 
 -- What a directory keeps: how it was made, the link's moment, who is known, in order of peers, the
 -- request that waits for a claim, if one does, who has left and was not reported yet, how many
@@ -101,7 +101,7 @@ pub record IsHeard (old new : Kept) (entries : List Entry) (notice : Notice) (an
     : Type 0 where
   pub stands : StandsFor new (entries ++ unclaimed notice ∷ [])
   pub outcome : HasOutcome old new answer
-      (heard_at (past_at old.setup (entries ++ unclaimed notice ∷ []) (length entries)))
+      (unclaimed_at (past_at old.setup (entries ++ unclaimed notice ∷ []) (length entries)))
   pub others : answer.verdict ≡ Asks → new.known
       ≡ others_at (past_at old.setup (entries ++ unclaimed notice ∷ []) (length entries))
 

@@ -8,11 +8,12 @@ use Rattle.m17_stream.specs.declared.packet.StreamPacket.{StreamPacket}
 use Rattle.m17_floor.specs.declared.act.Act.{Act}
 use Rattle.m17_floor.specs.declared.act.ActKind.{ActKind}
 use Rattle.m17_floor.specs.declared.act.ActKind.TheVariants.{Join, Leave, Packet, Other}
-use Rattle.m17_floor.specs.Acts.{with_act, last_below, kind_at, moment_at, is_same, settles}
+use Rattle.m17_lookup.specs.Lookup.{last_below}
+use Rattle.m17_floor.specs.Acts.{with_act, kind_at, moment_at, is_same, settles}
 use Rattle.m17_floor.specs.Rule.{Frame, incoming, frame_from, only_if}
 use Rattle.m17_floor.specs.Floor.{Past, was_admitted, joined, is_in_since, frame_of, frame_at, has_stayed, last_admitted, floor_frame, is_packet_of, last_own, own_frame}
 use Rattle.m17_floor.specs.StandsFor.{packet_act}
-use Rattle.m17_floor.proofs.LastBelow.{last_below_suc, last_below_same, last_below_none, last_below_lt, and_then_same}
+use Rattle.m17_lookup.proofs.LastBelow.{last_below_suc, last_below_same, last_below_none, last_below_lt, and_then_same}
 use Rattle.m17_floor.proofs.Members.{is_same_self}
 use Rattle.m17_floor.proofs.OneMore.{grown, IsWhole, kind_end, length_more, moment_of, moment_end, was_before, was_end, last_admitted_more, since_more}
 use Rattle.m17_floor.proofs.Prefix.{kind_before, moment_at_same, joined_lt}

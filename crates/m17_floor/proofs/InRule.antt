@@ -13,7 +13,7 @@ use Rattle.m17_floor.specs.Acts.{kind_at, moment_at, is_packet}
 use Rattle.m17_floor.specs.Rule.{Frame, Incoming, incoming, frame_from, only_if, first_fit, verdict_by_frames}
 use Rattle.m17_floor.specs.Floor.{Past, was_admitted, joined, is_in_since, frame_of, frame_at, has_stayed, last_admitted, floor_frame, is_packet_of, own_frame, not_member, listens, listen_only, verdict_after, verdict_given}
 use Rattle.m17_floor.proofs.Frames.{stayed_at, own_test}
-use Rattle.m17_floor.proofs.LastBelow.{last_below_none}
+use Rattle.m17_lookup.proofs.LastBelow.{last_below_none}
 
 -- what it means to be in since before a position
 pub since_from : (o : Option ℕ) (a : ℕ) → option_map_or (λ j. nat_lt j a) o false ≡ true → (j : ℕ) × (o ≡ Some j) × (j < a)

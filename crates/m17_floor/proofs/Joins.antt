@@ -7,13 +7,14 @@ use Rattle.m17_values.specs.declared.member.Member.{Member}
 use Rattle.m17_floor.specs.declared.act.Act.{Act}
 use Rattle.m17_floor.specs.declared.act.ActKind.{ActKind}
 use Rattle.m17_floor.specs.declared.act.ActKind.TheVariants.{Join, Leave, Packet, Other}
-use Rattle.m17_floor.specs.Acts.{with_act, last_below, kind_at, is_same, is_join_of, settles, joined_at, IsMember}
+use Rattle.m17_lookup.specs.Lookup.{last_below}
+use Rattle.m17_floor.specs.Acts.{with_act, kind_at, is_same, is_join_of, settles, joined_at, IsMember}
 use Rattle.m17_floor.specs.Rule.{Frame, only_if}
 use Rattle.m17_floor.specs.Floor.{floor_frame, own_frame, listens}
 use Rattle.m17_floor.specs.StandsFor.{past_of, MaySpeak, without, FloorStandsFor, join_act, leave_act}
 use Rattle.m17_floor.proofs.Frames.{leaves_in}
 use Rattle.m17_floor.proofs.InRule.{floor_is_in}
-use Rattle.m17_floor.proofs.LastBelow.{last_below_ge, last_below_lt, some_from_cond}
+use Rattle.m17_lookup.proofs.LastBelow.{last_below_ge, last_below_lt, some_from_cond}
 use Rattle.m17_floor.proofs.Members.{is_same_self, is_same_from, same_from_is_same}
 use Rattle.m17_floor.proofs.OneMore.{kind_end, membership_more}
 use Rattle.m17_floor.proofs.Standing.{no_packet_admitted, floor_more, floor_same, own_more_settled}

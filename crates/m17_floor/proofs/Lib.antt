@@ -2,7 +2,6 @@ mod Counted
 mod Frames
 mod InRule
 mod Joins
-mod LastBelow
 mod Lines
 mod Members
 mod NoPacket

@@ -9,7 +9,7 @@ use Rattle.m17_floor.specs.Floor.{was_admitted, is_in_since, frame_at, last_admi
 use Rattle.m17_floor.specs.StandsFor.{past_of, HasNoPacket}
 use Rattle.m17_floor.proofs.Frames.{stayed_at}
 use Rattle.m17_floor.proofs.InRule.{none_given}
-use Rattle.m17_floor.proofs.LastBelow.{last_below_none}
+use Rattle.m17_lookup.proofs.LastBelow.{last_below_none}
 
 no_packet_at : (acts : List Act) (m : ℕ) → HasNoPacket acts → is_packet (kind_at acts m) ≡ false
 no_packet_at [] m h = refl

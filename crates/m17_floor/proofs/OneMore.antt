@@ -7,11 +7,12 @@ use Rattle.std.specs.List.{fold}
 use Rattle.std.specs.Option.{option_and_then, option_map_or}
 use Rattle.m17_values.specs.declared.member.Member.{Member}
 use Rattle.m17_floor.specs.declared.act.Act.{Act}
-use Rattle.m17_floor.specs.Acts.{with_act, last_below, kind_or_other, kind_at, greatest_moment, moment_before, moment_at, is_join_of, settles, joined_at}
+use Rattle.m17_lookup.specs.Lookup.{last_below}
+use Rattle.m17_floor.specs.Acts.{with_act, kind_or_other, kind_at, greatest_moment, moment_before, moment_at, is_join_of, settles, joined_at}
 use Rattle.m17_floor.specs.Floor.{Past, was_admitted, is_in_since, last_admitted, joined, verdict_given, admits, past_at, admitted_before, verdict_at}
 use Rattle.m17_floor.specs.Laws.{joined_with}
 use Rattle.m17_floor.specs.StandsFor.{past_of}
-use Rattle.m17_floor.proofs.LastBelow.{last_below_suc, last_below_same}
+use Rattle.m17_lookup.proofs.LastBelow.{last_below_suc, last_below_same}
 use Rattle.m17_floor.proofs.Prefix.{slice_get_before, joined_before, past_at_same, admitted_same}
 
 pub slice_get_end : {A : Type 0} (xs : List A) (y : A) → slice_get (xs ++ y ∷ []) (length xs) ≡ Some y

@@ -17,7 +17,7 @@ use Rattle.m17_floor.specs.Floor.{Past, was_admitted, joined, is_in_since, frame
 use Rattle.m17_floor.specs.Laws.{NoneAdmittedBetween, IsAdmittedPacket, IsOpened, IsOneOpening, OpeningsAreClean, FloorsAreTakenFree}
 use Rattle.m17_floor.proofs.Frames.{stayed_at, own_test}
 use Rattle.m17_floor.proofs.InRule.{IsStayed, floor_from}
-use Rattle.m17_floor.proofs.LastBelow.{last_below_ge, last_below_is, last_below_lt, last_below_true}
+use Rattle.m17_lookup.proofs.LastBelow.{last_below_ge, last_below_is, last_below_lt, last_below_true}
 use Rattle.m17_floor.proofs.Lines.{Passes, IsContinued, beside_continued, beside_opened, first_lets, only_if_from, only_if_true, continued_is}
 use Rattle.m17_floor.proofs.Members.{is_same_from, same_from_is_same}
 use Rattle.m17_floor.proofs.Positions.{packet_lt, kind_front, moment_front, bit_is, last_admitted_at, stayed_front, no_verdict, packet_verdict}

@@ -16,7 +16,7 @@ use Rattle.m17_floor.specs.Floor.{Past, was_admitted, joined, is_in_since, frame
 use Rattle.m17_floor.specs.Laws.{HasStayed, NoneAdmittedBetween, IsAdmittedPacket}
 use Rattle.m17_floor.proofs.Frames.{own_test}
 use Rattle.m17_floor.proofs.InRule.{after_stranger, after_listener, none_given, since_from}
-use Rattle.m17_floor.proofs.LastBelow.{last_below_is}
+use Rattle.m17_lookup.proofs.LastBelow.{last_below_is}
 use Rattle.m17_floor.proofs.Members.{is_same_self, same_from_is_same}
 use Rattle.m17_floor.proofs.OneMore.{bit_before, bit_end, length_admitted}
 use Rattle.m17_floor.proofs.Prefix.{kind_before, moment_at_same, joined_before, joined_lt}

@@ -4,9 +4,10 @@ use Rattle.std.proofs.lemmas.List.{take-append-le}
 use Rattle.std.specs.Option.{option_and_then}
 use Rattle.m17_values.specs.declared.member.Member.{Member}
 use Rattle.m17_floor.specs.declared.act.Act.{Act}
-use Rattle.m17_floor.specs.Acts.{last_below, kind_or_other, kind_at, greatest_moment, moment_before, moment_at, is_join_of, settles, joined_at}
+use Rattle.m17_lookup.specs.Lookup.{last_below}
+use Rattle.m17_floor.specs.Acts.{kind_or_other, kind_at, greatest_moment, moment_before, moment_at, is_join_of, settles, joined_at}
 use Rattle.m17_floor.specs.Floor.{Past, verdict_given, admits, past_with, admitted_before, past_at, verdict_at}
-use Rattle.m17_floor.proofs.LastBelow.{last_below_same, last_below_lt, and_then_same, kept_is, some_from_cond}
+use Rattle.m17_lookup.proofs.LastBelow.{last_below_same, last_below_lt, and_then_same, kept_is, some_from_cond}
 
 pub slice_get_before : {A : Type 0} (xs ys : List A) (m : ℕ) → m < length xs → slice_get (xs ++ ys) m ≡ slice_get xs m
 slice_get_before [] ys m h = absurd (omega arith)

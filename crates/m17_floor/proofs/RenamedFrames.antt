@@ -4,12 +4,13 @@ use Rattle.std.specs.Option.{option_and_then, option_map_or}
 use Rattle.m17_values.specs.declared.member.Member.{Member}
 use Rattle.m17_floor.specs.declared.act.ActKind.{ActKind}
 use Rattle.m17_floor.specs.declared.act.ActKind.TheVariants.{Join, Leave, Packet, Other}
-use Rattle.m17_floor.specs.Acts.{last_below, kind_at, moment_at}
+use Rattle.m17_lookup.specs.Lookup.{last_below}
+use Rattle.m17_floor.specs.Acts.{kind_at, moment_at}
 use Rattle.m17_floor.specs.Rule.{Frame}
 use Rattle.m17_floor.specs.Floor.{Past, was_admitted, joined, is_in_since, frame_of, frame_at, has_stayed, last_admitted, floor_frame, is_packet_of, last_own, own_frame}
 use Rattle.m17_floor.specs.Renamed.{IsOneToOne, IsRenamedKind}
 use Rattle.m17_floor.proofs.Frames.{stayed_at, own_test}
-use Rattle.m17_floor.proofs.LastBelow.{last_below_same, last_below_lt}
+use Rattle.m17_lookup.proofs.LastBelow.{last_below_same, last_below_lt}
 
 -- what is looked back on is the same, but for the members
 pub record IsLike (stands : Member → Member → Bool) (past other : Past) : Type 0 where

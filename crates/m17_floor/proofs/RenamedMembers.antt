@@ -6,9 +6,10 @@ use Rattle.m17_values.specs.declared.member.Member.{Member}
 use Rattle.m17_floor.specs.declared.act.Act.{Act}
 use Rattle.m17_floor.specs.declared.act.ActKind.{ActKind}
 use Rattle.m17_floor.specs.declared.act.ActKind.TheVariants.{Join, Leave, Packet, Other}
-use Rattle.m17_floor.specs.Acts.{last_below, kind_at, is_same, is_join_of, settles, joined_at}
+use Rattle.m17_lookup.specs.Lookup.{last_below}
+use Rattle.m17_floor.specs.Acts.{kind_at, is_same, is_join_of, settles, joined_at}
 use Rattle.m17_floor.specs.Renamed.{IsOneToOne, IsRenamedKind, AreRenamed, TakesFreePlace, TakeFreePlaces, AreFreelyRenamed}
-use Rattle.m17_floor.proofs.LastBelow.{last_below_same, and_then_same}
+use Rattle.m17_lookup.proofs.LastBelow.{last_below_same, and_then_same}
 use Rattle.m17_floor.proofs.Members.{same_from_is_same}
 
 -- the act is the member's own Join or Leave

@@ -1,6 +1,7 @@
 -- What happened in a module, and what is looked up in the list of it. Positions count from 0. This
 -- profile.
 use Rattle.std.specs.Prelude.{◌==◌, ◌&&◌, ℕ, zero, suc, Bool, true, false, List, [], ◌∷◌, ◌++◌, map, take, fold, max, slice_get, nat_lt, Option, None, Some, IsSome, option_and_then, if◌then◌else◌}
+use Rattle.m17_lookup.specs.Lookup.{last_below}
 use Rattle.m17_values.specs.declared.member.Member.{Member}
 use Rattle.m17_floor.specs.declared.act.Act.{Act}
 use Rattle.m17_floor.specs.declared.act.ActKind.{ActKind}
@@ -49,11 +50,6 @@ abbrev pub settles : Member → ActKind → Bool
 settles k (Join member listens) = member.place == k.place
 settles k (Leave member) = is_same member k
 settles k _ = false
-
--- the greatest position below n that passes the test
-unfoldable pub last_below : (ℕ → Bool) → ℕ → Option ℕ
-last_below test zero = None
-last_below test (suc n) = if test n then Some n else last_below test n
 
 -- The position of the Join by which the member is in before position n: the last one below n that
 -- decides whether it is in, where that is its Join and its place is one of the module's places.

@@ -8,7 +8,8 @@ use Rattle.m17_floor.specs.declared.act.ActKind.{ActKind}
 use Rattle.m17_floor.specs.declared.act.ActKind.TheVariants.{Join, Packet}
 use Rattle.m17_floor.specs.declared.verdict.Verdict.{Verdict}
 use Rattle.m17_floor.specs.declared.verdict.Verdict.TheVariants.{Opened, Continued, NotMember, ListenOnly}
-use Rattle.m17_floor.specs.Acts.{last_below, kind_at, moment_at, is_same, joined_at}
+use Rattle.m17_lookup.specs.Lookup.{last_below}
+use Rattle.m17_floor.specs.Acts.{kind_at, moment_at, is_same, joined_at}
 use Rattle.m17_floor.specs.Rule.{Frame, Incoming, incoming, frame_from, first_fit, verdict_by_frames}
 
 -- What the rule looks back on: the number of the module's places, what happened there so far, and

@@ -2,7 +2,8 @@
 //! there to compare the fast way with. The rule beside two frames is that of the fast way; which frames these are is
 //! looked up anew each time. This profile.
 ghost use Rattle.std.specs.Prelude.{◌≡◌, ℕ, ◌&&◌, ◌<◌, take, length, Some, IfOk, IfSome, slice_get};
-ghost use Rattle.m17_floor.specs.Acts.{last_below, kind_at, greatest_moment, settles, joined_at};
+ghost use Rattle.m17_lookup.specs.Lookup.{last_below};
+ghost use Rattle.m17_floor.specs.Acts.{kind_at, greatest_moment, settles, joined_at};
 ghost use Rattle.m17_floor.specs.Floor as floor;
 ghost use Rattle.m17_floor.specs.Floor.{was_admitted, floor_frame, last_own, own_frame, verdict_after, verdict_given, verdict_at};
 ghost use Rattle.m17_floor.specs.Rule.{incoming};

@@ -1,11 +1,10 @@
 -- The floor's verdict on the packet of an entry, looked up among a module's events.
-use Rattle.std.proofs.Common.{◌≡◌, ◌==◌, ℕ, zero, suc, ◌+◌, ◌-◌, ◌<◌, ◌≤◌, Bool, true, false, cond, List, [], ◌∷◌, ◌++◌, length, slice_get, Option, None, Some, inl, inr, refl, ap, sym, subst, ◌∙◌, arith, append_assoc}
+use Rattle.std.proofs.Common.{◌≡◌, ◌==◌, ℕ, zero, suc, ◌+◌, ◌-◌, ◌<◌, ◌≤◌, Bool, true, false, cond, List, [], ◌∷◌, ◌++◌, length, slice_get, None, Some, inl, inr, refl, ap, sym, subst, ◌∙◌, arith, append_assoc}
 use Rattle.std.specs.List.{filter_map, cons_option, AllByRecursion}
 use Rattle.std.specs.Option.{option_and_then}
 use Rattle.std.proofs.lemmas.List.{map-append, length-map, length-append}
 use Rattle.std.proofs.lemmas.List.Elements.{filter_map-append}
-use Rattle.std.proofs.lemmas.Option.{same_Some}
-use Rattle.std.proofs.lemmas.Bool.{cases_eq, and_from, and_left, and_right, cond-true, cond-false, eq-eqb, ne_eqb}
+use Rattle.std.proofs.lemmas.Bool.{cases_eq, and_from, and_left, and_right, cond-false, eq-eqb, ne_eqb}
 use Rattle.m17_control.specs.declared.event.Body.{Body}
 use Rattle.m17_control.specs.declared.event.Body.TheVariants as body
 use Rattle.m17_control.specs.declared.event.Event.{Event}
@@ -13,6 +12,7 @@ use Rattle.m17_floor.specs.Floor.{verdict_at}
 use Rattle.m17_floor.specs.Laws.{LaterActsChangeNoVerdict, OnlyPacketsHaveVerdicts}
 use Rattle.m17_module.specs.Events.{act_of, acts_of}
 use Rattle.m17_lookup.specs.Lookup.{last_below}
+use Rattle.m17_lookup.proofs.LastBelow.{last_below_same, last_below_is, last_below_lt, and_then_same}
 use Rattle.m17_directory.specs.declared.dispatch.Dispatch.{Dispatch}
 use Rattle.m17_directory.specs.declared.dispatch.Dispatch.TheVariants.{ToModule, ToDoor}
 use Rattle.m17_directory.specs.declared.verdict.LinkVerdict.{LinkVerdict}
@@ -28,26 +28,6 @@ use Rattle.m17_house.specs.SoFar.{found_from}
 use Rattle.m17_house.proofs.Lists.{slice_get_before, slice_get_end, length_more}
 use Rattle.m17_house.proofs.Found.{IsFound, found_none, found_one}
 
-pub last_same : (p q : ℕ → Bool) (n : ℕ) → ((m : ℕ) → m < n → p m ≡ q m) → last_below p n ≡ last_below q n
-unfolding last_below
-last_same p q zero h = refl
-last_same p q (suc n) h =
-    let e : p n ≡ q n = h n (omega arith) in
-    let r : last_below p n ≡ last_below q n = last_same p q n (λ m l. h m (omega arith)) in
-    rw (e, r) refl
-
-last_is : (test : ℕ → Bool) (n a : ℕ) → a < n → test a ≡ true → ((m : ℕ) → a < m → m < n → test m ≡ false) → last_below test n ≡ Some a
-unfolding last_below
-last_is test zero a l t h = absurd (omega arith)
-last_is test (suc n) a l t h =
-    elim (cases_eq a n) [
-      | inl here ↦ let e : test n ≡ true = ap test (sym here) ∙ t in cond-true (test n) (Some n) (last_below test n) e ∙ ap Some (sym here)
-      | inr other ↦
-          let below : a < n = omega arith in
-          let e : test n ≡ false = h n below (omega arith) in
-          cond-false (test n) (Some n) (last_below test n) e ∙ last_is test n a below t (λ m p q. h m p (omega arith))
-    ]
-
 -- positions at the end that don't pass
 last_past : (test : ℕ → Bool) (n m : ℕ) → n ≤ m → ((k : ℕ) → n ≤ k → k < m → test k ≡ false) → last_below test m ≡ last_below test n
 unfolding last_below
@@ -59,19 +39,6 @@ last_past test n (suc m) le h =
           let e : test m ≡ false = h m (omega arith) (omega arith) in
           cond-false (test m) (Some m) (last_below test m) e ∙ last_past test n m (omega arith) (λ k a b. h k a (omega arith))
     ]
-
-lt_from_cond : (b : Bool) (n a : ℕ) (o : Option ℕ) → (o ≡ Some a → a < n) → cond b (Some n) o ≡ Some a → a < suc n
-lt_from_cond true n a o h e = omega (arith, same_Some n a e)
-lt_from_cond false n a o h e = omega (arith, h e)
-
-pub last_lt : (test : ℕ → Bool) (n a : ℕ) → last_below test n ≡ Some a → a < n
-unfolding last_below
-last_lt test zero a e = cc
-last_lt test (suc n) a e = lt_from_cond (test n) n a (last_below test n) (last_lt test n a) e
-
-and_then_same : {A B : Type 0} (o : Option A) (f g : A → Option B) → ((a : A) → o ≡ Some a → f a ≡ g a) → option_and_then f o ≡ option_and_then g o
-and_then_same None f g h = refl
-and_then_same (Some a) f g h = h a refl
 
 slice_get_after : {A : Type 0} (xs ys : List A) (m j : ℕ) → m ≡ length xs + j → slice_get (xs ++ ys) m ≡ slice_get ys j
 slice_get_after [] ys m j e = ap (slice_get ys) (let same : m ≡ j = omega arith in same)
@@ -115,7 +82,7 @@ among_is law places n a event b index one none =
     let after : (m : ℕ) → length a < m → m < length events → test m ≡ false = λ m above below.
     let at : m ≡ length a + suc (m - suc (length a)) = omega arith in
     ap (is_packet_from n) (slice_get_after a (event ∷ b) m (suc (m - suc (length a))) at) ∙ none_there n b (m - suc (length a)) none in
-    let found : last_below test (length events) ≡ Some (length a) = last_is test (length events) (length a) (omega (arith, len)) here after in
+    let found : last_below test (length events) ≡ Some (length a) = last_below_is test (length events) (length a) (omega (arith, len)) here after in
     let split : events ≡ (a ++ event ∷ []) ++ b = sym (append_assoc a (event ∷ []) b) in
     ap (option_and_then (verdict_at places (acts_of events))) found
     ∙ ap (λ xs. verdict_at places (acts_of xs) (length a)) split
@@ -131,10 +98,10 @@ among_before law places i n a b apart all =
     let at : k ≡ length a + (k - length a) = omega arith in
     ap (is_packet_from i) (slice_get_after a b k (k - length a) at) ∙ other_there n i b (k - length a) apart all) in
     let same : last_below test (length a) ≡ last_below old (length a) =
-    last_same test old (length a) (λ m below. ap (is_packet_from i) (slice_get_before a b m below)) in
+    last_below_same test old (length a) (λ m below. ap (is_packet_from i) (slice_get_before a b m below)) in
     ap (option_and_then (verdict_at places (acts_of (a ++ b)))) (past ∙ same)
     ∙ and_then_same (last_below old (length a)) (verdict_at places (acts_of (a ++ b))) (verdict_at places (acts_of a))
-    (λ p e. later_verdict law places a b p (last_lt old (length a) p e))
+    (λ p e. later_verdict law places a b p (last_below_lt old (length a) p e))
 
 same_packet : (what : Body) → is_packet_body what ≡ is_packet what
 same_packet (body.Packet k p) = refl

@@ -8,7 +8,7 @@ use Rattle.m17_values.specs.declared.member.Member.{Member}
 use Rattle.m17_directory.specs.declared.known.Known.{Known}
 use Rattle.m17_directory.specs.Entries.{Claim, Entry, Setup, notice_of, notice_at, claim_at}
 use Rattle.m17_directory.specs.Known.{Past, is_of_place}
-use Rattle.m17_directory.specs.Routed.{past_at, heard_at, others_at, asks_at, is_asks}
+use Rattle.m17_directory.specs.Routed.{past_at, unclaimed_at, others_at, asks_at, is_asks}
 use Rattle.m17_directory.specs.Laws.{EntriesBeforeDecide}
 use Rattle.m17_house.specs.declared.plan.Plan.{Plan}
 use Rattle.m17_house.specs.Replay.{setup_of, given_before, IsFreeClaim, IsLeastFree, IsChosenAt}
@@ -119,7 +119,7 @@ chosen_before law setup entries e i below chosen =
     let longer : List Entry = entries ++ e ∷ [] in
     let front : take i entries ≡ take i longer = sym (take-append-le i entries (e ∷ []) (omega arith)) in
     let notices : notice_at entries i ≡ notice_at longer i = sym (notice_before entries e i below) in
-    let heard : heard_at (past_at setup entries i) ≡ heard_at (past_at setup longer i) = law.heard setup entries longer i front notices in
+    let heard : unclaimed_at (past_at setup entries i) ≡ unclaimed_at (past_at setup longer i) = law.heard setup entries longer i front notices in
     let others : others_at (past_at setup entries i) ≡ others_at (past_at setup longer i) = law.others setup entries longer i front notices in
     match_to (asks_at (past_at setup entries i) && nat_lt (length (others_at (past_at setup entries i))) setup.places) (asks_at (past_at setup longer i) && nat_lt (length (others_at (past_at setup longer i))) setup.places)
     (IsFreeClaim (others_at (past_at setup entries i)) entries i (claim_at entries i)) (claim_at entries i ≡ None)

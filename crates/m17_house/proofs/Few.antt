@@ -21,7 +21,7 @@ use Rattle.m17_directory.specs.declared.verdict.Act.TheVariants as act
 use Rattle.m17_directory.specs.Entries.{Claim, Notice, notice_at, moment_before, moment_at, ends_at}
 use Rattle.m17_directory.specs.Known.{Past, now, known_at}
 use Rattle.m17_directory.specs.Outcome.{Here, Outcome, only, posting, leaving, leave, to_module, to_door, to_each_module, is_what, known_asks, other_asks, of_known, of_other, of_packet, of_end, has_place}
-use Rattle.m17_directory.specs.Routed.{here_of, silent_at, still_at, row_for, said_at, ticks_at, tick_ms, heard_at, others_at, settled_at, settled_by, request_at}
+use Rattle.m17_directory.specs.Routed.{here_of, silent_at, still_at, row_for, said_at, ticks_at, tick_ms, unclaimed_at, others_at, settled_at, settled_by, request_at}
 
 -- there are 26 letters
 few_letters : (m : Modules) → length (letters_of m) ≤ 26
@@ -92,8 +92,8 @@ few_ticks : (past : Past) → length (ticks_at past) ≤ 26
 few_ticks past = told_by (here_of past) (nat_lt (moment_before past.entries (now past) / tick_ms) (moment_at past.entries (now past) / tick_ms))
 
 -- What an entry posts before its claim: who leaves, and 52 things more at the most.
-pub few_heard : (past : Past) → length (heard_at past).posts ≤ length (heard_at past).left + 52
-unfolding heard_at
+pub few_heard : (past : Past) → length (unclaimed_at past).posts ≤ length (unclaimed_at past).left + 52
+unfolding unclaimed_at
 few_heard past =
     let said : Outcome = said_at past (notice_at past.entries (now past)) in
     let silent : List Known = silent_at past in

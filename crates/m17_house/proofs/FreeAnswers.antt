@@ -18,6 +18,7 @@ use Rattle.m17_floor.specs.Renamed.{IsOneToOne, unnamed_verdict}
 use Rattle.m17_module.specs.Events.{acts_of}
 use Rattle.m17_module.specs.Laws as module_law
 use Rattle.m17_lookup.specs.Lookup.{last_below}
+use Rattle.m17_lookup.proofs.LastBelow.{last_below_same}
 use Rattle.m17_directory.specs.declared.verdict.LinkVerdict.{LinkVerdict}
 use Rattle.m17_directory.specs.declared.verdict.LinkVerdict.TheVariants as link
 use Rattle.m17_directory.specs.declared.verdict.Act.TheVariants as act
@@ -29,7 +30,6 @@ use Rattle.m17_house.specs.declared.plan.Plan.{Plan}
 use Rattle.m17_house.specs.Replay.{setup_of, module_setup, is_packet_body, is_packet_from, verdict_among, verdict_routed, packet_verdict, said_by_module, said_to}
 use Rattle.m17_house.specs.Free.{ComeToTheSame}
 use Rattle.m17_house.specs.Laws.{FreeReplaysComeToTheSame}
-use Rattle.m17_house.proofs.Among.{last_same}
 use Rattle.m17_house.proofs.FreeSame.{same_entries}
 
 -- one for one
@@ -151,7 +151,7 @@ module _ (law : PlacesChangeNoVerdict) (joins : JoinsTakeFreePlaces) (saying : m
       let b : List Event = routed (setup_of plan) other letter in
       let routes : AreRenamedEvents stands a b = law.routes (setup_of plan) one other given letter in
       ap (λ o. unnamed_verdict (option_and_then (verdict_at plan.places (acts_of a)) o))
-      (last_same (λ i. is_packet_from n (slice_get a i)) (λ i. is_packet_from n (slice_get b i)) (length a) (λ i l. packets_at stands n a b i routes)
+      (last_below_same (λ i. is_packet_from n (slice_get a i)) (λ i. is_packet_from n (slice_get b i)) (length a) (λ i l. packets_at stands n a b i routes)
       ∙ ap (last_below (λ i. is_packet_from n (slice_get b i))) (as_many stands a b routes))
       ∙ then_alike (verdict_at plan.places (acts_of a)) (verdict_at plan.places (acts_of b)) (last_below (λ i. is_packet_from n (slice_get b i)) (length b)) (judging stands plan.places a b (renamed letter))
 

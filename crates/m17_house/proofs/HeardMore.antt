@@ -13,7 +13,7 @@ use Rattle.m17_directory.specs.declared.verdict.LinkVerdict.{LinkVerdict}
 use Rattle.m17_directory.specs.declared.verdict.LinkVerdict.TheVariants as link
 use Rattle.m17_directory.specs.Entries.{Claim, Entry, Notice, Setup, claim_at}
 use Rattle.m17_directory.specs.Known.{Past}
-use Rattle.m17_directory.specs.Routed.{past_at, heard_at, others_at, settled_at, asks_at, is_asks, posts_at, posted}
+use Rattle.m17_directory.specs.Routed.{past_at, unclaimed_at, others_at, settled_at, asks_at, is_asks, posts_at, posted}
 use Rattle.m17_directory.specs.StandsFor.{Kept, StandsFor, IsHeard, IsSettled, unclaimed, claimed, departed_of}
 use Rattle.m17_directory.specs.Laws.{OneEntryMore, OnlyServedAreRouted, EntriesBeforeDecide, EachWhoLeavesIsPosted, EndedWhereItEnds, is_ended, left_member}
 use Rattle.m17_port_memory.specs.Kept.{TalliesKept}
@@ -52,14 +52,14 @@ nothing_asked (Some a) apart = absurd (apart refl)
 -- What a directory has heard, in the words of a plan.
 record HasHeard (setup : Setup) (entries : List Entry) (notice : Notice) (mid : Kept) (verdict : LinkVerdict) (posts : List Dispatch) : Type 0 where
   stands : StandsFor mid (entries ++ unclaimed notice ∷ [])
-  is_verdict : verdict ≡ (heard_at (past_at setup (entries ++ unclaimed notice ∷ []) (length entries))).verdict
-  are_posts : posts ≡ (heard_at (past_at setup (entries ++ unclaimed notice ∷ []) (length entries))).posts
-  departing : mid.departing ≡ map departed_of (heard_at (past_at setup (entries ++ unclaimed notice ∷ []) (length entries))).left
+  is_verdict : verdict ≡ (unclaimed_at (past_at setup (entries ++ unclaimed notice ∷ []) (length entries))).verdict
+  are_posts : posts ≡ (unclaimed_at (past_at setup (entries ++ unclaimed notice ∷ []) (length entries))).posts
+  departing : mid.departing ≡ map departed_of (unclaimed_at (past_at setup (entries ++ unclaimed notice ∷ []) (length entries))).left
   others : verdict ≡ link.Asks → mid.known ≡ others_at (past_at setup (entries ++ unclaimed notice ∷ []) (length entries))
 
 has_heard : (plan : Plan) (entries : List Entry) (notice : Notice) (old mid : Kept) (verdict : LinkVerdict) (posts : List Dispatch) → old.setup ≡ setup_of plan → old.departing ≡ [] → IsHeard old mid entries notice (record { verdict = verdict; posts = posts }) → HasHeard (setup_of plan) entries notice mid verdict posts
 has_heard plan entries notice old mid verdict posts setup nobody heard =
-    let left : List Known = (heard_at (past_at old.setup (entries ++ unclaimed notice ∷ []) (length entries))).left in
+    let left : List Known = (unclaimed_at (past_at old.setup (entries ++ unclaimed notice ∷ []) (length entries))).left in
     subst (λ (s : Setup). HasHeard s entries notice mid verdict posts) setup (record {
       stands = heard.stands;
       is_verdict = heard.outcome.verdict;
@@ -88,7 +88,7 @@ taken_in leaves ends more only plan entries notice old run mouth mouth' mid verd
     let past : Past = past_with plan entries entry in
     let has : HasHeard (setup_of plan) entries notice mid verdict posts = has_heard plan entries notice old.directory mid verdict posts so_far.idle.setup so_far.idle.departing heard in
     let count : length posts + length mid.known ≤ length old.directory.known + 52 =
-    omega (arith, together, ap length so_far.idle.departing, ap length has.departing, length-map (heard_at past).left departed_of, ap length has.are_posts, few_heard past) in
+    omega (arith, together, ap length so_far.idle.departing, ap length has.departing, length-map (unclaimed_at past).left departed_of, ap length has.are_posts, few_heard past) in
     let begin = posts_begin (setup_of plan) longer (length entries) in
     let all : posted (setup_of plan) longer ≡ (posted (setup_of plan) entries ++ posts) ++ begin.0 =
     more.posts (setup_of plan) entries entry ∙ ap (λ ds. posted (setup_of plan) entries ++ ds) (begin.1 ∙ ap (λ ds. ds ++ begin.0) (sym has.are_posts)) ∙ sym (append_assoc (posted (setup_of plan) entries) posts begin.0) in
@@ -104,7 +104,7 @@ taken_in leaves ends more only plan entries notice old run mouth mouth' mid verd
         name = name ∙ so_far.idle.name;
         setup = all_setup;
         departing = ap (λ (k : Kept). k.departing) noted
-            ∙ none_departing posts mid (heard_at past).left (ap (filter_map left_member) has.are_posts ∙ leaves.heard past) has.departing;
+            ∙ none_departing posts mid (unclaimed_at past).left (ap (filter_map left_member) has.are_posts ∙ leaves.heard past) has.departing;
         known = omega (arith, ap length is_known, bounded, places);
       };
       stands = subst (λ (k : Kept). StandsFor k longer) (sym noted) (noting_stands (filter_map left_member posts) mid longer has.stands);
@@ -118,19 +118,19 @@ taken_in leaves ends more only plan entries notice old run mouth mouth' mid verd
     }
 
 -- where the entry with its claim asks too
-pub asks_still : EntriesBeforeDecide → (plan : Plan) (entries : List Entry) (notice : Notice) (claim : Option Claim) → link.Asks ≡ (heard_at (past_with plan entries (unclaimed notice))).verdict → asks_at (past_with plan entries (claimed notice claim)) ≡ true
+pub asks_still : EntriesBeforeDecide → (plan : Plan) (entries : List Entry) (notice : Notice) (claim : Option Claim) → link.Asks ≡ (unclaimed_at (past_with plan entries (unclaimed notice))).verdict → asks_at (past_with plan entries (claimed notice claim)) ≡ true
 asks_still law plan entries notice claim asks = ap (λ o. is_asks o.verdict) (heard_same law (setup_of plan) entries (claimed notice claim) (unclaimed notice) refl) ∙ ap is_asks (sym asks)
 
 -- what an entry that asks posts in all
-pub asked_all : EntriesBeforeDecide → OneEntryMore → (plan : Plan) (entries : List Entry) (notice : Notice) (claim : Option Claim) → link.Asks ≡ (heard_at (past_with plan entries (unclaimed notice))).verdict →
-    posts_at (setup_of plan) (entries ++ claimed notice claim ∷ []) (length entries) ≡ (heard_at (past_with plan entries (unclaimed notice))).posts ++ (settled_at (past_with plan entries (claimed notice claim)) claim).posts
+pub asked_all : EntriesBeforeDecide → OneEntryMore → (plan : Plan) (entries : List Entry) (notice : Notice) (claim : Option Claim) → link.Asks ≡ (unclaimed_at (past_with plan entries (unclaimed notice))).verdict →
+    posts_at (setup_of plan) (entries ++ claimed notice claim ∷ []) (length entries) ≡ (unclaimed_at (past_with plan entries (unclaimed notice))).posts ++ (settled_at (past_with plan entries (claimed notice claim)) claim).posts
 asked_all law more plan entries notice claim asks =
     let entry : Entry = claimed notice claim in
     let longer : List Entry = entries ++ entry ∷ [] in
     let past : Past = past_with plan entries entry in
     asked_posts (setup_of plan) longer (length entries) (asks_still law plan entries notice claim asks)
     ∙ ap (λ o. o.posts ++ (settled_at past (claim_at longer (length entries))).posts) (heard_same law (setup_of plan) entries entry (unclaimed notice) refl)
-    ∙ ap (λ c. (heard_at (past_with plan entries (unclaimed notice))).posts ++ (settled_at past c).posts) (claim_end entries entry)
+    ∙ ap (λ c. (unclaimed_at (past_with plan entries (unclaimed notice))).posts ++ (settled_at past c).posts) (claim_end entries entry)
 
 -- What a directory has settled, in the words of a plan.
 record HasSettled (setup : Setup) (entries : List Entry) (entry : Entry) (mid : Kept) (verdict : LinkVerdict) (posts : List Dispatch) : Type 0 where
@@ -163,7 +163,7 @@ given_place leaves law more only plan entries notice old run mouth mouth' mid me
     let entry : Entry = claimed notice (claim_of member) in
     let longer : List Entry = entries ++ entry ∷ [] in
     let past : Past = past_with plan entries entry in
-    let heard : List Dispatch = (heard_at (past_with plan entries (unclaimed notice))).posts in
+    let heard : List Dispatch = (unclaimed_at (past_with plan entries (unclaimed notice))).posts in
     let before : List Dispatch = posted (setup_of plan) entries ++ heard in
     let has : HasSettled (setup_of plan) entries entry mid verdict posts = has_settled plan entries entry old.directory mid verdict posts taken.idle.setup taken.idle.departing settled in
     let count : length posts + length mid.known ≤ length old.directory.known + 2 =

@@ -11,7 +11,7 @@ use Rattle.m17_directory.specs.declared.verdict.LinkVerdict.{LinkVerdict}
 use Rattle.m17_directory.specs.declared.verdict.LinkVerdict.TheVariants as link
 use Rattle.m17_directory.specs.Entries.{Claim, Entry, Notice, Says, Setup, notice_at}
 use Rattle.m17_directory.specs.Known.{Past, now}
-use Rattle.m17_directory.specs.Routed.{heard_at, others_at, settled_at, settled_by, request_at, asks_at, is_asks, link_verdict, posts_at, posted}
+use Rattle.m17_directory.specs.Routed.{unclaimed_at, others_at, settled_at, settled_by, request_at, asks_at, is_asks, link_verdict, posts_at, posted}
 use Rattle.m17_directory.specs.StandsFor.{StandsFor, unclaimed, claimed}
 use Rattle.m17_directory.specs.Laws.{OneEntryMore, EntriesBeforeDecide, EndedWhereItEnds, EventsCarryTheirIndex, PacketsAreRouted, is_ended, packet_letter, packet_routed}
 use Rattle.m17_port_memory.specs.Kept.{TalliesKept}
@@ -36,9 +36,9 @@ more_unasked law more routes carry later only plan entries notice h run mouth ve
     let n : ℕ = length entries in
     let past : Past = past_with plan entries entry in
     let silent : asks_at past ≡ false = ap is_asks (sym taken.is_verdict) ∙ not_asks verdict (is_asks verdict) refl apart in
-    let posts : posts_at (setup_of plan) longer n ≡ (heard_at past).posts = unasked_posts (setup_of plan) longer n silent in
-    let all : posted (setup_of plan) longer ≡ posted (setup_of plan) entries ++ (heard_at past).posts = more.posts (setup_of plan) entries entry ∙ ap (λ ds. posted (setup_of plan) entries ++ ds) posts in
-    let one : filter_map packet_letter (heard_at past).posts ≡ packet_routed (link_verdict (setup_of plan) longer n) = ap (filter_map packet_letter) (sym posts) ∙ routes (setup_of plan) longer n in
+    let posts : posts_at (setup_of plan) longer n ≡ (unclaimed_at past).posts = unasked_posts (setup_of plan) longer n silent in
+    let all : posted (setup_of plan) longer ≡ posted (setup_of plan) entries ++ (unclaimed_at past).posts = more.posts (setup_of plan) entries entry ∙ ap (λ ds. posted (setup_of plan) entries ++ ds) posts in
+    let one : filter_map packet_letter (unclaimed_at past).posts ≡ packet_routed (link_verdict (setup_of plan) longer n) = ap (filter_map packet_letter) (sym posts) ∙ routes (setup_of plan) longer n in
     record {
       entry = entry;
       says = says;
@@ -47,12 +47,12 @@ more_unasked law more routes carry later only plan entries notice h run mouth ve
         asked = asked;
         stands = taken.stands;
         carried = subst (λ (ds : List Dispatch). HasCarried plan ds run.stage.rooms mouth) (sym all) taken.carried.carried;
-        few = omega (arith, taken.few, ap length all, length-append (posted (setup_of plan) entries) (heard_at past).posts, length_more entries entry);
+        few = omega (arith, taken.few, ap length all, length-append (posted (setup_of plan) entries) (unclaimed_at past).posts, length_more entries entry);
         given = counts_unclaimed run.given entries entry refl taken.given;
         chosen = chosen_more law plan entries entry taken.chosen (chosen_unasked (setup_of plan) entries entry silent refl);
       };
       is_verdict = taken.is_verdict ∙ sym (unasked_verdict (setup_of plan) longer n silent);
-      is_packet = taken.carried.found ∙ found_is only later carry plan longer n (posted (setup_of plan) entries) (heard_at past).posts all posts one;
+      is_packet = taken.carried.found ∙ found_is only later carry plan longer n (posted (setup_of plan) entries) (unclaimed_at past).posts all posts one;
       ends = taken.ends;
     }
 
@@ -78,7 +78,7 @@ more_asked law ends more routes carry later only plan entries notice h old run m
     let longer : List Entry = entries ++ entry ∷ [] in
     let n : ℕ = length entries in
     let past : Past = past_with plan entries entry in
-    let first : List Dispatch = (heard_at (past_with plan entries (unclaimed notice))).posts in
+    let first : List Dispatch = (unclaimed_at (past_with plan entries (unclaimed notice))).posts in
     let second : List Dispatch = (settled_at past (claim_of given.member)).posts in
     let asks : asks_at past ≡ true = asks_still law plan entries notice (claim_of given.member) taken.is_verdict in
     let posts : posts_at (setup_of plan) longer n ≡ first ++ second = asked_all law more plan entries notice (claim_of given.member) taken.is_verdict in

@@ -9,7 +9,7 @@ use Rattle.m17_values.specs.declared.heard.Heard.{Heard}
 use Rattle.m17_directory.specs.declared.known.Known.{Known}
 use Rattle.m17_directory.specs.Entries.{Claim, Entry, Notice, Says, SaysEach, notice_of, notice_at, claim_at, ends_at}
 use Rattle.m17_directory.specs.Known.{Past, is_of_place}
-use Rattle.m17_directory.specs.Routed.{past_at, heard_at, others_at, asks_at, is_asks}
+use Rattle.m17_directory.specs.Routed.{past_at, unclaimed_at, others_at, asks_at, is_asks}
 use Rattle.m17_directory.specs.Laws.{EntriesBeforeDecide, EndedWhereItEnds, EachEntrySaysOneThing, HasBytes, is_ended}
 use Rattle.m17_house.specs.declared.plan.Plan.{Plan}
 use Rattle.m17_house.specs.Replay.{IsLeastFree, IsFreeClaim, IsReplayOf, given_before, setup_of}
@@ -108,7 +108,7 @@ module _ (reading : EachEntrySaysOneThing) (law : EntriesBeforeDecide) (ends : E
 
   chosen_one : (n : ℕ) → take n one ≡ take n other → notice_at one n ≡ notice_at other n → n < length one → n < length other → claim_at one n ≡ claim_at other n
   chosen_one n same notices below within =
-      let heards : heard_at (past_at (setup_of plan) other n) ≡ heard_at (past_at (setup_of plan) one n) = sym (law.heard (setup_of plan) one other n same notices) in
+      let heards : unclaimed_at (past_at (setup_of plan) other n) ≡ unclaimed_at (past_at (setup_of plan) one n) = sym (law.heard (setup_of plan) one other n same notices) in
       let rows : others_at (past_at (setup_of plan) other n) ≡ others_at (past_at (setup_of plan) one n) = sym (law.others (setup_of plan) one other n same notices) in
       let past : Past = past_at (setup_of plan) one n in
       let there : MatchBool (asks_at past && nat_lt (length (others_at past)) plan.places) (IsFreeClaim (others_at past) other n (claim_at other n)) (claim_at other n ≡ None) =

@@ -12,7 +12,7 @@ use Rattle.m17_directory.specs.declared.dispatch.Dispatch.TheVariants.{ToModule,
 use Rattle.m17_directory.specs.Entries.{Entry, Setup, notice_of, notice_at, claim_at}
 use Rattle.m17_directory.specs.Known.{Past}
 use Rattle.m17_directory.specs.Outcome.{Outcome}
-use Rattle.m17_directory.specs.Routed.{past_at, asks_at, heard_at, others_at, settled_at, asked_before, both, comes_to, link_verdict, posts_at, posted, event_for, routed}
+use Rattle.m17_directory.specs.Routed.{past_at, asks_at, unclaimed_at, others_at, settled_at, asked_before, both, comes_to, link_verdict, posts_at, posted, event_for, routed}
 use Rattle.m17_directory.specs.Laws.{OnlyServedAreRouted, EntriesBeforeDecide}
 use Rattle.m17_house.specs.declared.plan.Plan.{Plan}
 use Rattle.m17_house.specs.Replay.{setup_of}
@@ -29,7 +29,7 @@ pub claim_end : (entries : List Entry) (a : Entry) → claim_at (entries ++ a �
 claim_end entries a = ap (option_and_then (λ (entry : Entry). entry.claim)) (slice_get_end entries a [])
 
 pub heard_same : EntriesBeforeDecide → (setup : Setup) (entries : List Entry) (a b : Entry) → a.notice ≡ b.notice →
-    heard_at (past_at setup (entries ++ a ∷ []) (length entries)) ≡ heard_at (past_at setup (entries ++ b ∷ []) (length entries))
+    unclaimed_at (past_at setup (entries ++ a ∷ []) (length entries)) ≡ unclaimed_at (past_at setup (entries ++ b ∷ []) (length entries))
 heard_same law setup entries a b same =
     law.heard setup (entries ++ a ∷ []) (entries ++ b ∷ []) (length entries) (take_before entries (a ∷ []) ∙ sym (take_before entries (b ∷ []))) (notice_end entries a ∙ same ∙ sym (notice_end entries b))
 
@@ -45,26 +45,26 @@ asked_length setup entries zero = refl
 asked_length setup entries (suc n) = length_more (asked_before setup entries n) (asks_at (past_at setup entries n)) ∙ ap suc (asked_length setup entries n)
 
 outcome_by : (setup : Setup) (entries : List Entry) (n : ℕ) → Bool → ℕ → Outcome
-outcome_by setup entries n b m = cond b (both (heard_at (past_at setup entries n)) (settled_at (past_at setup entries n) (claim_at entries m))) (heard_at (past_at setup entries n))
+outcome_by setup entries n b m = cond b (both (unclaimed_at (past_at setup entries n)) (settled_at (past_at setup entries n) (claim_at entries m))) (unclaimed_at (past_at setup entries n))
 
 outcome_is : (setup : Setup) (entries : List Entry) (n : ℕ) (b : Bool) → asks_at (past_at setup entries n) ≡ b → comes_to (past_at setup entries n) ≡ outcome_by setup entries n b n
 unfolding outcome_by
 outcome_is setup entries n b e =
     let past : Past = past_at setup entries n in
-    ap (λ t. cond t (both (heard_at past) (settled_at past (claim_at entries (length (asked_before setup entries n))))) (heard_at past)) e
-    ∙ ap (λ m. cond b (both (heard_at past) (settled_at past (claim_at entries m))) (heard_at past)) (asked_length setup entries n)
+    ap (λ t. cond t (both (unclaimed_at past) (settled_at past (claim_at entries (length (asked_before setup entries n))))) (unclaimed_at past)) e
+    ∙ ap (λ m. cond b (both (unclaimed_at past) (settled_at past (claim_at entries m))) (unclaimed_at past)) (asked_length setup entries n)
 
 -- an entry that does not ask
-pub unasked_posts : (setup : Setup) (entries : List Entry) (n : ℕ) → asks_at (past_at setup entries n) ≡ false → posts_at setup entries n ≡ (heard_at (past_at setup entries n)).posts
+pub unasked_posts : (setup : Setup) (entries : List Entry) (n : ℕ) → asks_at (past_at setup entries n) ≡ false → posts_at setup entries n ≡ (unclaimed_at (past_at setup entries n)).posts
 unfolding posts_at outcome_by
 unasked_posts setup entries n e = ap (λ o. o.posts) (outcome_is setup entries n false e)
 
-pub unasked_verdict : (setup : Setup) (entries : List Entry) (n : ℕ) → asks_at (past_at setup entries n) ≡ false → link_verdict setup entries n ≡ (heard_at (past_at setup entries n)).verdict
+pub unasked_verdict : (setup : Setup) (entries : List Entry) (n : ℕ) → asks_at (past_at setup entries n) ≡ false → link_verdict setup entries n ≡ (unclaimed_at (past_at setup entries n)).verdict
 unfolding link_verdict outcome_by
 unasked_verdict setup entries n e = ap (λ o. o.verdict) (outcome_is setup entries n false e)
 
 -- one that asks
-pub asked_posts : (setup : Setup) (entries : List Entry) (n : ℕ) → asks_at (past_at setup entries n) ≡ true → posts_at setup entries n ≡ (heard_at (past_at setup entries n)).posts ++ (settled_at (past_at setup entries n) (claim_at entries n)).posts
+pub asked_posts : (setup : Setup) (entries : List Entry) (n : ℕ) → asks_at (past_at setup entries n) ≡ true → posts_at setup entries n ≡ (unclaimed_at (past_at setup entries n)).posts ++ (settled_at (past_at setup entries n) (claim_at entries n)).posts
 unfolding posts_at outcome_by
 asked_posts setup entries n e = ap (λ o. o.posts) (outcome_is setup entries n true e)
 
@@ -73,11 +73,11 @@ unfolding link_verdict outcome_by
 asked_verdict setup entries n e = ap (λ o. o.verdict) (outcome_is setup entries n true e)
 
 -- what it posts begins with what it posts before its claim
-posts_begin_by : (setup : Setup) (entries : List Entry) (n : ℕ) (b : Bool) → asks_at (past_at setup entries n) ≡ b → (tail : List Dispatch) × (posts_at setup entries n ≡ (heard_at (past_at setup entries n)).posts ++ tail)
+posts_begin_by : (setup : Setup) (entries : List Entry) (n : ℕ) (b : Bool) → asks_at (past_at setup entries n) ≡ b → (tail : List Dispatch) × (posts_at setup entries n ≡ (unclaimed_at (past_at setup entries n)).posts ++ tail)
 posts_begin_by setup entries n true e = ((settled_at (past_at setup entries n) (claim_at entries n)).posts, asked_posts setup entries n e)
-posts_begin_by setup entries n false e = ([], unasked_posts setup entries n e ∙ sym (append-nil (heard_at (past_at setup entries n)).posts))
+posts_begin_by setup entries n false e = ([], unasked_posts setup entries n e ∙ sym (append-nil (unclaimed_at (past_at setup entries n)).posts))
 
-pub posts_begin : (setup : Setup) (entries : List Entry) (n : ℕ) → (tail : List Dispatch) × (posts_at setup entries n ≡ (heard_at (past_at setup entries n)).posts ++ tail)
+pub posts_begin : (setup : Setup) (entries : List Entry) (n : ℕ) → (tail : List Dispatch) × (posts_at setup entries n ≡ (unclaimed_at (past_at setup entries n)).posts ++ tail)
 posts_begin setup entries n = posts_begin_by setup entries n (asks_at (past_at setup entries n)) refl
 
 -- parts of a list with nothing in it

@@ -9,7 +9,7 @@ use Rattle.m17_directory.specs.Entries.{Claim, Entry, Notice, Says, SaysEach, cl
 use Rattle.m17_directory.specs.Known.{Past}
 use Rattle.m17_directory.specs.Laws.{EntriesBeforeDecide, EndedWhereItEnds, EachEntrySaysOneThing, HasBytes}
 use Rattle.m17_directory.specs.Outcome.{Outcome, has_place}
-use Rattle.m17_directory.specs.Routed.{past_at, heard_at, others_at, asks_at, is_asks}
+use Rattle.m17_directory.specs.Routed.{past_at, unclaimed_at, others_at, asks_at, is_asks}
 use Rattle.m17_directory.specs.StandsFor.{unclaimed}
 use Rattle.m17_house.specs.declared.plan.Plan.{Plan}
 use Rattle.m17_house.specs.Laws.{AReplayThereIs}
@@ -76,7 +76,7 @@ next law plan entries notice =
     let e : Entry = record { notice = notice; claim = claim } in
     let longer : List Entry = entries ++ e ∷ [] in
     let past : Past = past_at (setup_of plan) longer n in
-    let heards : heard_at bare ≡ heard_at past = heard_same law (setup_of plan) entries (unclaimed notice) e refl in
+    let heards : unclaimed_at bare ≡ unclaimed_at past = heard_same law (setup_of plan) entries (unclaimed notice) e refl in
     let others : others_at bare ≡ others_at past = others_same law (setup_of plan) entries (unclaimed notice) e refl in
     record {
       entry = e;

@@ -13,7 +13,7 @@ use Rattle.m17_directory.specs.declared.verdict.LinkVerdict.TheVariants.{Asks}
 use Rattle.m17_directory.specs.Entries.{Notice, Claim, Entry, Says, ends_at}
 use Rattle.m17_directory.specs.Known.{Past}
 use Rattle.m17_directory.specs.Outcome.{Outcome}
-use Rattle.m17_directory.specs.Routed.{past_at, heard_at, others_at, settled_at, link_verdict, posted}
+use Rattle.m17_directory.specs.Routed.{past_at, unclaimed_at, others_at, settled_at, link_verdict, posted}
 use Rattle.m17_directory.specs.StandsFor.{Kept, StandsFor, unclaimed, claimed, without_member}
 use Rattle.m17_port_memory.specs.Kept.{TalliesKept}
 use Rattle.m17_house.specs.declared.plan.Plan.{Plan}
@@ -116,21 +116,21 @@ pub record IsTakenIn (plan : Plan) (entries : List Entry) (notice : Notice) (s :
   pub idle : IsIdle plan s.run
   pub stands : StandsFor s.run.directory (entries ++ unclaimed notice ∷ [])
   pub carried : IsCarriedOut plan (posted (setup_of plan) entries)
-      (heard_at (past_with plan entries (unclaimed notice))).posts
+      (unclaimed_at (past_with plan entries (unclaimed notice))).posts
       (s.run.stage.rooms, s.mouth) answer.1
-  pub is_verdict : answer.0 ≡ (heard_at (past_with plan entries (unclaimed notice))).verdict
+  pub is_verdict : answer.0 ≡ (unclaimed_at (past_with plan entries (unclaimed notice))).verdict
   pub others : answer.0 ≡ Asks →
       s.run.directory.known ≡ others_at (past_with plan entries (unclaimed notice))
   pub ends : s.run.directory.ended ≡ ends_at (entries ++ unclaimed notice ∷ []) (length entries)
   pub few : length (posted (setup_of plan) entries)
-      + length (heard_at (past_with plan entries (unclaimed notice))).posts
+      + length (unclaimed_at (past_with plan entries (unclaimed notice))).posts
       + length s.run.directory.known ≤ 54 * length entries + 52
   pub given : AreCounts s.run.given entries
   pub chosen : AreChosen plan entries
 
 -- what such an entry posts before its claim
 abbrev pub first_posts : Plan → List Entry → Notice → List Dispatch
-first_posts plan entries notice = (heard_at (past_with plan entries (unclaimed notice))).posts
+first_posts plan entries notice = (unclaimed_at (past_with plan entries (unclaimed notice))).posts
 
 -- the claim by this member, to be greeted at once
 abbrev pub claim_of : Option Member → Option Claim

@@ -6,7 +6,8 @@ use Rattle.m17_control.specs.declared.event.Event.{Event}
 use Rattle.m17_floor.specs.declared.act.ActKind.{ActKind}
 use Rattle.m17_floor.specs.declared.act.ActKind.TheVariants.{Join, Leave, Packet, Other}
 use Rattle.std.specs.Option.{option_and_then}
-use Rattle.m17_floor.specs.Acts.{last_below, is_join_of, settles, kind_at, joined_at}
+use Rattle.m17_lookup.specs.Lookup.{last_below}
+use Rattle.m17_floor.specs.Acts.{is_join_of, settles, kind_at, joined_at}
 use Rattle.m17_module.specs.Events.{acts_of}
 use Rattle.m17_module.specs.Laws.{joins, JoinsOnce, StaysBetween, InFromJoinToEnd}
 use Rattle.m17_module.proofs.Life.{joined_suc}

@@ -15,7 +15,8 @@ use Rattle.m17_floor.specs.Floor.{Past, floor_frame, admits, past_with, admitted
 use Rattle.m17_floor.specs.Laws.{LaterActsChangeNoVerdict, LaterActsChangeNoMembership, LaterActsChangeNoMoment, LaterActsChangeNoKind}
 use Rattle.m17_parrot.specs.Recording.{Recording, most_frames, due_of}
 use Rattle.m17_module.specs.Echoes.{is_admitted_at, opens, is_opened_at, holder_at, packet_in, admitted_packet, held_before, has_end_bit, closes, close_before, is_in_since, opening, recording_of, last_opened, recording_with, closed_if, echo_with, echoed_before, echo_at, recording_at}
-use Rattle.m17_module.proofs.Below.{last_below_same, last_below_lt, and_then_same, length_more}
+use Rattle.m17_lookup.proofs.LastBelow.{last_below_same, last_below_lt, and_then_same}
+use Rattle.m17_module.proofs.Below.{length_more}
 use Rattle.m17_module.proofs.ItemsMore.{flat_map_same}
 
 -- what later acts don't change

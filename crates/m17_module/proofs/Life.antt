@@ -13,14 +13,15 @@ use Rattle.m17_control.specs.declared.event.Event.{Event}
 use Rattle.m17_control.specs.declared.item.Item.{Item}
 use Rattle.m17_control.specs.declared.item.Said.{Said}
 use Rattle.m17_control.specs.declared.item.Said.TheVariants as said
-use Rattle.m17_floor.specs.Acts.{last_below, is_join_of, settles, kind_at, moment_before, moment_at, joined_at}
+use Rattle.m17_lookup.specs.Lookup.{last_below}
+use Rattle.m17_floor.specs.Acts.{is_join_of, settles, kind_at, moment_before, moment_at, joined_at}
 use Rattle.m17_module.specs.declared.seat.Seat.{Seat}
 use Rattle.m17_module.specs.Events.{kind_of, acts_of}
 use Rattle.m17_module.specs.Seats.{seats_at, seat_of}
 use Rattle.m17_module.specs.Items.{Setup, ping_every_ms, to_one, says, setting_at, pings_at, echoes_at, said_by, said_at, items_at, items_given, is_for, items_for}
 use Rattle.m17_module.specs.Laws.{is_hello, is_bye, joins, JoinsOnce, IsLife, ShareIsALife, WhoNeverJoinsGetsNothing}
 use Rattle.m17_module.proofs.Acts.{kind_from, kind_at_is}
-use Rattle.m17_module.proofs.Below.{last_below_suc}
+use Rattle.m17_lookup.proofs.LastBelow.{last_below_suc}
 use Rattle.m17_module.proofs.ItemsMore.{range_more}
 use Rattle.m17_module.proofs.Places.{filter-append}
 use Rattle.m17_module.proofs.FramesMine.{is_in_exactly, cond_same}

@@ -6,7 +6,7 @@ use Rattle.m17_values.specs.declared.member.Member.{Member}
 use Rattle.m17_stream.specs.declared.packet.StreamPacket.{StreamPacket}
 use Rattle.m17_control.specs.declared.event.Event.{Event}
 use Rattle.m17_floor.specs.declared.verdict.Verdict.{Verdict}
-use Rattle.m17_floor.specs.Acts.{last_below}
+use Rattle.m17_lookup.specs.Lookup.{last_below}
 use Rattle.m17_floor.specs.Laws.{MomentOfOneMore, StrangersGetNotMember}
 use Rattle.m17_parrot.specs.Recording.{Recording, due_of, with_given}
 use Rattle.m17_module.specs.declared.recorder.Recorder.{Recorder}

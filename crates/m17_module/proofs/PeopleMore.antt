@@ -18,7 +18,8 @@ use Rattle.m17_control.specs.declared.event.Body.TheVariants.{Join, Leave, Packe
 use Rattle.m17_floor.specs.declared.act.ActKind.{ActKind}
 use Rattle.m17_floor.specs.declared.verdict.Verdict.TheVariants.{NotMember, ListenOnly}
 use Rattle.m17_floor.specs.Floor.{verdict_at, listens}
-use Rattle.m17_floor.specs.Acts.{with_act, is_same, kind_at, moment_before, joined_at, last_below, IsMember}
+use Rattle.m17_lookup.specs.Lookup.{last_below}
+use Rattle.m17_floor.specs.Acts.{with_act, is_same, kind_at, moment_before, joined_at, IsMember}
 use Rattle.m17_floor.specs.Rule.{Frame}
 use Rattle.m17_floor.specs.Laws.{LaterActsChangeNoMembership, UnheardPacketsChangeNothing, LeavesOfStrangersChangeNothing, JoinsPastThePlacesChangeNothing, OtherActsChangeNothing, StrangersGetNotMember, ListenersGetListenOnly, MembershipOfOneMore, LeavesLeaveOthers, JoinsLeaveOthers, joined_with}
 use Rattle.m17_floor.specs.StandsFor.{FloorStandsFor, OwnStandsFor, KeepsStanding, MemberKeepsStanding, IsJudged, MaySpeak, join_act, leave_act, packet_act}

@@ -15,7 +15,7 @@ use Rattle.m17_floor.specs.Laws as floor_law
 use Rattle.m17_module.specs.Events.{kind_of, acts_of}
 use Rattle.m17_module.specs.Laws.{AreFreelyRenamed, RenamingChangesNoVerdict}
 use Rattle.m17_module.proofs.Acts.{kind_from, kind_at_is}
-use Rattle.m17_module.proofs.Below.{last_below_ge}
+use Rattle.m17_lookup.proofs.LastBelow.{last_below_ge}
 use Rattle.m17_module.proofs.SeatsMore.{same_from_is_same, is_same_self, join_parts, joined_below}
 
 -- what the floor promises of such lists

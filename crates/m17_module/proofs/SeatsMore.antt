@@ -10,14 +10,16 @@ use Rattle.m17_control.specs.declared.event.Body.TheVariants.{Join, Leave, Packe
 use Rattle.m17_control.specs.declared.event.Event.{Event}
 use Rattle.m17_floor.specs.declared.act.Act.{Act}
 use Rattle.m17_floor.specs.declared.act.ActKind.TheVariants as act
-use Rattle.m17_floor.specs.Acts.{with_act, last_below, kind_at, is_same, is_join_of, settles, joined_at}
+use Rattle.m17_lookup.specs.Lookup.{last_below}
+use Rattle.m17_floor.specs.Acts.{with_act, kind_at, is_same, is_join_of, settles, joined_at}
 use Rattle.m17_floor.specs.Floor.{listens}
 use Rattle.m17_floor.specs.Laws.{LaterActsChangeNoMembership, MembershipOfOneMore, joined_with}
 use Rattle.m17_module.specs.declared.seat.Seat.{Seat}
 use Rattle.m17_module.specs.Events.{kind_of, act_of, acts_of}
 use Rattle.m17_module.specs.Seats.{seat_joined, seat_from, is_at, is_position, if_in_by, last_join, seat_at, seats_at}
 use Rattle.m17_module.proofs.Acts.{acts_more, acts_append, length_acts, kind_from, kind_at_is}
-use Rattle.m17_module.proofs.Below.{slice_get_before, slice_get_end, length_more, last_below_suc, last_below_same, last_below_lt, last_below_true, last_below_stricter, and_then_same}
+use Rattle.m17_lookup.proofs.LastBelow.{last_below_suc, last_below_same, last_below_lt, last_below_true, and_then_same}
+use Rattle.m17_module.proofs.Below.{slice_get_before, slice_get_end, length_more, last_below_stricter}
 
 pub is_same_self : (k : Member) → is_same k k ≡ true
 is_same_self k = and_from _ _ (eq-eqb k.place k.place refl) (eq-eqb k.generation k.generation refl)

@@ -9,7 +9,8 @@ use Rattle.m17_floor.specs.declared.act.ActKind.{ActKind}
 use Rattle.m17_floor.specs.declared.act.ActKind.TheVariants.{Packet}
 use Rattle.m17_floor.specs.declared.verdict.Verdict.{Verdict}
 use Rattle.m17_floor.specs.declared.verdict.Verdict.TheVariants.{Opened}
-use Rattle.m17_floor.specs.Acts.{last_below, kind_at, moment_at, joined_at}
+use Rattle.m17_lookup.specs.Lookup.{last_below}
+use Rattle.m17_floor.specs.Acts.{kind_at, moment_at, joined_at}
 use Rattle.m17_floor.specs.Rule.{Frame, only_if, has_floor}
 use Rattle.m17_floor.specs.Floor.{floor_frame, admits, past_at, verdict_at}
 use Rattle.m17_parrot.specs.Recording.{Recording, most_frames, closed, due_of}

@@ -5,4 +5,3 @@ pub mod Devices
 pub mod Laws
 -- for proofs alone
 pub mod Taking
-pub mod Untold

@@ -155,7 +155,7 @@ impl<C: Clock + Drop, W: Wire + Drop> UdpEar<C, W> {
 
 impl<C: Clock + Drop, W: Wire + Drop> Ear for UdpEar<C, W> {
     ghost use Rattle.std.proofs.Math.Nat.{min-le_right};
-    ghost use Rattle.m17_net.specs.Untold.{follows_none};
+    ghost use Rattle.m17_ports.specs.Untold.{follows_none};
 
     type Label = ();
 

@@ -55,7 +55,7 @@ impl<W: Wire + Drop> UdpMouth<W> {
 impl<W: Wire + Drop> Mouth for UdpMouth<W> {
     ghost use Rattle.std.proofs.Math.Nat.{min-le_right};
     ghost use Rattle.m17_net.specs.Devices.{MouthKept};
-    ghost use Rattle.m17_net.specs.Untold.{names_nobody};
+    ghost use Rattle.m17_ports.specs.Untold.{names_nobody};
 
     type Label = ();
 

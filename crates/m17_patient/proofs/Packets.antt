@@ -12,9 +12,9 @@ use Rattle.m17_control.specs.declared.event.Body.TheVariants.{Join, Leave, Packe
 use Rattle.m17_control.specs.declared.event.Event.{Event}
 use Rattle.m17_control.specs.Modules.{serves, letters_of}
 use Rattle.m17_floor.specs.declared.verdict.Verdict.{Verdict}
-use Rattle.m17_floor.specs.Acts.{last_below as floor_last, is_packet as is_packet_act}
+use Rattle.m17_floor.specs.Acts.{is_packet as is_packet_act}
 use Rattle.m17_floor.specs.Floor.{verdict_at}
-use Rattle.m17_lookup.specs.Lookup.{last_below}
+use Rattle.m17_lookup.proofs.LastBelow.{last_below_same, last_below_none}
 use Rattle.m17_module.specs.Events.{acts_of, kind_of}
 use Rattle.m17_directory.specs.declared.verdict.Act.TheVariants as act
 use Rattle.m17_directory.specs.declared.verdict.LinkVerdict.{LinkVerdict}
@@ -29,20 +29,6 @@ use Rattle.m17_reflect.specs.Links.{letter_of}
 use Rattle.m17_reflect.specs.Run.{module_count}
 use Rattle.m17_patient.specs.Tapes.{cell_at, packet_on}
 use Rattle.m17_patient.proofs.Lists.{IsIn, at_below, below_at, in_filter, in_given, kept_passes, range_has}
-
--- two forms of looking back
-last_same : (p r : ℕ → Bool) (n : ℕ) → ((i : ℕ) → i < n → p i ≡ r i) → floor_last p n ≡ last_below r n
-unfolding floor_last last_below
-last_same p r zero h = refl
-last_same p r (suc n) h =
-    ap (λ b. cond b (Some n) (floor_last p n)) (h n (omega arith))
-    ∙ ap (λ o. cond (r n) (Some n) o) (last_same p r n (λ i lt. h i (omega arith)))
-
-none_below : (p : ℕ → Bool) (n : ℕ) → ((i : ℕ) → i < n → p i ≡ false) → last_below p n ≡ None
-unfolding last_below
-none_below p zero h = refl
-none_below p (suc n) h =
-    ap (λ b. cond b (Some n) (last_below p n)) (h n (omega arith)) ∙ none_below p n (λ i lt. h i (omega arith))
 
 -- a packet, in the words of the floor, of the house and of the directory
 packet_bodies : (body : Body) → is_packet_act (kind_of body) ≡ is_packet_body body
@@ -79,7 +65,7 @@ pub verdict_same : (places n : ℕ) (events : List Event) → ((i : ℕ) (event 
 unfolding position_of
 verdict_same places n events none =
     ap (option_and_then (verdict_at places (acts_of events)))
-    (last_same (λ i. option_map_or (is_packet_of n) (slice_get events i) false) (λ i. is_packet_from n (slice_get events i)) (length events)
+    (last_below_same (λ i. option_map_or (is_packet_of n) (slice_get events i) false) (λ i. is_packet_from n (slice_get events i)) (length events)
     (λ i lt. cell_same n (slice_get events i) (none i)))
 
 index_there : (b : Bool) (event : Event) (n : ℕ) → b ≡ true → event.tag.index ≡ n → cond b (Some event.tag.index) None ≡ Some n
@@ -103,7 +89,7 @@ module _ (of_entries : PacketsAreOfEntries) (served : OnlyServedAreRouted) (plan
   none_among letter n other =
       let events : List Event = routed setup entries letter in
       ap (option_and_then (verdict_at plan.places (acts_of events)))
-      (none_below (λ i. is_packet_from n (slice_get events i)) (length events) (λ i lt.
+      (last_below_none (λ i. is_packet_from n (slice_get events i)) (length events) (λ i lt.
       no_from n (slice_get events i) (λ event at is.
       let parts = and_parts (event.tag.index == n) (is_packet_body event.body) is in
       let there : IsIn (filter_map packet_index events) n =
@@ -116,7 +102,7 @@ module _ (of_entries : PacketsAreOfEntries) (served : OnlyServedAreRouted) (plan
   unserved : (letter n : ℕ) → serves plan.modules letter ≡ false → verdict_among plan.places n (routed setup entries letter) ≡ None
   unserved letter n e =
       ap (verdict_among plan.places n) (served setup entries letter e)
-      ∙ ap (option_and_then (verdict_at plan.places (acts_of []))) (none_below (λ i. is_packet_from n (slice_get [] i)) 0 (λ i lt. absurd (omega arith)))
+      ∙ ap (option_and_then (verdict_at plan.places (acts_of []))) (last_below_none (λ i. is_packet_from n (slice_get [] i)) 0 (λ i lt. absurd (omega arith)))
 
   -- a served letter stands at the number of some module
   letter_there : (letter : ℕ) → serves plan.modules letter ≡ true → (m : ℕ) × (m < module_count plan) × (letter_of plan m ≡ letter)

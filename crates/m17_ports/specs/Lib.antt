@@ -7,3 +7,5 @@ pub mod Said
 pub mod Shelf
 pub mod Ports
 pub mod Laws
+-- for proofs alone
+pub mod Untold

@@ -13,7 +13,7 @@ use Rattle.m17_directory.specs.declared.verdict.LinkVerdict.TheVariants as link
 use Rattle.m17_directory.specs.Entries.{Notice, Entry, Setup, claim_at}
 use Rattle.m17_directory.specs.Known.{Past}
 use Rattle.m17_directory.specs.Outcome.{Outcome}
-use Rattle.m17_directory.specs.Routed.{past_at, asks_at, is_asks, heard_at, others_at, outcome_at, link_verdict, posts_at}
+use Rattle.m17_directory.specs.Routed.{past_at, asks_at, is_asks, unclaimed_at, others_at, outcome_at, link_verdict, posts_at}
 use Rattle.m17_directory.specs.StandsFor.{Kept, StandsFor, IsHeard, unclaimed, departed_of}
 use Rattle.m17_directory.specs.Laws.{left_before, is_ended, is_full}
 use Rattle.m17_receiver.specs.Posting.{Outlets}
@@ -55,7 +55,7 @@ asking_noted plan entries notice p d notes more n was is noted =
       others = ap (λ (k : Kept). k.known) noted.same ∙ was.others;
       claimed = was.claimed;
       greeted = greeted_notes entries p.notes more was.greeted;
-      gone = gone_noted (left_before plan.setup entries (length entries) ++ map departed_of (heard_at (past_with plan.setup entries (unclaimed notice))).left)
+      gone = gone_noted (left_before plan.setup entries (length entries) ++ map departed_of (unclaimed_at (past_with plan.setup entries (unclaimed notice))).left)
           p.directory.departing d.departing p.notes more was.gone noted.left;
       count = count_more p.noted n p.notes more was.count (noted.count (length p.notes) was.count);
     })
@@ -63,9 +63,9 @@ asking_noted plan entries notice p d notes more n was is noted =
 -- An entry is heard.
 record IsHeardIn (setup : Setup) (entries : List Entry) (notice : Notice) (old new : Kept) (verdict : LinkVerdict) (posts : List Dispatch) : Type 0 where
   stands : StandsFor new (entries ++ unclaimed notice ∷ [])
-  is_verdict : verdict ≡ (heard_at (past_with setup entries (unclaimed notice))).verdict
-  are_posts : posts ≡ (heard_at (past_with setup entries (unclaimed notice))).posts
-  departing : new.departing ≡ old.departing ++ map departed_of (heard_at (past_with setup entries (unclaimed notice))).left
+  is_verdict : verdict ≡ (unclaimed_at (past_with setup entries (unclaimed notice))).verdict
+  are_posts : posts ≡ (unclaimed_at (past_with setup entries (unclaimed notice))).posts
+  departing : new.departing ≡ old.departing ++ map departed_of (unclaimed_at (past_with setup entries (unclaimed notice))).left
   others : verdict ≡ link.Asks → new.known ≡ others_at (past_with setup entries (unclaimed notice))
 
 heard_in : (setup : Setup) (entries : List Entry) (notice : Notice) (old new : Kept) (verdict : LinkVerdict) (posts : List Dispatch) → old.setup ≡ setup →
@@ -129,8 +129,8 @@ through_unasked law plan entries notice p d verdict posts out was is_heard setup
     let past : Past = past_with setup entries e in
     let heard = heard_in setup entries notice p.directory d verdict posts was.setup is_heard in
     let silent : asks_at past ≡ false = ap is_asks (sym heard.is_verdict) ∙ not_asks verdict (is_asks verdict) refl apart in
-    let outcome : outcome_at setup longer n ≡ heard_at past = unasked_is law setup entries e silent in
-    let all : posts ≡ posts_at setup longer n = heard.are_posts ∙ sym (outcome_posts setup longer n (heard_at past) outcome) in
+    let outcome : outcome_at setup longer n ≡ unclaimed_at past = unasked_is law setup entries e silent in
+    let all : posts ≡ posts_at setup longer n = heard.are_posts ∙ sym (outcome_posts setup longer n (unclaimed_at past) outcome) in
     record {
       entry = e;
       says = refl;
@@ -147,10 +147,10 @@ through_unasked law plan entries notice p d verdict posts out was is_heard setup
           patient_places = λ _ claim has. absurd (none-some claim has);
         });
         greeted = greeted_more entries e p.notes was.greeted (λ claim has. absurd (none-some claim has)) (λ _ i first second l has has' same. absurd (none-some second has'));
-        gone = gone_more law setup entries e (heard_at past).left p.directory.departing d.departing p.notes (ap (λ (o : Outcome). o.left) outcome) heard.departing was.gone;
+        gone = gone_more law setup entries e (unclaimed_at past).left p.directory.departing d.departing p.notes (ap (λ (o : Outcome). o.left) outcome) heard.departing was.gone;
         count = was.count;
       };
-      is_verdict = heard.is_verdict ∙ sym (outcome_verdict setup longer n (heard_at past) outcome);
+      is_verdict = heard.is_verdict ∙ sym (outcome_verdict setup longer n (unclaimed_at past) outcome);
       ends = ended_by verdict d.ended (is_ended verdict) refl ended_is ∙ ap is_ended heard.is_verdict ∙ law.ended setup longer n;
     }
 
@@ -171,12 +171,12 @@ asks_now law plan entries notice p d verdict posts out was is_heard setup_is end
       setup = setup_is ∙ was.setup;
       stands = heard.stands;
       asks = sym heard.is_verdict ∙ asks;
-      posted = out_is ∙ ap (λ (ds : List Dispatch). posting setup.modules ds p.out) heard.are_posts ∙ ap (posting setup.modules (heard_at past).posts) was.posted;
+      posted = out_is ∙ ap (λ (ds : List Dispatch). posting setup.modules ds p.out) heard.are_posts ∙ ap (posting setup.modules (unclaimed_at past).posts) was.posted;
       goes_on = not_ended verdict d.ended ended_is asks;
       others = heard.others asks;
       claimed = was.claimed;
       greeted = was.greeted;
-      gone = subst (λ (ds : List Departed). AreGone (left_before setup entries (length entries) ++ map departed_of (heard_at past).left) ds p.notes) (sym heard.departing)
-          (gone_left (left_before setup entries (length entries)) (map departed_of (heard_at past).left) p.directory.departing p.notes was.gone);
+      gone = subst (λ (ds : List Departed). AreGone (left_before setup entries (length entries) ++ map departed_of (unclaimed_at past).left) ds p.notes) (sym heard.departing)
+          (gone_left (left_before setup entries (length entries)) (map departed_of (unclaimed_at past).left) p.directory.departing p.notes was.gone);
       count = was.count;
     }

@@ -10,7 +10,7 @@ use Rattle.m17_values.specs.declared.member.Member.{Member}
 use Rattle.m17_values.specs.declared.peer.Peer.{Peer}
 use Rattle.m17_directory.specs.declared.known.Departed.{Departed}
 use Rattle.m17_directory.specs.Entries.{Notice, Claim, Entry, Setup, notice_at, claim_at, is_peer, is_from}
-use Rattle.m17_directory.specs.Routed.{past_at, asks_at, heard_at, outcome_at}
+use Rattle.m17_directory.specs.Routed.{past_at, asks_at, unclaimed_at, outcome_at}
 use Rattle.m17_directory.specs.StandsFor.{departed_of, has_departing}
 use Rattle.m17_directory.specs.Laws.{ClaimsAreAsked, joined_by, joined_before, left_before, is_of_peer}
 use Rattle.m17_receiver.specs.Devices.{IsCounted}
@@ -147,7 +147,7 @@ asks_by setup entries n claim false is asked l has = absurd (none-some claim (sy
 -- Where no member of its peer is departing, each earlier member of the peer was noted.
 pub each_noted : Laws → (setup : Setup) (entries : List Entry) (e : Entry) (departing : List Departed) (notes : List Member) (x : Peer) →
     ClaimsAreAsked setup (entries ++ e ∷ []) → asks_at (past_with setup entries e) ≡ true → has_departing x departing ≡ false →
-    AreGone (left_before setup entries (length entries) ++ map departed_of (heard_at (past_with setup entries e)).left) departing notes →
+    AreGone (left_before setup entries (length entries) ++ map departed_of (unclaimed_at (past_with setup entries e)).left) departing notes →
     (i : ℕ) (first : Claim) → i < length entries → claim_at entries i ≡ Some first → is_from x (notice_at entries i) ≡ true → is_from x e.notice ≡ true →
     Contains notes first.member
 each_noted law setup entries e departing notes x asked asks none gone i first l has from from' =
@@ -164,12 +164,12 @@ each_noted law setup entries e departing notes x asked asks none gone i first l 
     let joins : joined_by (notice_at longer i) (claim_at longer i) ≡ who.0 ∷ [] = ap (joined_by (notice_at longer i)) has_it ∙ who.1 in
     let fits : p who.0 ≡ true = and_from (is_peer x who.0.peer) (test who.0.member) who.3 (ap test who.2 ∙ same_itself first.member) in
     let joined : 1 ≤ count_by p (joined_before setup longer n) = joined_later setup longer p (suc i) n (joined_here setup longer i p who.0 its_asks joins fits) (omega arith) in
-    let same : count_by p (joined_before setup longer n) ≡ count_by p (left_before setup longer n ++ map departed_of (heard_at (past_at setup longer n)).left) =
+    let same : count_by p (joined_before setup longer n) ≡ count_by p (left_before setup longer n ++ map departed_of (unclaimed_at (past_at setup longer n)).left) =
     law.people.asking setup longer n x test asked (omega (arith, size)) asks from_last in
-    let left : 1 ≤ count_by p (left_before setup longer n ++ map departed_of (heard_at (past_at setup longer n)).left) = omega (arith, joined, same) in
-    let d = found p (left_before setup longer n ++ map departed_of (heard_at (past_at setup longer n)).left) left in
-    let there : Contains (left_before setup entries n ++ map departed_of (heard_at (past_with setup entries e)).left) d.0 =
-    subst (λ ds. Contains (ds ++ map departed_of (heard_at (past_with setup entries e)).left) d.0) (left_same law setup entries e) d.1 in
+    let left : 1 ≤ count_by p (left_before setup longer n ++ map departed_of (unclaimed_at (past_at setup longer n)).left) = omega (arith, joined, same) in
+    let d = found p (left_before setup longer n ++ map departed_of (unclaimed_at (past_at setup longer n)).left) left in
+    let there : Contains (left_before setup entries n ++ map departed_of (unclaimed_at (past_with setup entries e)).left) d.0 =
+    subst (λ ds. Contains (ds ++ map departed_of (unclaimed_at (past_with setup entries e)).left) d.0) (left_same law setup entries e) d.1 in
     let parts = and_parts (is_peer x d.0.peer) (test d.0.member) d.2 in
     elim (gone d.0 there) [
       | inl still ↦ absurd (not_in (λ y. is_peer x y.peer) departing none d.0 still parts.0)

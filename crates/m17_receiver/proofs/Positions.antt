@@ -5,7 +5,7 @@ use Rattle.std.proofs.lemmas.List.{take-append-le}
 use Rattle.std.proofs.lemmas.Option.{none-some, slice_get_within}
 use Rattle.m17_directory.specs.Entries.{Claim, Entry, Setup, notice_of, notice_at, claim_at}
 use Rattle.m17_directory.specs.Outcome.{Outcome}
-use Rattle.m17_directory.specs.Routed.{past_at, asks_at, is_asks, heard_at, others_at, settled_at, both, outcome_at, link_verdict}
+use Rattle.m17_directory.specs.Routed.{past_at, asks_at, is_asks, unclaimed_at, others_at, settled_at, both, outcome_at, link_verdict}
 use Rattle.m17_receiver.specs.SoFar.{Laws, past_with}
 use Rattle.m17_receiver.proofs.Lists.{get_before, get_end, length_more}
 
@@ -34,7 +34,7 @@ claim_within_more entries e n claim has =
 take_before : (entries : List Entry) (e : Entry) (n : ℕ) → n ≤ length entries → take n (entries ++ e ∷ []) ≡ take n entries
 take_before entries e n l = take-append-le n entries (e ∷ []) l
 
-pub heard_before : Laws → (setup : Setup) (entries : List Entry) (e : Entry) (n : ℕ) → n < length entries → heard_at (past_at setup (entries ++ e ∷ []) n) ≡ heard_at (past_at setup entries n)
+pub heard_before : Laws → (setup : Setup) (entries : List Entry) (e : Entry) (n : ℕ) → n < length entries → unclaimed_at (past_at setup (entries ++ e ∷ []) n) ≡ unclaimed_at (past_at setup entries n)
 heard_before law setup entries e n l = law.before.heard setup (entries ++ e ∷ []) entries n (take_before entries e n (omega arith)) (notice_before entries e n l)
 
 pub asks_before : Laws → (setup : Setup) (entries : List Entry) (e : Entry) (n : ℕ) → n < length entries → asks_at (past_at setup (entries ++ e ∷ []) n) ≡ asks_at (past_at setup entries n)
@@ -50,7 +50,7 @@ unfolding link_verdict
 verdict_before law setup entries e n l = ap (λ (o : Outcome). o.verdict) (law.later setup entries (e ∷ []) n l)
 
 -- the last entry before its claim, whatever the claim
-pub heard_same : Laws → (setup : Setup) (entries : List Entry) (a b : Entry) → a.notice ≡ b.notice → heard_at (past_with setup entries a) ≡ heard_at (past_with setup entries b)
+pub heard_same : Laws → (setup : Setup) (entries : List Entry) (a b : Entry) → a.notice ≡ b.notice → unclaimed_at (past_with setup entries a) ≡ unclaimed_at (past_with setup entries b)
 heard_same law setup entries a b same =
     let n : ℕ = length entries in
     law.before.heard setup (entries ++ a ∷ []) (entries ++ b ∷ []) n (take_before entries a n (omega arith) ∙ sym (take_before entries b n (omega arith)))
@@ -64,11 +64,11 @@ others_same law setup entries a b same =
 
 -- what an entry comes to that does not ask, and that asks
 pub unasked_is : Laws → (setup : Setup) (entries : List Entry) (e : Entry) → asks_at (past_with setup entries e) ≡ false →
-    outcome_at setup (entries ++ e ∷ []) (length entries) ≡ heard_at (past_with setup entries e)
+    outcome_at setup (entries ++ e ∷ []) (length entries) ≡ unclaimed_at (past_with setup entries e)
 unasked_is law setup entries e silent = law.complete.other setup (entries ++ e ∷ []) (length entries) silent
 
 pub asked_is : Laws → (setup : Setup) (entries : List Entry) (e : Entry) → asks_at (past_with setup entries e) ≡ true →
-    outcome_at setup (entries ++ e ∷ []) (length entries) ≡ both (heard_at (past_with setup entries e)) (settled_at (past_with setup entries e) e.claim)
+    outcome_at setup (entries ++ e ∷ []) (length entries) ≡ both (unclaimed_at (past_with setup entries e)) (settled_at (past_with setup entries e) e.claim)
 asked_is law setup entries e asks =
     law.complete.asking setup (entries ++ e ∷ []) (length entries) asks
-    ∙ ap (λ c. both (heard_at (past_with setup entries e)) (settled_at (past_with setup entries e) c)) (claim_end entries e)
+    ∙ ap (λ c. both (unclaimed_at (past_with setup entries e)) (settled_at (past_with setup entries e) c)) (claim_end entries e)

@@ -16,7 +16,7 @@ use Rattle.m17_directory.specs.declared.verdict.LinkVerdict.{LinkVerdict}
 use Rattle.m17_directory.specs.Entries.{Notice, Claim, Entry, Setup, notice_at, claim_at, is_peer, is_from}
 use Rattle.m17_directory.specs.Known.{Past}
 use Rattle.m17_directory.specs.Outcome.{Outcome, has_place}
-use Rattle.m17_directory.specs.Routed.{asks_at, is_asks, heard_at, others_at, settled_at, both, outcome_at, link_verdict, posts_at}
+use Rattle.m17_directory.specs.Routed.{asks_at, is_asks, unclaimed_at, others_at, settled_at, both, outcome_at, link_verdict, posts_at}
 use Rattle.m17_directory.specs.StandsFor.{Kept, StandsFor, IsSettled, IsAsked, unclaimed, claimed, departed_of, must_wait, has_departing, most_members}
 use Rattle.m17_directory.specs.Laws.{left_before, is_ended, is_full}
 use Rattle.m17_receiver.specs.Devices.{IsCounted}
@@ -132,10 +132,10 @@ through_asked law plan entries notice p d seat taken verdict posts out was some 
     let longer : List Entry = entries ++ e ∷ [] in
     let n : ℕ = length entries in
     let past : Past = past_with setup entries e in
-    let heard : Outcome = heard_at past in
+    let heard : Outcome = unclaimed_at past in
     let settles : Outcome = settled_at past claim in
     let settled = settled_in setup entries e p.directory d verdict posts was.setup is_settled in
-    let same : heard ≡ heard_at (past_with setup entries before) = heard_same law setup entries e before refl in
+    let same : heard ≡ unclaimed_at (past_with setup entries before) = heard_same law setup entries e before refl in
     let asks : asks_at past ≡ true = ap (λ (o : Outcome). is_asks o.verdict) same ∙ ap is_asks was.asks in
     let outcome : outcome_at setup longer n ≡ both heard settles = asked_is law setup entries e asks in
     let all : posts_at setup longer n ≡ heard.posts ++ settles.posts = outcome_posts setup longer n (both heard settles) outcome in

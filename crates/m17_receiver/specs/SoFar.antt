@@ -19,7 +19,7 @@ use Rattle.m17_directory.specs.declared.verdict.LinkVerdict.TheVariants.{Asks}
 use Rattle.m17_directory.specs.Entries.{Notice, Entry, Setup, SaysEach, ends_at}
 use Rattle.m17_directory.specs.Known.{Past}
 use Rattle.m17_directory.specs.Outcome.{has_place}
-use Rattle.m17_directory.specs.Routed.{past_at, heard_at, others_at, event_for, link_verdict}
+use Rattle.m17_directory.specs.Routed.{past_at, unclaimed_at, others_at, event_for, link_verdict}
 use Rattle.m17_directory.specs.StandsFor.{Kept, StandsFor, must_wait, unclaimed, departed_of}
 use Rattle.m17_directory.specs.Laws.{LaterEntriesChangeNothing, OneEntryMore, EntriesBeforeDecide, ClaimsCompleteAskers, DoorCarriesReplies, EndedWhereItEnds, AskersJoinOrAreFull, PeersComeAndGo, PeersAreToldApart, direct_of, left_before}
 use Rattle.m17_receiver.specs.Posting.{Outlets, letter_at, posted_to, AreSameOutlets}
@@ -152,16 +152,16 @@ pub record IsAsking (plan : Plan) (entries : List Entry) (notice : Notice) (p : 
     : Type 0 where
   pub setup : p.directory.setup ≡ plan.setup
   pub stands : StandsFor p.directory (entries ++ unclaimed notice ∷ [])
-  pub asks : (heard_at (past_with plan.setup entries (unclaimed notice))).verdict ≡ Asks
+  pub asks : (unclaimed_at (past_with plan.setup entries (unclaimed notice))).verdict ≡ Asks
   pub posted : p.out
-      ≡ posting plan.setup.modules (heard_at (past_with plan.setup entries (unclaimed notice))).posts
+      ≡ posting plan.setup.modules (unclaimed_at (past_with plan.setup entries (unclaimed notice))).posts
       (posted_to plan.setup entries plan.start)
   pub goes_on : p.directory.ended ≡ false
   pub others : p.directory.known ≡ others_at (past_with plan.setup entries (unclaimed notice))
   pub claimed : HasClaimed plan.patient plan.setup entries p.seat
   pub greeted : IsGreetedAfter entries p.notes
   pub gone : AreGone (left_before plan.setup entries (length entries)
-      ++ map departed_of (heard_at (past_with plan.setup entries (unclaimed notice))).left)
+      ++ map departed_of (unclaimed_at (past_with plan.setup entries (unclaimed notice))).left)
       p.directory.departing p.notes
   pub count : p.noted ≡ min (length p.notes) (2 ^ 64 - 1)
 

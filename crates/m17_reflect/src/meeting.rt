@@ -138,7 +138,7 @@ impl MeetingEar {
 impl Ear for MeetingEar {
     ghost use Rattle.std.specs.Prelude.{◌-◌, ◌^◌};
     ghost use Rattle.std.proofs.Common.{lit≤};
-    ghost use Rattle.m17_net.specs.Untold.{follows_none};
+    ghost use Rattle.m17_ports.specs.Untold.{follows_none};
 
     type Label = ();
 

@@ -3,11 +3,12 @@ use Rattle.std.proofs.Common.{◌≡◌, ℕ, zero, suc, ◌<◌, Bool, true, fa
 use Rattle.std.specs.Prelude.{◌==◌, is_some, option_and_then}
 use Rattle.std.specs.Option.{option_map_or}
 use Rattle.std.proofs.lemmas.Bool.{cases_eq, and_parts, eq-eqb, ne_eqb, and_left, and_right}
-use Rattle.std.proofs.lemmas.Option.{same_Some}
 use Rattle.std.proofs.lemmas.List.{length-set}
 use Rattle.m17_control.specs.declared.event.Event.{Event}
 use Rattle.m17_floor.specs.declared.verdict.Verdict.{Verdict}
-use Rattle.m17_floor.specs.Acts.{last_below, is_packet}
+use Rattle.m17_lookup.specs.Lookup.{last_below}
+use Rattle.m17_lookup.proofs.LastBelow.{last_below_same, last_below_lt, last_below_suc, and_then_same}
+use Rattle.m17_floor.specs.Acts.{is_packet}
 use Rattle.m17_floor.specs.Floor.{verdict_at}
 use Rattle.m17_floor.specs.Laws.{LaterActsChangeNoVerdict}
 use Rattle.m17_module.specs.Events.{acts_of, kind_of}
@@ -15,31 +16,6 @@ use Rattle.m17_worker.specs.Underway.{filled}
 use Rattle.m17_worker.specs.Tape.{is_packet_of, position_of, verdict_on, IsTaped}
 use Rattle.m17_worker.proofs.Lists.{slice_get_before, slice_get_end, length_more}
 use Rattle.m17_worker.proofs.Gathered.{acts_append, length_acts}
-
-last_below_same : (p q : ℕ → Bool) (n : ℕ) → ((m : ℕ) → m < n → p m ≡ q m) → last_below p n ≡ last_below q n
-unfolding last_below
-last_below_same p q zero h = refl
-last_below_same p q (suc n) h =
-    let e : p n ≡ q n = h n (omega arith) in
-    let r : last_below p n ≡ last_below q n = last_below_same p q n (λ m l. h m (omega arith)) in
-    rw (e, r) refl
-
-lt_from_cond : (b : Bool) (n a : ℕ) (o : Option ℕ) → (o ≡ Some a → a < n) → cond b (Some n) o ≡ Some a → a < suc n
-lt_from_cond true n a o h e = omega (arith, same_Some n a e)
-lt_from_cond false n a o h e = omega (arith, h e)
-
-last_below_lt : (test : ℕ → Bool) (n a : ℕ) → last_below test n ≡ Some a → a < n
-unfolding last_below
-last_below_lt test zero a e = cc
-last_below_lt test (suc n) a e = lt_from_cond (test n) n a (last_below test n) (last_below_lt test n a) e
-
-last_below_suc : (test : ℕ → Bool) (n : ℕ) → last_below test (suc n) ≡ cond (test n) (Some n) (last_below test n)
-unfolding last_below
-last_below_suc test n = refl
-
-and_then_same : {A B : Type 0} (o : Option A) (f g : A → Option B) → ((a : A) → o ≡ Some a → f a ≡ g a) → option_and_then f o ≡ option_and_then g o
-and_then_same None f g h = refl
-and_then_same (Some a) f g h = h a refl
 
 -- no event, no position
 pub none_taped : (places index : ℕ) → verdict_on places [] index ≡ None

@@ -3,7 +3,8 @@ use Rattle.std.specs.Prelude.{◌≡◌, ◌==◌, ◌&&◌, ℕ, ◌<◌, Bool,
 use Rattle.std.specs.Option.{option_map_or}
 use Rattle.m17_control.specs.declared.event.Event.{Event}
 use Rattle.m17_floor.specs.declared.verdict.Verdict.{Verdict}
-use Rattle.m17_floor.specs.Acts.{last_below, is_packet}
+use Rattle.m17_lookup.specs.Lookup.{last_below}
+use Rattle.m17_floor.specs.Acts.{is_packet}
 use Rattle.m17_floor.specs.Floor.{verdict_at}
 use Rattle.m17_module.specs.Events.{acts_of, kind_of}
 

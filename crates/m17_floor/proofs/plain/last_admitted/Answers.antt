@@ -1,6 +1,6 @@
 use Rattle.std.proofs.Common.{ℕ, Bool, sym, ◌∙◌, arith}
 use Rattle.m17_floor.specs.Plain.{was_answered}
-use Rattle.m17_floor.proofs.LastBelow.{found_back, passed_back, none_back}
+use Rattle.m17_lookup.proofs.LastBelow.{found_back, passed_back, none_back}
 use Rattle.m17_floor.proofs.plain.last_admitted.Goals as goal
 
 pub returns-then-is_admitted-clause-found : goal.returns-then-is_admitted-clause-found

@@ -1,7 +1,7 @@
 use Rattle.std.proofs.Common.{ℕ, Bool, sym, ◌∙◌, arith}
 use Rattle.m17_floor.specs.Plain.{past_answered}
 use Rattle.m17_floor.proofs.Frames.{own_test}
-use Rattle.m17_floor.proofs.LastBelow.{found_back, passed_back, none_back}
+use Rattle.m17_lookup.proofs.LastBelow.{found_back, passed_back, none_back}
 use Rattle.m17_floor.proofs.plain.last_of.Goals as goal
 
 pub returns-then-is_own-clause-found : goal.returns-then-is_own-clause-found

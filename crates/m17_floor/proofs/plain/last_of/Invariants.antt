@@ -1,5 +1,5 @@
 use Rattle.std.proofs.Common.{◌≡◌, ◌≤◌, length}
-use Rattle.m17_floor.specs.Acts.{last_below}
+use Rattle.m17_lookup.specs.Lookup.{last_below}
 use Rattle.m17_floor.specs.Floor.{last_own}
 use Rattle.m17_floor.specs.Plain.{past_answered}
 use Rattle.m17_floor.proofs.Frames.{own_test}

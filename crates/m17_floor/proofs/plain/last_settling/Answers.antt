@@ -1,6 +1,6 @@
 use Rattle.std.proofs.Common.{ℕ, Bool, sym, ◌∙◌, arith}
 use Rattle.m17_floor.specs.Acts.{kind_at, settles}
-use Rattle.m17_floor.proofs.LastBelow.{found_back, passed_back, none_back}
+use Rattle.m17_lookup.proofs.LastBelow.{found_back, passed_back, none_back}
 use Rattle.m17_floor.proofs.plain.last_settling.Goals as goal
 
 pub returns-then-is_settling : goal.returns-then-is_settling

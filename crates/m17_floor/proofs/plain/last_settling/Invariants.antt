@@ -1,5 +1,6 @@
 use Rattle.std.proofs.Common.{◌≡◌, length}
-use Rattle.m17_floor.specs.Acts.{last_below, kind_at, settles}
+use Rattle.m17_lookup.specs.Lookup.{last_below}
+use Rattle.m17_floor.specs.Acts.{kind_at, settles}
 use Rattle.m17_floor.proofs.plain.last_settling.Given as goal
 
 abbrev pub invariant-loop-j : goal.invariant-loop-j
