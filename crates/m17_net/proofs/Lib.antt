@@ -1,2 +1,4 @@
 pub mod Prefixes
 pub mod Going
+pub mod Counts
+pub mod Appended

@@ -1,5 +1,6 @@
 -- What contracts see of an ear, a mouth and a book of a real machine, and of its ports. This profile.
-use Rattle.std.specs.Prelude.{◌≡◌, ◌≢◌, ◌⊎◌, ℕ, ◌≤◌, List, [], ◌∷◌, take, Bool, Option, None, Some}
+use Rattle.std.specs.Prelude.{◌≡◌, ◌≢◌, ◌⊎◌, ℕ, suc, ◌≤◌, List, [], ◌∷◌, take, Bool, Option, option_map, None, Some}
+use Rattle.std.specs.Io.KnownBytes.{Appends}
 use Rattle.std.specs.Net.Addr.{is_ipv6}
 use Rattle.std.specs.Net.Grammar.{IsSocketText}
 use Rattle.std.specs.Net.Socket.{socket_ip}
@@ -12,9 +13,10 @@ use Rattle.m17_ports.specs.Ports.{next_number}
 use Rattle.m17_net.specs.Address.{IsPeerAt, IsAddressOf}
 use Rattle.m17_net.specs.Wire.{Sent}
 
--- an ear: its socket, the moment at which it ends, if it does, the last moment that it read, how often it has failed,
--- and its number
-pub record EarKept (W : Type 0) : Type 0 where
+-- an ear: its clock, its socket, the moment at which it ends, if it does, the last moment that it read, how often it has
+-- failed, and its number
+pub record EarKept (C W : Type 0) : Type 0 where
+  pub clock : C
   pub wire : W
   pub until : Option ℕ
   pub last : ℕ
@@ -22,8 +24,9 @@ pub record EarKept (W : Type 0) : Type 0 where
   pub number : ℕ
 
 -- an ear that has heard nothing
-abbrev pub new_ear : {W : Type 0} → W → Option ℕ → ℕ → EarKept W
-new_ear wire until n = record { wire = wire; until = until; last = 0; faults = 0; number = n }
+abbrev pub new_ear : {C W : Type 0} → C → W → Option ℕ → ℕ → EarKept C W
+new_ear clock wire until n =
+    record { clock = clock; wire = wire; until = until; last = 0; faults = 0; number = n }
 
 -- a mouth: its socket, whether that is one of IPv6, how often it has failed, and its number
 pub record MouthKept (W : Type 0) : Type 0 where
@@ -45,6 +48,10 @@ pub record BookKept (F : Type 0) : Type 0 where
 -- a book in which nothing was written
 abbrev pub new_book : {F : Type 0} → F → ℕ → BookKept F
 new_book file n = record { file = file; faults = 0; number = n }
+
+-- A first part of the bytes was appended, or all of them, or none. This profile.
+abbrev pub AppendsPart : Option (List ℕ) → Option (List ℕ) → List ℕ → Type 0
+AppendsPart before after bytes = (n : ℕ) × Appends before after (take n bytes)
 
 -- ports: how many calls there were, and how often they have failed
 pub record PortsKept : Type 0 where
@@ -78,16 +85,24 @@ TellsTaken (heard.Quiet at) before after = after ≡ before
 TellsTaken heard.Fault before after = TakesUntold before after
 TellsTaken heard.End before after = TakesUntold before after
 
--- what an ear tells at a moment: what its socket took and sent, how often that broke, and the last moment read
+-- what an ear tells at a moment: what its socket took and sent, how often that broke, how often a reading of its clock
+-- gave an error, and the last moment read
 pub record EarTold : Type 0 where
   pub taken : Option (List Sent)
   pub sent : Option (List Sent)
   pub broken : Option ℕ
+  pub unread : Option ℕ
   pub last : ℕ
 
-abbrev pub ear_told : Option (List Sent) → Option (List Sent) → Option ℕ → ℕ → EarTold
-ear_told taken sent broken last =
-    record { taken = taken; sent = sent; broken = broken; last = last }
+abbrev pub ear_told : Option (List Sent) → Option (List Sent) → Option ℕ → Option ℕ → ℕ → EarTold
+ear_told taken sent broken unread last =
+    record { taken = taken; sent = sent; broken = broken; unread = unread; last = last }
+
+-- One thing failed, once: the socket broke, or a reading of the clock gave an error. This profile.
+abbrev pub HasFailed : EarTold → EarTold → Type 0
+HasFailed before after =
+    ((after.broken ≡ option_map suc before.broken) × (after.unread ≡ before.unread))
+    ⊎ ((after.broken ≡ before.broken) × (after.unread ≡ option_map suc before.unread))
 
 -- The count rose by one at a Fault, and stands at another answer. One that has come to 2^64 - 1 stays there. This
 -- profile.
@@ -102,11 +117,11 @@ SendsTo six datagram before after = (address : SocketAddr) × IsAddressOf six da
 
 -- The halves of a link that is new: both have this number, the ear ends at its moment, and the mouth knows whether the
 -- address that was asked for is one of IPv6. This profile.
-pub record IsNewLink {W : Type 0} (bind : List ℕ) (until : Option ℕ) (n : ℕ)
-    (link : EarKept W × MouthKept W) : Type 0 where
+pub record IsNewLink {C W : Type 0} (bind : List ℕ) (until : Option ℕ) (n : ℕ)
+    (link : EarKept C W × MouthKept W) : Type 0 where
   pub address : SocketAddr
   pub text : IsSocketText bind address
-  pub ear : link.0 ≡ new_ear link.0.wire until n
+  pub ear : link.0 ≡ new_ear link.0.clock link.0.wire until n
   pub mouth : link.1 ≡ new_mouth link.1.wire (is_ipv6 (socket_ip address)) n
 
 -- What an ear that ends at a moment, or never, does at one call. This profile.
@@ -124,3 +139,7 @@ pub record Listens (until : Option ℕ) (before : EarTold) (answer : Heard) (aft
   pub nothing_sent : after.sent ≡ before.sent
   -- a socket that broke is told as a Fault
   pub sound : answer ≢ heard.Fault → after.broken ≡ before.broken
+  -- and so is a clock that gave an error
+  pub timely : answer ≢ heard.Fault → after.unread ≡ before.unread
+  -- nothing else is a Fault
+  pub fault : answer ≡ heard.Fault → HasFailed before after

@@ -50,3 +50,8 @@ BreaksSo (taken.Datagram from bytes) before after = after ≡ before
 BreaksSo taken.Nothing before after = after ≡ before
 BreaksSo taken.Noise before after = after ≡ before
 BreaksSo taken.Failed before after = after ≡ option_map suc before
+
+-- a reading gave an error where this is a Fault, and only there
+pub record CountsUnread (answer : Heard) (before after : Option ℕ) : Type 0 where
+  pub fault : answer ≡ heard.Fault → after ≡ option_map suc before
+  pub other : answer ≢ heard.Fault → after ≡ before

@@ -1,11 +1,11 @@
--- What a socket for datagrams takes and sends. This profile.
-use Rattle.std.specs.Prelude.{◌≡◌, ℕ, suc, List, [], ◌∷◌, take, Option, option_map, Result, Ok, Err}
+-- What a socket for datagrams takes and sends, and how its errors and a clock's are counted. This profile.
+use Rattle.std.specs.Prelude.{◌≡◌, ℕ, ◌+◌, ◌≤◌, suc, List, [], ◌∷◌, take, Option, option_map, Result, Ok, Err}
 use Rattle.std.specs.IoError.{error_kind}
 use Rattle.std.specs.declared.io.Error.{Error}
 use Rattle.std.specs.declared.net.socket_addr.SocketAddr.{SocketAddr}
 use Rattle.m17_ports.specs.Told.{told_then}
 use Rattle.m17_net.specs.declared.trouble.Trouble.{Trouble}
-use Rattle.m17_net.specs.declared.trouble.Trouble.TheVariants.{Waited, Passing, Broken}
+use Rattle.m17_net.specs.declared.trouble.Trouble.TheVariants.{Waited, Passing, Unreachable, Broken}
 use Rattle.m17_net.specs.Errors.{meaning_of}
 
 -- A datagram on the network: the address that it comes from or goes to, and its bytes. This profile.
@@ -31,9 +31,24 @@ HasTaken before f after = (whole : List ℕ)
 abbrev pub broken_after : Trouble → Option ℕ → Option ℕ
 broken_after Waited n = n
 broken_after Passing n = n
+broken_after Unreachable n = n
 broken_after Broken n = option_map suc n
 
 -- A call breaks the socket where its error is none that passes. This profile.
 abbrev pub BreaksBy : {T : Type 0} → Result T Error → Option ℕ → Option ℕ → Type 0
 BreaksBy (Ok _) before after = after ≡ before
 BreaksBy (Err e) before after = after ≡ broken_after (meaning_of (error_kind e)) before
+
+-- A call that gave an error counts one more, and each other call leaves the count. This profile.
+abbrev pub CountsError : {T E : Type 0} → Result T E → Option ℕ → Option ℕ → Type 0
+CountsError (Ok _) before after = after ≡ before
+CountsError (Err _) before after = after ≡ option_map suc before
+
+-- a count, where it is told, after so many more
+abbrev pub counted_more : ℕ → Option ℕ → Option ℕ
+counted_more more count = option_map (λ n. n + more) count
+
+-- Calls were made that gave an error: one at the least, and 16 at the most. This profile.
+abbrev pub HasTried : Option ℕ → Option ℕ → Type 0
+HasTried before after =
+    (tries : ℕ) × (1 ≤ tries) × (tries ≤ 16) × (after ≡ counted_more tries before)

@@ -1,20 +1,21 @@
-ghost use Rattle.std.specs.Prelude.{◌≡◌, ◌≢◌, ℕ, ◌-◌, ◌^◌, ◌≤◌, min, true, [], ◌∷◌, None, Some, ◌↔◌, IfOk, OnOk, OnErr};
+ghost use Rattle.std.specs.Prelude.{◌≡◌, ◌≢◌, ℕ, ◌-◌, ◌^◌, ◌≤◌, min, suc, true, [], ◌∷◌, None, Some, option_map, ◌↔◌, IfOk, OnOk, OnErr};
 ghost use Rattle.m17_io.specs.Faults.{HasRisen};
 ghost use Rattle.m17_values.specs.declared.heard.Heard.{Heard};
 ghost use Rattle.m17_ports.specs.Told.{told_then};
 ghost use Rattle.m17_ports.specs.Ear.{EndsPastCount};
 ghost use Rattle.m17_ports.specs.Ports.{next_number};
 ghost use Rattle.m17_net.specs.Devices.{ear_told, CountsFault, IsOver, Listens};
-ghost use Rattle.m17_net.specs.Taking.{Comes, SaysWhatCame, TellsAt};
+ghost use Rattle.m17_net.specs.Taking.{Comes, CountsUnread, SaysWhatCame, TellsAt};
+ghost use Rattle.m17_net.specs.Wire.{CountsError};
 
 use crate::taking::{Taken, take_one};
+use crate::timer::Timer;
 use crate::wire::Wire;
 use m17_ports::Ear;
 use m17_values::{Failed, Gram, Heard, Peer};
 use std::marker::Model;
 use std::net::UdpSocket;
-use std::thread;
-use std::time::{Clock, Duration, Instant};
+use std::time::{Duration, Instant};
 
 /// How long an ear waits for a datagram at the most, in milliseconds; and how long it rests after an error, so that
 /// nothing spins.
@@ -22,7 +23,7 @@ pub(crate) const WAIT_MS: u64 = 20;
 
 /// The receiving half of a UDP socket. Moments are milliseconds since the ports were made. This profile.
 #[derive(Drop)]
-pub struct UdpEar<C: Clock + Drop, W: Wire + Drop = UdpSocket> {
+pub struct UdpEar<C: Timer + Drop, W: Wire + Drop = UdpSocket> {
     clock: C,
     wire: W,
     start: Instant,
@@ -32,12 +33,13 @@ pub struct UdpEar<C: Clock + Drop, W: Wire + Drop = UdpSocket> {
     number: u64,
 }
 
-impl<C: Clock + Drop, W: Wire + Drop> Model for UdpEar<C, W> {
+impl<C: Timer + Drop, W: Wire + Drop> Model for UdpEar<C, W> {
     ghost use Rattle.m17_net.specs.Devices.{EarKept};
 
-    ghost Value = { EarKept W };
+    ghost Value = { EarKept C W };
 
     ghost view = { λ e. record {
+      clock = e.clock;
       wire = e.wire;
       until = e.until;
       last = e.last;
@@ -46,7 +48,7 @@ impl<C: Clock + Drop, W: Wire + Drop> Model for UdpEar<C, W> {
     } };
 }
 
-impl<C: Clock + Drop, W: Wire + Drop> UdpEar<C, W> {
+impl<C: Timer + Drop, W: Wire + Drop> UdpEar<C, W> {
     ghost use Rattle.m17_net.specs.Devices.{EarKept, new_ear};
 
     // An ear on this socket, whose moments are counted from `start`.
@@ -57,7 +59,7 @@ impl<C: Clock + Drop, W: Wire + Drop> UdpEar<C, W> {
         until: Option<u64>,
         number: u64,
     ) -> UdpEar<C, W>
-        ensures { result ≡ new_ear wire until number }
+        ensures { result ≡ new_ear clock wire until number }
     {
         UdpEar {
             clock,
@@ -85,6 +87,8 @@ impl<C: Clock + Drop, W: Wire + Drop> UdpEar<C, W> {
         ensures comes { Comes result (W.taken self.old.wire) (W.taken self.new.wire) }
         ensures nothing_sent { W.sent self.new.wire ≡ W.sent self.old.wire }
         ensures sound { OnOk result (W.broken self.new.wire ≡ W.broken self.old.wire) }
+        ensures broken { OnErr result
+            (W.broken self.new.wire ≡ option_map suc (W.broken self.old.wire)) }
         ensures same { self.new ≡ record self.old { wire = self.new.wire } }
     {
         match take_one(&mut self.wire) {
@@ -103,16 +107,20 @@ impl<C: Clock + Drop, W: Wire + Drop> UdpEar<C, W> {
 
     // Rests as long as it would have waited.
     fn rest(&self) {
-        thread::sleep(&self.clock, Duration::from_millis(WAIT_MS));
+        self.clock.rest(Duration::from_millis(WAIT_MS));
     }
 
     // Reads the moment.
     fn read_moment(&mut self) -> Result<u64, Failed>
         ensures read { IfOk result (λ at. (at ≡ self.new.last) × (self.old.last ≤ at)) }
-        ensures same { self.new ≡ record self.old { last = self.new.last } }
-        ensures failed { OnErr result (self.new ≡ self.old) }
+        ensures same { self.new ≡ record self.old {
+          clock = self.new.clock;
+          last = self.new.last;
+        } }
+        ensures failed { OnErr result (self.new ≡ record self.old { clock = self.new.clock }) }
+        ensures unread { CountsError result (C.unread self.old.clock) (C.unread self.new.clock) }
     {
-        match Instant::now(&self.clock) {
+        match self.clock.read() {
             Ok(now) => {
                 let since = now.duration_since(self.start).as_millis();
                 let at = u64::try_from(since).unwrap_or(u64::MAX);
@@ -137,7 +145,9 @@ impl<C: Clock + Drop, W: Wire + Drop> UdpEar<C, W> {
         ensures at { TellsAt self.old.until self.old.last result self.new.last }
         ensures came { SaysWhatCame result came }
         ensures counted_so { CountsFault result self.old.faults self.new.faults }
+        ensures unread { CountsUnread result (C.unread self.old.clock) (C.unread self.new.clock) }
         ensures same { self.new ≡ record self.old {
+          clock = self.new.clock;
           last = self.new.last;
           faults = self.new.faults;
         } }
@@ -153,7 +163,7 @@ impl<C: Clock + Drop, W: Wire + Drop> UdpEar<C, W> {
     }
 }
 
-impl<C: Clock + Drop, W: Wire + Drop> Ear for UdpEar<C, W> {
+impl<C: Timer + Drop, W: Wire + Drop> Ear for UdpEar<C, W> {
     ghost use Rattle.std.proofs.Math.Nat.{min-le_right};
     ghost use Rattle.m17_ports.specs.Untold.{follows_none};
 
@@ -184,9 +194,9 @@ impl<C: Clock + Drop, W: Wire + Drop> Ear for UdpEar<C, W> {
         // What it says is what its socket took, and when.
         ensures listens { Listens self.old.until
             (ear_told (W.taken self.old.wire) (W.sent self.old.wire)
-            (W.broken self.old.wire) self.old.last) result
+            (W.broken self.old.wire) (C.unread self.old.clock) self.old.last) result
             (ear_told (W.taken self.new.wire) (W.sent self.new.wire)
-            (W.broken self.new.wire) self.new.last) }
+            (W.broken self.new.wire) (C.unread self.new.clock) self.new.last) }
         ensures counted_so { CountsFault result self.old.faults self.new.faults }
         ensures same_end { self.new.until ≡ self.old.until }
     {

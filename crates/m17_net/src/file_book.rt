@@ -3,11 +3,12 @@ ghost use Rattle.std.specs.Io.KnownBytes.{Appends};
 ghost use Rattle.m17_io.specs.Faults.{HasCause};
 ghost use Rattle.m17_ports.specs.Told.{told_then};
 ghost use Rattle.m17_ports.specs.Ports.{next_number};
+ghost use Rattle.m17_net.specs.Devices.{AppendsPart};
 
 use m17_ports::Book;
 use m17_values::Failed;
 use std::fs::File;
-use std::io::Write;
+use std::io::{ErrorKind, Write};
 use std::marker::Model;
 
 /// A book in a file. Each write goes to the file at once, so what stands there ends with a whole record, as far as the
@@ -42,6 +43,31 @@ impl<F: Write + Drop> FileBook<F> {
     }
 }
 
+// Appends the bytes to the file, by as many calls as that takes. After an error, or a call that takes none of them, the
+// file is offered nothing more.
+fn append<F: Write>(file: &mut F, bytes: &[u8]) -> Result<(), Failed>
+    ensures whole { OnOk result (Appends (F.contents file.old) (F.contents file.new) bytes.now) }
+    ensures part { OnErr result
+        (AppendsPart (F.contents file.old) (F.contents file.new) bytes.now) }
+{
+    let mut at = 0;
+    for _ in 0..u64::MAX {
+        if at >= bytes.len() {
+            return Ok(());
+        }
+        match file.write(&bytes[at..]) {
+            Ok(0) => return Err(Failed),
+            Ok(n) => at += n,
+            Err(e) => {
+                if e.kind() != ErrorKind::Interrupted {
+                    return Err(Failed);
+                }
+            }
+        }
+    }
+    Err(Failed)
+}
+
 impl<F: Write + Drop> Book for FileBook<F> {
     ghost use Rattle.std.proofs.Math.Nat.{min-le_right};
     ghost use Rattle.m17_net.specs.Devices.{BookKept};
@@ -70,6 +96,10 @@ impl<F: Write + Drop> Book for FileBook<F> {
         ensures whole { OnOk result
             (Appends (F.contents self.old.file) (F.contents self.new.file) bytes.now) }
 
+        // Where it fails, they are appended from the first on, as far as that went.
+        ensures part { OnErr result
+            (AppendsPart (F.contents self.old.file) (F.contents self.new.file) bytes.now) }
+
         // A failure is counted; the rest stays.
         ensures written { OnOk result (self.new ≡ record self.old { file = self.new.file }) }
         ensures failed { OnErr result (self.new ≡ record self.old {
@@ -77,7 +107,7 @@ impl<F: Write + Drop> Book for FileBook<F> {
           faults = next_number self.old.faults;
         }) }
     {
-        match self.file.write_all(bytes) {
+        match append(&mut self.file, bytes) {
             Ok(()) => Ok(()),
             Err(_) => {
                 self.faults = self.faults.saturating_add(1);

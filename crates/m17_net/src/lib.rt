@@ -14,6 +14,7 @@ pub mod laws;
 mod mouth;
 mod ports;
 mod taking;
+mod timer;
 mod trouble;
 mod wire;
 
@@ -22,6 +23,7 @@ pub use ear::UdpEar;
 pub use file_book::FileBook;
 pub use mouth::UdpMouth;
 pub use ports::UdpPorts;
+pub use timer::Timer;
 pub use wire::Wire;
 
 #[cfg(test)]

@@ -1,6 +1,7 @@
 ghost use Rattle.std.specs.Prelude.{◌≡◌, [], ◌∷◌, OnOk, OnErr};
 ghost use Rattle.m17_ports.specs.Told.{told_then};
 ghost use Rattle.m17_net.specs.Taking.{BreaksSo, TakesSo};
+ghost use Rattle.m17_net.specs.Wire.{HasTried};
 
 use crate::address::peer_at;
 use crate::trouble::{Trouble, trouble_of};
@@ -44,7 +45,7 @@ pub(crate) fn take_one<W: Wire>(wire: &mut W) -> Taken
             }
             Err(e) => match trouble_of(e.kind()) {
                 Trouble::Waited => return Taken::Nothing,
-                Trouble::Passing => {}
+                Trouble::Passing | Trouble::Unreachable => {}
                 Trouble::Broken => return Taken::Failed,
             },
         }
@@ -59,13 +60,14 @@ pub(crate) fn send_one<W: Wire>(wire: &mut W, bytes: &[u8], to: SocketAddr) -> R
     ensures nothing_sent { OnErr result (W.sent wire.new ≡ W.sent wire.old) }
     ensures nothing_taken { W.taken wire.new ≡ W.taken wire.old }
     ensures sound { W.broken wire.new ≡ W.broken wire.old }
+    ensures tried { OnErr result (HasTried (W.unsent wire.old) (W.unsent wire.new)) }
 {
     for _ in 0..TRIES {
         match wire.send(bytes, to) {
             Ok(()) => return Ok(()),
             Err(e) => match trouble_of(e.kind()) {
                 Trouble::Passing => {}
-                Trouble::Waited | Trouble::Broken => return Err(Failed),
+                Trouble::Waited | Trouble::Unreachable | Trouble::Broken => return Err(Failed),
             },
         }
     }

@@ -74,6 +74,8 @@ impl Wire for Scripted<'_> {
 
     ghost broken = { λ _. None };
 
+    ghost unsent = { λ _. None };
+
     fn take(&mut self, into: &mut [u8]) -> io::Result<(usize, SocketAddr)> {
         match self.next() {
             Gives(bytes) => {

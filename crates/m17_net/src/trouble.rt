@@ -10,6 +10,8 @@ pub(crate) enum Trouble {
     Waited,
     /// A signal interrupted the call, or the network tells of an earlier datagram: the next call may do.
     Passing,
+    /// There is no way to where a datagram goes, or went: the socket is well, and the next call to there does not do.
+    Unreachable,
     /// The socket failed.
     Broken,
 }
@@ -22,10 +24,10 @@ pub(crate) fn trouble_of(kind: ErrorKind) -> Trouble
         ErrorKind::WouldBlock | ErrorKind::TimedOut => Trouble::Waited,
         ErrorKind::Interrupted
         | ErrorKind::ConnectionRefused
-        | ErrorKind::ConnectionReset
-        | ErrorKind::HostUnreachable
-        | ErrorKind::NetworkUnreachable
-        | ErrorKind::NetworkDown => Trouble::Passing,
+        | ErrorKind::ConnectionReset => Trouble::Passing,
+        ErrorKind::HostUnreachable | ErrorKind::NetworkUnreachable | ErrorKind::NetworkDown => {
+            Trouble::Unreachable
+        }
         _ => Trouble::Broken,
     }
 }

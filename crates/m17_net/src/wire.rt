@@ -1,6 +1,6 @@
 ghost use Rattle.std.specs.Prelude.{◌≡◌, ℕ, ◌≤◌, List, [], ◌∷◌, length, take, Option, OnOk, IfOk, OnErr};
 ghost use Rattle.m17_ports.specs.Told.{told_then};
-ghost use Rattle.m17_net.specs.Wire.{Sent, found, BreaksBy, HasTaken};
+ghost use Rattle.m17_net.specs.Wire.{Sent, found, BreaksBy, CountsError, HasTaken};
 
 use std::io;
 use std::io::{Error, ErrorKind};
@@ -17,6 +17,9 @@ pub trait Wire {
     /// How often it broke at a call of `take`, where the socket tells that.
     ghost broken: { Self → Option ℕ };
 
+    /// How often a call of `send` gave an error, where the socket tells that.
+    ghost unsent: { Self → Option ℕ };
+
     /// Takes the next datagram, puts as many of its bytes into `into` as there is room for, and answers how many these
     /// are and where it came from. It may wait for as long as the socket was told to. After an error nothing was taken.
     fn take(&mut self, into: &mut [u8]) -> io::Result<(usize, SocketAddr)>
@@ -25,7 +28,8 @@ pub trait Wire {
             (found r.1 (length into.new) (take r.0 into.new)) (taken self.new)) }
         ensures nothing_taken { OnErr result (taken self.new ≡ taken self.old) }
         ensures nothing_sent { sent self.new ≡ sent self.old }
-        ensures broken { BreaksBy result (broken self.old) (broken self.new) };
+        ensures broken { BreaksBy result (broken self.old) (broken self.new) }
+        ensures not_unsent { unsent self.new ≡ unsent self.old };
 
     /// Sends a datagram of these bytes to the address. After an error nothing was sent.
     fn send(&mut self, bytes: &[u8], to: SocketAddr) -> io::Result<()>
@@ -33,7 +37,8 @@ pub trait Wire {
             (sent self.new ≡ told_then (sent self.old) ((to, bytes.now) ∷ [])) }
         ensures nothing_sent { OnErr result (sent self.new ≡ sent self.old) }
         ensures nothing_taken { taken self.new ≡ taken self.old }
-        ensures sound { broken self.new ≡ broken self.old };
+        ensures sound { broken self.new ≡ broken self.old }
+        ensures unsent { CountsError result (unsent self.old) (unsent self.new) };
 }
 
 // The trusted edge: one call of the system each, which tells no content.
@@ -45,6 +50,8 @@ impl Wire for UdpSocket {
     ghost sent = { λ _. None };
 
     ghost broken = { λ _. None };
+
+    ghost unsent = { λ _. None };
 
     fn take(&mut self, into: &mut [u8]) -> io::Result<(usize, SocketAddr)> {
         self.recv_from(into)
