@@ -1,4 +1,4 @@
 pub mod Prefixes
 pub mod Going
-pub mod Counts
+pub mod Tries
 pub mod Appended

@@ -1,7 +1,8 @@
--- What a socket for datagrams takes and sends, and how its errors and a clock's are counted. This profile.
-use Rattle.std.specs.Prelude.{◌≡◌, ℕ, ◌+◌, ◌≤◌, suc, List, [], ◌∷◌, take, Option, option_map, Result, Ok, Err}
+-- What a socket for datagrams takes and sends, and what is told of its errors and a clock's. This profile.
+use Rattle.std.specs.Prelude.{◌≡◌, ◌⊎◌, ℕ, suc, ◌<◌, List, [], ◌∷◌, ◌++◌, length, take, All, Option, option_map, Result, Ok, Err}
 use Rattle.std.specs.IoError.{error_kind}
 use Rattle.std.specs.declared.io.Error.{Error}
+use Rattle.std.specs.declared.io.ErrorKind.{ErrorKind}
 use Rattle.std.specs.declared.net.socket_addr.SocketAddr.{SocketAddr}
 use Rattle.m17_ports.specs.Told.{told_then}
 use Rattle.m17_net.specs.declared.trouble.Trouble.{Trouble}
@@ -44,11 +45,33 @@ abbrev pub CountsError : {T E : Type 0} → Result T E → Option ℕ → Option
 CountsError (Ok _) before after = after ≡ before
 CountsError (Err _) before after = after ≡ option_map suc before
 
--- a count, where it is told, after so many more
-abbrev pub counted_more : ℕ → Option ℕ → Option ℕ
-counted_more more count = option_map (λ n. n + more) count
+-- A call that gave an error is told by the kind of that, and each other call is not. This profile.
+abbrev pub TellsError : {T : Type 0} → Result T Error
+    → Option (List ErrorKind) → Option (List ErrorKind) → Type 0
+TellsError (Ok _) before after = after ≡ before
+TellsError (Err e) before after = after ≡ told_then before (error_kind e ∷ [])
 
--- Calls were made that gave an error: one at the least, and 16 at the most. This profile.
-abbrev pub HasTried : Option ℕ → Option ℕ → Type 0
-HasTried before after =
-    (tries : ℕ) × (1 ≤ tries) × (tries ≤ 16) × (after ≡ counted_more tries before)
+-- an error of this kind is worth another call
+abbrev pub IsPassing : ErrorKind → Type 0
+IsPassing kind = meaning_of kind ≡ Passing
+
+-- These errors let a datagram go: 16 that are each worth another call; or fewer of these, and then one that is not.
+-- This profile.
+abbrev pub GivesUp : List ErrorKind → Type 0
+GivesUp errors = (All IsPassing errors × (length errors ≡ 16))
+    ⊎ ((earlier : List ErrorKind) × (last : ErrorKind) × (errors ≡ earlier ++ last ∷ [])
+    × All IsPassing earlier × (length earlier < 16) × ¬ (IsPassing last))
+
+-- A datagram was sent after these errors at the most: fewer than 16 that are each worth another call. This profile.
+abbrev pub GoesOn : List ErrorKind → Type 0
+GoesOn errors = All IsPassing errors × (length errors < 16)
+
+-- what calls gave errors, one after the other, is told: those errors let the datagram go
+abbrev pub HasGivenUp : Option (List ErrorKind) → Option (List ErrorKind) → Type 0
+HasGivenUp before after =
+    (errors : List ErrorKind) × (after ≡ told_then before errors) × GivesUp errors
+
+-- the same of a datagram that was sent
+abbrev pub HasGoneOn : Option (List ErrorKind) → Option (List ErrorKind) → Type 0
+HasGoneOn before after =
+    (errors : List ErrorKind) × (after ≡ told_then before errors) × GoesOn errors

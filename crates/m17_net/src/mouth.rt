@@ -5,7 +5,7 @@ ghost use Rattle.m17_ports.specs.Mouth.{Datagram};
 ghost use Rattle.m17_ports.specs.Ports.{next_number};
 ghost use Rattle.m17_ports.specs.Tallies.{IsTallied};
 ghost use Rattle.m17_net.specs.Devices.{SendsTo};
-ghost use Rattle.m17_net.specs.Wire.{HasTried};
+ghost use Rattle.m17_net.specs.Wire.{HasGivenUp, HasGoneOn};
 
 use crate::address::address_of;
 use crate::taking::send_one;
@@ -88,9 +88,11 @@ impl<W: Wire + Drop> Mouth for UdpMouth<W> {
         ensures nothing_sent { OnErr result (W.sent self.new.wire ≡ W.sent self.old.wire) }
         ensures nothing_taken { W.taken self.new.wire ≡ W.taken self.old.wire }
 
-        // It fails only where its socket's calls gave errors.
-        ensures tried { OnErr result
-            (HasTried (W.unsent self.old.wire) (W.unsent self.new.wire)) }
+        // It fails only where its socket's calls gave errors that let the datagram go.
+        ensures gone_on { OnOk result
+            (HasGoneOn (W.unsent self.old.wire) (W.unsent self.new.wire)) }
+        ensures given_up { OnErr result
+            (HasGivenUp (W.unsent self.old.wire) (W.unsent self.new.wire)) }
 
         // A failure is counted; the rest stays.
         ensures said { OnOk result (self.new ≡ record self.old { wire = self.new.wire }) }

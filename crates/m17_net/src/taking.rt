@@ -1,7 +1,7 @@
 ghost use Rattle.std.specs.Prelude.{◌≡◌, [], ◌∷◌, OnOk, OnErr};
 ghost use Rattle.m17_ports.specs.Told.{told_then};
 ghost use Rattle.m17_net.specs.Taking.{BreaksSo, TakesSo};
-ghost use Rattle.m17_net.specs.Wire.{HasTried};
+ghost use Rattle.m17_net.specs.Wire.{HasGivenUp, HasGoneOn};
 
 use crate::address::peer_at;
 use crate::trouble::{Trouble, trouble_of};
@@ -60,7 +60,8 @@ pub(crate) fn send_one<W: Wire>(wire: &mut W, bytes: &[u8], to: SocketAddr) -> R
     ensures nothing_sent { OnErr result (W.sent wire.new ≡ W.sent wire.old) }
     ensures nothing_taken { W.taken wire.new ≡ W.taken wire.old }
     ensures sound { W.broken wire.new ≡ W.broken wire.old }
-    ensures tried { OnErr result (HasTried (W.unsent wire.old) (W.unsent wire.new)) }
+    ensures gone_on { OnOk result (HasGoneOn (W.unsent wire.old) (W.unsent wire.new)) }
+    ensures given_up { OnErr result (HasGivenUp (W.unsent wire.old) (W.unsent wire.new)) }
 {
     for _ in 0..TRIES {
         match wire.send(bytes, to) {

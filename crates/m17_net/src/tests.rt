@@ -34,6 +34,7 @@ struct Seen {
     sent: Cell<Option<(SocketAddr, usize)>>,
     slept: Cell<u64>,
     reads: Cell<u64>,
+    offered: Cell<usize>,
 }
 
 fn nothing_seen() -> Seen {
@@ -42,6 +43,7 @@ fn nothing_seen() -> Seen {
         sent: Cell::new(None),
         slept: Cell::new(0),
         reads: Cell::new(0),
+        offered: Cell::new(0),
     }
 }
 
@@ -101,6 +103,8 @@ impl Wire for Scripted<'_> {
 // As a file it takes as many bytes at a call as its answer has.
 impl Write for Scripted<'_> {
     fn write(&mut self, buf: &[u8]) -> io::Result<usize> {
+        let offered = self.seen.offered.get();
+        self.seen.offered.set(offered.saturating_add(buf.len()));
         match self.next() {
             Gives(bytes) => Ok(bytes.len().min(buf.len())),
             Fails(kind) => Err(Error::from(kind)),
@@ -176,6 +180,13 @@ fn came(bytes: &[u8]) -> Heard {
     }
 }
 
+// What a call tells of a datagram to which there was no way.
+const UNREACHABLE: [ErrorKind; 3] = [
+    ErrorKind::HostUnreachable,
+    ErrorKind::NetworkUnreachable,
+    ErrorKind::NetworkDown,
+];
+
 // Hears once, and demands the answer, how often the socket was called, and for how long the ear rested.
 fn expect_heard<R: Abort>(
     rt: &R,
@@ -213,6 +224,9 @@ fn an_ear_passes_over_errors_that_are_not_its_sockets(rt: HostRuntime) -> Result
     expect_heard(&rt, &[interrupted, refused, Gives(b"d")], came(b"d"), 3, 0)?;
     expect_heard(&rt, &[refused, waited], Heard::Quiet { at: 10 }, 2, 0)?;
     expect_heard(&rt, &[refused], quiet, 16, 20)?;
+    for kind in UNREACHABLE {
+        expect_heard(&rt, &[Fails(kind), Gives(b"e")], came(b"e"), 2, 0)?;
+    }
     expect_heard(&rt, &[broken], Heard::Fault, 1, 20)?;
     expect_heard(&rt, &[interrupted, broken], Heard::Fault, 2, 20)
 }
@@ -266,7 +280,7 @@ fn expect_said<R: Abort>(
     assert_eq!(rt; seen.calls.get(), calls);
 }
 
-// A full buffer, or an address to which nothing goes, loses that datagram alone.
+// A full buffer, or an address to which nothing goes, loses that datagram alone, after one call.
 #[test]
 fn a_mouth_that_fails_loses_one_datagram(rt: HostRuntime) {
     let refused = Fails(ErrorKind::ConnectionRefused);
@@ -279,6 +293,10 @@ fn a_mouth_that_fails_loses_one_datagram(rt: HostRuntime) {
     expect_said(&rt, &[broken, said], (Err(Failed), Ok(())), 2);
     expect_said(&rt, &[interrupted, refused, said], (Ok(()), Ok(())), 4);
     expect_said(&rt, &[refused], (Err(Failed), Err(Failed)), 32);
+    for kind in UNREACHABLE {
+        expect_said(&rt, &[Fails(kind), said], (Err(Failed), Ok(())), 2);
+        expect_said(&rt, &[refused, Fails(kind), said], (Err(Failed), Ok(())), 3);
+    }
 }
 
 // The peer of a text as std reads it, and the address to which a socket of that family sends what goes to it.
@@ -307,24 +325,36 @@ fn an_ipv4_peer_is_the_same_on_each_socket(rt: HostRuntime) -> Result<(), Fail> 
     expect_peer(&rt, "[2001:db8::9]:17000", true, six)
 }
 
-// A write is made whole in several calls where it must be, and a failure in the middle of it is told.
+// A write is made whole in several calls where it must be, and a failure in the middle of it is told. The file is
+// offered what is left at each call, and nothing after a failure, though it would take that.
 #[test]
 fn a_book_tells_a_write_that_failed_in_the_middle(rt: HostRuntime) {
-    let cases: [(&[Answer], Result<(), Failed>, usize); 4] = [
-        (&[Gives(b"0123456789")], Ok(()), 1),
+    let cases: [(&[Answer], Result<(), Failed>, usize, usize); 4] = [
+        (&[Gives(b"0123456789")], Ok(()), 1, 6),
         (
             &[Gives(b"01"), Fails(ErrorKind::Interrupted), Gives(b"0123")],
             Ok(()),
             3,
+            14,
         ),
         (
-            &[Gives(b"01"), Fails(ErrorKind::StorageFull)],
+            &[
+                Gives(b"01"),
+                Fails(ErrorKind::StorageFull),
+                Gives(b"0123456789"),
+            ],
             Err(Failed),
             2,
+            10,
         ),
-        (&[Gives(b"01"), Gives(b"")], Err(Failed), 2),
+        (
+            &[Gives(b"01"), Gives(b""), Gives(b"0123456789")],
+            Err(Failed),
+            2,
+            10,
+        ),
     ];
-    for (answers, wanted, calls) in cases {
+    for (answers, wanted, calls, offered) in cases {
         let seen = nothing_seen();
         let file = Scripted {
             answers,
@@ -333,5 +363,6 @@ fn a_book_tells_a_write_that_failed_in_the_middle(rt: HostRuntime) {
         let mut book = FileBook::new(file, 0);
         assert_eq!(rt; book.write(b"record"), wanted);
         assert_eq!(rt; seen.calls.get(), calls);
+        assert_eq!(rt; seen.offered.get(), offered);
     }
 }

@@ -1,9 +1,8 @@
 ghost use Rattle.std.specs.Prelude.{◌≡◌, ℕ, Option};
 ghost use Rattle.m17_net.specs.Wire.{CountsError};
 
-use std::io;
-use std::thread;
 use std::time::{Clock, Duration, Instant};
+use std::{io, thread};
 
 /// A clock, as an ear uses it: each clock of std is one. This profile.
 pub trait Timer {

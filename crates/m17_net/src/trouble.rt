@@ -22,9 +22,8 @@ pub(crate) fn trouble_of(kind: ErrorKind) -> Trouble
 {
     match kind {
         ErrorKind::WouldBlock | ErrorKind::TimedOut => Trouble::Waited,
-        ErrorKind::Interrupted
-        | ErrorKind::ConnectionRefused
-        | ErrorKind::ConnectionReset => Trouble::Passing,
+        ErrorKind::Interrupted | ErrorKind::ConnectionRefused | ErrorKind::ConnectionReset =>
+            Trouble::Passing,
         ErrorKind::HostUnreachable | ErrorKind::NetworkUnreachable | ErrorKind::NetworkDown => {
             Trouble::Unreachable
         }

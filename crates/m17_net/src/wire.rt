@@ -1,6 +1,7 @@
 ghost use Rattle.std.specs.Prelude.{◌≡◌, ℕ, ◌≤◌, List, [], ◌∷◌, length, take, Option, OnOk, IfOk, OnErr};
+ghost use Rattle.std.specs.declared.io.ErrorKind.{ErrorKind};
 ghost use Rattle.m17_ports.specs.Told.{told_then};
-ghost use Rattle.m17_net.specs.Wire.{Sent, found, BreaksBy, CountsError, HasTaken};
+ghost use Rattle.m17_net.specs.Wire.{Sent, found, BreaksBy, HasTaken, TellsError};
 
 use std::io;
 use std::io::{Error, ErrorKind};
@@ -17,8 +18,8 @@ pub trait Wire {
     /// How often it broke at a call of `take`, where the socket tells that.
     ghost broken: { Self → Option ℕ };
 
-    /// How often a call of `send` gave an error, where the socket tells that.
-    ghost unsent: { Self → Option ℕ };
+    /// The errors that its calls of `send` gave so far, each by its kind, where the socket tells them.
+    ghost unsent: { Self → Option (List ErrorKind) };
 
     /// Takes the next datagram, puts as many of its bytes into `into` as there is room for, and answers how many these
     /// are and where it came from. It may wait for as long as the socket was told to. After an error nothing was taken.
@@ -29,7 +30,7 @@ pub trait Wire {
         ensures nothing_taken { OnErr result (taken self.new ≡ taken self.old) }
         ensures nothing_sent { sent self.new ≡ sent self.old }
         ensures broken { BreaksBy result (broken self.old) (broken self.new) }
-        ensures not_unsent { unsent self.new ≡ unsent self.old };
+        ensures same_unsent { unsent self.new ≡ unsent self.old };
 
     /// Sends a datagram of these bytes to the address. After an error nothing was sent.
     fn send(&mut self, bytes: &[u8], to: SocketAddr) -> io::Result<()>
@@ -38,7 +39,7 @@ pub trait Wire {
         ensures nothing_sent { OnErr result (sent self.new ≡ sent self.old) }
         ensures nothing_taken { taken self.new ≡ taken self.old }
         ensures sound { broken self.new ≡ broken self.old }
-        ensures unsent { CountsError result (unsent self.old) (unsent self.new) };
+        ensures unsent { TellsError result (unsent self.old) (unsent self.new) };
 }
 
 // The trusted edge: one call of the system each, which tells no content.
