@@ -2,3 +2,4 @@ pub mod Prefixes
 pub mod Going
 pub mod Tries
 pub mod Appended
+pub mod Refusals

@@ -1,6 +1,5 @@
 -- What contracts see of an ear, a mouth and a book of a real machine, and of its ports. This profile.
 use Rattle.std.specs.Prelude.{◌≡◌, ◌≢◌, ◌⊎◌, ℕ, suc, ◌≤◌, List, [], ◌∷◌, take, Bool, Option, option_map, None, Some}
-use Rattle.std.specs.Io.KnownBytes.{Appends}
 use Rattle.std.specs.Net.Addr.{is_ipv6}
 use Rattle.std.specs.Net.Grammar.{IsSocketText}
 use Rattle.std.specs.Net.Socket.{socket_ip}
@@ -48,10 +47,6 @@ pub record BookKept (F : Type 0) : Type 0 where
 -- a book in which nothing was written
 abbrev pub new_book : {F : Type 0} → F → ℕ → BookKept F
 new_book file n = record { file = file; faults = 0; number = n }
-
--- A first part of the bytes was appended, or all of them, or none. This profile.
-abbrev pub AppendsPart : Option (List ℕ) → Option (List ℕ) → List ℕ → Type 0
-AppendsPart before after bytes = (n : ℕ) × Appends before after (take n bytes)
 
 -- ports: how many calls there were, and how often they have failed
 pub record PortsKept : Type 0 where

@@ -1,6 +1,7 @@
 pub mod Address
 pub mod Errors
 pub mod Wire
+pub mod Files
 pub mod Devices
 pub mod Laws
 -- for proofs alone

@@ -3,24 +3,25 @@ ghost use Rattle.std.specs.Io.KnownBytes.{Appends};
 ghost use Rattle.m17_io.specs.Faults.{HasCause};
 ghost use Rattle.m17_ports.specs.Told.{told_then};
 ghost use Rattle.m17_ports.specs.Ports.{next_number};
-ghost use Rattle.m17_net.specs.Devices.{AppendsPart};
+ghost use Rattle.m17_net.specs.Files.{AppendsPart, HasRefused};
 
+use crate::book_file::BookFile;
 use m17_ports::Book;
 use m17_values::Failed;
 use std::fs::File;
-use std::io::{ErrorKind, Write};
+use std::io::ErrorKind;
 use std::marker::Model;
 
 /// A book in a file. Each write goes to the file at once, so what stands there ends with a whole record, as far as the
 /// system wrote it whole. This profile.
 #[derive(Drop)]
-pub struct FileBook<F: Write + Drop = File> {
+pub struct FileBook<F: BookFile + Drop = File> {
     file: F,
     faults: u64,
     number: u64,
 }
 
-impl<F: Write + Drop> Model for FileBook<F> {
+impl<F: BookFile + Drop> Model for FileBook<F> {
     ghost use Rattle.m17_net.specs.Devices.{BookKept};
 
     ghost Value = { BookKept F };
@@ -28,7 +29,7 @@ impl<F: Write + Drop> Model for FileBook<F> {
     ghost view = { λ b. record { file = b.file; faults = b.faults; number = b.number } };
 }
 
-impl<F: Write + Drop> FileBook<F> {
+impl<F: BookFile + Drop> FileBook<F> {
     ghost use Rattle.m17_net.specs.Devices.{BookKept, new_book};
 
     // A book in this file.
@@ -45,19 +46,24 @@ impl<F: Write + Drop> FileBook<F> {
 
 // Appends the bytes to the file, by as many calls as that takes. After an error, or a call that takes none of them, the
 // file is offered nothing more.
-fn append<F: Write>(file: &mut F, bytes: &[u8]) -> Result<(), Failed>
-    ensures whole { OnOk result (Appends (F.contents file.old) (F.contents file.new) bytes.now) }
-    ensures part { OnErr result
-        (AppendsPart (F.contents file.old) (F.contents file.new) bytes.now) }
+fn append<F: BookFile>(file: &mut F, bytes: &[u8]) -> Result<(), Failed>
+    ensures whole { OnOk result (Appends (F.held file.old) (F.held file.new) bytes.now) }
+    ensures part { OnErr result (AppendsPart (F.held file.old) (F.held file.new) bytes.now) }
+    ensures refused { OnErr result (HasRefused (F.refused file.old) (F.refused file.new)) }
 {
+    if bytes.is_empty() {
+        return Ok(());
+    }
     let mut at = 0;
     for _ in 0..u64::MAX {
-        if at >= bytes.len() {
-            return Ok(());
-        }
-        match file.write(&bytes[at..]) {
+        match file.write_some(&bytes[at..]) {
             Ok(0) => return Err(Failed),
-            Ok(n) => at += n,
+            Ok(n) => {
+                at += n;
+                if at >= bytes.len() {
+                    return Ok(());
+                }
+            }
             Err(e) => {
                 if e.kind() != ErrorKind::Interrupted {
                     return Err(Failed);
@@ -68,7 +74,7 @@ fn append<F: Write>(file: &mut F, bytes: &[u8]) -> Result<(), Failed>
     Err(Failed)
 }
 
-impl<F: Write + Drop> Book for FileBook<F> {
+impl<F: BookFile + Drop> Book for FileBook<F> {
     ghost use Rattle.std.proofs.Math.Nat.{min-le_right};
     ghost use Rattle.m17_net.specs.Devices.{BookKept};
 
@@ -94,11 +100,14 @@ impl<F: Write + Drop> Book for FileBook<F> {
 
         // All of the bytes are appended to its file.
         ensures whole { OnOk result
-            (Appends (F.contents self.old.file) (F.contents self.new.file) bytes.now) }
+            (Appends (F.held self.old.file) (F.held self.new.file) bytes.now) }
 
-        // Where it fails, they are appended from the first on, as far as that went.
+        // It fails only where its file gave an error or took nothing. The bytes are then appended from the first on, as
+        // far as that went.
         ensures part { OnErr result
-            (AppendsPart (F.contents self.old.file) (F.contents self.new.file) bytes.now) }
+            (AppendsPart (F.held self.old.file) (F.held self.new.file) bytes.now) }
+        ensures refused { OnErr result
+            (HasRefused (F.refused self.old.file) (F.refused self.new.file)) }
 
         // A failure is counted; the rest stays.
         ensures written { OnOk result (self.new ≡ record self.old { file = self.new.file }) }

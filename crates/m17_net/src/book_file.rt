@@ -1,0 +1,35 @@
+ghost use Rattle.std.specs.Prelude.{◌≡◌, ℕ, List, Option};
+ghost use Rattle.std.specs.Io.{WritesAtMost};
+ghost use Rattle.std.specs.Io.KnownBytes.{WriteAppends};
+ghost use Rattle.m17_net.specs.Files.{CountsRefusal};
+
+use std::io;
+use std::io::Write;
+
+/// A file, as a book writes to it: each writer of std is one. This profile.
+pub trait BookFile {
+    /// The bytes that it holds, where they are known.
+    ghost held: { Self → Option (List ℕ) };
+
+    /// How often a call gave an error or took nothing, where the file tells that.
+    ghost refused: { Self → Option ℕ };
+
+    /// Takes some of the bytes, from the first on, and answers how many. After an error it took none.
+    fn write_some(&mut self, bytes: &[u8]) -> io::Result<usize>
+        ensures within { WritesAtMost result bytes.now }
+        ensures held { WriteAppends (held self.old) (held self.new) result bytes.now }
+        ensures refused { CountsRefusal result (refused self.old) (refused self.new) };
+}
+
+// The trusted edge: one call of the writer, which does not tell how often it refused one.
+impl<F: Write> BookFile for F {
+    ghost use Rattle.std.specs.Prelude.{None};
+
+    ghost held = { λ f. F.contents f };
+
+    ghost refused = { λ _. None };
+
+    fn write_some(&mut self, bytes: &[u8]) -> io::Result<usize> {
+        self.write(bytes)
+    }
+}
