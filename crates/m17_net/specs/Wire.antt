@@ -55,23 +55,23 @@ TellsError (Err e) before after = after ≡ told_then before (error_kind e ∷ [
 abbrev pub IsPassing : ErrorKind → Type 0
 IsPassing kind = meaning_of kind ≡ Passing
 
--- These errors let a datagram go: 16 that are each worth another call; or fewer of these, and then one that is not.
--- This profile.
+-- After these errors a datagram is given up: 16 that are each worth another call; or fewer of these, and then one that
+-- is not. This profile.
 abbrev pub GivesUp : List ErrorKind → Type 0
 GivesUp errors = (All IsPassing errors × (length errors ≡ 16))
     ⊎ ((earlier : List ErrorKind) × (last : ErrorKind) × (errors ≡ earlier ++ last ∷ [])
     × All IsPassing earlier × (length earlier < 16) × ¬ (IsPassing last))
 
--- A datagram was sent after these errors at the most: fewer than 16 that are each worth another call. This profile.
+-- After these errors, if there are any, another call is made: fewer than 16, each worth that. This profile.
 abbrev pub GoesOn : List ErrorKind → Type 0
 GoesOn errors = All IsPassing errors × (length errors < 16)
 
--- what calls gave errors, one after the other, is told: those errors let the datagram go
+-- the calls that were made gave errors after which a datagram is given up
 abbrev pub HasGivenUp : Option (List ErrorKind) → Option (List ErrorKind) → Type 0
 HasGivenUp before after =
     (errors : List ErrorKind) × (after ≡ told_then before errors) × GivesUp errors
 
--- the same of a datagram that was sent
+-- the calls that were made gave errors after which another is made, if they gave any
 abbrev pub HasGoneOn : Option (List ErrorKind) → Option (List ErrorKind) → Type 0
 HasGoneOn before after =
     (errors : List ErrorKind) × (after ≡ told_then before errors) × GoesOn errors

@@ -88,7 +88,8 @@ impl<W: Wire + Drop> Mouth for UdpMouth<W> {
         ensures nothing_sent { OnErr result (W.sent self.new.wire ≡ W.sent self.old.wire) }
         ensures nothing_taken { W.taken self.new.wire ≡ W.taken self.old.wire }
 
-        // It fails only where its socket's calls gave errors that let the datagram go.
+        // It makes a call again only after an error that is worth that, and fails only where its calls gave errors: one
+        // that is not worth that, or 16.
         ensures gone_on { OnOk result
             (HasGoneOn (W.unsent self.old.wire) (W.unsent self.new.wire)) }
         ensures given_up { OnErr result
