@@ -9,7 +9,7 @@ use Rattle.m17_words.specs.declared.order.ServeOrder.{ServeOrder}
 use Rattle.m17_serve.specs.declared.served.ServeEnding.{ServeEnding}
 use Rattle.m17_serve.specs.declared.served.ServeEnding.TheVariants.{WriteFailed, PortFailed, CrewRefused, NoMemory}
 use Rattle.m17_serve.specs.Devices.{HouseTold}
-use Rattle.m17_serve.specs.Served.{Around, AsksNothing, ComesToServe, EndsServe, FailsAtPort, HasCauses, Refuses, RoseWhere, Serves, counts, ending_by, lines_of}
+use Rattle.m17_serve.specs.Served.{Around, AsksNothing, ComesToServe, EndsServe, FailsAtPort, HasCauses, Refuses, RoseWhere, Serves, counts, ending_by, lines_of, NeverAsked, NeverRan}
 use Rattle.m17_serve.specs.Steps.{Prints}
 
 stood : (cause : Type 0) (a b : ℕ) → (cause → ⊥) → b ≡ a → RoseWhere cause a b
@@ -77,6 +77,27 @@ caused_run (Err v) lost failed e p p' c c' s s' ok err ports crew cause = record
   sink = rose_by _ s s' err cause.failed;
   sink_counted = cause.counted;
 }
+
+-- an ending of a run
+never_by : (lost failed : Bool) → NeverRan (ending_by lost failed) → ⊥
+never_by true failed h = h
+never_by false true h = h
+never_by false false h = h
+
+pub has_run : {T E : Type 0} (printed : Result T E) (lost failed : Bool) (e : ServeEnding) → OnOk printed (e ≡ ending_by lost failed) → OnErr printed (e ≡ WriteFailed) → NeverRan e → ⊥
+has_run (Ok v) lost failed e ok err never = never_by lost failed (subst NeverRan ok never)
+has_run (Err v) lost failed e ok err never = subst NeverRan err never
+
+-- what never asked the crew never ran
+pub never_ran : (e : ServeEnding) → NeverAsked e → NeverRan e
+never_ran e (inl port) = subst NeverRan (sym port) tt
+never_ran e (inr memory) = subst NeverRan (sym memory) tt
+
+-- a refusal that asked the crew for nothing is one of memory
+pub asked_nothing : {C : Type 0} (why : HouseRefusal) (e : ServeEnding) (old new : C) → (why ≡ refusals.Crew → e ≡ CrewRefused) → (why ≡ refusals.NoMemory → new ≡ old) → NeverAsked e → new ≡ old
+asked_nothing refusals.Crew e old new crew memory (inl port) = let bad : CrewRefused ≡ PortFailed = sym (crew refl) ∙ port in cc
+asked_nothing refusals.Crew e old new crew memory (inr none) = let bad : CrewRefused ≡ NoMemory = sym (crew refl) ∙ none in cc
+asked_nothing refusals.NoMemory e old new crew memory never = memory refl
 
 module _ {L : Type 0} where
   by_flags : (order : ServeOrder) (e : ServeEnding) (run : Around L) (first written : Option (List ℕ)) (lost failed : Bool) → e ≡ ending_by lost failed

@@ -10,6 +10,7 @@ use Rattle.m17_talk.specs.Devices.{PortsTold}
 use Rattle.m17_reflect.specs.declared.returned.HouseRefusal.{HouseRefusal}
 use Rattle.m17_reflect.specs.declared.returned.HouseRefusal.TheVariants as refusals
 use Rattle.m17_reflect.specs.Headline.{Headline}
+use Rattle.m17_reflect.specs.Patience.{SomeLost, SomeRose}
 use Rattle.m17_reflect.specs.Run.{Run, Handed}
 use Rattle.m17_serve.specs.declared.served.ServeEnding.{ServeEnding}
 use Rattle.m17_serve.specs.declared.served.ServeEnding.TheVariants.{Finished, LinkLost, BookFailed, WriteFailed, PortFailed, CrewRefused, NoMemory}
@@ -138,6 +139,20 @@ ComesToServe order CrewRefused run first written =
 ComesToServe order NoMemory run first written =
     (AsksNothing run ⊎ Refuses order refusals.NoMemory run) × (written ≡ first)
 
+-- The reflector never ran. This profile.
+abbrev pub NeverRan : ServeEnding → Type 0
+NeverRan Finished = ⊥
+NeverRan LinkLost = ⊥
+NeverRan BookFailed = ⊥
+NeverRan WriteFailed = ⊥
+NeverRan PortFailed = Unit {0}
+NeverRan CrewRefused = Unit {0}
+NeverRan NoMemory = Unit {0}
+
+-- The crew was never asked for anything: the ports failed, or there was no memory. This profile.
+abbrev pub NeverAsked : ServeEnding → Type 0
+NeverAsked ending = (ending ≡ PortFailed) ⊎ (ending ≡ NoMemory)
+
 -- How often the ports and the sink have failed, and how many starts the crew has refused.
 pub record Counts : Type 0 where
   pub ports : ℕ
@@ -158,3 +173,10 @@ pub record HasCauses (ending : ServeEnding) (before after : Counts) : Type 0 whe
   pub crew : RoseWhere (ending ≡ CrewRefused) before.crew after.crew
   pub sink : RoseWhere (ending ≡ WriteFailed) before.sink after.sink
   pub sink_counted : before.sink ≤ after.sink
+
+-- Nothing stood against a run of the reflector: no link's list ended in 16 faults, and no count of a trace or a book rose.
+-- This profile.
+pub record IsUntroubled {L : Type 0} (run : Run L) (headline : Headline run) : Type 0 where
+  pub no_link_lost : ¬ SomeLost headline.carried_out.links
+  pub no_trace_failed : ¬ SomeRose run.before.traces run.after.traces
+  pub no_book_failed : ¬ SomeRose run.before.books run.after.books

@@ -6,7 +6,7 @@ use Rattle.m17_reflect.specs.Run.{module_count}
 use Rattle.m17_reflect.specs.Views.{handed_of, kinds_back}
 use Rattle.m17_serve.specs.Devices.{house_told}
 use Rattle.m17_serve.specs.Steps.{kinds_opened}
-use Rattle.m17_serve.proofs.Endings.{caused_port, caused_refusal, caused_run, comes_refusal, comes_run}
+use Rattle.m17_serve.proofs.Endings.{asked_nothing, caused_port, caused_refusal, caused_run, comes_refusal, comes_run, has_run, never_ran}
 use Rattle.m17_serve.proofs.Printing.{printed_grows}
 use Rattle.m17_serve.proofs.Told.{eyes_of, headline_told, looks, new_ears, new_shelves, of_questions, ones_count, refused_same}
 use Rattle.m17_serve.proofs.serve_command.serve.Goals as goal
@@ -73,6 +73,18 @@ returns-in-Ok-ran-clause-ended g c =
 
 pub returns-in-Ok-ran-clause-appended : goal.returns-in-Ok-ran-clause-appended
 returns-in-Ok-ran-clause-appended g c = printed_grows c.print_modules-printed.result _ _ _ c.print_modules-printed.ensures.prints
+
+pub returns-in-Ok-ran-clause-untouched : goal.returns-in-Ok-ran-clause-untouched
+returns-in-Ok-ran-clause-untouched g c never =
+    absurd (has_run c.print_modules-printed.result c.in-Ok-ran.house.lost c.in-Ok-ran.house.book_failed c.ending_of.result c.ending_of.ensures.ok c.ending_of.ensures.err never)
+
+pub returns-in-Ok-ran-clause-unasked : goal.returns-in-Ok-ran-clause-unasked
+returns-in-Ok-ran-clause-unasked g c never =
+    absurd (has_run c.print_modules-printed.result c.in-Ok-ran.house.lost c.in-Ok-ran.house.book_failed c.ending_of.result c.ending_of.ensures.ok c.ending_of.ensures.err (never_ran c.ending_of.result never))
+
+pub returns-clause-unasked : goal.returns-clause-unasked
+returns-clause-unasked g c never =
+    asked_nothing c.in-Err.refused.why c.ending_for.result _ _ c.ending_for.ensures.crew c.in-Err.ensures.unasked never
 
 pub returns-clause-causes : goal.returns-clause-causes
 returns-clause-causes g c =
