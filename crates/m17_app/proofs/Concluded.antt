@@ -51,6 +51,19 @@ cause_from own fault line status before mid after told causes last =
       untouched = λ is. absurd (never NoMemory own status last.answer told.no_memory (λ e. cc) is);
     }
 
+-- the cause of want of memory, where no device was touched
+pub untouched_cause : (before : Outside) → HasCause NoMemory before before
+untouched_cause before = record {
+  reads_counted = omega arith;
+  writes_counted = omega arith;
+  read_failed = λ e. cc;
+  write_failed = λ e. cc;
+  no_read_fault = λ _ _. refl;
+  no_write_fault = λ _. refl;
+  handed_on = λ _ other. absurd (other refl);
+  untouched = λ _. refl;
+}
+
 pub cause_of : {R : Type 0} (ending : Ending R) (line : List ℕ) (status : Status) (before mid after : Outside)
     → HasCauses (counts before) (counts mid) (failed_device ending) → WritesLast line (status_of ending) status mid after → HasCause status before after
 cause_of ending line status before mid after causes last = cause_from (status_of ending) (failed_device ending) line status before mid after (told ending) causes last

@@ -11,11 +11,11 @@ use Rattle.m17_judge.specs.Judge.{IsTextOfRecords, IsJudgeText, SaysJudge, Print
 use Rattle.m17_judge.specs.Reasons.{judge_reason_words}
 use Rattle.m17_judge.specs.Records.{AreRecords, RefusesRecords}
 use Rattle.m17_app.specs.declared.status.Status.{Status}
-use Rattle.m17_app.specs.declared.status.Status.TheVariants.{Finished, InputRefused, WordsRefused, ReadFailed, WriteFailed, NoMemory}
+use Rattle.m17_app.specs.declared.status.Status.TheVariants.{Finished, InputRefused, ReadFailed, WriteFailed, NoMemory}
 use Rattle.m17_app.specs.Status.{status_of, Outside, HasCause, WritesLast}
 use Rattle.m17_app.specs.Run.{IsWhole, RunsJudge}
-use Rattle.m17_app.proofs.Statuses.{own_status, no_words, never}
-use Rattle.m17_app.proofs.Concluded.{counts, cause_of, stands_of, last_of, whole_of}
+use Rattle.m17_app.proofs.Statuses.{answer_of, own_status}
+use Rattle.m17_app.proofs.Concluded.{counts, cause_of, stands_of, last_of, untouched_cause, whole_of}
 
 -- what an ending says of the input, by its status
 finished_as : (ending : Ending JudgeReason) (input : List ℕ) (left : Option (List ℕ)) → status_of ending ≡ Finished → SaysJudge ending input left
@@ -94,27 +94,18 @@ ran ending status before mid after came causes grows last =
       last = last_of judge_reason_words ending status before mid after grows last;
       complete = λ input count told are no_read no_write.
           inl (complete_as ending status input after.left count before after last.answer cause (said input told) are no_read no_write);
-      no_words = never WordsRefused (status_of ending) status last.answer (no_words ending) (λ e. cc);
+      answer = answer_of ending status last.answer;
     }
 
 -- there was no memory
 pub no_run : (before : Outside) → RunsJudge NoMemory before before
 no_run before = record {
-  cause = record {
-    reads_counted = omega arith;
-    writes_counted = omega arith;
-    read_failed = λ e. cc;
-    write_failed = λ e. cc;
-    no_read_fault = λ _ _. refl;
-    no_write_fault = λ _. refl;
-    handed_on = λ _ other. absurd (other refl);
-    untouched = λ _. refl;
-  };
+  cause = untouched_cause before;
   finished = λ e. cc;
   refused = λ e. cc;
   text = λ e. elim e [ inl x ↦ cc | inr y ↦ cc ];
   stands = λ other. absurd (other refl);
   last = λ _ other. absurd (other refl);
   complete = λ input count told are no_read no_write. inr refl;
-  no_words = λ e. cc;
+  answer = inr (inr (inr (inr refl)));
 }

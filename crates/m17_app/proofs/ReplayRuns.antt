@@ -16,8 +16,8 @@ use Rattle.m17_replay.specs.Reasons.{refusal_told}
 use Rattle.m17_replay.specs.Replay.{IsReplayText, SaysReplay, PrintsReplay, EndsBeforeText, failed_device, streams, ComesToReplay, TellsCrew}
 use Rattle.m17_app.specs.declared.status.Status.{Status}
 use Rattle.m17_app.specs.declared.status.Status.TheVariants.{Finished, InputRefused, WordsRefused, ReadFailed, WriteFailed, CrewRefused, LinkLost, NoMemory}
-use Rattle.m17_app.specs.Status.{Outside, Starts, watched, HasCause, WritesLast}
-use Rattle.m17_app.specs.Replayed.{crew_refused_line, replay_last_line, replay_status, IsRunText, IsWholeReplay, StandsReplay, RunsReplay}
+use Rattle.m17_app.specs.Status.{Outside, Starts, watched, HasCause, IsOfStreams, WritesLast}
+use Rattle.m17_app.specs.Replayed.{crew_refused_line, replay_last_line, replay_status, IsBeforeText, IsRunText, IsWholeReplay, StandsReplay, RunsReplay}
 use Rattle.m17_app.proofs.Statuses.{Told, own_status, never}
 use Rattle.m17_app.proofs.Concluded.{counts, cause_from, sound_from, line_stands, whole_from}
 
@@ -121,6 +121,40 @@ start_refused endings.CrewRefused e = refl
 start_refused endings.ReadFailed e = cc
 start_refused endings.WriteFailed e = cc
 
+-- a run that ended before a text began
+ends_before : (ending : ReplayEnding) → IsBeforeText (replay_status ending) → EndsBeforeText ending
+ends_before endings.Finished (inl e) = cc
+ends_before endings.Finished (inr (inl e)) = cc
+ends_before endings.Finished (inr (inr e)) = cc
+ends_before endings.LinkLost (inl e) = cc
+ends_before endings.LinkLost (inr (inl e)) = cc
+ends_before endings.LinkLost (inr (inr e)) = cc
+ends_before (endings.Refused place reason) is = tt
+ends_before endings.CrewRefused is = tt
+ends_before endings.ReadFailed is = tt
+ends_before endings.WriteFailed (inl e) = cc
+ends_before endings.WriteFailed (inr (inl e)) = cc
+ends_before endings.WriteFailed (inr (inr e)) = cc
+
+before_not_write : (status : Status) → IsBeforeText status → status ≢ WriteFailed
+before_not_write status (inl h) e = let bad : InputRefused ≡ WriteFailed = sym h ∙ e in cc
+before_not_write status (inr (inl h)) e = let bad : ReadFailed ≡ WriteFailed = sym h ∙ e in cc
+before_not_write status (inr (inr h)) e = let bad : CrewRefused ≡ WriteFailed = sym h ∙ e in cc
+
+-- no other status comes
+answer_of : (ending : ReplayEnding) (status : Status) → (status ≡ replay_status ending) ⊎ (status ≡ WriteFailed) → IsOfStreams status ⊎ (status ≡ LinkLost) ⊎ (status ≡ CrewRefused)
+answer_of ending status (inr h) = inl (inr (inr (inr (inl h))))
+answer_of endings.Finished status (inl h) = inl (inl h)
+answer_of endings.LinkLost status (inl h) = inr (inl h)
+answer_of (endings.Refused place reason) status (inl h) = inl (inr (inl h))
+answer_of endings.CrewRefused status (inl h) = inr (inr h)
+answer_of endings.ReadFailed status (inl h) = inl (inr (inr (inl h)))
+answer_of endings.WriteFailed status (inl h) = inl (inr (inr (inr (inl h))))
+
+-- nor that of want of memory, behind an ending
+pub some_memory : (ending : ReplayEnding) (status : Status) (mid after : Outside) → WritesLast (replay_last_line ending) (replay_status ending) status mid after → status ≢ NoMemory
+some_memory ending status mid after last = never NoMemory (replay_status ending) status last.answer (told ending).no_memory (λ e. cc)
+
 -- the whole run
 pub ran : (plan : Plan) (summary : Bool) (ending : ReplayEnding) (status : Status) (before mid after : Outside) (crew : Starts) → TracesAreExact → TellsCrew ending crew.before crew.after → Came plan summary ending before mid
     → HasCauses (counts before) (counts mid) (failed_device ending) → Grows before.written mid.written → (EndsBeforeText ending → mid.written ≡ before.written)
@@ -129,12 +163,12 @@ ran plan summary ending status before mid after crew exact tells came causes gro
     let cause = cause_from (replay_status ending) (failed_device ending) (replay_last_line ending) status before mid after (told ending) causes last in
     let left : after.left ≡ mid.left = last.input_untouched.0 in
     let own : status ≢ WriteFailed → status ≡ replay_status ending = own_status (replay_status ending) status last.answer in
-    let some_memory : status ≢ NoMemory = never NoMemory (replay_status ending) status last.answer (told ending).no_memory (λ e. cc) in
+    let memory : status ≢ NoMemory = some_memory ending status mid after last in
     let said : (input : List ℕ) → before.left ≡ Some input → SaysReplay plan summary ending input after.left =
     λ input is. subst (λ (rest : Option (List ℕ)). SaysReplay plan summary ending input rest) (sym left) (came input is).said in
     record {
       cause = λ _. cause;
-      no_memory = λ is. absurd (some_memory is);
+      no_memory = λ is. absurd (memory is);
       finished = λ is input is_input. finished_as plan summary ending input after.left (sym (own (λ e. cc)) ∙ is) (said input is_input);
       lost = λ is input is_input. lost_as plan summary ending input after.left (sym (own (λ e. cc)) ∙ is) (said input is_input);
       crew_refused = λ is. tells.refused (start_refused ending (sym (own (λ e. cc)) ∙ is));
@@ -145,6 +179,10 @@ ran plan summary ending status before mid after crew exact tells came causes gro
           let same = start_refused ending (sym (own (λ e. cc)) ∙ is) in
           let none : mid.written ≡ before.written = unwritten (subst EndsBeforeText (sym same) tt) in
           last.whole (λ e. cc) first (none ∙ is_first) ∙ ap (λ (e : ReplayEnding). Some (first ++ replay_last_line e)) same;
+      alone = λ is first is_first.
+          let not_write = before_not_write status is in
+          let none : mid.written ≡ before.written = unwritten (ends_before ending (subst IsBeforeText (own not_write) is)) in
+          (ending, own not_write, last.whole not_write first (none ∙ is_first));
       no_start_refused = λ other not_write. tells.others (λ e. other (own not_write ∙ ap replay_status e));
       refused = λ is input is_input. refused_as plan summary ending input after.left (sym (own (λ e. cc)) ∙ is) (said input is_input);
       text = λ whole input first is_input is_first.
@@ -162,7 +200,7 @@ ran plan summary ending status before mid after crew exact tells came causes gro
           (ending, text.0, own not_write, last.whole not_write (first ++ text.0) text.1);
       complete = λ input heard is_input is no_read no_write no_start.
           complete_as plan summary ending status input heard after.left before after crew exact tells last.answer cause (said input is_input) is no_read no_write no_start;
-      no_words = never WordsRefused (replay_status ending) status last.answer (told ending).no_words (λ e. cc);
+      answer = answer_of ending status last.answer;
     }
 
 -- there was no memory
@@ -176,11 +214,12 @@ no_run plan summary before after crew written reads writes stands = record {
   crew_refused = λ e. cc;
   nothing_run = λ e. cc;
   crew_line = λ e. cc;
+  alone = λ e. elim e [ inl x ↦ cc | inr (inl y) ↦ cc | inr (inr z) ↦ cc ];
   no_start_refused = λ _ _. stands;
   refused = λ e. cc;
   text = λ e. elim e [ inl x ↦ cc | inr (inl y) ↦ cc | inr (inr z) ↦ cc ];
   stands = λ other. absurd (other refl);
   last = λ _ other. absurd (other refl);
   complete = λ input heard is_input is no_read no_write no_start. inr (inr refl);
-  no_words = λ e. cc;
+  answer = inl (inr (inr (inr (inr refl))));
 }

@@ -1,21 +1,26 @@
 -- A run of `serve`, from its ending to what it promises.
-use Rattle.std.proofs.Common.{◌≡◌, ◌≢◌, ◌⊎◌, ℕ, ◌≤◌, List, [], ◌++◌, take, Option, None, Some, refl, sym, ap, subst, ◌∙◌, arith, inl, inr}
+use Rattle.std.proofs.Common.{◌≡◌, ◌≢◌, ◌⊎◌, ℕ, ◌≤◌, Bool, true, false, List, [], ◌++◌, take, Option, None, Some, refl, sym, ap, subst, ◌∙◌, arith, inl, inr}
+use Rattle.std.specs.Prelude.{IsTrue}
 use Rattle.m17_io.specs.Faults.{HasRisen, HasCauses}
 use Rattle.m17_io.specs.Sink.{AppendsPrefix}
 use Rattle.m17_io.specs.declared.fault.Fault.{Fault}
 use Rattle.m17_io.specs.declared.fault.Fault.TheVariants.{Read, Write}
+use Rattle.m17_reflect.specs.declared.returned.HouseRefusal.{HouseRefusal}
+use Rattle.m17_reflect.specs.declared.returned.HouseRefusal.TheVariants as refusals
+use Rattle.m17_reflect.specs.Run.{Handed}
 use Rattle.m17_words.specs.declared.order.ServeOrder.{ServeOrder}
 use Rattle.m17_serve.specs.declared.served.ServeEnding.{ServeEnding}
 use Rattle.m17_serve.specs.declared.served.ServeEnding.TheVariants as endings
 use Rattle.m17_serve.specs.Served as serve
-use Rattle.m17_serve.specs.Served.{ending_of, lines_of, ComesToServe, EndsServe, RoseWhere}
+use Rattle.m17_serve.specs.Devices.{HouseTold}
+use Rattle.m17_serve.specs.Served.{ending_by, ending_of, lines_of, run_told, ComesToServe, EndsServe, IsUntroubled, RoseWhere, Serves}
 use Rattle.m17_app.specs.declared.status.Status.{Status}
-use Rattle.m17_app.specs.declared.status.Status.TheVariants.{WriteFailed, PortFailed, CrewRefused, NoMemory}
+use Rattle.m17_app.specs.declared.status.Status.TheVariants.{Finished, InputRefused, WordsRefused, ReadFailed, WriteFailed, PortFailed, CrewRefused, LinkLost, BookFailed, NoMemory}
 use Rattle.m17_app.specs.Doing.{Doing, serve_side}
-use Rattle.m17_app.specs.Serve.{serve_last_line, serve_status, CutsServe, RanServe, RunsServe, TellsServe}
+use Rattle.m17_app.specs.Serve.{serve_last_line, serve_status, CutsServe, IsServeStatus, RanServe, RunsServe, TellsServe}
 use Rattle.m17_app.specs.Status.{Outside, HasCause, WritesLast}
-use Rattle.m17_app.proofs.Statuses.{Told, is_write_failed, own_status}
-use Rattle.m17_app.proofs.Concluded.{counts, cause_from}
+use Rattle.m17_app.proofs.Statuses.{Told, is_write_failed, never, own_status}
+use Rattle.m17_app.proofs.Concluded.{counts, cause_from, untouched_cause}
 use Rattle.m17_app.proofs.TalkRuns.{adds_after, adds_part_after, part_longer, same_written}
 
 -- the device of the streams that an ending tells of
@@ -55,23 +60,27 @@ is_write endings.PortFailed e = cc
 is_write endings.CrewRefused e = cc
 is_write endings.NoMemory e = cc
 
-is_port : (ending : ServeEnding) → serve_status ending ≡ PortFailed → ending ≡ endings.PortFailed
-is_port endings.Finished e = cc
-is_port endings.LinkLost e = cc
-is_port endings.BookFailed e = cc
-is_port endings.WriteFailed e = cc
-is_port endings.PortFailed e = refl
-is_port endings.CrewRefused e = cc
-is_port endings.NoMemory e = cc
+-- what the status says of what came back
+was_lost : (lost failed : Bool) → LinkLost ≡ serve_status (ending_by lost failed) → IsTrue lost
+was_lost true failed e = refl
+was_lost false true e = cc
+was_lost false false e = cc
 
-is_crew : (ending : ServeEnding) → serve_status ending ≡ CrewRefused → ending ≡ endings.CrewRefused
-is_crew endings.Finished e = cc
-is_crew endings.LinkLost e = cc
-is_crew endings.BookFailed e = cc
-is_crew endings.WriteFailed e = cc
-is_crew endings.PortFailed e = cc
-is_crew endings.CrewRefused e = refl
-is_crew endings.NoMemory e = cc
+had_failed : (lost failed : Bool) → BookFailed ≡ serve_status (ending_by lost failed) → IsTrue failed
+had_failed true failed e = cc
+had_failed false true e = refl
+had_failed false false e = cc
+
+-- a run without memory ended so
+pub memory_ending : (ending : ServeEnding) (status : Status) (mid after : Outside) → (ending ≢ endings.NoMemory → WritesLast (serve_last_line ending) (serve_status ending) status mid after)
+    → status ≡ NoMemory → ending ≡ endings.NoMemory
+memory_ending endings.Finished status mid after last is = absurd (never NoMemory Finished status ((last (λ e. cc)).answer) (λ e. cc) (λ e. cc) is)
+memory_ending endings.LinkLost status mid after last is = absurd (never NoMemory LinkLost status ((last (λ e. cc)).answer) (λ e. cc) (λ e. cc) is)
+memory_ending endings.BookFailed status mid after last is = absurd (never NoMemory BookFailed status ((last (λ e. cc)).answer) (λ e. cc) (λ e. cc) is)
+memory_ending endings.WriteFailed status mid after last is = absurd (never NoMemory WriteFailed status ((last (λ e. cc)).answer) (λ e. cc) (λ e. cc) is)
+memory_ending endings.PortFailed status mid after last is = absurd (never NoMemory PortFailed status ((last (λ e. cc)).answer) (λ e. cc) (λ e. cc) is)
+memory_ending endings.CrewRefused status mid after last is = absurd (never NoMemory CrewRefused status ((last (λ e. cc)).answer) (λ e. cc) (λ e. cc) is)
+memory_ending endings.NoMemory status mid after last is = refl
 
 -- the causes, as those of the streams
 causes_of : (ending : ServeEnding) (before mid : Outside) → mid.reads ≡ before.reads → before.writes ≤ mid.writes → RoseWhere (ending ≡ endings.WriteFailed) before.writes mid.writes
@@ -141,6 +150,59 @@ module _ {L : Type 0} where
   cut_tells order endings.CrewRefused before mid after run room part came = inr (inl (came.0, (λ first is. part first (came.1 ∙ is))))
   cut_tells order endings.NoMemory before mid after run room part came = absurd (room refl)
 
+  -- the devices come back for a crew that refused only where the command ended so
+  abbrev why_of : Option (HouseTold L × HouseRefusal) → HouseRefusal
+  why_of None = refusals.NoMemory
+  why_of (Some refused) = refused.1
+
+  crew_back : (order : ServeOrder) (ending : ServeEnding) (run : Doing L) (first written : Option (List ℕ)) → ComesToServe order ending (serve_side run) first written
+      → (devices : HouseTold L) → run.refused ≡ Some (devices, refusals.Crew) → ending ≡ endings.CrewRefused
+  crew_back order endings.Finished run first written (back, handed, serves, ending, rest) devices is = let bad : None ≡ Some (devices, refusals.Crew) = sym serves.none ∙ is in cc
+  crew_back order endings.LinkLost run first written (back, handed, serves, ending, rest) devices is = let bad : None ≡ Some (devices, refusals.Crew) = sym serves.none ∙ is in cc
+  crew_back order endings.BookFailed run first written (back, handed, serves, ending, rest) devices is = let bad : None ≡ Some (devices, refusals.Crew) = sym serves.none ∙ is in cc
+  crew_back order endings.WriteFailed run first written (back, handed, serves, rest) devices is = let bad : None ≡ Some (devices, refusals.Crew) = sym serves.none ∙ is in cc
+  crew_back order endings.PortFailed run first written ((fails, none), rest) devices is = let bad : None ≡ Some (devices, refusals.Crew) = sym none.1 ∙ is in cc
+  crew_back order endings.CrewRefused run first written came devices is = refl
+  crew_back order endings.NoMemory run first written (inl (ports, none), rest) devices is = let bad : None ≡ Some (devices, refusals.Crew) = sym none.1 ∙ is in cc
+  crew_back order endings.NoMemory run first written (inr refuses, rest) devices is =
+      let bad : refusals.NoMemory ≡ refusals.Crew = ap why_of (sym refuses.handed_back ∙ is) in cc
+
+  -- nothing stood against it
+  complete_as : (order : ServeOrder) (status : Status) (before after : Outside) (run : Doing L) → HasCause status before after → TellsServe order status before after (serve_side run)
+      → ((devices : HouseTold L) → run.refused ≡ Some (devices, refusals.Crew) → HasRisen run.crew_before run.crew_after)
+      → ¬ HasRisen before.writes after.writes → ¬ HasRisen run.before.faults run.after.faults → ¬ HasRisen run.crew_before run.crew_after → IsServeStatus status
+  complete_as order Finished before after run cause tells crew no_write no_port no_crew = inl refl
+  complete_as order InputRefused before after run cause tells crew no_write no_port no_crew = absurd tells
+  complete_as order WordsRefused before after run cause tells crew no_write no_port no_crew = absurd tells
+  complete_as order ReadFailed before after run cause tells crew no_write no_port no_crew = absurd tells
+  complete_as order WriteFailed before after run cause tells crew no_write no_port no_crew = absurd (no_write (cause.write_failed refl))
+  complete_as order PortFailed before after run cause tells crew no_write no_port no_crew = absurd (no_port tells.0.0.risen)
+  complete_as order CrewRefused before after run cause tells crew no_write no_port no_crew = absurd (no_crew (crew tells.0.devices tells.0.handed_back))
+  complete_as order LinkLost before after run cause tells crew no_write no_port no_crew = inr (inl refl)
+  complete_as order BookFailed before after run cause tells crew no_write no_port no_crew = inr (inr (inl refl))
+  complete_as order NoMemory before after run cause tells crew no_write no_port no_crew = inr (inr (inr refl))
+
+  -- a run of the reflector that nothing stood against went to its end
+  abbrev IsSmooth : ServeOrder → Doing L → Type 0
+  IsSmooth order run = (devices : HouseTold L) (handed : Handed) → (serves : Serves order (serve_side run) devices handed)
+      → IsUntroubled (run_told order serves.new devices handed) serves.headline
+
+  finished_as : (order : ServeOrder) (status : Status) (before after : Outside) (run : Doing L) → TellsServe order status before after (serve_side run)
+      → IsSmooth order run → IsServeStatus status → (status ≡ Finished) ⊎ (status ≡ NoMemory)
+  finished_as order status before after run tells smooth (inl is) = inl is
+  finished_as order status before after run tells smooth (inr (inl is)) =
+      let ran : RanServe order LinkLost before after (serve_side run) = subst (λ (s : Status). TellsServe order s before after (serve_side run)) is tells in
+      let lost = was_lost ran.handed.lost ran.handed.book_failed ran.status_is in
+      absurd ((smooth ran.devices ran.handed ran.serves).no_link_lost (ran.serves.headline.carried_out.lost.0 lost))
+  finished_as order status before after run tells smooth (inr (inr (inl is))) =
+      let ran : RanServe order BookFailed before after (serve_side run) = subst (λ (s : Status). TellsServe order s before after (serve_side run)) is tells in
+      let failed = had_failed ran.handed.lost ran.handed.book_failed ran.status_is in
+      elim (ran.serves.headline.causes.book_failed failed) [
+        | inl trace ↦ absurd ((smooth ran.devices ran.handed ran.serves).no_trace_failed trace)
+        | inr book ↦ absurd ((smooth ran.devices ran.handed ran.serves).no_book_failed book)
+      ]
+  finished_as order status before after run tells smooth (inr (inr (inr is))) = inr is
+
   -- there was memory
   with_memory : (order : ServeOrder) (ending : ServeEnding) (status : Status) (before mid after : Outside) (run : Doing L) → ending ≢ endings.NoMemory
       → ComesToServe order ending (serve_side run) before.written mid.written
@@ -149,30 +211,38 @@ module _ {L : Type 0} where
       → RunsServe order status before after run
   with_memory order ending status before mid after run room came causes same last =
       let own : status ≢ WriteFailed → status ≡ serve_status ending = own_status (serve_status ending) status last.answer in
+      let named = cause_from (serve_status ending) (fault_of ending) (serve_last_line ending) status before mid after (told ending room)
+      (causes_of ending before mid same.1 causes.sink_counted causes.sink) last in
+      let tells : TellsServe order status before after (serve_side run) = elim (is_write_failed status) [
+        | inl four ↦ subst (λ (s : Status). TellsServe order s before after (serve_side run)) (sym four) (cut_tells order ending before mid after run room last.part came)
+        | inr other ↦
+            subst (λ (s : Status). TellsServe order s before after (serve_side run)) (sym (own other))
+            (own_tells order ending before mid after run (λ e. other (own other ∙ e)) room (last.whole other) came)
+      ] in
+      let crew : (devices : HouseTold L) → run.refused ≡ Some (devices, refusals.Crew) → HasRisen run.crew_before run.crew_after =
+      λ devices is. causes.crew.rose (crew_back order ending run before.written mid.written came devices is) in
+      let complete = complete_as order status before after run named tells crew in
       record {
         input_untouched = (last.input_untouched.0 ∙ same.0, last.input_untouched.1 ∙ same.1);
-        cause = λ _. cause_from (serve_status ending) (fault_of ending) (serve_last_line ending) status before mid after (told ending room)
-            (causes_of ending before mid same.1 causes.sink_counted causes.sink) last;
-        tells = elim (is_write_failed status) [
-          | inl four ↦ subst (λ (s : Status). TellsServe order s before after (serve_side run)) (sym four) (cut_tells order ending before mid after run room last.part came)
-          | inr other ↦
-              subst (λ (s : Status). TellsServe order s before after (serve_side run)) (sym (own other))
-              (own_tells order ending before mid after run (λ e. other (own other ∙ e)) room (last.whole other) came)
-        ];
-        port_failed = λ is. causes.ports.rose (is_port ending (sym (own (λ w. let bad : PortFailed ≡ WriteFailed = sym is ∙ w in cc)) ∙ is));
-        crew_refused = λ is. causes.crew.rose (is_crew ending (sym (own (λ w. let bad : CrewRefused ≡ WriteFailed = sym is ∙ w in cc)) ∙ is));
+        cause = named;
+        tells = tells;
+        crew_refused = crew;
+        no_start_refused = λ not_crew not_write. causes.crew.stands (λ e. not_crew (own not_write ∙ ap serve_status e));
+        complete = complete;
+        finishes = λ no_write no_port no_crew smooth. finished_as order status before after run tells smooth (complete no_write no_port no_crew);
       }
 
   -- there was none
-  without_memory : (order : ServeOrder) (status : Status) (before mid after : Outside) (run : Doing L) → status ≡ NoMemory
-      → ComesToServe order endings.NoMemory (serve_side run) before.written mid.written → (mid.left ≡ before.left) × (mid.reads ≡ before.reads)
-      → after ≡ mid → RunsServe order status before after run
-  without_memory order status before mid after run is came same stays = record {
-    input_untouched = (ap (λ (o : Outside). o.left) stays ∙ same.0, ap (λ (o : Outside). o.reads) stays ∙ same.1);
-    cause = λ other. absurd (other is);
-    tells = subst (λ (s : Status). TellsServe order s before after (serve_side run)) (sym is) (came.0, ap (λ (o : Outside). o.written) stays ∙ came.1);
-    port_failed = λ port. let bad : NoMemory ≡ PortFailed = sym is ∙ port in cc;
-    crew_refused = λ crew. let bad : NoMemory ≡ CrewRefused = sym is ∙ crew in cc;
+  without_memory : (order : ServeOrder) (status : Status) (before after : Outside) (run : Doing L) (first written : Option (List ℕ)) → status ≡ NoMemory
+      → ComesToServe order endings.NoMemory (serve_side run) first written → run.crew_after ≡ run.crew_before → after ≡ before → RunsServe order status before after run
+  without_memory order status before after run first written is came starts stays = record {
+    input_untouched = (ap (λ (o : Outside). o.left) stays, ap (λ (o : Outside). o.reads) stays);
+    cause = subst (λ (s : Status). HasCause s before after) (sym is) (subst (λ (o : Outside). HasCause NoMemory before o) (sym stays) (untouched_cause before));
+    tells = subst (λ (s : Status). TellsServe order s before after (serve_side run)) (sym is) (came.0, ap (λ (o : Outside). o.written) stays);
+    crew_refused = λ devices back. let bad : endings.NoMemory ≡ endings.CrewRefused = crew_back order endings.NoMemory run first written came devices back in cc;
+    no_start_refused = λ _ _. starts;
+    complete = λ _ _ _. inr (inr (inr is));
+    finishes = λ _ _ _ _. inr is;
   }
 
   -- the whole run
@@ -181,7 +251,7 @@ module _ {L : Type 0} where
       → serve.HasCauses ending (serve.counts run.before.faults run.crew_before before.writes) (serve.counts run.after.faults run.crew_after mid.writes)
       → (mid.left ≡ before.left) × (mid.reads ≡ before.reads)
       → (ending ≢ endings.NoMemory → WritesLast (serve_last_line ending) (serve_status ending) status mid after)
-      → (ending ≡ endings.NoMemory → (status ≡ NoMemory) × (after ≡ mid)) → RunsServe order status before after run
+      → (ending ≡ endings.NoMemory → (status ≡ NoMemory) × (after ≡ before)) → RunsServe order status before after run
   served order endings.Finished status before mid after run came causes same last none = with_memory order endings.Finished status before mid after run (λ e. cc) came causes same (last (λ e. cc))
   served order endings.LinkLost status before mid after run came causes same last none = with_memory order endings.LinkLost status before mid after run (λ e. cc) came causes same (last (λ e. cc))
   served order endings.BookFailed status before mid after run came causes same last none = with_memory order endings.BookFailed status before mid after run (λ e. cc) came causes same (last (λ e. cc))
@@ -189,4 +259,4 @@ module _ {L : Type 0} where
   served order endings.PortFailed status before mid after run came causes same last none = with_memory order endings.PortFailed status before mid after run (λ e. cc) came causes same (last (λ e. cc))
   served order endings.CrewRefused status before mid after run came causes same last none = with_memory order endings.CrewRefused status before mid after run (λ e. cc) came causes same (last (λ e. cc))
   served order endings.NoMemory status before mid after run came causes same last none =
-      let all = none refl in without_memory order status before mid after run all.0 came same all.1
+      let all = none refl in without_memory order status before after run before.written mid.written all.0 came (causes.crew.stands (λ e. cc)) all.1

@@ -13,7 +13,7 @@ use Rattle.m17_app.specs.declared.status.Status.{Status}
 use Rattle.m17_app.specs.declared.status.Status.TheVariants.{Finished, InputRefused, WordsRefused, ReadFailed, WriteFailed, NoMemory}
 use Rattle.m17_app.specs.Status.{status_of, Outside, HasCause, WritesLast}
 use Rattle.m17_app.specs.Run.{IsWhole, RunsShow}
-use Rattle.m17_app.proofs.Statuses.{own_status, no_memory, no_words, never}
+use Rattle.m17_app.proofs.Statuses.{answer_of, own_status, no_memory, never}
 use Rattle.m17_app.proofs.Concluded.{counts, cause_of, stands_of, last_of, whole_of}
 
 -- what an ending says of the input, by its status
@@ -88,6 +88,6 @@ ran ending status before mid after came causes grows last =
       last = last_of show_reason_words ending status before mid after grows last;
       complete = λ input told none no_read no_write.
           complete_as ending status input after.left before after last.answer cause (said input told) none no_read no_write;
-      no_words = never WordsRefused (status_of ending) status last.answer (no_words ending) (λ e. cc);
+      answer = answer_of ending status last.answer;
       takes_no_memory = never NoMemory (status_of ending) status last.answer (no_memory ending) (λ e. cc);
     }

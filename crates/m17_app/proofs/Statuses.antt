@@ -7,7 +7,7 @@ use Rattle.m17_print.specs.declared.ending.Ending.{Ending}
 use Rattle.m17_print.specs.declared.ending.Ending.TheVariants as endings
 use Rattle.m17_app.specs.declared.status.Status.{Status}
 use Rattle.m17_app.specs.declared.status.Status.TheVariants.{Finished, InputRefused, WordsRefused, ReadFailed, WriteFailed, PortFailed, CrewRefused, LinkLost, BookFailed, NoMemory}
-use Rattle.m17_app.specs.Status.{status_of}
+use Rattle.m17_app.specs.Status.{status_of, IsOfStreams}
 
 -- a status is that of a failed write, or another
 pub is_write_failed : (status : Status) → (status ≡ WriteFailed) ⊎ (status ≢ WriteFailed)
@@ -88,3 +88,24 @@ told ending = record {
 pub never : (other own status : Status) → (status ≡ own) ⊎ (status ≡ WriteFailed) → own ≢ other → WriteFailed ≢ other → status ≢ other
 never other own status (inl h) not_own not_write e = not_own (sym h ∙ e)
 never other own status (inr h) not_own not_write e = not_write (sym h ∙ e)
+
+-- a run of a command that reads and prints ends with one of its statuses
+pub answer_of : {R : Type 0} (ending : Ending R) (status : Status) → (status ≡ status_of ending) ⊎ (status ≡ WriteFailed) → IsOfStreams status
+answer_of ending status (inr h) = inr (inr (inr (inl h)))
+answer_of endings.Finished status (inl h) = inl h
+answer_of (endings.Refused place reason) status (inl h) = inr (inl h)
+answer_of endings.ReadFailed status (inl h) = inr (inr (inl h))
+answer_of endings.WriteFailed status (inl h) = inr (inr (inr (inl h)))
+
+-- and with none of these
+pub record NoneOfStreams (status : Status) : Type 0 where
+  pub no_words : status ≢ WordsRefused
+  pub no_ports : status ≢ PortFailed
+  pub no_crew : status ≢ CrewRefused
+
+pub none_of_streams : (status : Status) → IsOfStreams status → NoneOfStreams status
+none_of_streams status (inl h) = record { no_words = λ e. let bad : Finished ≡ WordsRefused = sym h ∙ e in cc; no_ports = λ e. let bad : Finished ≡ PortFailed = sym h ∙ e in cc; no_crew = λ e. let bad : Finished ≡ CrewRefused = sym h ∙ e in cc }
+none_of_streams status (inr (inl h)) = record { no_words = λ e. let bad : InputRefused ≡ WordsRefused = sym h ∙ e in cc; no_ports = λ e. let bad : InputRefused ≡ PortFailed = sym h ∙ e in cc; no_crew = λ e. let bad : InputRefused ≡ CrewRefused = sym h ∙ e in cc }
+none_of_streams status (inr (inr (inl h))) = record { no_words = λ e. let bad : ReadFailed ≡ WordsRefused = sym h ∙ e in cc; no_ports = λ e. let bad : ReadFailed ≡ PortFailed = sym h ∙ e in cc; no_crew = λ e. let bad : ReadFailed ≡ CrewRefused = sym h ∙ e in cc }
+none_of_streams status (inr (inr (inr (inl h)))) = record { no_words = λ e. let bad : WriteFailed ≡ WordsRefused = sym h ∙ e in cc; no_ports = λ e. let bad : WriteFailed ≡ PortFailed = sym h ∙ e in cc; no_crew = λ e. let bad : WriteFailed ≡ CrewRefused = sym h ∙ e in cc }
+none_of_streams status (inr (inr (inr (inr h)))) = record { no_words = λ e. let bad : NoMemory ≡ WordsRefused = sym h ∙ e in cc; no_ports = λ e. let bad : NoMemory ≡ PortFailed = sym h ∙ e in cc; no_crew = λ e. let bad : NoMemory ≡ CrewRefused = sym h ∙ e in cc }

@@ -11,8 +11,8 @@ use Rattle.m17_replay.specs.declared.reason.TraceReason.{TraceReason}
 use Rattle.m17_replay.specs.Reasons.{trace_reason_words, refusal_told}
 use Rattle.m17_replay.specs.Replay.{IsReplayText, PrintsReplay}
 use Rattle.m17_app.specs.declared.status.Status.{Status}
-use Rattle.m17_app.specs.declared.status.Status.TheVariants.{Finished, InputRefused, WordsRefused, ReadFailed, WriteFailed, CrewRefused, LinkLost, NoMemory}
-use Rattle.m17_app.specs.Status.{Outside, Starts, Watched, watched, HasCause}
+use Rattle.m17_app.specs.declared.status.Status.TheVariants.{Finished, InputRefused, ReadFailed, WriteFailed, CrewRefused, LinkLost, NoMemory}
+use Rattle.m17_app.specs.Status.{Outside, Starts, Watched, watched, HasCause, IsOfStreams}
 
 -- the last line of a run whose link was lost
 abbrev pub link_lost_line : List ℕ
@@ -55,6 +55,10 @@ IsRunText plan summary _ input text = Unit {0}
 abbrev pub IsWholeReplay : Status → Type 0
 IsWholeReplay status = (status ≡ Finished) ⊎ (status ≡ LinkLost) ⊎ (status ≡ InputRefused)
 
+-- the status says that the run ended before a text began
+abbrev pub IsBeforeText : Status → Type 0
+IsBeforeText status = (status ≡ InputRefused) ⊎ (status ≡ ReadFailed) ⊎ (status ≡ CrewRefused)
+
 -- What stands written after a run of `replay` that came to this ending: what the ending prints, and then the last
 -- line. Where the sink failed, the last line may be cut, or the text; `read failed` is told only where the source's
 -- count rose.
@@ -89,6 +93,10 @@ pub record RunsReplay (plan : Plan) (summary : Bool) (status : Status) (before a
       → ((heard : List Heard) × IsTrace input heard) × (after.left ≡ Some [])
   pub crew_line : status ≡ CrewRefused → (first : List ℕ) → before.written ≡ Some first
       → after.written ≡ Some (first ++ crew_refused_line)
+  -- 1, 3 and 6: the last line alone was written, whatever the source tells
+  pub alone : IsBeforeText status → (first : List ℕ) → before.written ≡ Some first
+      → (e : ReplayEnding) × (status ≡ replay_status e)
+      × (after.written ≡ Some (first ++ replay_last_line e))
   pub no_start_refused : status ≢ CrewRefused → status ≢ WriteFailed → crew.after ≡ crew.before
   -- why and where it is none
   pub refused : status ≡ InputRefused → (input : List ℕ) → before.left ≡ Some input
@@ -112,4 +120,5 @@ pub record RunsReplay (plan : Plan) (summary : Bool) (status : Status) (before a
       → ¬ HasRisen before.reads after.reads → ¬ HasRisen before.writes after.writes
       → ¬ HasRisen crew.before crew.after
       → (status ≡ Finished) ⊎ (status ≡ LinkLost) ⊎ (status ≡ NoMemory)
-  pub no_words : status ≢ WordsRefused
+  -- no other status comes
+  pub answer : IsOfStreams status ⊎ (status ≡ LinkLost) ⊎ (status ≡ CrewRefused)

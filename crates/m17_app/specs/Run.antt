@@ -17,7 +17,7 @@ use Rattle.m17_words.specs.declared.command.Command.{Command}
 use Rattle.m17_words.specs.Words.{Names}
 use Rattle.m17_app.specs.declared.status.Status.{Status}
 use Rattle.m17_app.specs.declared.status.Status.TheVariants.{Finished, InputRefused, WordsRefused, ReadFailed, WriteFailed, NoMemory}
-use Rattle.m17_app.specs.Status.{status_of, Outside, Watched, watched, HasCause}
+use Rattle.m17_app.specs.Status.{status_of, Outside, Watched, watched, HasCause, IsOfStreams}
 
 -- the words name no command
 abbrev pub AreRefused : List (List ℕ) → Type 0
@@ -73,7 +73,8 @@ pub record RunsJudge (status : Status) (before after : Outside) : Type 0 where
   pub complete : (input : List ℕ) (count : ℕ) → before.left ≡ Some input → AreRecords input count
       → ¬ HasRisen before.reads after.reads → ¬ HasRisen before.writes after.writes
       → (status ≡ Finished) ⊎ (status ≡ NoMemory)
-  pub no_words : status ≢ WordsRefused
+  -- no other status comes
+  pub answer : IsOfStreams status
 
 -- What a run of `show` promises.
 pub record RunsShow (status : Status) (before after : Outside) : Type 0 where
@@ -98,7 +99,8 @@ pub record RunsShow (status : Status) (before after : Outside) : Type 0 where
       → ((place : ℕ) (reason : ShowReason) → ¬ RefusesLine input place reason)
       → ¬ HasRisen before.reads after.reads → ¬ HasRisen before.writes after.writes
       → status ≡ Finished
-  pub no_words : status ≢ WordsRefused
+  -- no other status comes
+  pub answer : IsOfStreams status
   pub takes_no_memory : status ≢ NoMemory
 
 -- What a run promises whose words are refused: nothing was taken, and a line says so, or with a

@@ -1,5 +1,5 @@
 -- What a run of `serve` promises. This profile.
-use Rattle.std.specs.Prelude.{◌≡◌, ◌≢◌, ◌⊎◌, ℕ, List, [], ◌++◌}
+use Rattle.std.specs.Prelude.{◌≡◌, ◌≢◌, ◌⊎◌, ℕ, List, [], ◌++◌, Option, None, Some}
 use Rattle.m17_io.specs.Faults.{HasRisen}
 use Rattle.m17_reflect.specs.declared.returned.HouseRefusal.TheVariants as refusals
 use Rattle.m17_reflect.specs.Run as reflect
@@ -7,7 +7,7 @@ use Rattle.m17_words.specs.declared.order.ServeOrder.{ServeOrder}
 use Rattle.m17_serve.specs.declared.served.ServeEnding.{ServeEnding}
 use Rattle.m17_serve.specs.declared.served.ServeEnding.TheVariants as endings
 use Rattle.m17_serve.specs.Devices.{HouseTold}
-use Rattle.m17_serve.specs.Served.{ending_of, lines_of, Around, AsksNothing, FailsAtPort, Refuses, Serves}
+use Rattle.m17_serve.specs.Served.{ending_of, lines_of, run_told, Around, AsksNothing, FailsAtPort, IsUntroubled, Refuses, Serves}
 use Rattle.m17_app.specs.declared.status.Status.{Status}
 use Rattle.m17_app.specs.declared.status.Status.TheVariants.{Finished, InputRefused, WordsRefused, ReadFailed, WriteFailed, PortFailed, CrewRefused, LinkLost, BookFailed, NoMemory}
 use Rattle.m17_app.specs.Doing.{Doing, serve_side}
@@ -37,6 +37,11 @@ serve_status endings.NoMemory = NoMemory
 -- the text of a run of the reflector: the line of each module, and then the last line of its status
 abbrev pub serve_text : ServeOrder → reflect.Handed → List ℕ
 serve_text order handed = lines_of order handed ++ serve_last_line (ending_of handed)
+
+-- the reflector ran, or there was no memory for its threads
+abbrev pub IsServeStatus : Status → Type 0
+IsServeStatus status = (status ≡ Finished) ⊎ (status ≡ LinkLost) ⊎ (status ≡ BookFailed)
+    ⊎ (status ≡ NoMemory)
 
 module _ {L : Type 0} where
   -- The reflector ran over its devices, which are handed back, to an end with this status, and its text stands written.
@@ -78,7 +83,22 @@ module _ {L : Type 0} where
   pub record RunsServe (order : ServeOrder) (status : Status) (before after : Outside)
       (run : Doing L) : Type 0 where
     pub input_untouched : (after.left ≡ before.left) × (after.reads ≡ before.reads)
-    pub cause : status ≢ NoMemory → HasCause status before after
+    pub cause : HasCause status before after
     pub tells : TellsServe order status before after (serve_side run)
-    pub port_failed : status ≡ PortFailed → HasRisen run.before.faults run.after.faults
-    pub crew_refused : status ≡ CrewRefused → HasRisen run.crew_before run.crew_after
+    -- the devices come back for a crew that refused only where it did
+    pub crew_refused : (devices : HouseTold L) → run.refused ≡ Some (devices, refusals.Crew)
+        → HasRisen run.crew_before run.crew_after
+    pub no_start_refused : status ≢ CrewRefused → status ≢ WriteFailed
+        → run.crew_after ≡ run.crew_before
+    -- ports, a crew and a sink that do not fail: whether a link was lost or a book failed, 7 and 8 tell
+    pub complete : ¬ HasRisen before.writes after.writes
+        → ¬ HasRisen run.before.faults run.after.faults
+        → ¬ HasRisen run.crew_before run.crew_after → IsServeStatus status
+    -- and where nothing stood against the run of the reflector either, it went to its end, if there was memory
+    pub finishes : ¬ HasRisen before.writes after.writes
+        → ¬ HasRisen run.before.faults run.after.faults
+        → ¬ HasRisen run.crew_before run.crew_after
+        → ((devices : HouseTold L) (handed : reflect.Handed)
+        → (serves : Serves order (serve_side run) devices handed)
+        → IsUntroubled (run_told order serves.new devices handed) serves.headline)
+        → (status ≡ Finished) ⊎ (status ≡ NoMemory)

@@ -35,6 +35,11 @@ status_of (endings.Refused place reason) = InputRefused
 status_of endings.ReadFailed = ReadFailed
 status_of endings.WriteFailed = WriteFailed
 
+-- One of the statuses of a command that reads, prints, and asks for nothing more.
+abbrev pub IsOfStreams : Status → Type 0
+IsOfStreams status = (status ≡ Finished) ⊎ (status ≡ InputRefused) ⊎ (status ≡ ReadFailed)
+    ⊎ (status ≡ WriteFailed) ⊎ (status ≡ NoMemory)
+
 -- What the devices tell at a moment: what is left of the input, how often the source has failed,
 -- what was written, how often the sink has failed, and how many bytes it holds back.
 pub record Outside : Type 0 where

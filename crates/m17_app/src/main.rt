@@ -71,7 +71,11 @@ fn words_of(rt: HostRuntime) -> Option<Vec<String>> {
 }
 
 #[cfg(test)]
+mod evening_tests;
+#[cfg(test)]
 mod replay_tests;
+#[cfg(test)]
+mod serve_tests;
 #[cfg(test)]
 mod std_tests;
 #[cfg(test)]

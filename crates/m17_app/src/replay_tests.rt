@@ -231,3 +231,24 @@ fn a_parrot_gives_back_750_of_751_frames(rt: HostRuntime) -> Result<(), Fail> {
     assert!(rt; written.as_slice().ends_with(peer.as_bytes()));
     Ok(())
 }
+
+// A peer of wrong bytes alone, one that joins, 16 faults, and one that comes behind them, whom nobody hears any more.
+#[test]
+fn who_was_heard_is_named_and_who_came_behind_the_end_is_not(rt: HostRuntime) -> Result<(), Fail> {
+    let mut input = trace(rt.alloc(), &[Came(0, 9, b"M17"), Came(0, 1, &JOIN)])?;
+    for _fault in 0..16 {
+        input.push(0x03)?;
+    }
+    push_came(&mut input, Came(0, 2, &LISTEN))?;
+    let (status, written) = ran(&rt, rt.alloc(), &["replay", "--summary"], input, &[], &[])?;
+    assert_eq!(rt; status, 7);
+    let page =
+        "entries 18\njoin 1\nagain 0\nleave 0\npong 0\nalive 0\nopened 0\ncontinued 0\nbusy 0\n\
+        repeat 0\nlate 0\nafter-end 0\nnot-member 0\nlisten-only 0\nrefused 1\nnot-connected 0\n\
+        not-served 0\nfull 0\nstray 0\nquiet 0\nfault 16\n\
+        peer 10.0.0.1:17000 ackn 1 nack 0 ping 0 pong 0 disc 1 frame 0\n\
+        peer 10.0.0.9:17000 ackn 0 nack 0 ping 0 pong 0 disc 0 frame 0\n\
+        link lost\n";
+    assert_eq!(rt; written.as_slice(), page.as_bytes());
+    Ok(())
+}

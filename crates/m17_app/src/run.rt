@@ -70,7 +70,7 @@ fn run_command<R: Threads + Wait + Copy + Send + 'static, P: Ports, C: Crew, S: 
     out: &mut K,
 ) -> Ended<P::Ear, P::Mouth, P::Book>
     requires runnable { IsRunnable command }
-    ensures { Runs command result.status
+    ensures runs { Runs command result.status
         (outside (S.left input.old) (S.faults input.old)
         (K.written out.old) (K.faults out.old) (K.held_back out.old))
         (outside (S.left input.new) (S.faults input.new)
@@ -91,6 +91,7 @@ fn run_command<R: Threads + Wait + Copy + Send + 'static, P: Ports, C: Crew, S: 
         (refused_back (eyes_by P.Ear.heard P.Ear.faults P.Ear.mark
         (told_by P.Mouth.said P.Mouth.tallies P.Mouth.faults P.Mouth.mark P.Mouth.label)
         P.Book.written P.Book.faults P.Book.mark) result.refused)) }
+    ensures unasked { result.status ≡ Status.NoMemory → crew.new ≡ crew.old }
 {
     match command {
         Command::Judge => alone(run_judge(alloc, input, out)),
@@ -137,6 +138,8 @@ pub fn run<R: Threads + Wait + Copy + Send + 'static, P: Ports, C: Crew, S: Inpu
     ensures status { IsStatus result.status }
     // 2 comes where the words name no command, and nowhere else.
     ensures taken { result.status ≡ 2 → AreRefused (map string_bytes words.now) }
+    // Want of memory comes before the crew is asked for anything.
+    ensures unasked { result.status ≡ 70 → crew.new ≡ crew.old }
     // The run is that of a command which the words name, or says that they name none.
     ensures runs { Tells result.status (λ status. RunsWords (map string_bytes words.now) status
         (outside (S.left input.old) (S.faults input.old)

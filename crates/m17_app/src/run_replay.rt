@@ -1,3 +1,4 @@
+ghost use Rattle.std.specs.Prelude.{◌≡◌};
 ghost use Rattle.m17_house.specs.Replay.{IsPlan};
 ghost use Rattle.m17_app.specs.Status.{outside, starts};
 ghost use Rattle.m17_app.specs.Replayed.{RunsReplay};
@@ -24,12 +25,13 @@ pub fn run_replay<R: Threads + Wait + Copy + Send + 'static, C: Crew, S: Input<K
     out: &mut K,
 ) -> Status
     requires { IsPlan plan.now }
-    ensures { RunsReplay plan.now summary result
+    ensures runs { RunsReplay plan.now summary result
         (outside (S.left input.old) (S.faults input.old)
         (K.written out.old) (K.faults out.old) (K.held_back out.old))
         (outside (S.left input.new) (S.faults input.new)
         (K.written out.new) (K.faults out.new) (K.held_back out.new))
         (starts (C.refusals crew.old) (C.refusals crew.new)) }
+    ensures unasked { result ≡ Status.NoMemory → crew.new ≡ crew.old }
 {
     traces_are_exact();
     match replay(rt, alloc, plan, summary, crew, input, out) {

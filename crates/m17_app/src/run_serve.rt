@@ -9,6 +9,7 @@ ghost use Rattle.m17_app.specs.Status.{outside};
 
 use crate::conclude::conclude_serve;
 use crate::done::Ended;
+use crate::status::Status;
 use m17_devices::{Crew, Ports};
 use m17_io::Sink;
 use m17_serve::{Served, serve};
@@ -41,6 +42,7 @@ pub(crate) fn run_serve<R: Threads + Wait + Copy + Send + 'static, P: Ports, C: 
         (told_by P.Mouth.said P.Mouth.tallies P.Mouth.faults P.Mouth.mark P.Mouth.label)
         P.Book.written P.Book.faults P.Book.mark) result.refused)) }
     ensures talk { result.talk ≡ None }
+    ensures unasked { result.status ≡ Status.NoMemory → crew.new ≡ crew.old }
 {
     let served = serve(rt, alloc, order, ports, crew, out);
     let Served {

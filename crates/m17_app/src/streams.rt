@@ -1,4 +1,5 @@
 ghost use Rattle.std.specs.Prelude.{◌≡◌, ◌⊎◌, map, string_bytes};
+ghost use Rattle.m17_io.specs.Faults.{HasRisen};
 ghost use Rattle.m17_app.specs.Status.{IsStatus};
 ghost use Rattle.m17_app.specs.Run.{AreRefused};
 
@@ -27,6 +28,10 @@ pub fn run_on<
     ensures refused { AreRefused (map string_bytes words.now)
         → (result ≡ 2) ⊎ (result ≡ 4) ⊎ (result ≡ 70) }
     ensures taken { result ≡ 2 → AreRefused (map string_bytes words.now) }
+    // Ports that failed and a crew that refused a start were counted; want of memory comes before the crew is asked.
+    ensures port_failed { result ≡ 5 → HasRisen (Q.faults ports.old) (Q.faults ports.new) }
+    ensures crew_refused { result ≡ 6 → HasRisen (C.refusals crew.old) (C.refusals crew.new) }
+    ensures unasked { result ≡ 70 → crew.new ≡ crew.old }
 {
     let Ok(mut input) = BufferedSource::make(alloc, StdIn::new(reader)) else {
         return Status::NoMemory.code();

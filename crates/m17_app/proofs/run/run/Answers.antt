@@ -1,5 +1,6 @@
-use Rattle.std.proofs.Common.{rules, inl}
+use Rattle.std.proofs.Common.{rules, inl, sym, ◌∙◌}
 use Rattle.m17_app.specs.Commands.{IsRunnable}
+use Rattle.m17_app.proofs.Codes.{is_no_memory}
 use Rattle.m17_app.proofs.Runnable.{names_runnable}
 use Rattle.m17_app.proofs.run.run.Goals as goal
 
@@ -10,4 +11,7 @@ run_command-requires-clause-runnable g c =
 pub returns-in-Ok-clause-runs : goal.returns-in-Ok-clause-runs
 returns-in-Ok-clause-runs g c =
     rw (c.answer_of.ensures.talk, c.answer_of.ensures.house, c.answer_of.ensures.refused)
-    (c.run_command.result.status, c.answer_of.ensures.code, inl (c.in-Ok.command, c.in-Ok.ensures.named, c.run_command.ensures))
+    (c.run_command.result.status, c.answer_of.ensures.code, inl (c.in-Ok.command, c.in-Ok.ensures.named, c.run_command.ensures.runs))
+
+pub returns-in-Ok-clause-unasked : goal.returns-in-Ok-clause-unasked
+returns-in-Ok-clause-unasked g c seventy = c.run_command.ensures.unasked (is_no_memory c.run_command.result.status (sym c.answer_of.ensures.code ∙ seventy))
