@@ -39,12 +39,13 @@ pub struct Bell {
     mark: Option<u32>,
 }
 
-// What all owners of a bell share: the sleep of its consumer, whether one was announced since the last ringing, and the
-// marks, of which most bells have none.
+// What all owners of a bell share: the sleep of its consumer, whether one was announced since the last ringing, whether the
+// last that was announced is a doze, and the marks, of which most bells have none.
 #[derive(Drop)]
 struct Rung {
     count: EventCount,
     announced: AtomicBool,
+    dozes: AtomicBool,
     marks: Marks,
 }
 
@@ -60,6 +61,7 @@ impl Bell {
         let rung = Rung {
             count: EventCount::new(),
             announced: AtomicBool::new(false),
+            dozes: AtomicBool::new(false),
             marks,
         };
         match Arc::new(alloc, rung) {
@@ -117,18 +119,38 @@ impl Bell {
     /// Says that this thread will sleep until a push on a lane of this bell. Try each lane after it, then `sleep`; to go
     /// on in place of sleeping, drop what it answers.
     pub fn announce(&self) -> Announced<'_> {
+        self.announce_as(false)
+    }
+
+    // `announce` for a sleep that a push which can wait does not end: see `Pusher::push_quietly`.
+    pub(crate) fn announce_doze(&self) -> Announced<'_> {
+        self.announce_as(true)
+    }
+
+    // Who dozes says so before it announces, so that who finds the announcement knows.
+    fn announce_as(&self, dozes: bool) -> Announced<'_> {
         let key = self.rung.count.prepare_wait();
+        self.rung.dozes.store(dozes, Ordering::SeqCst);
         self.rung.announced.store(true, Ordering::SeqCst);
         Announced { key }
     }
 
-    // Sets the lane's mark, if it has one, and wakes who sleeps on the bell, after a push. The first push behind an
-    // announcement wakes, by a system call where somebody sleeps; for those that follow it is one read of a word, also
-    // while the one that was woken has not come to run yet. It wakes for a push on any lane of the bell.
-    pub(crate) fn ring(&self) {
+    // Whether a doze is announced, and was not rung since.
+    pub(crate) fn is_dozed_on(&self) -> bool {
+        self.rung.announced.load(Ordering::SeqCst) && self.rung.dozes.load(Ordering::SeqCst)
+    }
+
+    // Sets the lane's mark, if it has one, after a push and before it rings.
+    pub(crate) fn set_mark(&self) {
         if let Some(mark) = self.mark {
             self.rung.marks.set(mark);
         }
+    }
+
+    // Wakes who sleeps on the bell, after a push. The first push behind an announcement wakes, by a system call where
+    // somebody sleeps; for those that follow it is one read of a word, also while the one that was woken has not come to
+    // run yet. It wakes for a push on any lane of the bell.
+    pub(crate) fn ring(&self) {
         let announced = &self.rung.announced;
         if announced.load(Ordering::SeqCst) && announced.swap(false, Ordering::SeqCst) {
             self.rung.count.notify_all();
@@ -138,11 +160,12 @@ impl Bell {
 
 /// An announced sleep on a bell.
 ///
-/// No push is missed: a push puts its item into the queue first and then looks whether a sleep is announced. Where the
-/// announcement comes before that look, the push ends the sleep, also one that has not begun, or finds that another push
-/// took the announcement and ends it. Where it comes after, the item is in the queue when the lanes are tried. The sleep is
-/// counted before it is announced, so who takes the announcement finds somebody to wake. A lane that was tried before the
-/// announcement tells nothing: its item could come in between, and the thread would sleep on it. This profile.
+/// No push is missed: a push puts its item into the queue first and then looks whether a sleep is announced (one that can
+/// wait leaves a doze, as `can_wait` in `lane.rt` says). Where the announcement comes before that look, the push ends the
+/// sleep, also one that has not begun, or finds that another push took the announcement and ends it. Where it comes after,
+/// the item is in the queue when the lanes are tried. The sleep is counted before it is announced, so who takes the
+/// announcement finds somebody to wake. A lane that was tried before the announcement tells nothing: its item could come in
+/// between, and the thread would sleep on it. This profile.
 pub struct Announced<'a> {
     key: Key<'a>,
 }

@@ -15,14 +15,36 @@ pub struct Lane<T> {
     pub line: Line<T>,
     pub filled: Bell,
     pub room: Room,
+    /// So many items that can wait wake a consumer that dozes.
+    pub enough: usize,
 }
 
-/// One try to push. After the item is in the queue it rings the consumer, and never before: see `Announced`.
+/// How soon the consumer is to have what is pushed.
+#[derive(Clone, Copy)]
+pub enum Haste {
+    /// At once.
+    Now,
+    /// Where it dozes, once enough such items are there.
+    Later,
+}
+
+/// How a consumer sleeps.
+#[derive(Clone, Copy)]
+pub enum Rest {
+    /// Each push wakes it.
+    Sleep,
+    /// A push that can wait wakes it only where enough items are there.
+    Doze,
+}
+
+/// One try to push. After the item is in the queue it rings the consumer, unless the item can wait, and never before: see
+/// `Announced`.
 pub fn put<T, R: Wait>(
     rt: &R,
     lane: &Lane<T>,
     pass: &mut Pass<T, Hand<T>>,
     item: T,
+    haste: Haste,
 ) -> Result<(), T>
     requires pass { IsPassOf lane.now.line pass.old }
     requires pusher { IsPusher (view pass.old) }
@@ -35,9 +57,28 @@ pub fn put<T, R: Wait>(
 {
     let answer = lane.line.push_as::<Puts, R>(rt, pass, item);
     if answer.is_ok() {
-        lane.filled.ring();
+        lane.filled.set_mark();
+        if !can_wait(rt, lane, pass, haste) {
+            lane.filled.ring();
+        }
     }
     answer
+}
+
+// Whether the consumer may be left asleep after a push. Each push counts the items once its own is in, so the last of
+// several sees them all, and the one that finds enough rings. Fewer of them stay while the consumer dozes, and each of
+// these can wait, or its push is still to ring: the next push that finds enough, or can't wait, takes them along.
+fn can_wait<T, R: Wait>(rt: &R, lane: &Lane<T>, pass: &mut Pass<T, Hand<T>>, haste: Haste) -> bool
+    requires pass { IsPassOf lane.now.line pass.old }
+    ensures pass { IsSamePass pass.old pass.new }
+    ensures view { view pass.new ≡ view pass.old }
+{
+    match haste {
+        Haste::Now => false,
+        Haste::Later => {
+            lane.filled.is_dozed_on() && lane.line.len_as::<Gets, R>(rt, pass) < lane.enough
+        }
+    }
 }
 
 /// One try to push, and where the queue is full a sleep until there is room: see `Room`.
@@ -46,6 +87,7 @@ pub fn put_or_rest<T, R: Wait>(
     lane: &Lane<T>,
     pass: &mut Pass<T, Hand<T>>,
     item: T,
+    haste: Haste,
 ) -> Result<(), T>
     requires pass { IsPassOf lane.now.line pass.old }
     requires pusher { IsPusher (view pass.old) }
@@ -55,7 +97,7 @@ pub fn put_or_rest<T, R: Wait>(
         (λ back. (back ≡ item) × (view pass.new ≡ view pass.old)) }
 {
     let wanted = lane.room.want();
-    let answer = put(rt, lane, pass, item);
+    let answer = put(rt, lane, pass, item, haste);
     if answer.is_err() {
         wanted.sleep(rt);
     }
@@ -79,16 +121,24 @@ pub fn get<T, R: Wait>(rt: &R, lane: &Lane<T>, pass: &mut Pass<T, Hand<T>>) -> O
     item
 }
 
-/// One try to pop, and where the queue is empty a sleep until a push on a lane of the bell. No push is missed, by the
-/// reason that `Announced` gives.
-pub fn get_or_rest<T, R: Wait>(rt: &R, lane: &Lane<T>, pass: &mut Pass<T, Hand<T>>) -> Option<T>
+/// One try to pop, and where the queue is empty a sleep until a push on a lane of the bell, or a doze. No push is missed,
+/// by the reason that `Announced` gives, and of a doze `can_wait`.
+pub fn get_or_rest<T, R: Wait>(
+    rt: &R,
+    lane: &Lane<T>,
+    pass: &mut Pass<T, Hand<T>>,
+    rest: Rest,
+) -> Option<T>
     requires pass { IsPassOf lane.now.line pass.old }
     requires popper { IsPopper (view pass.old) }
     ensures pass { IsSamePass pass.old pass.new }
     ensures some { MatchOption result (view pass.new ≡ view pass.old)
         (λ x. view pass.new ≡ got_by (view pass.old) x) }
 {
-    let announced = lane.filled.announce();
+    let announced = match rest {
+        Rest::Sleep => lane.filled.announce(),
+        Rest::Doze => lane.filled.announce_doze(),
+    };
     let item = get(rt, lane, pass);
     if item.is_none() {
         announced.sleep(rt);

@@ -3,13 +3,16 @@
 //! It promises, for any number of producers and every schedule: each producer's items are its part of one order, in
 //! which it pushed them, what was popped is the first part of that order, and what came back from a full lane is known
 //! too. A wait sleeps until the other end rings (`Bell`), and an end whose partner is awake makes no system call. A bell
-//! of very many lanes has marks, which tell its consumer where to look.
+//! of very many lanes has marks, which tell its consumer where to look. An item that can wait (`push_quietly`) doesn't wake
+//! a consumer that dozes (`pop_dozing`), until some are there.
 //! That a wait ends, and what lane a thread waits on, is left to the crates above: no proof sees it.
 //! The rule that each step keeps is `IsLane` in `specs/Rule.antt`; the words of the contracts stand in `specs/Ends.antt`
 //! and `specs/Orders.antt`.
 #![tactic(auto)]
 
 mod bell;
+#[cfg(test)]
+mod doze_tests;
 mod lane;
 pub mod laws;
 mod making;

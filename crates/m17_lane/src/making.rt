@@ -7,7 +7,7 @@ ghost use Rattle.m17_lane.specs.Rule.{popper};
 
 use crate::bell::Bell;
 use crate::lane::Lane;
-use crate::popper::Popper;
+use crate::popper::{MOST_ROUNDS, Popper};
 use crate::pusher::Pusher;
 use crate::room::Room;
 use crate::rule::{Declare, Hand, Hire, Line};
@@ -15,6 +15,9 @@ use crossbeam_queue::Pass;
 use m17_values::NoMemory;
 use std::alloc::Global;
 use std::sync::Arc;
+
+/// So many items that can wait wake a consumer that dozes, in a lane that holds twice as many or more.
+const ENOUGH: u32 = 8;
 
 /// A lane for that many producers, which holds that many items, with a bell of its own: the pushers, numbered from 0 on
 /// in the order of the answer, and the popper. `NoMemory` where there is none for it; nothing else is refused. This
@@ -68,6 +71,11 @@ pub fn make_marked<T: Drop>(
     make_for(alloc, bell.share_marked(mark)?, producers, capacity)
 }
 
+// How many items that can wait wake a consumer that dozes.
+fn enough_for(capacity: u32) -> usize {
+    capacity.div_ceil(2).min(ENOUGH) as usize
+}
+
 // A lane whose pushes ring this bell, and set its mark where it has one.
 fn make_for<T: Drop>(
     alloc: Global,
@@ -86,12 +94,22 @@ fn make_for<T: Drop>(
     };
     declare_all(&line, &mut pass, producers);
     let room = Room::new(producers, capacity);
-    let lane = Lane { line, filled, room };
+    let lane = Lane {
+        line,
+        filled,
+        room,
+        enough: enough_for(capacity),
+    };
     let Ok(lane) = Arc::new(alloc, lane) else {
         return Err(NoMemory);
     };
     let pushers = hire_all(alloc, &lane, &mut pass, producers)?;
-    Ok((pushers, Popper { lane, pass }))
+    let popper = Popper {
+        lane,
+        pass,
+        rounds: MOST_ROUNDS,
+    };
+    Ok((pushers, popper))
 }
 
 /// A lane of one producer, with a bell of its own. This profile.

@@ -2,7 +2,7 @@
 ghost use Rattle.std.specs.Prelude.{◌≡◌, MatchOption};
 ghost use Rattle.m17_lane.specs.Ends.{popped_from};
 
-use crate::lane::{Lane, get, get_or_rest};
+use crate::lane::{Lane, Rest, get, get_or_rest};
 use crate::rule::Hand;
 use crossbeam_queue::Pass;
 use crossbeam_utils::Backoff;
@@ -10,12 +10,19 @@ use std::alloc::Global;
 use std::marker::Model;
 use std::sync::{Arc, Wait};
 
+/// For how many rounds a consumer waits awake, at the least and at the most, before it sleeps.
+const FEWEST_ROUNDS: u32 = 3;
+
+pub(crate) const MOST_ROUNDS: u32 = 11;
+
 /// The consumer's end of a lane. Contracts see the lane, its capacity and number of producers, and the items that were
 /// popped, oldest first. It may go to another thread. This profile.
 #[derive(Drop)]
 pub struct Popper<T> {
     pub(crate) lane: Arc<Lane<T>, Global>,
     pub(crate) pass: Pass<T, Hand<T>>,
+    // For how many rounds it waits awake the next time.
+    pub(crate) rounds: u32,
 }
 
 impl<T> Model for Popper<T> {
@@ -51,31 +58,63 @@ impl<T> Popper<T> {
         get(rt, &self.lane, &mut self.pass)
     }
 
-    /// The oldest item of the lane. While the lane is empty it waits: a short while awake, and then asleep until a
-    /// producer pushes. It returns only with an item, so it waits for ever where no producer pushes. This profile.
+    /// The oldest item of the lane. While the lane is empty it waits: a short while awake, longer where that paid off the
+    /// last time, and then asleep until a producer pushes. It returns only with an item, so it waits for ever where no
+    /// producer pushes. This profile.
     pub fn pop_waiting<R: Wait>(&mut self, rt: &R) -> T
         ensures { self.new ≡ popped_from self.old result }
     {
-        let backoff = Backoff::new();
+        self.pop(rt, Rest::Sleep)
+    }
+
+    /// `pop_waiting` for a consumer that need not have at once what is pushed quietly: such items wake it only once eight
+    /// are there (see `Pusher::push_quietly`), and any other push does at once. It may wait for ever though items are
+    /// there, where all were pushed quietly and are too few: a producer is to end with another push. This profile.
+    pub fn pop_dozing<R: Wait>(&mut self, rt: &R) -> T
+        ensures { self.new ≡ popped_from self.old result }
+    {
+        self.pop(rt, Rest::Doze)
+    }
+
+    fn pop<R: Wait>(&mut self, rt: &R, rest: Rest) -> T
+        ensures { self.new ≡ popped_from self.old result }
+    {
+        if let Some(item) = self.pop_awake(rt) {
+            return item;
+        }
         for _ in rt.forever() {
-            let item = if backoff.is_completed() {
-                self.pop_or_rest(rt)
-            } else {
-                self.try_pop(rt)
-            };
-            match item {
-                Some(item) => return item,
-                None if backoff.is_completed() => {}
-                None => backoff.snooze(),
+            if let Some(item) = self.pop_or_rest(rt, rest) {
+                return item;
             }
         }
         unreachable!()
     }
 
-    fn pop_or_rest<R: Wait>(&mut self, rt: &R) -> Option<T>
+    // Tries for some rounds. Where an item comes while it waits so, as on a busy lane, the next wait has all rounds again;
+    // where none does, it has one less, and of three none less: then only an item within these brings all back.
+    fn pop_awake<R: Wait>(&mut self, rt: &R) -> Option<T>
         ensures { MatchOption result (self.new ≡ self.old)
             (λ x. self.new ≡ popped_from self.old x) }
     {
-        get_or_rest(rt, &self.lane, &mut self.pass)
+        if let Some(item) = self.try_pop(rt) {
+            return Some(item);
+        }
+        let backoff = Backoff::new();
+        for _waited in 0..self.rounds {
+            backoff.snooze();
+            if let Some(item) = self.try_pop(rt) {
+                self.rounds = MOST_ROUNDS;
+                return Some(item);
+            }
+        }
+        self.rounds = self.rounds.saturating_sub(1).max(FEWEST_ROUNDS);
+        None
+    }
+
+    fn pop_or_rest<R: Wait>(&mut self, rt: &R, rest: Rest) -> Option<T>
+        ensures { MatchOption result (self.new ≡ self.old)
+            (λ x. self.new ≡ popped_from self.old x) }
+    {
+        get_or_rest(rt, &self.lane, &mut self.pass, rest)
     }
 }

@@ -5,7 +5,7 @@ ghost use Rattle.crossbeam_queue.specs.Passes.{view as knows, IsPassOf, IsSamePa
 ghost use Rattle.m17_lane.specs.Ends.{pushed_to, refused_by};
 ghost use Rattle.m17_lane.specs.Rule.{refuse, IsPusher};
 
-use crate::lane::{Lane, put, put_or_rest};
+use crate::lane::{Haste, Lane, put, put_or_rest};
 use crate::rule::{Hand, Line, Refusal, Refuse};
 use crossbeam_queue::Pass;
 use crossbeam_utils::Backoff;
@@ -51,7 +51,7 @@ impl<T> Pusher<T> {
         ensures full { IfErr result (λ _. self.old.producers ≡ 1
             → self.old.capacity ≤ length self.old.pushed) }
     {
-        match self.offer(rt, item) {
+        match self.offer(rt, item, Haste::Now) {
             Ok(()) => Ok(()),
             Err(back) => {
                 self.note(&back);
@@ -66,13 +66,27 @@ impl<T> Pusher<T> {
     pub fn push_waiting<R: Wait>(&mut self, rt: &R, item: T)
         ensures { self.new ≡ pushed_to self.old item }
     {
+        self.push(rt, item, Haste::Now);
+    }
+
+    /// `push_waiting` of an item that can wait: a consumer that dozes (`Popper::pop_dozing`) is left asleep by it while
+    /// fewer than eight items are in the lane, or fewer than half of what it holds where that is less. This profile.
+    pub fn push_quietly<R: Wait>(&mut self, rt: &R, item: T)
+        ensures { self.new ≡ pushed_to self.old item }
+    {
+        self.push(rt, item, Haste::Later);
+    }
+
+    fn push<R: Wait>(&mut self, rt: &R, item: T, haste: Haste)
+        ensures { self.new ≡ pushed_to self.old item }
+    {
         let mut item = item;
         let backoff = Backoff::new();
         for _ in rt.forever() {
             let answer = if backoff.is_completed() {
-                self.offer_or_rest(rt, item)
+                self.offer_or_rest(rt, item, haste)
             } else {
-                self.offer(rt, item)
+                self.offer(rt, item, haste)
             };
             match answer {
                 Ok(()) => return,
@@ -85,20 +99,20 @@ impl<T> Pusher<T> {
         unreachable!()
     }
 
-    fn offer<R: Wait>(&mut self, rt: &R, item: T) -> Result<(), T>
+    fn offer<R: Wait>(&mut self, rt: &R, item: T, haste: Haste) -> Result<(), T>
         ensures pushed { MatchResult result (λ _. self.new ≡ pushed_to self.old item)
             (λ back. (back ≡ item) × (self.new ≡ self.old)) }
         ensures full { IfErr result (λ _. self.old.producers ≡ 1
             → self.old.capacity ≤ length self.old.pushed) }
     {
-        put(rt, &self.lane, &mut self.pass, item)
+        put(rt, &self.lane, &mut self.pass, item, haste)
     }
 
-    fn offer_or_rest<R: Wait>(&mut self, rt: &R, item: T) -> Result<(), T>
+    fn offer_or_rest<R: Wait>(&mut self, rt: &R, item: T, haste: Haste) -> Result<(), T>
         ensures { MatchResult result (λ _. self.new ≡ pushed_to self.old item)
             (λ back. (back ≡ item) × (self.new ≡ self.old)) }
     {
-        put_or_rest(rt, &self.lane, &mut self.pass, item)
+        put_or_rest(rt, &self.lane, &mut self.pass, item, haste)
     }
 
     fn note(&mut self, item: &T)

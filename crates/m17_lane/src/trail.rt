@@ -71,7 +71,11 @@ pub fn finish<T: Drop>(pushers: Vec<Pusher<T>>, popper: Popper<T>) -> Trail<T>
     ensures whole { (rest : List T) × IsWhole result.logs result.popped result.order rest }
 {
     let mut pushers = pushers;
-    let Popper { lane, mut pass } = popper;
+    let Popper {
+        lane,
+        mut pass,
+        rounds: _,
+    } = popper;
     while let Some(pusher) = pushers.pop() {
         take_back(&lane, &mut pass, pusher);
     }
@@ -91,7 +95,11 @@ pub fn finish_one<T: Drop>(pusher: Pusher<T>, popper: Popper<T>) -> Trail<T>
     ensures order { items_of result.order ≡ pusher.pushed }
     ensures settled { (rest : List T) × (pusher.pushed ≡ popper.popped ++ rest) }
 {
-    let Popper { lane, mut pass } = popper;
+    let Popper {
+        lane,
+        mut pass,
+        rounds: _,
+    } = popper;
     take_back(&lane, &mut pass, pusher);
     lane.line.learn_as::<Leaves>(&mut pass);
     Trail { lane, pass }

@@ -1,5 +1,5 @@
 use Rattle.std.proofs.Common.{◌≡◌}
-use Rattle.m17_lane.proofs.popper.Popper.pop_waiting.Given as goal
+use Rattle.m17_lane.proofs.popper.Popper.pop.Given as goal
 
 -- while it waits the end stays as it was
 abbrev pub invariant-loop : goal.invariant-loop
