@@ -139,6 +139,13 @@ impl Module {
         self.admitted
     }
 
+    /// Whether the module plays back what it hears. This profile.
+    pub fn is_parrot(&self) -> bool
+        ensures { result ≡ self.now.setup.parrot }
+    {
+        self.recorder.is_some()
+    }
+
     /// Takes in the next event: puts what it gives into the basket, in order, and answers the verdict on a packet, and
     /// nothing for any other event. For every list of events that the module may have come from, of fewer than 2^64 - 1,
     /// the basket then holds what the event at this position gives (`items_at`), and the module stands for the list with

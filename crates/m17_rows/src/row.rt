@@ -17,6 +17,16 @@ pub fn push_at<T, R: Wait>(rt: &R, row: &mut Vec<Pusher<T>>, at: usize, item: T)
     row[at].push_waiting(rt, item);
 }
 
+/// `push_at` of an item that can wait: see `Pusher::push_quietly`. This profile.
+pub fn push_quietly_at<T, R: Wait>(rt: &R, row: &mut Vec<Pusher<T>>, at: usize, item: T)
+    requires { at < vec_len row.old }
+    ensures row { row.new.items ≡ push_each (only at item) 0 row.old.items }
+    ensures same_length { vec_len row.new ≡ vec_len row.old }
+    ensures same_room { vec_capacity row.new ≡ vec_capacity row.old }
+{
+    row[at].push_quietly(rt, item);
+}
+
 /// Pushes `item` at the end of the row with that index where there is room, and hands it back where the lane is full;
 /// it then counts as refused at that end. It never waits. All other ends of the row are as they were. In a lane of one
 /// producer a refusal comes only after at least `capacity` pushes. This profile.
