@@ -1,9 +1,11 @@
 //! A receiver for tests, with the other ends of its lanes.
-ghost use Rattle.std.specs.Prelude.{◌≡◌, ◌<◌, ◌≤◌, [], All, IfOk, IsTrue, None, length};
+ghost use Rattle.std.specs.Prelude.{◌≡◌, ◌<◌, ◌≤◌, false, [], All, IfOk, IsTrue, None, length};
 ghost use Rattle.m17_lane.specs.Ends.{PushEnd};
 ghost use Rattle.m17_ports.specs.Told.{StartsEmpty};
 ghost use Rattle.m17_roll.specs.Seat.{HasLists};
-ghost use Rattle.m17_rows.specs.Rows.{IsNewRow};
+ghost use Rattle.m17_control.specs.Modules.{letters_of};
+ghost use Rattle.m17_directory.specs.StandsFor.{StandsFor};
+ghost use Rattle.m17_rows.specs.Rows.{IsNewPopper, IsNewPusher, IsNewRow};
 ghost use Rattle.m17_receiver.specs.Ready.{IsReady};
 
 use crate::Receiver;
@@ -89,6 +91,60 @@ fn seats(alloc: Global, places: u32) -> Result<(RollSeat, RollSeat), NoMemory>
     }
 }
 
+// The lanes of a receiver, with their other ends.
+#[derive(Drop)]
+struct Ends {
+    inboxes: Vec<Pusher<Event>>,
+    from_inboxes: Vec<Popper<Event>>,
+    door: Pusher<Direct>,
+    from_door: Popper<Direct>,
+    notes: Popper<Member>,
+    to_notes: Pusher<Member>,
+    order: Popper<Order>,
+    orders: Pusher<Order>,
+}
+
+// Lanes of a receiver of these modules. A push on its door sets mark 0 of the bell.
+fn make_ends(alloc: Global, modules: Modules, plan: &Plan, bell: &Bell) -> Result<Ends, Fail>
+    requires room { 0 < plan.now.room }
+    requires door { 0 < plan.now.door }
+    ensures count { IfOk result (λ e. length e.inboxes.items ≡ length (letters_of modules)) }
+    ensures inboxes { IfOk result (λ e. IsNewRow e.inboxes.items) }
+    ensures door { IfOk result (λ e. IsNewPusher e.door) }
+    ensures notes { IfOk result (λ e. IsNewPopper e.notes) }
+    ensures order { IfOk result (λ e. IsNewPopper e.order) }
+{
+    let (inboxes, from_inboxes) = inboxes(alloc, modules.count(), plan.room)?;
+    let (door, from_door) = make_one_marked(alloc, bell, 0, plan.door)?;
+    let (to_notes, notes) = make_one(alloc, 512)?;
+    let (orders, order) = make_one(alloc, 2)?;
+    Ok(Ends {
+        inboxes,
+        from_inboxes,
+        door,
+        from_door,
+        notes,
+        to_notes,
+        order,
+        orders,
+    })
+}
+
+// The directory of link 0, which has heard nothing.
+fn directory_of(alloc: Global, plan: &Plan, modules: Modules) -> Result<Directory, Fail>
+    requires { (0 < plan.now.places) × (plan.now.places ≤ 256) }
+    ensures link { IfOk result (λ d. d.setup.link ≡ 0) }
+    ensures places { IfOk result (λ d. d.setup.places ≡ plan.now.places) }
+    ensures modules { IfOk result (λ d. d.setup.modules ≡ modules) }
+    ensures stands { IfOk result (λ d. StandsFor d []) }
+    ensures idle { IfOk result (λ d. (d.asked ≡ None) × (d.departing ≡ []) × (d.ended ≡ false)) }
+{
+    let name = CallAddress::new(encode("M17-TST").ok().ok_or("no address")?);
+    let name = name.ok_or("no callsign")?;
+    let directory = Directory::make(alloc, 0, name, plan.places, modules)?;
+    Ok(directory)
+}
+
 /// A receiver that can be started. A push on its door sets mark 0 of the bell.
 pub(crate) fn make_bench<E: Ear + Drop, B: Book + Drop>(
     alloc: Global,
@@ -110,16 +166,21 @@ pub(crate) fn make_bench<E: Ear + Drop, B: Book + Drop>(
     }) b.receiver) }
 {
     let modules = Modules::read(plan.letters).ok().ok_or("no modules")?;
-    let name = CallAddress::new(encode("M17-TST").ok().ok_or("no address")?);
-    let name = name.ok_or("no callsign")?;
-    let directory = Directory::make(alloc, 0, name, plan.places, modules)?;
+    let directory = directory_of(alloc, plan, modules)?;
     let post = Post::make(alloc)?;
-    let (pushers, poppers) = inboxes(alloc, modules.count(), plan.room)?;
-    let (door, door_popper) = make_one_marked(alloc, bell, 0, plan.door)?;
-    let (notes_pusher, notes) = make_one(alloc, 512)?;
-    let (orders, order) = make_one(alloc, 2)?;
+    let ends = make_ends(alloc, modules, plan, bell)?;
     let (seat, other) = seats(alloc, plan.places)?;
     let tape = empty_tape(alloc, plan.cells)?;
+    let Ends {
+        inboxes,
+        from_inboxes,
+        door,
+        from_door,
+        notes,
+        to_notes,
+        order,
+        orders,
+    } = ends;
     let receiver = Receiver {
         link: 0,
         modules,
@@ -129,7 +190,7 @@ pub(crate) fn make_bench<E: Ear + Drop, B: Book + Drop>(
         trace,
         directory,
         post,
-        inboxes: pushers,
+        inboxes,
         door,
         notes,
         order,
@@ -140,9 +201,9 @@ pub(crate) fn make_bench<E: Ear + Drop, B: Book + Drop>(
     };
     Ok(Bench {
         receiver,
-        inboxes: poppers,
-        door: door_popper,
-        notes: notes_pusher,
+        inboxes: from_inboxes,
+        door: from_door,
+        notes: to_notes,
         orders,
         other,
     })

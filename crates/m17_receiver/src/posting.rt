@@ -1,18 +1,18 @@
 //! What was posted, pushed to the modules' inboxes and to the door.
-ghost use Rattle.std.specs.Prelude.{◌≡◌, ◌==◌, ◌&&◌, ℕ, [], ◌∷◌, nat_eq, vec_capacity, MatchOption, false};
+ghost use Rattle.std.specs.Prelude.{◌≡◌, ◌==◌, ◌&&◌, ◌<◌, ℕ, [], ◌∷◌, nat_eq, vec_capacity, vec_len, MatchOption, false};
 ghost use Rattle.m17_control.specs.Forms.{IsModule};
 ghost use Rattle.m17_directory.specs.declared.dispatch.Dispatch.TheVariants.{ToModule};
 ghost use Rattle.m17_directory.specs.Routed.{event_for};
 ghost use Rattle.m17_receiver.specs.Posting.{letter_at, AreSameOutlets};
 ghost use Rattle.m17_receiver.specs.SoFar.{posting};
-ghost use Rattle.m17_rows.specs.Rows.{push_each};
+ghost use Rattle.m17_rows.specs.Rows.{only, push_each};
 ghost use Rattle.std.specs.List.{filter_map};
 
 use crate::laws::known_laws;
-use m17_control::{Direct, Event, ModuleLetter, Modules};
+use m17_control::{Body, Direct, Event, ModuleLetter, Modules};
 use m17_directory::{Dispatch, Post};
 use m17_lane::Pusher;
-use m17_rows::push_at;
+use m17_rows::{push_at, push_quietly_at};
 use std::sync::Wait;
 
 // Takes out all that was posted, and pushes each to the inbox of its module or to the door, in order; it waits where a
@@ -77,8 +77,21 @@ fn push_event<R: Wait>(
     known_laws();
     if let Some(at) = inbox_of(modules, letter.byte()) {
         if at < inboxes.len() {
-            push_at(rt, inboxes, at, event);
+            push_in(rt, inboxes, at, event);
         }
+    }
+}
+
+// Pushes an event to an inbox. That time has passed can wait until a few such events are there: a worker that needs it at
+// once doesn't doze.
+fn push_in<R: Wait>(rt: &R, inboxes: &mut Vec<Pusher<Event>>, at: usize, event: Event)
+    requires { at < vec_len inboxes.old }
+    ensures row { inboxes.new.items ≡ push_each (only at event) 0 inboxes.old.items }
+    ensures room { vec_capacity inboxes.new ≡ vec_capacity inboxes.old }
+{
+    match event.body {
+        Body::Tick => push_quietly_at(rt, inboxes, at, event),
+        _ => push_at(rt, inboxes, at, event),
     }
 }
 

@@ -194,15 +194,26 @@ fn a_trace_that_keeps_nothing_is_never_written(rt: HostRuntime) -> Result<(), Fa
     Ok(())
 }
 
+// What a trace of its own holds of the evening.
+fn trace_alone<R: Abort + Wait>(rt: &R, alloc: Global) -> Result<Vec<u8>, Fail> {
+    let heard = an_evening(rt, alloc)?;
+    let b = run_through(rt, alloc, &ONE_MODULE, heard, Vec::new(alloc))?;
+    Ok(b.receiver.trace.bytes().to_vec(alloc)?)
+}
+
+// What a trace on a shelf holds of the evening.
+fn trace_on_a_shelf<R: Abort + Wait>(rt: &R, alloc: Global) -> Result<Vec<u8>, Fail> {
+    let inner = Some(ListBook::make(alloc, 1_000, Vec::new(alloc))?);
+    let b = run_into(rt, alloc, Shelf { inner })?;
+    let trace = b.receiver.trace.inner.as_ref().ok_or("no trace")?;
+    Ok(trace.bytes().to_vec(alloc)?)
+}
+
 #[test]
 fn a_shelf_with_a_trace_holds_what_was_heard(rt: HostRuntime) -> Result<(), Fail> {
-    let alloc = rt.alloc();
-    let inner = Some(ListBook::make(alloc, 1_000, Vec::new(alloc))?);
-    let b = run_into(&rt, alloc, Shelf { inner })?;
-    let trace = b.receiver.trace.inner.as_ref().ok_or("no trace")?;
-    let heard = an_evening(&rt, alloc)?;
-    let alone = run_through(&rt, alloc, &ONE_MODULE, heard, Vec::new(alloc))?;
-    assert_eq!(rt; trace.bytes(), alone.receiver.trace.bytes());
+    let on_a_shelf = trace_on_a_shelf(&rt, rt.alloc())?;
+    let alone = trace_alone(&rt, rt.alloc())?;
+    assert_eq!(rt; on_a_shelf, alone);
     Ok(())
 }
 

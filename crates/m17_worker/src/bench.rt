@@ -115,6 +115,23 @@ pub(crate) fn lay<B: Book + Drop>(alloc: Global, places: u32, book: B) -> Result
       faults = B.faults;
     }) bench.worker) }
 {
+    lay_as(alloc, places, book, false)
+}
+
+/// The same, whose module may be a parrot.
+pub(crate) fn lay_as<B: Book + Drop>(
+    alloc: Global,
+    places: u32,
+    book: B,
+    parrot: bool,
+) -> Result<Bench<B>, Fail>
+    requires places { (0 < places) × (places ≤ 256) }
+    requires book { StartsEmpty (B.written book) }
+    ensures { IfOk result (λ bench. IsReady (record {
+      written = B.written;
+      faults = B.faults;
+    }) bench.worker) }
+{
     let (pushers, poppers) = lay_queues(alloc, places)?;
     let (events, inbox) = make_one(alloc, 256)?;
     let (orders, order) = make_one(alloc, 2)?;
@@ -122,7 +139,7 @@ pub(crate) fn lay<B: Book + Drop>(alloc: Global, places: u32, book: B) -> Result
     let worker = Worker {
         letter: b'A',
         links: 1,
-        module: Module::make(alloc, places, false)?,
+        module: Module::make(alloc, places, parrot)?,
         basket: Basket::make(alloc)?,
         book,
         inbox,

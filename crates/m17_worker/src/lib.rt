@@ -4,13 +4,15 @@
 //! It promises, of whatever was popped up to the last link's Stop: the module stands for these events; every item that
 //! they give was offered, in order, and only what may be missed was left out, counted, at a queue that was full; a
 //! place is given back for each Bye that was offered, once; book and tape hold what was decided.
-//! It waits asleep for events and for room in a queue. What events come is left to the receivers, what becomes of what
+//! It waits asleep for events and for room in a queue; a few Ticks alone don't wake it, unless its module is a parrot. What events come is left to the receivers, what becomes of what
 //! is queued to the sender, and when it starts and who joins it to whoever starts it.
 #![tactic(auto)]
 
 #[cfg(test)]
 mod bench;
 mod book;
+#[cfg(test)]
+mod echo_tests;
 #[cfg(test)]
 mod full_tests;
 mod gifts;

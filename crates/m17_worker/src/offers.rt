@@ -30,9 +30,10 @@ pub struct LaneOffers {
 
 impl LaneOffers {
     /// Offers the item to the queue of its place, of which there has to be one: a lane of one producer that holds 64
-    /// items. `Missed` comes only where that queue was full, for a Frame, an Echo or a Ping and where the offers aren't
-    /// patient, and is counted; it comes at once. All else is `Queued`, and waits, asleep, while the queue is full: for
-    /// ever, where nobody empties it. The other queues are as they were. This profile.
+    /// items. `Missed` comes only once that queue has taken 64 items, for a Frame, an Echo or a Ping and where the offers
+    /// aren't patient, and is counted; it comes at once, where the queue has no room. All else is `Queued`, and waits,
+    /// asleep, while the queue is full: for ever, where nobody empties it. The other queues are as they were. This
+    /// profile.
     pub fn offer<R: Wait>(&mut self, rt: &R, item: Item) -> Offered
         requires queue { IsSomeAnd (slice_get self.old.queues.items item.member.place) IsQueue }
         ensures tried { AreTried (try_of item result ∷ []) self.old self.new }

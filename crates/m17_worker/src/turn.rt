@@ -18,6 +18,7 @@ use crate::stops::{MOST_LINKS, note_stop};
 use crate::tape::fill_tape;
 use m17_control::{Body, Event, Item};
 use m17_floor::{Verdict, laws as floor_laws};
+use m17_lane::Popper;
 use m17_module::laws as module_laws;
 use m17_ports::Book;
 use m17_rows::count_one;
@@ -48,7 +49,7 @@ impl<B: Book> Worker<B> {
         ensures same_device { (B.mark self.new.book ≡ B.mark self.old.book)
             × (B.label self.new.book ≡ B.label self.old.book) }
     {
-        let event = self.inbox.pop_waiting(rt);
+        let event = next_event(rt, &mut self.inbox, self.module.is_parrot());
         note_stop(stopped, &event);
         if !self.has(&event) {
             return served;
@@ -161,5 +162,17 @@ impl<B: Book> Worker<B> {
         let own = own_record(event, moment, verdict);
         write_if(&mut self.book, &mut self.book_failed, &leave);
         write_if(&mut self.book, &mut self.book_failed, &own);
+    }
+}
+
+// Pops the next event. A parrot says each frame at its time, so each event wakes its worker. Another module says nothing at
+// a Tick but a PING each 3 s, so its worker dozes.
+fn next_event<R: Wait>(rt: &R, inbox: &mut Popper<Event>, is_parrot: bool) -> Event
+    ensures { inbox.new ≡ popped_from inbox.old result }
+{
+    if is_parrot {
+        inbox.pop_waiting(rt)
+    } else {
+        inbox.pop_dozing(rt)
     }
 }

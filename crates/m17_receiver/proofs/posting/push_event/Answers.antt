@@ -5,7 +5,7 @@ use Rattle.m17_receiver.proofs.posting.push_event.Goals as goal
 
 pub returns-then-at-len-clause-pushed : goal.returns-then-at-len-clause-pushed
 returns-then-at-len-clause-pushed g c =
-    c.push_at.ensures.row ∙ pushed_there c.known_laws.ensures c.args.modules c.args.letter c.args.event c.in-Some.at c.args.inboxes.now.items
+    c.push_in.ensures.row ∙ pushed_there c.known_laws.ensures c.args.modules c.args.letter c.args.event c.in-Some.at c.args.inboxes.now.items
     (λ m. ap (λ l. l == letter_at c.args.modules m) (sym c.byte.ensures.same) ∙ c.in-Some.ensures m)
 
 pub returns-else-at-len-clause-pushed : goal.returns-else-at-len-clause-pushed

@@ -12,13 +12,13 @@ pub serve-requires : goal.serve-requires
 serve-requires g c =
     let words : Words g.row.B.Denot = record { written = g.B.Book.written; faults = g.B.Book.faults } in
     let before = c.args.self.now in
-    let event : Event = c.pop_waiting-event.result in
+    let event : Event = c.next_event-event.result in
     let there : is_there before.links before.module.setup.places event ≡ true = sym c.if-not-has.ensures in
     let j = c.requires.at.0 in
     let events : List Event = taken j.links j.module.setup.places before.inbox.popped in
     let P : PopEnd Event → Type 0 = λ q. CanServe events event (record before { inbox = q }) in (
       events,
-      subst P (sym c.pop_waiting-event.ensures)
+      subst P (sym c.next_event-event.ensures)
           (can_serve words j before event there c.args.served c.args.stopped.now
           (omega (arith, c.count_one-more.ensures, c.count_one-more.type_inv)) c.requires.at.1),
     )
@@ -27,9 +27,9 @@ pub returns-then-not-has-clause-at : goal.returns-then-not-has-clause-at
 returns-then-not-has-clause-at g c = λ j h.
     let words : Words g.row.B.Denot = record { written = g.B.Book.written; faults = g.B.Book.faults } in
     let before = c.args.self.now in
-    let event : Event = c.pop_waiting-event.result in
+    let event : Event = c.next_event-event.result in
     let P : PopEnd Event → Type 0 = λ q. IsAt words j c.args.served c.note_stop.new.stopped (record before { inbox = q }) in
-    subst P (sym c.pop_waiting-event.ensures)
+    subst P (sym c.next_event-event.ensures)
     (passed_over words j before event (sym c.if-not-has.ensures) c.args.served c.args.stopped.now c.note_stop.new.stopped
     (c.note_stop.ensures before.inbox.popped h.flagged) h)
 
@@ -37,7 +37,7 @@ pub returns-clause-at : goal.returns-clause-at
 returns-clause-at g c = λ j h.
     let words : Words g.row.B.Denot = record { written = g.B.Book.written; faults = g.B.Book.faults } in
     let before = c.args.self.now in
-    let event : Event = c.pop_waiting-event.result in
+    let event : Event = c.next_event-event.result in
     let there : is_there before.links before.module.setup.places event ≡ true = sym c.if-not-has.ensures in
     let events : List Event = taken j.links j.module.setup.places before.inbox.popped in
     let P : PopEnd Event → Type 0 = λ q. CanServe events event (record before { inbox = q }) in
@@ -45,11 +45,11 @@ returns-clause-at g c = λ j h.
     let W : PopEnd Event → Type 0 = λ q. IsServing (record before { inbox = q }) c.serve.new.self in
     served_one words j before event there c.args.served c.count_one-more.result c.args.stopped.now c.note_stop.new.stopped c.serve.new.self
     c.count_one-more.ensures (c.note_stop.ensures before.inbox.popped h.flagged) c.serve.ensures.room
-    (subst W c.pop_waiting-event.ensures c.serve.ensures.same)
+    (subst W c.next_event-event.ensures c.serve.ensures.same)
     (c.serve.ensures.served j events
-    (subst P (sym c.pop_waiting-event.ensures)
+    (subst P (sym c.next_event-event.ensures)
     (can_serve words j before event there c.args.served c.args.stopped.now
     (omega (arith, c.count_one-more.ensures, c.count_one-more.type_inv)) h))
     h.same.setup
-    (subst S (sym c.pop_waiting-event.ensures) (was_served words j before event there c.args.served c.args.stopped.now h)))
+    (subst S (sym c.next_event-event.ensures) (was_served words j before event there c.args.served c.args.stopped.now h)))
     h
