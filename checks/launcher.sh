@@ -84,6 +84,27 @@ no_rt() {
 }
 check "with no rt and no program the launcher ends with 70, and reads nothing" no_rt
 
+mistyped() {
+    make_tree tree || return 1
+    for word in nonsense 'judge show' JUDGE x,judge ''; do
+        with_rt tree/m17 "$word" >got 2>err <"$top/examples/judge.bin"
+        [ $? -eq 2 ] && printf 'words refused\n' | cmp - got && [ ! -s err ] && [ ! -e calls ] || return 1
+    done
+    for words in '' 'build more' 'install' 'help help'; do
+        # shellcheck disable=SC2086
+        with_rt tree/m17 $words >got
+        [ $? -eq 2 ] && [ ! -e calls ] || return 1
+    done
+    with_rt tree/m17 nonsense >/dev/full 2>err
+    [ $? -eq 4 ] && [ ! -e calls ] || return 1
+    printf '#!/bin/sh\nexit 1\n' >tools/rt
+    for word in judge show make replay talk serve; do
+        with_rt tree/m17 $word </dev/null >got 2>err
+        [ $? -eq 70 ] && has err 'could not be built' || return 1
+    done
+}
+check "words that name no command are refused before anything is built, and no others" mistyped
+
 wrong_tree() {
     mkdir alone && cp "$top/m17" alone/m17 || return 1
     { with_rt alone/m17 judge >got 2>err; echo $? >ended; cat >left; } <"$top/examples/judge.bin"
