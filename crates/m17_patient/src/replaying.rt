@@ -147,6 +147,7 @@ pub fn replay_over_threads<C: Crew, R: Threads + Wait + Copy + Send + 'static>(
         r.outcomes.verdicts r.outcomes.packets r.mouth) }
     ensures same_heard { IfOk result (λ r. r.heard.items ≡ heard.items) }
     ensures same_peers { IfOk result (λ r. named_in r.mouth.entries ≡ named_in mouth.entries) }
+    ensures same_mouth { IfOk result (λ r. r.mouth.number ≡ mouth.number) }
     // Where nothing was run, nothing was heard or said.
     ensures refused { IfErr result (λ r. (r.heard.items ≡ heard.items) × (r.mouth ≡ mouth)) }
     ensures cause { MatchResult result (λ _. C.refusals crew.new ≡ C.refusals crew.old)
