@@ -3,12 +3,12 @@ use Rattle.std.proofs.Common.{◌≡◌, ◌≢◌, ℕ, ◌≤◌, List, [], �
 use Rattle.std.proofs.lemmas.List.{append-nil, take-append-drop}
 use Rattle.m17_io.specs.Faults.{HasRisen, HasCauses}
 use Rattle.m17_io.specs.declared.fault.Fault.{Fault}
-use Rattle.m17_io.specs.declared.fault.Fault.TheVariants.{Read, Write}
+use Rattle.m17_io.specs.declared.fault.Fault.TheVariants.{Read}
 use Rattle.m17_print.specs.Endings.{last_line, failed_device, Grows}
 use Rattle.m17_print.specs.declared.ending.Ending.{Ending}
 use Rattle.m17_print.specs.declared.ending.Ending.TheVariants as endings
 use Rattle.m17_app.specs.declared.status.Status.{Status}
-use Rattle.m17_app.specs.declared.status.Status.TheVariants.{ReadFailed, WriteFailed, NoMemory}
+use Rattle.m17_app.specs.declared.status.Status.TheVariants.{WriteFailed, NoMemory}
 use Rattle.m17_app.specs.Status.{status_of, Outside, watched, HasCause, WritesLast}
 use Rattle.m17_app.specs.Run.{Stands, EndsWithLast}
 use Rattle.m17_app.proofs.Statuses.{is_write_failed, own_status, Told, told, never}

@@ -1,12 +1,12 @@
 -- A run of `make`, from its ending to what it promises.
-use Rattle.std.proofs.Common.{◌≡◌, ◌≢◌, ℕ, ◌≤◌, List, [], ◌++◌, length, take, Option, Some, refl, sym, ap, ◌∙◌, arith, inl, inr}
+use Rattle.std.proofs.Common.{◌≡◌, ◌≢◌, ℕ, ◌≤◌, List, [], ◌++◌, length, Option, Some, refl, sym, ap, ◌∙◌, arith, inl, inr}
 use Rattle.std.proofs.lemmas.List.{append-nil, take_all}
 use Rattle.m17_io.specs.Faults.{HasRisen}
 use Rattle.m17_io.specs.Sink.{AppendsPrefix}
 use Rattle.m17_make.specs.Make.{make_text}
 use Rattle.m17_app.specs.declared.status.Status.{Status}
 use Rattle.m17_app.specs.declared.status.Status.TheVariants.{Finished, ReadFailed, WriteFailed, NoMemory}
-use Rattle.m17_app.specs.Status.{Outside, outside, WritesLast}
+use Rattle.m17_app.specs.Status.{Outside, WritesLast}
 use Rattle.m17_app.specs.Make.{RunsMake}
 use Rattle.m17_app.proofs.Statuses.{is_write_failed, own_status, never}
 use Rattle.m17_app.proofs.LastLines.{whole_line}

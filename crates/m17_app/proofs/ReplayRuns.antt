@@ -3,7 +3,6 @@ use Rattle.std.proofs.Common.{◌≡◌, ◌≢◌, ◌⊎◌, ℕ, Bool, List, 
 use Rattle.std.specs.Prelude.{false, true}
 use Rattle.std.proofs.lemmas.List.{append-nil}
 use Rattle.m17_io.specs.Faults.{HasRisen, HasCauses}
-use Rattle.m17_io.specs.declared.fault.Fault.TheVariants.{Read, Write}
 use Rattle.m17_values.specs.declared.heard.Heard.{Heard}
 use Rattle.m17_print.specs.Endings.{Grows}
 use Rattle.m17_book.specs.Book.{IsTrace, RefusesTrace}
@@ -15,9 +14,9 @@ use Rattle.m17_replay.specs.declared.reason.TraceReason.{TraceReason}
 use Rattle.m17_replay.specs.Reasons.{refusal_told}
 use Rattle.m17_replay.specs.Replay.{IsReplayText, SaysReplay, PrintsReplay, EndsBeforeText, failed_device, streams, ComesToReplay, TellsCrew}
 use Rattle.m17_app.specs.declared.status.Status.{Status}
-use Rattle.m17_app.specs.declared.status.Status.TheVariants.{Finished, InputRefused, WordsRefused, ReadFailed, WriteFailed, CrewRefused, LinkLost, NoMemory}
+use Rattle.m17_app.specs.declared.status.Status.TheVariants.{Finished, InputRefused, ReadFailed, WriteFailed, CrewRefused, LinkLost, NoMemory}
 use Rattle.m17_app.specs.Status.{Outside, Starts, watched, HasCause, IsOfStreams, WritesLast}
-use Rattle.m17_app.specs.Replayed.{crew_refused_line, replay_last_line, replay_status, IsBeforeText, IsRunText, IsWholeReplay, StandsReplay, RunsReplay}
+use Rattle.m17_app.specs.Replayed.{replay_last_line, replay_status, IsBeforeText, IsRunText, IsWholeReplay, StandsReplay, RunsReplay}
 use Rattle.m17_app.proofs.Statuses.{Told, own_status, never}
 use Rattle.m17_app.proofs.Concluded.{counts, cause_from, sound_from, line_stands, whole_from}
 

@@ -1,5 +1,5 @@
 -- A run of `serve`, from its ending to what it promises.
-use Rattle.std.proofs.Common.{◌≡◌, ◌≢◌, ◌⊎◌, ℕ, ◌≤◌, Bool, true, false, List, [], ◌++◌, take, Option, None, Some, refl, sym, ap, subst, ◌∙◌, arith, inl, inr}
+use Rattle.std.proofs.Common.{◌≡◌, ◌≢◌, ◌⊎◌, ℕ, ◌≤◌, Bool, true, false, List, ◌++◌, take, Option, None, Some, refl, sym, ap, subst, ◌∙◌, arith, inl, inr}
 use Rattle.std.specs.Prelude.{IsTrue}
 use Rattle.m17_io.specs.Faults.{HasRisen, HasCauses}
 use Rattle.m17_io.specs.Sink.{AppendsPrefix}

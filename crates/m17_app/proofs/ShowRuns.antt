@@ -10,7 +10,7 @@ use Rattle.m17_show.specs.Lines.{AreLineCount, RefusesLine}
 use Rattle.m17_show.specs.Reasons.{show_reason_words}
 use Rattle.m17_show.specs.Show.{IsTextOfFirst, IsShowText, SaysShow, PrintsShow}
 use Rattle.m17_app.specs.declared.status.Status.{Status}
-use Rattle.m17_app.specs.declared.status.Status.TheVariants.{Finished, InputRefused, WordsRefused, ReadFailed, WriteFailed, NoMemory}
+use Rattle.m17_app.specs.declared.status.Status.TheVariants.{Finished, InputRefused, ReadFailed, WriteFailed, NoMemory}
 use Rattle.m17_app.specs.Status.{status_of, Outside, HasCause, WritesLast}
 use Rattle.m17_app.specs.Run.{IsWhole, RunsShow}
 use Rattle.m17_app.proofs.Statuses.{answer_of, own_status, no_memory, never}

@@ -1,12 +1,11 @@
 -- A run of `talk`, from its ending to what it promises.
-use Rattle.std.proofs.Common.{rules, ◌≡◌, ◌≢◌, ◌⊎◌, ℕ, ◌+◌, ◌<◌, ◌≤◌, List, [], ◌++◌, length, take, drop, min, Option, None, Some, Bool, true, false, refl, sym, ap, subst, ◌∙◌, arith, append_assoc, inl, inr}
+use Rattle.std.proofs.Common.{rules, ◌≡◌, ◌≢◌, ◌⊎◌, ℕ, ◌+◌, ◌<◌, List, [], ◌++◌, length, take, Option, None, Some, Bool, true, false, refl, sym, ap, subst, ◌∙◌, arith, append_assoc, inl, inr}
 use Rattle.std.specs.Prelude.{IsTrue, if◌then◌else◌}
 use Rattle.std.proofs.lemmas.List.{append-nil, take-append-le, take_all}
 use Rattle.std.proofs.Math.Seq.{take-append-add}
 use Rattle.std.proofs.lemmas.Bool.{cases_lt}
 use Rattle.m17_io.specs.Faults.{HasRisen, HasCauses}
 use Rattle.m17_io.specs.Sink.{AppendsPrefix}
-use Rattle.m17_io.specs.declared.fault.Fault.TheVariants.{Read, Write}
 use Rattle.m17_client.specs.declared.talking.TalkEnd.{TalkEnd}
 use Rattle.m17_words.specs.declared.order.TalkOrder.{TalkOrder}
 use Rattle.m17_talk.specs.declared.ending.TalkEnding.{TalkEnding}
@@ -16,10 +15,10 @@ use Rattle.m17_talk.specs.Laws.{ScriptsAreExact}
 use Rattle.m17_talk.specs.Script.{Due, IsScript}
 use Rattle.m17_talk.specs.Talked.{ending_of, talk_line, failed_device, AsksNothing, ComesToTalk, EndsTalk, Handed, HasRun, Talks}
 use Rattle.m17_app.specs.declared.status.Status.{Status}
-use Rattle.m17_app.specs.declared.status.Status.TheVariants.{Finished, InputRefused, WordsRefused, ReadFailed, WriteFailed, PortFailed, LinkLost, BookFailed, NoMemory}
+use Rattle.m17_app.specs.declared.status.Status.TheVariants.{Finished, ReadFailed, WriteFailed, PortFailed, LinkLost, BookFailed, NoMemory}
 use Rattle.m17_app.specs.Status.{Outside, HasCause, WritesLast}
 use Rattle.m17_app.specs.Talk.{talk_last_line, talk_status, streams, Adds, AddsPart, CutsTalk, IsTalkStatus, RanTalk, RunsTalk, TellsTalk}
-use Rattle.m17_app.proofs.Statuses.{Told, is_write_failed, own_status, never}
+use Rattle.m17_app.proofs.Statuses.{Told, is_write_failed, own_status}
 use Rattle.m17_app.proofs.Concluded.{counts, cause_from, sound_from}
 
 -- what an ending tells of the streams

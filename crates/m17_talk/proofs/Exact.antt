@@ -1,9 +1,8 @@
 -- An input is one script, or refused for one reason, and not both.
-use Rattle.std.proofs.Common.{◌≡◌, ℕ, zero, suc, ◌+◌, ◌-◌, ◌*◌, ◌<◌, ◌≤◌, ◌⊎◌, List, [], ◌∷◌, length, take, drop, Option, Some, None, get_or, unwrap_or, refl, sym, ap, subst, ◌∙◌, arith, inl, inr}
+use Rattle.std.proofs.Common.{◌≡◌, ℕ, suc, ◌+◌, ◌-◌, ◌*◌, ◌<◌, ◌≤◌, ◌⊎◌, List, [], ◌∷◌, length, take, Some, get_or, refl, sym, ap, subst, ◌∙◌, arith, inl, inr}
 use Rattle.std.specs.List.{slice_get}
-use Rattle.std.specs.Option.{option_map}
 use Rattle.std.proofs.lemmas.Option.{slice_get-get_or}
-use Rattle.std.proofs.lemmas.List.{length-drop, length-take-le, take_all, nil_from_length}
+use Rattle.std.proofs.lemmas.List.{length-drop}
 use Rattle.std.proofs.lemmas.Bool.{cases_lt}
 use Rattle.m17_stream.specs.Laws.{OneSpelling}
 use Rattle.m17_stream.specs.Stream.{SpellsStream}
@@ -11,7 +10,7 @@ use Rattle.m17_stream.specs.declared.packet.StreamPacket.{StreamPacket}
 use Rattle.m17_talk.specs.declared.reason.ScriptReason.{ScriptReason}
 use Rattle.m17_talk.specs.declared.reason.ScriptReason.TheVariants.{Cut, Field, Large}
 use Rattle.m17_talk.specs.Laws.{ScriptsAreExact}
-use Rattle.m17_talk.specs.Script.{Due, most_records, from_record, record_at, last_moment, moment_of, packet_of, BeginsWith, IsEarly, IsScript, RefusesMore, RefusesNext, RefusesScript, SpellsDue}
+use Rattle.m17_talk.specs.Script.{Due, most_records, from_record, record_at, last_moment, packet_of, BeginsWith, IsScript, RefusesMore, RefusesNext, RefusesScript, SpellsDue}
 use Rattle.m17_talk.proofs.Records.{last_at, moment_front, packet_front}
 
 same_pair : (m n : ℕ) (p q : StreamPacket) → m ≡ n → p ≡ q → (x : Due) → x ≡ (m, p) → (y : Due) → y ≡ (n, q) → x ≡ y

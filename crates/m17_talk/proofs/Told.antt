@@ -1,5 +1,5 @@
 -- What the endings of `talk` say, from what its steps told.
-use Rattle.std.proofs.Common.{◌≡◌, ℕ, Bool, true, false, List, [], ◌++◌, take, Option, None, Some, Result, Ok, Err, OnOk, OnErr, refl, sym, ap, subst, ◌∙◌, inl, inr}
+use Rattle.std.proofs.Common.{◌≡◌, ℕ, Bool, true, false, List, take, Option, None, Some, Result, Ok, Err, OnOk, OnErr, sym, subst, inr}
 use Rattle.std.specs.Prelude.{IsSome, ◌↔◌, if◌then◌else◌}
 use Rattle.std.specs.Option.{option_map}
 use Rattle.m17_print.specs.Endings.{Grows}

@@ -1,5 +1,5 @@
 -- What reading a script tells where it has none to give. This profile.
-use Rattle.std.specs.Prelude.{◌≡◌, ℕ, List, Option, None, Some, Result, Ok, Err}
+use Rattle.std.specs.Prelude.{ℕ, List, Option, None, Some, Result, Ok, Err}
 use Rattle.m17_io.specs.declared.fault.Fault.{Fault}
 use Rattle.m17_talk.specs.declared.reason.ScriptFailure.{ScriptFailure}
 use Rattle.m17_talk.specs.declared.reason.ScriptFailure.TheVariants.{Refused, Device, NoMemory}

@@ -1,4 +1,3 @@
-use Rattle.m17_replay.specs.Replay.{TellsCrew}
 use Rattle.m17_app.specs.Status.{Outside, outside, starts}
 use Rattle.m17_app.proofs.ReplayRuns.{ran, no_run, some_memory}
 use Rattle.m17_app.proofs.run_replay.run_replay.Goals as goal

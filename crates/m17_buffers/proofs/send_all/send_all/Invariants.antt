@@ -1,4 +1,4 @@
-use Rattle.std.proofs.Common.{◌≡◌, ℕ, ◌-◌, ◌≤◌, length, take}
+use Rattle.std.proofs.Common.{◌≡◌, ◌-◌, ◌≤◌, length, take}
 use Rattle.m17_io.specs.Outlet.{followed_by}
 use Rattle.m17_buffers.proofs.send_all.send_all.Given as goal
 

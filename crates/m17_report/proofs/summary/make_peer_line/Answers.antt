@@ -1,6 +1,5 @@
 -- The peer, its numbers, and the line feed.
-use Rattle.std.proofs.Common.{◌++◌, ◌∷◌, [], ap, ◌∙◌, codes}
-use Rattle.m17_peer.specs.Text.{text_of}
+use Rattle.std.proofs.Common.{◌++◌, ◌∷◌, [], ap, ◌∙◌}
 use Rattle.m17_report.specs.Summary.{tally_text}
 use Rattle.m17_report.proofs.summary.make_peer_line.Goals as goal
 

@@ -1,5 +1,5 @@
 -- The word, the space and the number are one piece.
-use Rattle.std.proofs.Common.{◌++◌, codes, decimal, ◌∙◌, ap, append_assoc}
+use Rattle.std.proofs.Common.{◌++◌, codes, decimal}
 use Rattle.m17_report.specs.Summary.{numbered}
 use Rattle.m17_report.proofs.Joined.{two_joined}
 use Rattle.m17_report.proofs.summary.push_count.Goals as goal

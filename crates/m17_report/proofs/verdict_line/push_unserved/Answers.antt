@@ -1,5 +1,5 @@
 -- The words, and then the letter.
-use Rattle.std.proofs.Common.{◌≡◌, ◌++◌, ◌∷◌, [], ap, ◌∙◌, codes}
+use Rattle.std.proofs.Common.{◌++◌, ◌∷◌, [], ap, ◌∙◌, codes}
 use Rattle.m17_report.proofs.Joined.{two_joined}
 use Rattle.m17_report.proofs.verdict_line.push_unserved.Goals as goal
 

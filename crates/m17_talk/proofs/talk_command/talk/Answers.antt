@@ -1,10 +1,7 @@
-use Rattle.std.proofs.Common.{◌≡◌, ℕ, List, Option, None, refl, sym, ap, subst}
+use Rattle.std.proofs.Common.{ℕ, List, Option, refl, ap, subst}
 use Rattle.std.specs.Option.{option_map}
 use Rattle.m17_print.specs.Endings.{Grows}
 use Rattle.m17_talk.specs.Devices.{ear_told, mouth_told, book_told, devices_told, DevicesTold}
-use Rattle.m17_talk.specs.Script.{Due}
-use Rattle.m17_talk.specs.Talked.{plan_of, HasTalked}
-use Rattle.m17_talk.specs.Walk.{Prints}
 use Rattle.m17_talk.proofs.Told.{refused_told, talked_told, printed_grows, there_mapped, there_then}
 use Rattle.m17_talk.proofs.talk_command.talk.Goals as goal
 

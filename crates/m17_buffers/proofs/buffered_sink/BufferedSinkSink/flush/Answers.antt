@@ -1,6 +1,5 @@
-use Rattle.std.proofs.Common.{rules, ◌≡◌, ℕ, ◌≤◌, List, [], ◌++◌, length, take, drop, ap, sym, ◌∙◌, arith}
+use Rattle.std.proofs.Common.{rules, ◌≤◌, length, sym, ◌∙◌, arith}
 use Rattle.std.proofs.lemmas.List.{drop_all}
-use Rattle.m17_io.specs.Outlet.{followed_by}
 use Rattle.m17_buffers.proofs.Holding.{flushed}
 use Rattle.m17_buffers.proofs.buffered_sink.BufferedSinkSink.flush.Goals as goal
 

@@ -1,4 +1,4 @@
-use Rattle.std.proofs.Common.{rules, ◌≡◌, ℕ, ◌<◌, ◌≤◌, List, length, take, drop, Some, arith}
+use Rattle.std.proofs.Common.{rules, arith}
 use Rattle.m17_buffers.proofs.Holding.{refilled}
 use Rattle.m17_buffers.proofs.buffered_source.BufferedSource.refill.Goals as goal
 

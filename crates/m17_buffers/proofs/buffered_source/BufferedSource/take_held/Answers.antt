@@ -1,4 +1,4 @@
-use Rattle.std.proofs.Common.{rules, ◌≡◌, ℕ, ◌≤◌, length, take, drop, min, arith}
+use Rattle.std.proofs.Common.{rules, arith}
 use Rattle.m17_buffers.proofs.Holding.{slice_range-later}
 use Rattle.m17_buffers.proofs.buffered_source.BufferedSource.take_held.Goals as goal
 
