@@ -2,7 +2,7 @@
 use crate::bench::{
     Ran, conn, disc, pair_of_books, peer, plan, said, three_books, two_ears, two_mouths,
 };
-use crate::{HouseRefusal, reflect};
+use crate::{HouseRefusal, Refused, reflect};
 use m17_crew::{Crew, RefusingCrew, StdCrew};
 use m17_port_memory::{ListBook, ListMouth, ScriptEar};
 use m17_ports::Ear;
@@ -75,26 +75,50 @@ fn two_links_run_over_threads(rt: HostRuntime) -> Result<(), Fail> {
     Ok(())
 }
 
-// Where the crew refuses a start, whichever it is, all devices come back untouched, in their order.
+// What comes back where nothing was run, of the devices of `run`: all are untouched, in their order.
+fn expect_all_back(
+    rt: &impl Abort,
+    refused: Refused<ScriptEar, ListMouth, ListBook>,
+) -> Result<(), Fail> {
+    let mut back = refused;
+    let second = back.ears.pop().ok_or("no ear")?.hear();
+    let first = back.ears.pop().ok_or("no ear")?.hear();
+    assert_eq!(rt; first, conn(rt, 1, 0, b'A'));
+    assert_eq!(rt; second, conn(rt, 1, 0, b'B'));
+    for mouth in back.mouths.iter() {
+        assert_eq!(rt; mouth.list().len(), 0);
+    }
+    for book in back.traces.iter().chain(back.books.iter()) {
+        assert_eq!(rt; book.bytes().len(), 0);
+    }
+    Ok(())
+}
+
+// Whichever start the crew refuses.
 #[test]
 fn a_refused_start_hands_all_back(rt: HostRuntime) -> Result<(), Fail> {
     for refused in 0..6 {
         let numbers = Vec::from_array(rt.alloc(), [refused])?;
         let mut crew = RefusingCrew::new(numbers);
-        let Err(mut back) = run(&rt, rt.alloc(), &mut crew)? else {
+        let Err(back) = run(&rt, rt.alloc(), &mut crew)? else {
             panic!(rt; "run")
         };
         assert_eq!(rt; back.why, HouseRefusal::Crew);
-        let second = back.ears.pop().ok_or("no ear")?.hear();
-        let first = back.ears.pop().ok_or("no ear")?.hear();
-        assert_eq!(rt; first, conn(&rt, 1, 0, b'A'));
-        assert_eq!(rt; second, conn(&rt, 1, 0, b'B'));
-        for mouth in back.mouths.iter() {
-            assert_eq!(rt; mouth.list().len(), 0);
-        }
-        for book in back.traces.iter().chain(back.books.iter()) {
-            assert_eq!(rt; book.bytes().len(), 0);
-        }
+        expect_all_back(&rt, back)?;
     }
     Ok(())
+}
+
+// Whichever allocation of the run fails, also one for the start of a thread. By itself none does: `rt try --test
+// --fail-alloc N` lets the Nth fail.
+#[test]
+fn want_of_memory_hands_all_back(rt: HostRuntime) -> Result<(), Fail> {
+    let mut crew = StdCrew::new();
+    match run(&rt, rt.alloc(), &mut crew)? {
+        Ok(done) => {
+            assert_eq!(rt; done.admitted.as_slice(), [10, 10, 0].as_slice());
+            Ok(())
+        }
+        Err(back) => expect_all_back(&rt, back),
+    }
 }
