@@ -169,3 +169,10 @@ talk_has_no_port() {
     refused talk && refused "$@" --stay 86400001 && refused "$@" x
 }
 check "a talk without a port ends with port failed, a wrong script with its refusal" talk_has_no_port
+
+# What another implementation of the same rules says of inputs of each kind.
+conformance_vectors() {
+    needs python3
+    python3 "$top/conformance/compare.py" --program "$program" --vectors "$top/conformance/vectors"
+}
+check "each vector of conformance/ has its bytes and its status" conformance_vectors
