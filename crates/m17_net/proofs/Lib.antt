@@ -2,4 +2,3 @@ pub mod Prefixes
 pub mod Going
 pub mod Tries
 pub mod Appended
-pub mod Refusals

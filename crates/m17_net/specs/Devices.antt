@@ -4,28 +4,38 @@ use Rattle.std.specs.Net.Addr.{is_ipv6}
 use Rattle.std.specs.Net.Grammar.{IsSocketText}
 use Rattle.std.specs.Net.Socket.{socket_ip}
 use Rattle.std.specs.declared.net.socket_addr.SocketAddr.{SocketAddr}
+use Rattle.std.specs.declared.time.Instant.{Instant}
 use Rattle.m17_values.specs.declared.heard.Heard.{Heard}
 use Rattle.m17_values.specs.declared.heard.Heard.TheVariants as heard
 use Rattle.m17_ports.specs.Told.{told_then}
 use Rattle.m17_ports.specs.Mouth.{Datagram}
 use Rattle.m17_ports.specs.Ports.{next_number}
 use Rattle.m17_net.specs.Address.{IsPeerAt, IsAddressOf}
+use Rattle.m17_net.specs.Moments.{ReadsMoment}
 use Rattle.m17_net.specs.Wire.{Sent}
 
--- an ear: its clock, its socket, the moment at which it ends, if it does, the last moment that it read, how often it has
--- failed, and its number
+-- an ear: its clock, its socket, the instant from which its moments are counted, the moment at which it ends, if it does,
+-- its last moment, how often it has failed, and its number
 pub record EarKept (C W : Type 0) : Type 0 where
   pub clock : C
   pub wire : W
+  pub start : Instant
   pub until : Option ℕ
   pub last : ℕ
   pub faults : ℕ
   pub number : ℕ
 
 -- an ear that has heard nothing
-abbrev pub new_ear : {C W : Type 0} → C → W → Option ℕ → ℕ → EarKept C W
-new_ear clock wire until n =
-    record { clock = clock; wire = wire; until = until; last = 0; faults = 0; number = n }
+abbrev pub new_ear : {C W : Type 0} → C → W → Instant → Option ℕ → ℕ → EarKept C W
+new_ear clock wire start until n = record {
+  clock = clock;
+  wire = wire;
+  start = start;
+  until = until;
+  last = 0;
+  faults = 0;
+  number = n;
+}
 
 -- a mouth: its socket, whether that is one of IPv6, how often it has failed, and its number
 pub record MouthKept (W : Type 0) : Type 0 where
@@ -48,12 +58,14 @@ pub record BookKept (F : Type 0) : Type 0 where
 abbrev pub new_book : {F : Type 0} → F → ℕ → BookKept F
 new_book file n = record { file = file; faults = 0; number = n }
 
--- ports: how many calls there were, and how often they have failed
+-- ports: the instant that they read when they were made, if their clock gave one, how many calls there were, and how
+-- often they have failed
 pub record PortsKept : Type 0 where
+  pub start : Option Instant
   pub calls : ℕ
   pub faults : ℕ
 
--- The ear is over where the last moment that it read is this one. This profile.
+-- An ear that ends at a moment, or never, is over where its last moment is this one. This profile.
 abbrev pub IsOver : Option ℕ → ℕ → Type 0
 IsOver None last = ⊥
 IsOver (Some until) last = until ≤ last
@@ -80,18 +92,26 @@ TellsTaken (heard.Quiet at) before after = after ≡ before
 TellsTaken heard.Fault before after = TakesUntold before after
 TellsTaken heard.End before after = TakesUntold before after
 
--- what an ear tells at a moment: what its socket took and sent, how often that broke, how often a reading of its clock
--- gave an error, and the last moment read
+-- what an ear tells at a moment: what its socket took and sent, how often that broke, the instants that its clock read,
+-- how often a reading gave an error, and its last moment
 pub record EarTold : Type 0 where
   pub taken : Option (List Sent)
   pub sent : Option (List Sent)
   pub broken : Option ℕ
+  pub readings : Option (List Instant)
   pub unread : Option ℕ
   pub last : ℕ
 
-abbrev pub ear_told : Option (List Sent) → Option (List Sent) → Option ℕ → Option ℕ → ℕ → EarTold
-ear_told taken sent broken unread last =
-    record { taken = taken; sent = sent; broken = broken; unread = unread; last = last }
+abbrev pub ear_told : Option (List Sent) → Option (List Sent) → Option ℕ
+    → Option (List Instant) → Option ℕ → ℕ → EarTold
+ear_told taken sent broken readings unread last = record {
+  taken = taken;
+  sent = sent;
+  broken = broken;
+  readings = readings;
+  unread = unread;
+  last = last;
+}
 
 -- One thing failed, once: the socket broke, or a reading of the clock gave an error. This profile.
 abbrev pub HasFailed : EarTold → EarTold → Type 0
@@ -110,18 +130,19 @@ abbrev pub SendsTo : Bool → Datagram → Option (List Sent) → Option (List S
 SendsTo six datagram before after = (address : SocketAddr) × IsAddressOf six datagram.0 address
     × (after ≡ told_then before ((address, datagram.1) ∷ []))
 
--- The halves of a link that is new: both have this number, the ear ends at its moment, and the mouth knows whether the
--- address that was asked for is one of IPv6. This profile.
-pub record IsNewLink {C W : Type 0} (bind : List ℕ) (until : Option ℕ) (n : ℕ)
-    (link : EarKept C W × MouthKept W) : Type 0 where
+-- The halves of a link that is new: both have this number, the ear counts its moments from the start of the ports and
+-- ends at its moment, and the mouth knows whether the address that was asked for is one of IPv6. This profile.
+pub record IsNewLink {C W : Type 0} (bind : List ℕ) (until : Option ℕ) (start : Option Instant)
+    (n : ℕ) (link : EarKept C W × MouthKept W) : Type 0 where
   pub address : SocketAddr
   pub text : IsSocketText bind address
-  pub ear : link.0 ≡ new_ear link.0.clock link.0.wire until n
+  pub started : start ≡ Some link.0.start
+  pub ear : link.0 ≡ new_ear link.0.clock link.0.wire link.0.start until n
   pub mouth : link.1 ≡ new_mouth link.1.wire (is_ipv6 (socket_ip address)) n
 
--- What an ear that ends at a moment, or never, does at one call. This profile.
-pub record Listens (until : Option ℕ) (before : EarTold) (answer : Heard) (after : EarTold)
-    : Type 0 where
+-- What an ear that counts its moments from an instant, and ends at a moment or never, does at one call. This profile.
+pub record Listens (start : Instant) (until : Option ℕ)
+    (before : EarTold) (answer : Heard) (after : EarTold) : Type 0 where
   -- an ear that is over leaves its socket alone
   pub over : IsOver until before.last → (answer ≡ heard.End) × (after ≡ before)
   -- it ends at the first moment at which it is over, and at no earlier one
@@ -130,6 +151,11 @@ pub record Listens (until : Option ℕ) (before : EarTold) (answer : Heard) (aft
   -- no moment lies before an earlier one
   pub forward : before.last ≤ after.last
   pub moment : TellsMoment answer after.last
+  -- it reads its clock once, and its moment is that of the reading; a Fault has none, and changes none
+  pub reads : ¬ (IsOver until before.last) → answer ≢ heard.Fault
+      → ReadsMoment start (before.readings, before.last) (after.readings, after.last)
+  pub reads_none : answer ≡ heard.Fault
+      → (after.readings ≡ before.readings) × (after.last ≡ before.last)
   pub taken : TellsTaken answer before.taken after.taken
   pub nothing_sent : after.sent ≡ before.sent
   -- a socket that broke is told as a Fault

@@ -1,6 +1,8 @@
 pub mod Address
 pub mod Errors
+pub mod Tries
 pub mod Wire
+pub mod Moments
 pub mod Files
 pub mod Devices
 pub mod Laws

@@ -1,5 +1,5 @@
 -- What a socket for datagrams takes and sends, and what is told of its errors and a clock's. This profile.
-use Rattle.std.specs.Prelude.{◌≡◌, ◌⊎◌, ℕ, suc, ◌<◌, List, [], ◌∷◌, ◌++◌, length, take, All, Option, option_map, Result, Ok, Err}
+use Rattle.std.specs.Prelude.{◌≡◌, ℕ, suc, ◌<◌, List, [], ◌∷◌, length, take, All, Option, option_map, Result, Ok, Err}
 use Rattle.std.specs.IoError.{error_kind}
 use Rattle.std.specs.declared.io.Error.{Error}
 use Rattle.std.specs.declared.io.ErrorKind.{ErrorKind}
@@ -8,6 +8,7 @@ use Rattle.m17_ports.specs.Told.{told_then}
 use Rattle.m17_net.specs.declared.trouble.Trouble.{Trouble}
 use Rattle.m17_net.specs.declared.trouble.Trouble.TheVariants.{Waited, Passing, Unreachable, Broken}
 use Rattle.m17_net.specs.Errors.{meaning_of}
+use Rattle.m17_net.specs.Tries.{GivesUpAfter}
 
 -- A datagram on the network: the address that it comes from or goes to, and its bytes. This profile.
 abbrev pub Sent : Type 0
@@ -58,9 +59,7 @@ IsPassing kind = meaning_of kind ≡ Passing
 -- After these errors a datagram is given up: 16 that are each worth another call; or fewer of these, and then one that
 -- is not. This profile.
 abbrev pub GivesUp : List ErrorKind → Type 0
-GivesUp errors = (All IsPassing errors × (length errors ≡ 16))
-    ⊎ ((earlier : List ErrorKind) × (last : ErrorKind) × (errors ≡ earlier ++ last ∷ [])
-    × All IsPassing earlier × (length earlier < 16) × ¬ (IsPassing last))
+GivesUp errors = GivesUpAfter IsPassing 16 errors
 
 -- After these errors, if there are any, another call is made: fewer than 16, each worth that. This profile.
 abbrev pub GoesOn : List ErrorKind → Type 0

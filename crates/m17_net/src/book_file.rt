@@ -1,7 +1,8 @@
-ghost use Rattle.std.specs.Prelude.{◌≡◌, ℕ, List, Option};
+ghost use Rattle.std.specs.Prelude.{◌≡◌, ℕ, List, [], ◌∷◌, Option};
 ghost use Rattle.std.specs.Io.{WritesAtMost};
 ghost use Rattle.std.specs.Io.KnownBytes.{WriteAppends};
-ghost use Rattle.m17_net.specs.Files.{CountsRefusal};
+ghost use Rattle.m17_net.specs.Files.{Answer, answer_of};
+ghost use Rattle.m17_ports.specs.Told.{told_then};
 
 use std::io;
 use std::io::Write;
@@ -11,23 +12,24 @@ pub trait BookFile {
     /// The bytes that it holds, where they are known.
     ghost held: { Self → Option (List ℕ) };
 
-    /// How often a call gave an error or took nothing, where the file tells that.
-    ghost refused: { Self → Option ℕ };
+    /// What its calls answered so far, how many bytes each took or the kind of its error, where the file tells that.
+    ghost answered: { Self → Option (List Answer) };
 
     /// Takes some of the bytes, from the first on, and answers how many. After an error it took none.
     fn write_some(&mut self, bytes: &[u8]) -> io::Result<usize>
         ensures within { WritesAtMost result bytes.now }
         ensures held { WriteAppends (held self.old) (held self.new) result bytes.now }
-        ensures refused { CountsRefusal result (refused self.old) (refused self.new) };
+        ensures answered { answered self.new
+            ≡ told_then (answered self.old) (answer_of result ∷ []) };
 }
 
-// The trusted edge: one call of the writer, which does not tell how often it refused one.
+// The trusted edge: one call of the writer, which does not tell what its calls answered.
 impl<F: Write> BookFile for F {
     ghost use Rattle.std.specs.Prelude.{None};
 
     ghost held = { λ f. F.contents f };
 
-    ghost refused = { λ _. None };
+    ghost answered = { λ _. None };
 
     fn write_some(&mut self, bytes: &[u8]) -> io::Result<usize> {
         self.write(bytes)

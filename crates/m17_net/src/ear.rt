@@ -5,6 +5,7 @@ ghost use Rattle.m17_ports.specs.Told.{told_then};
 ghost use Rattle.m17_ports.specs.Ear.{EndsPastCount};
 ghost use Rattle.m17_ports.specs.Ports.{next_number};
 ghost use Rattle.m17_net.specs.Devices.{ear_told, CountsFault, IsOver, Listens};
+ghost use Rattle.m17_net.specs.Moments.{ReadsMoment};
 ghost use Rattle.m17_net.specs.Taking.{Comes, CountsUnread, SaysWhatCame, TellsAt};
 ghost use Rattle.m17_net.specs.Wire.{CountsError};
 
@@ -41,6 +42,7 @@ impl<C: Timer + Drop, W: Wire + Drop> Model for UdpEar<C, W> {
     ghost view = { λ e. record {
       clock = e.clock;
       wire = e.wire;
+      start = e.start;
       until = e.until;
       last = e.last;
       faults = e.faults;
@@ -59,7 +61,7 @@ impl<C: Timer + Drop, W: Wire + Drop> UdpEar<C, W> {
         until: Option<u64>,
         number: u64,
     ) -> UdpEar<C, W>
-        ensures { result ≡ new_ear clock wire until number }
+        ensures { result ≡ new_ear clock wire start until number }
     {
         UdpEar {
             clock,
@@ -113,6 +115,10 @@ impl<C: Timer + Drop, W: Wire + Drop> UdpEar<C, W> {
     // Reads the moment.
     fn read_moment(&mut self) -> Result<u64, Failed>
         ensures read { IfOk result (λ at. (at ≡ self.new.last) × (self.old.last ≤ at)) }
+        ensures moment { OnOk result (ReadsMoment self.old.start
+            (C.readings self.old.clock, self.old.last) (C.readings self.new.clock, self.new.last)) }
+        ensures no_reading { OnErr result
+            (C.readings self.new.clock ≡ C.readings self.old.clock) }
         ensures same { self.new ≡ record self.old {
           clock = self.new.clock;
           last = self.new.last;
@@ -143,6 +149,11 @@ impl<C: Timer + Drop, W: Wire + Drop> UdpEar<C, W> {
     // What is said of what came, if something did, at the moment that is read now.
     fn tell(&mut self, came: Option<(Peer, Gram)>) -> Heard
         ensures at { TellsAt self.old.until self.old.last result self.new.last }
+        ensures reads { result ≢ Heard.Fault → ReadsMoment self.old.start
+            (C.readings self.old.clock, self.old.last) (C.readings self.new.clock, self.new.last) }
+        ensures reads_none { result ≡ Heard.Fault
+            → (C.readings self.new.clock ≡ C.readings self.old.clock)
+            × (self.new.last ≡ self.old.last) }
         ensures came { SaysWhatCame result came }
         ensures counted_so { CountsFault result self.old.faults self.new.faults }
         ensures unread { CountsUnread result (C.unread self.old.clock) (C.unread self.new.clock) }
@@ -192,12 +203,13 @@ impl<C: Timer + Drop, W: Wire + Drop> Ear for UdpEar<C, W> {
         ensures same_device { self.new.number ≡ self.old.number }
 
         // What it says is what its socket took, and when.
-        ensures listens { Listens self.old.until
-            (ear_told (W.taken self.old.wire) (W.sent self.old.wire)
-            (W.broken self.old.wire) (C.unread self.old.clock) self.old.last) result
-            (ear_told (W.taken self.new.wire) (W.sent self.new.wire)
-            (W.broken self.new.wire) (C.unread self.new.clock) self.new.last) }
+        ensures listens { Listens self.old.start self.old.until
+            (ear_told (W.taken self.old.wire) (W.sent self.old.wire) (W.broken self.old.wire)
+            (C.readings self.old.clock) (C.unread self.old.clock) self.old.last) result
+            (ear_told (W.taken self.new.wire) (W.sent self.new.wire) (W.broken self.new.wire)
+            (C.readings self.new.clock) (C.unread self.new.clock) self.new.last) }
         ensures counted_so { CountsFault result self.old.faults self.new.faults }
+        ensures same_start { self.new.start ≡ self.old.start }
         ensures same_end { self.new.until ≡ self.old.until }
     {
         if self.is_over() {

@@ -3,7 +3,7 @@ ghost use Rattle.std.specs.Io.KnownBytes.{Appends};
 ghost use Rattle.m17_io.specs.Faults.{HasCause};
 ghost use Rattle.m17_ports.specs.Told.{told_then};
 ghost use Rattle.m17_ports.specs.Ports.{next_number};
-ghost use Rattle.m17_net.specs.Files.{AppendsPart, HasRefused};
+ghost use Rattle.m17_net.specs.Files.{AppendsPart, GivesUpWriting, GoesOnWriting};
 
 use crate::book_file::BookFile;
 use m17_ports::Book;
@@ -44,12 +44,14 @@ impl<F: BookFile + Drop> FileBook<F> {
     }
 }
 
-// Appends the bytes to the file, by as many calls as that takes. After an error, or a call that takes none of them, the
-// file is offered nothing more.
+// Appends the bytes to the file, by as many calls as that takes. A call that was interrupted is made again. After any
+// other error, or a call that takes none of the bytes, the file is offered nothing more.
 fn append<F: BookFile>(file: &mut F, bytes: &[u8]) -> Result<(), Failed>
     ensures whole { OnOk result (Appends (F.held file.old) (F.held file.new) bytes.now) }
     ensures part { OnErr result (AppendsPart (F.held file.old) (F.held file.new) bytes.now) }
-    ensures refused { OnErr result (HasRefused (F.refused file.old) (F.refused file.new)) }
+    ensures gone_on { OnOk result (GoesOnWriting (F.answered file.old) (F.answered file.new)) }
+    ensures given_up { OnErr result
+        (GivesUpWriting (F.answered file.old) (F.answered file.new)) }
 {
     if bytes.is_empty() {
         return Ok(());
@@ -102,12 +104,14 @@ impl<F: BookFile + Drop> Book for FileBook<F> {
         ensures whole { OnOk result
             (Appends (F.held self.old.file) (F.held self.new.file) bytes.now) }
 
-        // It fails only where its file gave an error or took nothing. The bytes are then appended from the first on, as
-        // far as that went.
+        // It makes another call only after one that took some of them or was interrupted, and fails only after one that
+        // did neither, or after 2^64 - 1 calls. The bytes are then appended from the first on, as far as that went.
+        ensures gone_on { OnOk result
+            (GoesOnWriting (F.answered self.old.file) (F.answered self.new.file)) }
         ensures part { OnErr result
             (AppendsPart (F.held self.old.file) (F.held self.new.file) bytes.now) }
-        ensures refused { OnErr result
-            (HasRefused (F.refused self.old.file) (F.refused self.new.file)) }
+        ensures given_up { OnErr result
+            (GivesUpWriting (F.answered self.old.file) (F.answered self.new.file)) }
 
         // A failure is counted; the rest stays.
         ensures written { OnOk result (self.new ≡ record self.old { file = self.new.file }) }

@@ -1,10 +1,11 @@
 //! The devices of a real machine: an ear and a mouth on a UDP socket of IPv4 or IPv6, a book in a file, and ports that
 //! make them. Over any socket (`Wire`), clock (`Timer`) and file (`BookFile`), it promises what an ear says of each
-//! datagram that the socket took, that a mouth sends one datagram with exactly its bytes to the address of its peer, that
-//! a book writes each record whole, that each of them fails only where its socket, clock or file did, and that each
-//! failure is counted and nothing else is; errors that tell of an interruption or of an earlier datagram are passed over.
-//! What the system's socket, clock and file do at a call is the trusted edge: they tell no content. When to hear, what to
-//! say and what to write is left to the crates above. Nothing is allocated here after the ports have made a device.
+//! datagram that the socket took, and at which moment, that a mouth sends one datagram with exactly its bytes to the
+//! address of its peer, that a book writes each record whole, that each of them fails only where its socket, clock or
+//! file did, and that each failure is counted and nothing else is; errors that tell of an interruption or of an earlier
+//! datagram are passed over. What the system's socket, clock and file do at a call is the trusted edge: they tell no
+//! content. When to hear, what to say and what to write is left to the crates above. Nothing is allocated here after
+//! the ports have made a device.
 #![tactic(auto)]
 
 mod address;

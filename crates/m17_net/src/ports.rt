@@ -34,7 +34,7 @@ impl<R: Drop> Model for UdpPorts<R> {
 
     ghost Value = { PortsKept };
 
-    ghost view = { λ p. record { calls = p.calls; faults = p.faults } };
+    ghost view = { λ p. record { start = p.start; calls = p.calls; faults = p.faults } };
 }
 
 impl<R: Net + Files<File = File> + Clock + Copy + Drop> UdpPorts<R> {
@@ -42,7 +42,7 @@ impl<R: Net + Files<File = File> + Clock + Copy + Drop> UdpPorts<R> {
 
     /// Ports that were asked for nothing yet. The moments of their ears are counted from now. This profile.
     pub fn new(rt: R) -> UdpPorts<R>
-        ensures { result ≡ record { calls = 0; faults = 0 } }
+        ensures { result ≡ record { start = result.start; calls = 0; faults = 0 } }
     {
         UdpPorts {
             rt,
@@ -72,7 +72,7 @@ impl<R: Net + Files<File = File> + Clock + Copy + Drop> UdpPorts<R> {
 
     // A link with this number, bound there.
     fn open(&self, bind: &str, until: Option<u64>, number: u64) -> Option<(UdpEar<R>, UdpMouth)>
-        ensures { IfSome result (IsNewLink bind.now until number) }
+        ensures { IfSome result (IsNewLink bind.now until self.now.start number) }
     {
         let start = self.start?;
         let address = bind.parse::<SocketAddr>().ok()?;
@@ -123,8 +123,11 @@ impl<R: Net + Files<File = File> + Clock + Copy + Drop + Send + 'static> Ports f
         ensures numbered { IfOk result (λ link. IsNumbered (Some link.0.number) self.old.calls
             × IsNumbered (Some link.1.number) self.old.calls) }
 
-        // The link is as it was asked for, and only the text of an address is taken.
-        ensures made { IfOk result (IsNewLink bind.now until self.old.calls) }
+        // The link is as it was asked for, its moments are counted from the start of the ports, and only the text of an
+        // address is taken.
+        ensures made { IfOk result
+            (IsNewLink bind.now until self.old.start self.old.calls) }
+        ensures same_start { self.new.start ≡ self.old.start }
 
         // The call is counted, and so is its failure.
         ensures no_fault { OnOk result (self.new.faults ≡ self.old.faults) }
@@ -145,6 +148,7 @@ impl<R: Net + Files<File = File> + Clock + Copy + Drop + Send + 'static> Ports f
         ensures book { IfOk result (λ book. (min book.faults (2 ^ 64 - 1) ≡ 0)
             × StartsEmpty {A = ℕ} None) }
         ensures numbered { IfOk result (λ book. IsNumbered (Some book.number) self.old.calls) }
+        ensures same_start { self.new.start ≡ self.old.start }
 
         // The call is counted, and so is its failure.
         ensures no_fault { OnOk result (self.new.faults ≡ self.old.faults) }

@@ -1,6 +1,6 @@
 //! The adapters over sockets, clocks and files that a test makes, which fail where it tells them to, and over those of
 //! the system, by the loopback.
-use crate::{FileBook, UdpEar, UdpMouth, Wire, address_of, peer_at};
+use crate::{FileBook, Timer, UdpEar, UdpMouth, Wire, address_of, peer_at};
 use m17_ports::{Book, Ear, Mouth};
 use m17_values::{Failed, Gram, Heard, Peer};
 use std::cell::Cell;
@@ -145,6 +145,59 @@ impl Clock for Beats<'_> {
     }
 }
 
+// A clock that reads these one after the other, in nanoseconds, and the last of them from then on.
+#[derive(Clone, Copy)]
+struct Hands<'a> {
+    nanos: &'a [u64],
+    seen: &'a Seen,
+}
+
+impl Clock for Hands<'_> {
+    fn monotonic(&self) -> io::Result<Duration> {
+        let reads = self.seen.reads.get();
+        self.seen.reads.set(reads.saturating_add(1));
+        let at = usize::try_from(reads).unwrap_or(usize::MAX);
+        match self.nanos.get(at).or(self.nanos.last()) {
+            Some(nanos) => Ok(Duration::from_nanos(*nanos)),
+            None => Err(Error::from(ErrorKind::Other)),
+        }
+    }
+
+    fn since_1970(&self) -> io::Result<Duration> {
+        Err(Error::from(ErrorKind::Unsupported))
+    }
+}
+
+// A clock that reads two instants, and then fails. It tells its readings.
+#[derive(Drop)]
+struct ScriptedTimer {
+    first: Instant,
+    second: Instant,
+    at: u64,
+}
+
+impl Timer for ScriptedTimer {
+    ghost use Rattle.std.specs.Prelude.{take, None, Some, ◌∷◌, []};
+
+    ghost readings = { λ t. Some (take t.at (t.first ∷ t.second ∷ [])) };
+
+    ghost unread = { λ _. None };
+
+    fn read(&mut self) -> io::Result<Instant> {
+        if self.at == 0 {
+            self.at = 1;
+            Ok(self.first)
+        } else if self.at == 1 {
+            self.at = 2;
+            Ok(self.second)
+        } else {
+            Err(Error::from(ErrorKind::Other))
+        }
+    }
+
+    fn rest(&self, _pause: Duration) {}
+}
+
 // A peer of IPv4.
 fn peer(last: u8) -> Peer {
     let mut ip = [0; 16];
@@ -249,6 +302,31 @@ fn an_ear_ends_at_its_moment_and_leaves_its_socket_alone(rt: HostRuntime) -> Res
     Ok(())
 }
 
+// Moments are whole milliseconds since the start, the first reading here. A reading that lies before an earlier one, or
+// before the start, takes no moment back, and the End comes at the first moment that is the ear's end or more.
+#[test]
+fn moments_are_whole_milliseconds_since_the_start(rt: HostRuntime) -> Result<(), Fail> {
+    let seen = nothing_seen();
+    let clock = Hands {
+        nanos: &[
+            5_000_000, 0, 5_999_999, 6_000_000, 19_999_999, 8_000_000, 20_000_000,
+        ],
+        seen: &seen,
+    };
+    let start = Instant::now(&clock)?;
+    let wire = Scripted {
+        answers: &[Fails(ErrorKind::WouldBlock)],
+        seen: &seen,
+    };
+    let mut ear = UdpEar::new(clock, wire, start, Some(15), 0);
+    for at in [0, 0, 1, 14, 14] {
+        assert_eq!(rt; ear.hear(), Heard::Quiet { at });
+    }
+    assert_eq!(rt; ear.hear(), Heard::End);
+    assert_eq!(rt; ear.hear(), Heard::End);
+    Ok(())
+}
+
 #[test]
 fn a_clock_that_fails_is_a_fault(rt: HostRuntime) -> Result<(), Fail> {
     let seen = nothing_seen();
@@ -325,17 +403,39 @@ fn an_ipv4_peer_is_the_same_on_each_socket(rt: HostRuntime) -> Result<(), Fail> 
     expect_peer(&rt, "[2001:db8::9]:17000", true, six)
 }
 
-// A write is made whole in several calls where it must be, and a failure in the middle of it is told. The file is
-// offered what is left at each call, and nothing after a failure, though it would take that.
+// A write is made whole in several calls where it must be, by further calls after an interruption, and a failure in the
+// middle of it is told. The file is offered what is left at each call, and nothing after a failure, though it would take
+// that.
 #[test]
 fn a_book_tells_a_write_that_failed_in_the_middle(rt: HostRuntime) {
-    let cases: [(&[Answer], Result<(), Failed>, usize, usize); 4] = [
+    let cases: [(&[Answer], Result<(), Failed>, usize, usize); 6] = [
         (&[Gives(b"0123456789")], Ok(()), 1, 6),
         (
-            &[Gives(b"01"), Fails(ErrorKind::Interrupted), Gives(b"0123")],
+            &[
+                Gives(b"01"),
+                Fails(ErrorKind::Interrupted),
+                Fails(ErrorKind::Interrupted),
+                Gives(b"0123"),
+            ],
             Ok(()),
-            3,
-            14,
+            4,
+            18,
+        ),
+        (
+            &[
+                Fails(ErrorKind::Interrupted),
+                Fails(ErrorKind::WouldBlock),
+                Gives(b"012345"),
+            ],
+            Err(Failed),
+            2,
+            12,
+        ),
+        (
+            &[Fails(ErrorKind::TimedOut), Gives(b"012345")],
+            Err(Failed),
+            1,
+            6,
         ),
         (
             &[
@@ -365,4 +465,25 @@ fn a_book_tells_a_write_that_failed_in_the_middle(rt: HostRuntime) {
         assert_eq!(rt; seen.calls.get(), calls);
         assert_eq!(rt; seen.offered.get(), offered);
     }
+}
+
+// The contract of a clock can be met with content: this one tells exactly what it read.
+#[test]
+fn a_clock_may_tell_its_readings(rt: HostRuntime) -> Result<(), Fail> {
+    let seen = nothing_seen();
+    let clock = Beats {
+        seen: &seen,
+        until: 100,
+    };
+    let first = Instant::now(&clock)?;
+    let second = Instant::now(&clock)?;
+    let mut timer = ScriptedTimer {
+        first,
+        second,
+        at: 0,
+    };
+    assert!(rt; timer.read()? == first);
+    assert!(rt; timer.read()? == second);
+    assert!(rt; timer.read().is_err());
+    Ok(())
 }
