@@ -11,29 +11,41 @@ use std::test::Fail;
 
 const LINE: &str = "A admitted 4 missed 0\n";
 
-/// The reflector's farewells: to who is left at the end, and to who asked to go.
+/// The reflector's farewell to who was silent or is left at the end.
 const DISC_OF_TST: [u8; 10] = [0x44, 0x49, 0x53, 0x43, 0x00, 0x13, 0x89, 0xF9, 0xBA, 0xED];
 
-// What was said to this peer, one datagram after another.
-fn said_to(alloc: Global, list: &[(Peer, Gram)], to: Peer) -> Result<Vec<u8>, Fail> {
+// What was said to this peer, datagram by datagram.
+fn said_to(alloc: Global, list: &[(Peer, Gram)], to: Peer) -> Result<Vec<Gram>, Fail> {
     let mut all = Vec::new(alloc);
     for (peer, bytes) in list {
         if *peer == to {
-            all.extend_from_slice(bytes.bytes())?;
+            all.push(Gram::of(bytes.bytes()))?;
         }
     }
     Ok(all)
 }
 
-// What the listener is to be told: that it is in, the packets, and that it is out.
-fn to_listener(alloc: Global, packets: &[u16]) -> Result<Vec<u8>, Fail> {
-    let mut all = Vec::new(alloc);
-    all.extend_from_slice(b"ACKN")?;
-    for number in packets {
-        all.extend_from_slice(&write(&frame(0x1234, *number, false)))?;
+// These datagrams, but for the one at this place.
+fn all_but(alloc: Global, lost: Option<usize>, all: &[&[u8]]) -> Result<Vec<Gram>, Fail> {
+    let mut rest = Vec::new(alloc);
+    for (place, bytes) in all.iter().enumerate() {
+        if lost != Some(place) {
+            rest.push(Gram::of(bytes))?;
+        }
     }
-    all.extend_from_slice(b"DISC")?;
-    Ok(all)
+    Ok(rest)
+}
+
+// What the talker of the evening is to be told: that it is in, and, at the end, that it is out.
+fn to_talker(alloc: Global, lost: Option<usize>) -> Result<Vec<Gram>, Fail> {
+    all_but(alloc, lost, &[b"ACKN", &DISC_OF_TST])
+}
+
+// What its listener is to be told: that it is in, two packets, and that it is out.
+fn to_listener(alloc: Global, lost: Option<usize>) -> Result<Vec<Gram>, Fail> {
+    let first = write(&frame(0x1234, 1, false));
+    let second = write(&frame(0x1234, 2, false));
+    all_but(alloc, lost, &[b"ACKN", &first, &second, b"DISC"])
 }
 
 #[test]
@@ -46,15 +58,11 @@ fn an_evening_is_served_and_its_line_printed(rt: HostRuntime) -> Result<(), Fail
     assert!(rt; done.refused.is_none());
     let house = done.house.ok_or("no devices")?;
     assert!(rt; house.traces.iter().all(|trace| trace.inner.is_none()));
-    let mut to_talker = Vec::new(alloc);
-    to_talker.extend_from_slice(b"ACKN")?;
-    to_talker.extend_from_slice(&DISC_OF_TST)?;
     for mouth in house.mouths.iter() {
-        assert_eq!(rt; said_to(alloc, mouth.list(), peer(1))?, to_talker);
-        assert_eq!(rt;
-            said_to(alloc, mouth.list(), peer(2))?,
-            to_listener(alloc, &[1, 2])?
-        );
+        let list = mouth.list();
+        assert_eq!(rt; list.len(), 6);
+        assert_eq!(rt; said_to(alloc, list, peer(1))?, to_talker(alloc, None)?);
+        assert_eq!(rt; said_to(alloc, list, peer(2))?, to_listener(alloc, None)?);
     }
     Ok(())
 }
@@ -142,7 +150,22 @@ fn a_book_that_fails_is_told_after_the_line(rt: HostRuntime) -> Result<(), Fail>
     Ok(())
 }
 
-// The third datagram is lost, the rest to each peer stays in order.
+// Which datagram is the third to be said is left to the threads. It is the next one of one of the two peers after what
+// was said before.
+fn is_short_of_the_third(alloc: Global, list: &[(Peer, Gram)]) -> Result<bool, Fail> {
+    let talker = said_to(alloc, list, peer(1))?;
+    let listener = said_to(alloc, list, peer(2))?;
+    let before = list.get(..2).ok_or("no datagrams")?;
+    let next_to_talker = said_to(alloc, before, peer(1))?.len();
+    let next_to_listener = said_to(alloc, before, peer(2))?.len();
+    let talker_lost = talker == to_talker(alloc, Some(next_to_talker))?
+        && listener == to_listener(alloc, None)?;
+    let listener_lost = talker == to_talker(alloc, None)?
+        && listener == to_listener(alloc, Some(next_to_listener))?;
+    Ok(talker_lost || listener_lost)
+}
+
+// The third datagram is lost, and the rest to each peer is whole and in order.
 #[test]
 fn a_mouth_that_fails_loses_that_datagram_alone(rt: HostRuntime) -> Result<(), Fail> {
     let alloc = rt.alloc();
@@ -155,8 +178,10 @@ fn a_mouth_that_fails_loses_that_datagram_alone(rt: HostRuntime) -> Result<(), F
     assert_eq!(rt; done.ending, ServeEnding::Finished);
     assert_eq!(rt; sink.bytes(), LINE.as_bytes());
     let house = done.house.ok_or("no devices")?;
+    assert_eq!(rt; house.mouths.len(), 1);
     for mouth in house.mouths.iter() {
         assert_eq!(rt; mouth.list().len(), 5);
+        assert!(rt; is_short_of_the_third(alloc, mouth.list())?);
     }
     Ok(())
 }
