@@ -100,6 +100,21 @@ pub(crate) fn evening(rt: &impl Abort, alloc: Global) -> Result<Vec<Heard>, Fail
     Ok(Vec::from_array(alloc, heard)?)
 }
 
+// AB1CD joins module A, and is silent for 30 s; then it asks whether the reflector is there. N0CALL listens, and says at
+// 20 s that it is there.
+pub(crate) fn silence(alloc: Global) -> Result<Vec<Heard>, Fail> {
+    let heard = [
+        said(1, 0, b"CONN\x00\x00\x00\x9f\xdd\x51A"),
+        said(2, 0, b"LSTN\x00\x00\x4b\x13\xd1\x06A"),
+        said(2, 20_000, b"PONG\x00\x00\x4b\x13\xd1\x06"),
+        Heard::Quiet { at: 29_999 },
+        Heard::Quiet { at: 30_000 },
+        said(1, 30_000, b"PING\x00\x00\x00\x9f\xdd\x51"),
+        Heard::Quiet { at: 33_000 },
+    ];
+    Ok(Vec::from_array(alloc, heard)?)
+}
+
 // What fails: calls of the ports, of the mouth, of the trace, of the book and of the sink.
 #[derive(Clone, Copy)]
 pub(crate) struct Fails<'a> {

@@ -1,5 +1,5 @@
 use crate::ServeEnding;
-use crate::bench::{Fails, NONE, evening, peer, run};
+use crate::bench::{Fails, NONE, evening, peer, run, silence};
 use m17_crew::{RefusingCrew, StdCrew};
 use m17_ports::Ear;
 use m17_reflect::HouseRefusal;
@@ -13,6 +13,9 @@ const LINE: &str = "A admitted 4 missed 0\n";
 
 /// The reflector's farewell to who was silent or is left at the end.
 const DISC_OF_TST: [u8; 10] = [0x44, 0x49, 0x53, 0x43, 0x00, 0x13, 0x89, 0xF9, 0xBA, 0xED];
+
+/// Its question whether a member is there.
+const PING_OF_TST: [u8; 10] = *b"PING\x00\x13\x89\xf9\xba\xed";
 
 // What was said to this peer, datagram by datagram.
 fn said_to(alloc: Global, list: &[(Peer, Gram)], to: Peer) -> Result<Vec<Gram>, Fail> {
@@ -182,6 +185,30 @@ fn a_mouth_that_fails_loses_that_datagram_alone(rt: HostRuntime) -> Result<(), F
     for mouth in house.mouths.iter() {
         assert_eq!(rt; mouth.list().len(), 5);
         assert!(rt; is_short_of_the_third(alloc, mouth.list())?);
+    }
+    Ok(())
+}
+
+// Both are asked whether they are there, at each entry that passes a multiple of 3 s. The silent one is in at 29,999 ms,
+// is told to go at 30,000, and from then on is neither answered nor asked. The other one answered once, and stays until
+// the end.
+#[test]
+fn a_silent_peer_is_asked_and_after_30_s_told_to_go(rt: HostRuntime) -> Result<(), Fail> {
+    let alloc = rt.alloc();
+    let mut crew = StdCrew::new();
+    let (done, sink) = run(&rt, alloc, None, silence(alloc)?, NONE, &mut crew)?;
+    assert_eq!(rt; done.ending, ServeEnding::Finished);
+    assert_eq!(rt; sink.bytes(), "A admitted 0 missed 0\n".as_bytes());
+    let ping: &[u8] = &PING_OF_TST;
+    let disc: &[u8] = &DISC_OF_TST;
+    let silent = all_but(alloc, None, &[b"ACKN", ping, ping, ping, disc])?;
+    let other = all_but(alloc, None, &[b"ACKN", ping, ping, ping, ping, disc])?;
+    let house = done.house.ok_or("no devices")?;
+    assert_eq!(rt; house.mouths.len(), 1);
+    for mouth in house.mouths.iter() {
+        assert_eq!(rt; said_to(alloc, mouth.list(), peer(1))?, silent);
+        assert_eq!(rt; said_to(alloc, mouth.list(), peer(2))?, other);
+        assert_eq!(rt; mouth.list().len(), 11);
     }
     Ok(())
 }
