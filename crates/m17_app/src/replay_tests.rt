@@ -43,13 +43,13 @@ fn faults(alloc: Global, count: usize) -> Result<Vec<u8>, AllocError> {
     Ok(trace)
 }
 
-const JOIN: [u8; 11] = *b"CONN\x00\x00\x00\x9f\xdd\x51A";
+pub(crate) const JOIN: [u8; 11] = *b"CONN\x00\x00\x00\x9f\xdd\x51A";
 
 const JOIN_D: [u8; 11] = *b"CONN\x00\x00\x00\x9f\xdd\x51D";
 
-const LISTEN: [u8; 11] = *b"LSTN\x00\x00\x4b\x13\xd1\x06A";
+pub(crate) const LISTEN: [u8; 11] = *b"LSTN\x00\x00\x4b\x13\xd1\x06A";
 
-const LEAVE: [u8; 10] = *b"DISC\x00\x00\x4b\x13\xd1\x06";
+pub(crate) const LEAVE: [u8; 10] = *b"DISC\x00\x00\x4b\x13\xd1\x06";
 
 const PONG: [u8; 10] = *b"PONG\x00\x00\x00\x9f\xdd\x51";
 

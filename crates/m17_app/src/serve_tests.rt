@@ -1,10 +1,13 @@
 //! `serve`, from its words to its status, over ports and devices in memory.
+use crate::replay_tests::{JOIN, LEAVE, LISTEN};
 use crate::run::run;
 use crate::tests::words;
 use m17_devices::{
     BytesSink, BytesSource, Crew, Gram, Heard, ListBook, ListMouth, Peer, RefusingCrew, ScriptEar,
     ScriptPorts, StdCrew,
 };
+use m17_samples::frame;
+use m17_stream::write;
 use std::alloc::Global;
 use std::process::Abort;
 use std::sync::Wait;
@@ -81,19 +84,27 @@ fn expect<R: Threads + Wait + Abort + Copy + Send + 'static, C: Crew>(
     Ok((done.house.is_some(), done.refused.is_some()))
 }
 
-fn joins() -> Heard {
+fn peer(number: u8) -> Peer {
     let mut ip = [0; 16];
     ip[0] = 10;
-    ip[3] = 1;
-    Heard::Datagram {
-        from: Peer {
-            six: false,
-            ip,
-            port: 17_000,
-        },
-        at: 0,
-        bytes: Gram::of(&[0x43, 0x4F, 0x4E, 0x4E, 0, 0, 0, 0x9F, 0xDD, 0x51, 0x41]),
+    ip[3] = number;
+    Peer {
+        six: false,
+        ip,
+        port: 17_000,
     }
+}
+
+fn came(at: u64, number: u8, bytes: &[u8]) -> Heard {
+    Heard::Datagram {
+        from: peer(number),
+        at,
+        bytes: Gram::of(bytes),
+    }
+}
+
+fn packet(number: u16) -> [u8; 54] {
+    write(&frame(0x1234, number, number == 3))
 }
 
 fn faults(alloc: Global, count: usize) -> Result<Vec<Heard>, Fail> {
@@ -161,10 +172,92 @@ fn each_status_of_serve_has_its_text(rt: HostRuntime) -> Result<(), Fail> {
 #[test]
 fn a_crew_that_refuses_a_start_is_told(rt: HostRuntime) -> Result<(), Fail> {
     let alloc = rt.alloc();
-    let mut ports = ports(alloc, Vec::from_array(alloc, [joins()])?, NONE)?;
+    let mut ports = ports(alloc, Vec::from_array(alloc, [came(0, 1, &JOIN)])?, NONE)?;
     let mut crew = RefusingCrew::new(Vec::from_array(alloc, [1])?);
     let wanted = (6, "crew refused\n");
     let back = expect(&rt, alloc, &SERVE, &mut ports, &mut crew, NONE, wanted)?;
     assert_eq!(rt; back, (false, true));
+    Ok(())
+}
+
+// AB1CD joins module A and talks; N0CALL comes to listen, and leaves before the last packet.
+fn evening(alloc: Global) -> Result<Vec<Heard>, Fail> {
+    let heard = [
+        came(0, 1, &JOIN),
+        came(40, 1, &packet(0)),
+        came(50, 2, &LISTEN),
+        came(80, 1, &packet(1)),
+        came(120, 1, &packet(2)),
+        came(130, 2, &LEAVE),
+        came(160, 1, &packet(3)),
+    ];
+    Ok(Vec::from_array(alloc, heard)?)
+}
+
+// What was said to this peer, datagram by datagram.
+fn said_to(alloc: Global, list: &[(Peer, Gram)], to: Peer) -> Result<Vec<Gram>, Fail> {
+    let mut all = Vec::new(alloc);
+    for (peer, bytes) in list {
+        if *peer == to {
+            all.push(Gram::of(bytes.bytes()))?;
+        }
+    }
+    Ok(all)
+}
+
+fn grams(alloc: Global, all: &[&[u8]]) -> Result<Vec<Gram>, Fail> {
+    let mut grams = Vec::new(alloc);
+    for bytes in all {
+        grams.push(Gram::of(bytes))?;
+    }
+    Ok(grams)
+}
+
+// Demands that just these datagrams were said to this peer, in order.
+fn expect_said(
+    rt: &impl Abort,
+    alloc: Global,
+    list: &[(Peer, Gram)],
+    to: Peer,
+    wanted: &[&[u8]],
+) -> Result<(), Fail> {
+    let said = said_to(alloc, list, to)?;
+    assert_eq!(rt; said, grams(alloc, wanted)?);
+    Ok(())
+}
+
+// Each of the two is told in order; which of them is told first is left to the threads.
+#[test]
+fn an_evening_is_served_by_the_words_of_an_operator(rt: HostRuntime) -> Result<(), Fail> {
+    let alloc = rt.alloc();
+    let given = words(
+        alloc,
+        &["serve", "--call", "M17-TST", "--modules", "A", "x"],
+    )?;
+    let mut ports = ports(alloc, evening(alloc)?, NONE)?;
+    let mut crew = StdCrew::new();
+    let mut source = BytesSource::new(Vec::new(alloc), Vec::new(alloc));
+    let mut sink = BytesSink::make(alloc, 100, Vec::new(alloc))?;
+    let done = run(
+        &rt,
+        alloc,
+        &given,
+        &mut ports,
+        &mut crew,
+        &mut source,
+        &mut sink,
+    );
+    assert_eq!(rt; done.status, 0);
+    assert_eq!(rt; sink.bytes(), b"A admitted 4 missed 0\n".as_slice());
+    let house = done.house.ok_or("no devices")?;
+    assert_eq!(rt; house.mouths.len(), 1);
+    for mouth in house.mouths.iter() {
+        let list = mouth.list();
+        assert_eq!(rt; list.len(), 6);
+        let disc = b"DISC\x00\x13\x89\xf9\xba\xed";
+        expect_said(&rt, alloc, list, peer(1), &[b"ACKN", disc])?;
+        let wanted: &[&[u8]] = &[b"ACKN", &packet(1), &packet(2), b"DISC"];
+        expect_said(&rt, alloc, list, peer(2), wanted)?;
+    }
     Ok(())
 }
