@@ -73,6 +73,8 @@ fn words_of(rt: HostRuntime) -> Option<Vec<String>> {
 #[cfg(test)]
 mod evening_tests;
 #[cfg(test)]
+mod loopback_tests;
+#[cfg(test)]
 mod replay_tests;
 #[cfg(test)]
 mod serve_tests;

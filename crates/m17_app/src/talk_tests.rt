@@ -54,7 +54,7 @@ fn sent(at: u64, bytes: &[u8]) -> Heard {
 }
 
 // A script of these moments, with frames of stream 1234 that are numbered from 0.
-fn script(alloc: Global, moments: &[u64]) -> Result<Vec<u8>, Fail> {
+pub(crate) fn script(alloc: Global, moments: &[u64]) -> Result<Vec<u8>, Fail> {
     let mut bytes = Vec::new(alloc);
     let mut number = 0u16;
     for at in moments {

@@ -1,0 +1,120 @@
+//! `serve` and `talk`, each from its words to its status, over sockets of the loopback.
+use crate::run::run;
+use crate::talk_tests::script;
+use crate::tests::words;
+use m17_devices::{BytesSink, BytesSource, StdCrew};
+use m17_net::UdpPorts;
+use std::alloc::{AllocError, Global};
+use std::fs::File;
+use std::net::{Net, UdpSocket};
+use std::process::Abort;
+use std::rt::Files;
+use std::sync::Wait;
+use std::test::Fail;
+use std::thread;
+use std::thread::Threads;
+use std::time::{Clock, Duration, Instant};
+
+// For how long the reflector serves, in milliseconds.
+const SERVED_MS: u64 = 2_000;
+
+// A status, and what was written.
+type Ran = (u8, Vec<u8>);
+
+// Runs the program over sockets.
+fn ran_on_sockets<
+    R: Threads + Wait + Net + Files<File = File> + Clock + Copy + Drop + Send + 'static,
+>(rt: &R, alloc: Global, given: &[&str], input: Vec<u8>) -> Result<Ran, AllocError> {
+    let mut ports = UdpPorts::new(*rt);
+    let mut crew = StdCrew::new();
+    let mut source = BytesSource::new(input, Vec::new(alloc));
+    let Ok(mut sink) = BytesSink::make(alloc, 100, Vec::new(alloc)) else {
+        return Err(AllocError);
+    };
+    let words = words(alloc, given)?;
+    let done = run(
+        rt,
+        alloc,
+        &words,
+        &mut ports,
+        &mut crew,
+        &mut source,
+        &mut sink,
+    );
+    Ok((done.status, sink.bytes().to_vec(alloc)?))
+}
+
+// A reflector at this address.
+fn served<R: Threads + Wait + Net + Files<File = File> + Clock + Copy + Drop + Send + 'static>(
+    rt: &R,
+    alloc: Global,
+    at: &str,
+) -> Result<Ran, AllocError> {
+    let given = ["serve", "--call", "M17-TST", "--for", "2", at];
+    ran_on_sockets(rt, alloc, &given, Vec::new(alloc))
+}
+
+// A talk to the reflector at this address, which began at `start` or later, and whether it was over while that served.
+fn talked<R: Threads + Wait + Net + Files<File = File> + Clock + Copy + Drop + Send + 'static>(
+    rt: &R,
+    alloc: Global,
+    at: &str,
+    script: Vec<u8>,
+    start: Instant,
+) -> Result<(Ran, bool), AllocError> {
+    let given = [
+        "talk",
+        "--call",
+        "AB1CD",
+        "--module",
+        "A",
+        "--bind",
+        "127.0.0.1:0",
+        "--to",
+        at,
+    ];
+    thread::sleep(rt, Duration::from_millis(100));
+    let ran = ran_on_sockets(rt, alloc, &given, script)?;
+    let served = Duration::from_millis(SERVED_MS);
+    let in_time = start.elapsed(rt).is_ok_and(|since| since < served);
+    Ok((ran, in_time))
+}
+
+// An address of the loopback whose port nothing has.
+fn free_address<R: Net>(rt: &R, alloc: Global) -> Result<String, Fail> {
+    let socket = UdpSocket::bind(rt, "127.0.0.1:0")?;
+    Ok(format!(in alloc; "{}", socket.local_addr()?)?)
+}
+
+// Demands what comes of both ends.
+fn expect_lines(rt: &impl Abort, served: &Ran, talked: &Ran) {
+    let lines = "A admitted 3 missed 0\nB admitted 0 missed 0\nC admitted 0 missed 0\n";
+    assert_eq!(rt; served.1.as_slice(), lines.as_bytes());
+    assert_eq!(rt; talked.1.as_slice(), b"closed asked kept 0\n".as_slice());
+    assert_eq!(rt; (served.0, talked.0), (0, 0));
+}
+
+// Three packets are said to a reflector that serves for two seconds, in another thread. A client whose first CONN comes
+// too early asks again after one. An evening does not count where another program took the port first, or where the two
+// seconds were over before the talk was.
+#[test]
+fn a_reflector_serves_a_talk_over_the_loopback(rt: HostRuntime) -> Result<(), Fail> {
+    let alloc = rt.alloc();
+    for _try in 0..3 {
+        let script = script(alloc, &[0, 40, 80])?;
+        let address = free_address(&rt, alloc)?;
+        let start = Instant::now(&rt)?;
+        let (lend, at) = (&rt, address.as_str());
+        let (served, talked) = thread::join(
+            lend,
+            move || served(lend, alloc, at),
+            move || talked(lend, alloc, at, script, start),
+        );
+        let (served, (talked, in_time)) = (served?, talked?);
+        if in_time && served.0 != 5 {
+            expect_lines(&rt, &served, &talked);
+            return Ok(());
+        }
+    }
+    Err("no evening counts".into())
+}
