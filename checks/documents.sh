@@ -2,6 +2,7 @@
 # shellcheck shell=sh
 
 # The commands of the blocks ```console, each after `$ `, with what they print below them; run in a tree that is built.
+# A reflector runs beside what follows it, for fewer seconds and at another port than the document says.
 examples_of() { # DOCUMENT
     make_tree tree && with_rt tree/m17 build 2>/dev/null || return 1
     awk '
@@ -13,13 +14,29 @@ examples_of() { # DOCUMENT
         echo "$1 has no example"
         return 1
     }
-    for command in *.command; do
-        (cd tree && without_rt sh "../$command") >got 2>&1
-        cmp got "${command%.command}.wanted" || {
-            echo "$1 says otherwise of: $(cat "$command")"
-            return 1
-        }
+    if grep -q 'm17 serve' ./*.command; then
+        needs python3
+        port=$(free_port)
+    fi
+    at=0
+    while [ -f $((at += 1)).command ]; do
+        sed -i "s/:17000/:${port:-17000}/g; s/--for [0-9]*/--for 6/" $at.command
+        if grep -q 'm17 serve' $at.command; then
+            (cd tree && without_rt sh ../$at.command) >beside 2>&1 &
+            mv $at.wanted beside.wanted
+            sleep 1
+        else
+            (cd tree && without_rt sh ../$at.command) >got 2>&1
+            prints_as_said "$1" $at.command got $at.wanted || return 1
+        fi
     done
+    [ ! -f beside ] || { wait && prints_as_said "$1" 'm17 serve' beside beside.wanted; }
+}
+prints_as_said() { # DOCUMENT COMMAND GOT WANTED
+    cmp "$3" "$4" || {
+        echo "$1 says otherwise of: $(cat "$2" 2>/dev/null || echo "$2")"
+        return 1
+    }
 }
 check "the examples of README.md print what it says" examples_of README.md
 check "the examples of docs/operating.md print what it says" examples_of docs/operating.md
@@ -37,20 +54,20 @@ help_has_each_command() {
 }
 check "m17 help has each command that the documents name" help_has_each_command
 
-# In the tables of docs/proofs.md the column `edits` names files of crates/*/must-fail.
+# In the tables of docs/proofs*.md the column `edits` names files of crates/*/must-fail.
 edits_are_named() {
     awk -F '|' '
         !/^\|/ { column = 0; next }
         !column { for (i = 2; i < NF; i++) if ($i ~ /^ *edits *$/) column = i; if (!column) column = -1; next }
-        column > 0 { print $column }' "$top/docs/proofs.md" | grep -o '`[a-z0-9_]*`' | tr -d '`' | sort -u >named
+        column > 0 { print $column }' "$top"/docs/proofs*.md | grep -o '`[a-z0-9_]*`' | tr -d '`' | sort -u >named
     find "$top"/crates/*/must-fail -name '*.edit' | sed 's/.*\///; s/\.edit$//' | sort -u >files
     [ -s named ] && [ -s files ] || return 1
-    comm -23 named files | sed 's/$/ is named in docs\/proofs.md, and is no edit/' >wrong
-    comm -13 named files | sed 's/$/ is an edit that docs\/proofs.md does not name/' >>wrong
+    comm -23 named files | sed 's/$/ is named in docs\/proofs*.md, and is no edit/' >wrong
+    comm -13 named files | sed 's/$/ is an edit that docs\/proofs*.md do not name/' >>wrong
     cat wrong
     [ ! -s wrong ]
 }
-check "docs/proofs.md names each edit of must-fail, and no other" edits_are_named
+check "docs/proofs.md and its pages name each edit of must-fail, and no other" edits_are_named
 
 crates_are_on_the_map() {
     sed 's/#.*//; /:/!d; s/[ :].*//' "$top/crates.txt" >crates
@@ -64,20 +81,47 @@ crates_are_on_the_map() {
 }
 check "docs/architecture.md has each crate of crates.txt" crates_are_on_the_map
 
-# Links, and paths in back quotes that begin with a folder of the tree.
+# links_of FOLDER: the relative links of its documents, as paths.
+links_of() {
+    find "$1" -name out -prune -o -name '*.md' -print | while read -r text; do
+        grep -o '](\([^)#]*\)' "$text" | sed 's/^](//' | grep -v '^[a-z]*:' | sed "s|^|${text%/*}/|"
+    done | grep -v '/NAME\|[*]'
+}
+
+# links_lead_on FOLDER: whether each of them leads to something.
+links_lead_on() {
+    links_of "$1" | while read -r path; do
+        [ -e "$path" ] || echo "there is no ${path#"$1"/}"
+    done >missing
+    cat missing
+    [ ! -s missing ]
+}
+
+# Paths in back quotes that begin with a folder of the tree.
 paths_are_there() {
-    for text in "$top"/*.md "$top"/docs/*.md "$top"/bench/*.md "$top"/contrib/*.md "$top"/conformance/*.md; do
-        {
-            grep -o '](\([^)#]*\)' "$text" | sed 's/^](//' | grep -v '^[a-z]*:' | sed "s|^|${text%/*}/|"
-            grep -o '`\(crates\|docs\|examples\|bench\|checks\|contrib\|conformance\)/[A-Za-z0-9_./-]*`' "$text" | tr -d '`' | sed "s|^|$top/|"
-        } | grep -v '/out/\|/NAME\|[*]' | while read -r path; do
-            [ -e "$path" ] || echo "${text#"$top"/}: there is no ${path#"$top"/}"
+    links_lead_on "$top" || return 1
+    for text in "$top"/*.md "$top"/docs/*.md "$top"/bench/*.md "$top"/contrib/*.md "$top"/conformance/*.md "$top"/crates/*/CALLING.md; do
+        grep -o '`\(crates\|docs\|examples\|bench\|checks\|contrib\|conformance\|release\)/[A-Za-z0-9_./-]*`' "$text" | tr -d '`' |
+            grep -v '/out/\|/NAME\|[*]' | while read -r path; do
+            [ -e "$top/$path" ] || echo "${text#"$top"/}: there is no $path"
         done
     done >missing
     cat missing
     [ ! -s missing ]
 }
 check "links and paths in the documents lead to something" paths_are_there
+
+# What the pages CALLING.md quote as a caller stands in some crate, line by line.
+callers_are_of_the_code() {
+    find "$top"/crates/*/src -name '*.rt' -exec sed 's/^ *//' {} + | sort -u >lines
+    for text in "$top"/crates/*/CALLING.md; do
+        awk '/^```rust$/ { on = 1; next } /^```/ { on = 0 } on && NF' "$text" | sed 's/^ *//' | sort -u | comm -23 - lines |
+            sed "s|^|${text#"$top"/} quotes what no crate has: |"
+    done >wrong
+    cat wrong
+    [ -s lines ] && [ ! -s wrong ]
+}
+check "the callers that CALLING.md quotes stand in the crates" callers_are_of_the_code
 
 one_version() {
     told=$("$top/m17" version | sed -n 's/^m17 //p')
@@ -121,22 +165,12 @@ manual_page_is_set() {
 }
 check "the manual page is set without a warning" manual_page_is_set
 
-# The unit names a program of a prefix; here it is one that is there.
-service_unit() {
-    needs systemd-analyze
-    sed 's|/usr/local/bin/m17|/bin/true|' "$top/examples/m17.service" >m17.service
-    timeout 60 systemd-analyze verify --man=no ./m17.service >said 2>&1
-    ended=$?
-    cat said
-    [ $ended -eq 0 ] && ! grep -F m17.service said
-}
-check "systemd takes the unit of examples/m17.service" service_unit
-
 made_examples() {
     needs python3
     cp "$top/examples/make.py" . && python3 make.py || return 1
-    cmp judge.bin "$top/examples/judge.bin" && cmp show.hex "$top/examples/show.hex" &&
-        cmp evening.trace "$top/examples/evening.trace" && cmp talk.script "$top/examples/talk.script"
+    for made in judge.bin show.hex evening.trace talk.script evening.book disputed.book; do
+        cmp $made "$top/examples/$made" || return 1
+    done
 }
 check "examples/make.py makes the example inputs" made_examples
 

@@ -32,6 +32,7 @@ too_many_words() {
         refused judge '' &&
         refused '' judge &&
         refused show show.hex &&
+        refused check A.book &&
         refused judge $(seq 5000)
 }
 check "a second word is refused, and five thousand are" too_many_words
@@ -41,6 +42,7 @@ words_that_are_not_utf8() {
         refused "$(printf 'judge\200')" &&
         refused "$(printf '\303')" &&
         refused judge "$(printf '\377')" &&
+        refused check "$(printf '\377')" &&
         refused "$(printf '\377')" judge &&
         refused "$(printf '\355\240\200')" &&
         refused replay --call "$(printf 'A\377')" &&
@@ -63,6 +65,21 @@ refused_input() {
     gives 1 'disc\ninput refused at 1: digit\n' prog show <digit
 }
 check "refused input gives 1, and the last line says where and why" refused_input
+
+checked_books() {
+    printf M17BOOK1A >book
+    gives 0 'legal 0 records 0 streams 0 admitted\n' prog check <book || return 1
+    head -c 8 book >cut
+    gives 1 'input refused at 8: cut\n' prog check <cut || return 1
+    gives 1 'input refused at 0: cut\n' prog check || return 1
+    for name in legal verdict moment held-place leave kind; do
+        vector=$top/conformance/vectors/check-$name
+        gives "$(cat "$vector.status")" "$(cat "$vector.out")\n" prog check <"$vector.in" || return 1
+        # shellcheck disable=SC2016  # the program is a word of the inner shell
+        gives "$(cat "$vector.status")" "$(cat "$vector.out")\n" sh -c 'cat "$2" | "$1" check' sh "$program" "$vector.in" || return 1
+    done
+}
+check "a book is legal, or its first record that is not is named" checked_books
 
 empty_input() {
     gives 0 '' prog judge && gives 0 '' prog show && gives 0 'refused length 0\n' sh -c 'echo | "$1" show' sh "$program"
@@ -87,7 +104,7 @@ more_than_a_million() {
 check "record and line 1,000,000 are refused after a line for each before them" more_than_a_million
 
 failed_read() {
-    gives 3 'read failed\n' prog judge </ && gives 3 'read failed\n' prog show </
+    gives 3 'read failed\n' prog judge </ && gives 3 'read failed\n' prog show </ && gives 3 'read failed\n' prog check </
 }
 check "an input that cannot be read gives 3" failed_read
 
@@ -98,6 +115,9 @@ closed_streams() {
         return 1
     }
     prog show <"$top/examples/show.hex" >&-
+    [ $? -eq 4 ] || return 1
+    gives 3 'read failed\n' prog check <&- || return 1
+    printf M17BOOK1A | prog check >&-
     [ $? -eq 4 ]
 }
 check "no standard input gives 3, and no standard output 4" closed_streams
@@ -120,9 +140,11 @@ full_disk() {
         echo "there is no /dev/full here"
         exit 77
     }
-    for word in judge show nonsense; do
+    printf M17BOOK1A >book
+    for word in judge show check nonsense; do
         case $word in
         judge) input=$top/examples/judge.bin ;;
+        check) input=book ;;
         *) input=$top/examples/show.hex ;;
         esac
         prog "$word" <"$input" >/dev/full
@@ -154,6 +176,15 @@ closed_pipe() {
             return 1
         }
     done
+    # check has one line, which comes behind the end of its input: by then the reader has gone
+    {
+        { sleep 1 && printf M17BOOK1A; } | prog check
+        echo $? >ended
+    } | true
+    [ "$(cat ended)" -eq 4 ] || {
+        echo "check ended with status $(cat ended), and not 4"
+        return 1
+    }
 }
 check "a reader that goes away gives 4, and no signal ends the program" closed_pipe
 
@@ -169,6 +200,22 @@ talk_has_no_port() {
     refused talk && refused "$@" --stay 86400001 && refused "$@" x
 }
 check "a talk without a port ends with port failed, a wrong script with its refusal" talk_has_no_port
+
+# Books from files and pipes: legal, disputed, cut, and too large.
+check_says() {
+    book=$top/examples/evening.book
+    gives 0 'legal 10 records 1 streams 4 admitted\n' prog check <"$book" &&
+        gives 1 'input refused at 4: verdict\n' prog check <"$top/examples/disputed.book" &&
+        gives 1 'input refused at 0: cut\n' prog check </dev/null || return 1
+    { head -c 100 "$book" && sleep 0.2 && tail -c +101 "$book"; } | gives 0 'legal 10 records 1 streams 4 admitted\n' prog check &&
+        { cat "$top/examples/disputed.book" && printf 9; } | gives 1 'input refused at 471: kind 39\n' prog check || return 1
+    head -c 67108865 /dev/zero | gives 1 'input refused at 67108864: large\n' prog check || return 1
+    gives 3 'read failed\n' prog check <"$top" && refused check check && refused check "$book" || return 1
+    [ -c /dev/full ] || return 0
+    prog check <"$book" >/dev/full
+    [ $? -eq 4 ]
+}
+check "check says of a book that it is legal, or where it is not; input and output may fail" check_says
 
 # What another implementation of the same rules says of inputs of each kind.
 conformance_vectors() {

@@ -16,8 +16,8 @@ all_taken() {
     done
 }
 
-words_of_serve() {
-    all_refused serve <<'END' || return 1
+refused_of_serve() {
+    cat <<'END'
 
 x
 --call M17-TST
@@ -49,7 +49,9 @@ x
 -h
 --help
 END
-    all_taken serve <<'END'
+}
+taken_by_serve() {
+    cat <<'END'
 --call M17-TST x
 x --call=M17-TST
 --call M17-TST 1 2 3 4
@@ -66,11 +68,15 @@ x --call=M17-TST
 --call M17-TST -- --x
 END
 }
+words_of_serve() {
+    refused_of_serve >lines && all_refused serve <lines || return 1
+    taken_by_serve >lines && all_taken serve <lines
+}
 check "the words of serve are taken up to their bounds, and refused past them" words_of_serve
 
-words_of_talk() {
-    rest='--call AB1CD --module A --bind x --to 10.0.0.9:17000'
-    all_refused talk <<END || return 1
+right_talk='--call AB1CD --module A --bind x --to 10.0.0.9:17000'
+refused_of_talk() {
+    sed "s/^\$rest/$right_talk/" <<'END'
 
 --module A --bind x --to 10.0.0.9:17000
 --call AB1CD --bind x --to 10.0.0.9:17000
@@ -97,7 +103,9 @@ $rest --for 1
 $rest --modules A
 $rest x
 END
-    all_taken talk <<END
+}
+taken_by_talk() {
+    sed "s/^\$rest/$right_talk/" <<'END'
 $rest
 $rest --stay 0
 $rest --stay 86400000 --listen --book b
@@ -108,6 +116,10 @@ $rest --
 --call AB1CD --module A --bind x --to 0.0.0.0:0
 --call AB1CD --module A --bind x --to [0000:0000:0000:0000:0000:0000:0000:000a]:17000
 END
+}
+words_of_talk() {
+    refused_of_talk >lines && all_refused talk <lines || return 1
+    taken_by_talk >lines && all_taken talk <lines
 }
 check "the words of talk are taken up to their bounds, and refused past them" words_of_talk
 
