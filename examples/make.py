@@ -1,12 +1,17 @@
 #!/usr/bin/env python3
 """Writes the example inputs beside this file: judge.bin for `m17 judge`, show.hex for `m17 show`, evening.trace for
-`m17 replay`, and talk.script for `m17 talk`.
+`m17 replay`, talk.script for `m17 talk`, and evening.book and disputed.book, which `contrib/m17-book` reads.
+
+With words it writes a script for `m17 talk` to standard output, of so many frames (25 a second) of one stream:
+
+    make.py script CALLSIGN FRAMES > my.script
 
 The packets are made here from their layouts, and their CRCs by the plain division, so that the examples owe nothing to
 the program that reads them. All numbers have their highest byte first.
 """
 
 import os
+import sys
 
 LETTERS = " ABCDEFGHIJKLMNOPQRSTUVWXYZ0123456789-/."
 BROADCAST = b"\xff" * 6
@@ -136,20 +141,80 @@ def evening():
     )
 
 
-def script():
-    """What a client says in one second: 25 frames of one stream, the last with the end bit. A record has 62 bytes: the
-    milliseconds since the client became connected, and the packet.
+ASKED, SILENT = 1, 3
+OPENED, CONTINUED, REPEAT, LISTENS_ONLY = 1, 2, 4, 8
+
+
+def book_record(kind, index, moment, place, rest):
+    """A record of a book: kind, link 0, the number of the entry, moment, the member of generation 0 at the place; the rest."""
+    head = bytes([kind, 0]) + index.to_bytes(8, "big") + moment.to_bytes(8, "big")
+    return head + place.to_bytes(4, "big") + bytes(8) + rest
+
+
+def joined(index, moment, place, callsign, listens=0):
+    return book_record(1, index, moment, place, bytes([listens]) + address(callsign))
+
+
+def left(index, moment, place, why):
+    return book_record(2, index, moment, place, bytes([why]))
+
+
+def judged(index, moment, place, verdict, packet):
+    return book_record(3, index, moment, place, bytes([verdict]) + bytes(12) + packet)
+
+
+def evening_book():
+    """The book of module A of that evening: what became of the entries by which somebody came, spoke or left."""
+
+    def frame(number):
+        return stream_packet(0x1234, number, "AB1CD")
+
+    return b"M17BOOK1A" + b"".join(
+        [
+            joined(0, 0, 0, "AB1CD"),
+            judged(1, 40, 0, OPENED, frame(0)),
+            joined(2, 50, 1, "N0CALL", 1),
+            judged(3, 80, 0, CONTINUED, frame(1)),
+            judged(4, 90, 1, LISTENS_ONLY, stream_packet(0x5678, 0, "N0CALL")),
+            judged(5, 120, 0, CONTINUED, frame(2)),
+            judged(6, 125, 0, REPEAT, frame(2)),
+            left(7, 130, 1, ASKED),
+            judged(8, 160, 0, CONTINUED, frame(3 | END_BIT)),
+            left(15, 33020, 0, SILENT),
+        ]
+    )
+
+
+def disputed_book():
+    """A book that isn't legal: N0CALL opens a stream while AB1CD has the floor."""
+    return b"M17BOOK1A" + b"".join(
+        [
+            joined(0, 0, 0, "AB1CD"),
+            joined(1, 10, 1, "N0CALL"),
+            judged(2, 40, 0, OPENED, stream_packet(0x1234, 0, "AB1CD")),
+            judged(3, 80, 0, CONTINUED, stream_packet(0x1234, 1, "AB1CD")),
+            judged(4, 90, 1, OPENED, stream_packet(0x5678, 0, "N0CALL")),  # by the rule it is busy
+            judged(5, 130, 1, CONTINUED, stream_packet(0x5678, 1 | END_BIT, "N0CALL")),
+        ]
+    )
+
+
+def script(callsign, frames):
+    """What a client says in frames / 25 seconds: the frames of one stream, the last with the end bit. A record has 62 bytes:
+    the milliseconds since the client became connected, and the packet.
     """
-    frames = 25
     records = []
     for number in range(frames):
         field = number | END_BIT if number == frames - 1 else number
-        packet = stream_packet(0x1234, field, "AB1CD", bytes([number]) * 16)
+        packet = stream_packet(0x1234, field, callsign, bytes([number % 256]) * 16)
         records.append((40 * number).to_bytes(8, "big") + packet)
     return b"".join(records)
 
 
 def main():
+    if sys.argv[1:2] == ["script"]:
+        sys.stdout.buffer.write(script(sys.argv[2], int(sys.argv[3])))
+        return
     folder = os.path.dirname(os.path.abspath(__file__))
     with open(os.path.join(folder, "judge.bin"), "wb") as out:
         out.write(b"".join(judge_records()))
@@ -159,7 +224,11 @@ def main():
     with open(os.path.join(folder, "evening.trace"), "wb") as out:
         out.write(evening())
     with open(os.path.join(folder, "talk.script"), "wb") as out:
-        out.write(script())
+        out.write(script("AB1CD", 25))
+    with open(os.path.join(folder, "evening.book"), "wb") as out:
+        out.write(evening_book())
+    with open(os.path.join(folder, "disputed.book"), "wb") as out:
+        out.write(disputed_book())
 
 
 if __name__ == "__main__":

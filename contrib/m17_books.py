@@ -1,0 +1,247 @@
+"""What the scripts beside this file know of packets, books and traces (docs/protocol.md). It lies where they lie, or in
+../lib/m17 from there.
+"""
+
+import calendar
+import os
+import re
+import sys
+import time
+
+BOOK_MAGIC, TRACE_MAGIC = b"M17BOOK1", b"M17TRACE"
+BOOK_HEAD = len(BOOK_MAGIC) + 1
+# Of each kind the whole length of a record.
+RECORDS = {1: 37, 2: 31, 3: 97}
+WHYS = ("asked", "moved", "silent", "stopped", "replaced")
+VERDICTS = ("opened", "continued", "busy", "repeat", "late", "after-end", "not-member", "listen-only")
+LETTERS = " ABCDEFGHIJKLMNOPQRSTUVWXYZ0123456789-/."
+END_BIT = 0x8000
+# The magics of packets, by length.
+MAGICS = {4: (b"ACKN", b"NACK", b"DISC"), 10: (b"PING", b"PONG", b"DISC"), 11: (b"CONN", b"LSTN"), 54: (b"M17 ",)}
+
+READ_AT_ONCE = 1 << 20
+# How many bytes before the place are compared, to see that a file is still the one that was read.
+KEPT_TAIL = 64
+# How much later than before, in milliseconds, a start has to be so that the clock was set.
+CLOCK_SET = 2000
+LAST_TIME = 253402300799999
+
+
+class Broken(Exception):
+    """The file is none of its kind from there on."""
+
+
+def number(data):
+    return int.from_bytes(data, "big")
+
+
+def callsign(data):
+    """The text of an address of six bytes."""
+    value = number(data)
+    if value == 2**48 - 1:
+        return "broadcast"
+    if not 0 < value < 40**9:
+        return data.hex().upper()
+    text = ""
+    while value:
+        value, letter = divmod(value, 40)
+        text += LETTERS[letter]
+    return text
+
+
+def peer_text(address, port):
+    if len(address) == 4:
+        return ".".join(map(str, address)) + f":{number(port)}"
+    return "[" + ":".join(address[at : at + 2].hex() for at in range(0, 16, 2)) + f"]:{number(port)}"
+
+
+def utc(milliseconds):
+    """The time that so many milliseconds since 1970 are."""
+    seconds, rest = divmod(min(max(milliseconds, 0), LAST_TIME), 1000)
+    return time.strftime("%Y-%m-%dT%H:%M:%S", time.gmtime(seconds)) + f".{rest:03d}Z"
+
+
+def read_time(text):
+    """Milliseconds since 1970 of 2026-11-28T08:01:59Z, with or without a fraction and the Z, or of 2026-11-28T080159, as
+    the folders of the service unit are named. Any other text is a ValueError."""
+    found = re.fullmatch(r"(\d{4}-\d\d-\d\dT\d\d):?(\d\d):?(\d\d)(?:\.(\d{1,3}))?Z?", text)
+    if not found:
+        raise ValueError(text)
+    whole = time.strptime(":".join(found.group(1, 2, 3)), "%Y-%m-%dT%H:%M:%S")
+    return 1000 * calendar.timegm(whole) + int((found.group(4) or "0").ljust(3, "0"))
+
+
+def better_start(old, new):
+    """Of two that were taken for the start of the reflector, the one to go on with. Each is too late by as long as a write
+    took, so the earlier one; but where the new one is later by seconds, the clock was set."""
+    return new if old is None or new < old or new > old + CLOCK_SET else old
+
+
+def crc_step(value):
+    for _ in range(8):
+        value = value << 1 ^ (0x15935 if value & 0x8000 else 0)
+    return value & 0xFFFF
+
+
+CRC_TABLE = [crc_step(high << 8) for high in range(256)]
+
+
+def crc(data):
+    value = 0xFFFF
+    for byte in data:
+        value = (value << 8 & 0xFF00) ^ CRC_TABLE[value >> 8 ^ byte]
+    return value
+
+
+def refusal(data):
+    """Why the datagram is no packet, or None. A CRC that was left out is told apart."""
+    if len(data) not in MAGICS:
+        return "length"
+    if data[:4] not in MAGICS[len(data)]:
+        return "magic"
+    if len(data) in (10, 11) and not 0 < number(data[4:10]) < 40**9:
+        return "address"
+    if len(data) == 11 and not 0x41 <= data[10] <= 0x5A:
+        return "module"
+    if len(data) == 54 and number(data[52:]) != crc(data[:52]):
+        return "crc" if any(data[52:]) else "crc-0000"
+    return None
+
+
+class Source:
+    """A file that grows, and how far it was read: `place` is behind the last whole item."""
+
+    def __init__(self, path):
+        self.path = path
+        self.file = open(path, "rb", buffering=0)
+        status = os.fstat(self.file.fileno())
+        self.key = status.st_dev, status.st_ino
+        self.place = self.limit = self.moment = self.changed = 0
+        self.tail = b""
+        self.seen = None
+        self.is_broken = False
+
+    def look(self):
+        """Takes how far the file goes now, and when it was changed last."""
+        status = os.fstat(self.file.fileno())
+        self.limit = 0 if self.is_broken else status.st_size
+        self.changed = status.st_mtime_ns
+
+    def is_whole(self):
+        """Whether what was read stands there still, so that the file was not made anew in its place."""
+        status = os.fstat(self.file.fileno())
+        # So short a file may be the same in every run: only the time of the change tells.
+        if status.st_size == self.place == len(self.tail) and self.seen not in (None, status.st_mtime_ns):
+            return False
+        return os.pread(self.file.fileno(), len(self.tail), self.place - len(self.tail)) == self.tail
+
+    def is_current(self):
+        """Whether the path leads to this file still, and it is whole. Where nothing is there, a new one is to come."""
+        try:
+            status = os.stat(self.path)
+        except OSError:
+            return self.is_whole()
+        return (status.st_dev, status.st_ino) == self.key and self.is_whole()
+
+    def items(self):
+        """Each whole item from `place` up to `limit`, and the place behind it."""
+        place, held = self.place, b""
+        while place + len(held) < self.limit:
+            begin = place + len(held)
+            more = os.pread(self.file.fileno(), min(READ_AT_ONCE, self.limit - begin), begin)
+            if not more:
+                break
+            data, at = held + more, 0
+            while at < len(data):
+                size = self.size_of(data, at, place + at)
+                if not size or at + size > len(data):
+                    break
+                yield data[at : at + size], place + at + size
+                at += size
+            place, held = place + at, data[at:]
+
+    def read(self):
+        """The same, and takes them as read. A file that is none of its kind is told of, and read no more."""
+        try:
+            for item, place in self.items():
+                self.place = place
+                self.tail = (self.tail + item)[-KEPT_TAIL:]
+                yield item
+        except Broken as broken:
+            self.is_broken = True
+            sys.stderr.write(f"{self.path}: refused at {self.place}: {broken}\n")
+        self.seen = self.changed if self.place == self.limit else None
+
+
+class Book(Source):
+    """A book, of this module or, where the letter is None, of any. Each event is a moment, an order beside those of traces,
+    and what it is."""
+
+    def __init__(self, path, letter):
+        super().__init__(path)
+        self.letter = letter
+
+    def size_of(self, data, at, place):
+        if place == 0:
+            if len(data) >= BOOK_HEAD and not data.startswith(BOOK_MAGIC + (self.letter or "").encode()):
+                raise Broken("no book of this module")
+            return BOOK_HEAD
+        if data[at] not in RECORDS:
+            raise Broken(f"kind {data[at]:02X}")
+        return RECORDS[data[at]]
+
+    def start(self):
+        """When the reflector started, by what `look` found: when the book was changed last, less the moment of the last
+        whole record. The head counts as a record of moment 0."""
+        moment = self.moment
+        try:
+            for item, place in self.items():
+                moment = number(item[10:18]) if place > BOOK_HEAD else 0
+        except Broken:
+            pass
+        return self.changed // 1_000_000 - moment
+
+    def events(self):
+        for record in self.read():
+            if len(record) > BOOK_HEAD:
+                self.moment = number(record[10:18])
+                # Who moves leaves one module before it joins another.
+                yield self.moment, 1 if record[0] == 2 else 2, ("record", self.letter, record)
+
+
+class Trace(Source):
+    """A trace: of its entries only the datagrams are events."""
+
+    def __init__(self, path, link):
+        super().__init__(path)
+        self.link = link
+        self.index = 0
+
+    def size_of(self, data, at, place):
+        if place == 0:
+            if len(data) >= len(TRACE_MAGIC) and data[: len(TRACE_MAGIC)] != TRACE_MAGIC:
+                raise Broken("no trace")
+            return len(TRACE_MAGIC)
+        kind = data[at]
+        if kind != 1:
+            if kind not in (2, 3):
+                raise Broken(f"kind {kind:02X}")
+            return 9 if kind == 2 else 1
+        if at + 9 >= len(data):
+            return 0
+        if data[at + 9] not in (4, 6):
+            raise Broken(f"family {data[at + 9]:02X}")
+        length = at + (16 if data[at + 9] == 4 else 28)
+        return length + 1 - at + data[length] if length < len(data) else 0
+
+    def events(self):
+        for item in self.read():
+            if item == TRACE_MAGIC:
+                continue
+            self.index += 1
+            if item[0] != 3:
+                self.moment = max(self.moment, number(item[1:9]))
+            if item[0] == 1:
+                end = 10 + (4 if item[9] == 4 else 16)
+                peer = item[10:end], item[end : end + 2]
+                yield self.moment, 0, ("datagram", self.link, self.index - 1, peer, item[end + 3 :])
