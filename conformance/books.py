@@ -40,20 +40,28 @@ class Book:
         link = draw.below(4)
         self.records.append(book_record(kind, link, draw.below(2**64), self.moment, key, rest))
 
+    def joins_or_leaves(self, place):
+        """Who isn't in joins; who is in leaves, sometimes."""
+        draw = self.draw
+        member = self.members.get(place)
+        if member is None:
+            member = Member(place, draw.pick(self.generations), listens=draw.chance(20))
+            self.members[place] = member
+            self.add(1, member, bytes([member.listens]) + draw.pick(CALLSIGNS).to_bytes(6, "big"))
+        elif draw.chance(25):
+            del self.members[place]
+            member.is_in = False
+            self.add(2, member, bytes([draw.between(1, 5)]))
+        else:
+            return False
+        return True
+
     def deed(self):
         draw = self.draw
         self.moment = max(self.moment, self.clock.next())
         self.floor.moves_to(self.moment)
-        if draw.chance(20):
-            place = draw.pick(self.places)
-            member = self.members.pop(place, None)
-            if member is None:
-                member = Member(place, draw.pick(self.generations), listens=draw.chance(20))
-                self.members[place] = member
-                self.add(1, member, bytes([member.listens]) + draw.pick(CALLSIGNS).to_bytes(6, "big"))
-            else:
-                member.is_in = False
-                self.add(2, member, bytes([draw.between(1, 5)]))
+        place = draw.pick(self.places)
+        if draw.chance(20) and self.joins_or_leaves(place):
             return
         place, packet = self.talk.frame()
         packet = decode(packet)
@@ -78,6 +86,14 @@ class Book:
 def some_book(draw):
     book = Book(draw, draw.pick((CALM, SHARP, WILD)))
     for _ in range(draw.between(0, 100)):
+        book.deed()
+    return book
+
+
+def a_book(draw, least):
+    """A book with so many records at least."""
+    book = Book(draw, draw.pick((CALM, SHARP, WILD)))
+    while len(book.records) < least:
         book.deed()
     return book
 
@@ -184,7 +200,7 @@ FIELDS_OF[3] = ("link", "place", "verdict", "busy", "late", "other", "packet", "
 
 def at_a_bound(draw):
     """A record of which one field is at a bound or beyond it."""
-    kind = draw.between(1, 3)
+    kind = draw.pick((1, 2, 3, 3, 3))
     packet = stream(1, 0)
     rest = {1: b"\0" + CALLSIGNS[0].to_bytes(6, "big"), 2: b"\1", 3: b"\7" + bytes(12) + packet}[kind]
     record = book_record(kind, 0, 0, 0, (0, 0), rest)
@@ -194,6 +210,12 @@ def at_a_bound(draw):
     at, values = FIELDS[field]
     value = draw.pick(values)
     return record[:at] + value + record[at + len(value) :]
+
+
+def check_bounds(draw):
+    """A record with a field at a bound, behind some that are right."""
+    data = BOOK_MAGIC + draw.pick((b"A", b"Z", b"A", b"@", b"[")) + b"".join(a_book(draw, draw.below(5)).records)
+    return ["check"], data + at_a_bound(draw)
 
 
 def check_bytes(draw):

@@ -5,6 +5,7 @@
     python3 conformance/compare.py --program ./m17 --only judge,show
     python3 conformance/compare.py --program ./m17 --vectors conformance/vectors
     python3 conformance/compare.py --program ./m17 --large
+    python3 conformance/compare.py --program ./m17 --each-byte
 
 Ends with the line `N passed, M failed` and with status 0 where none failed, else 1.
 """
@@ -18,6 +19,7 @@ import shlex
 import subprocess
 import sys
 
+import breaches
 import generate
 import made
 import reference
@@ -28,8 +30,9 @@ Result = collections.namedtuple("Result", "status output has_errors")
 Case = collections.namedtuple("Case", "kind name words data expected again")
 Failure = collections.namedtuple("Failure", "case got")
 
-# Commands that the program doesn't have yet: they are compared where --only names them, and left out otherwise.
-NOT_YET = ("check",)
+# Commands that the program of this repository doesn't have yet: they are compared where --only names them, and left out
+# otherwise, unless --without says what is left out.
+NOT_YET = ()
 
 FAILURES = os.path.join(os.path.dirname(os.path.abspath(__file__)), "failures")
 
@@ -55,6 +58,8 @@ def parse_options():
     parser.add_argument("--shrink", action="store_true", help="leave out of failing inputs what they don't need")
     parser.add_argument("--vectors", help="compare with the files of this folder, without the reference")
     parser.add_argument("--large", action="store_true", help="compare on the inputs at the limits of size")
+    parser.add_argument("--each-byte", action="store_true", help="compare `check` on changed books")
+    parser.add_argument("--without", help="commands that the program doesn't have, between commas, or `none`")
     parser.add_argument("--list", action="store_true", help="print the kinds of cases and end")
     return parser.parse_args()
 
@@ -111,6 +116,15 @@ def large_case(name):
     again = "--large --only " + words[0].decode()
     return Case("large", "large-" + name, words, data, run_reference(words, data), again)
 
+
+def changed_case(number):
+    name, data = EACH_BYTE[number]
+    words = [b"check"]
+    return Case("each-byte", "each-byte-%d" % number, words, data, run_reference(words, data), "--each-byte # " + name)
+
+
+# The masks flip a low bit, a middle one and the highest, so that each kind, verdict and bound is met from both sides.
+EACH_BYTE = list(breaches.with_each_byte_changed((1, 2, 0x10, 0x80)))
 
 LARGE = {
     "judge-most": (["judge"], lambda: bytes(64000000)),
@@ -246,7 +260,9 @@ def keep_failure(failure):
 def tasks():
     if options.vectors:
         paths = sorted(glob.glob(os.path.join(options.vectors, "*.args")))
-        return [(vector_case, path) for path in paths if first_word(path) not in left_out()]
+        return [(vector_case, path) for path in paths if is_vector_selected(path)]
+    if options.each_byte:
+        return [(changed_case, number) for number in range(len(EACH_BYTE))]
     if options.large:
         return [(large_case, name) for name in LARGE if is_selected(LARGE[name][0][0])]
     if options.case is not None:
@@ -258,9 +274,12 @@ def is_selected(command):
     return any(kind.split("-")[0] == command for kind in options.kinds)
 
 
-def first_word(path):
+def is_vector_selected(path):
+    """A name of --only, where there are any, is its command or begins its name; and its command is not left out."""
     with open(path) as file:
-        return file.readline().rstrip("\n")
+        command = file.readline().rstrip("\n")
+    is_named = any(name == command or os.path.basename(path).startswith(name) for name in named())
+    return (is_named or not named()) and command not in left_out()
 
 
 def named():
@@ -268,7 +287,14 @@ def named():
 
 
 def left_out():
-    """The commands that are not there yet and that no name of --only begins with or ends in."""
+    """The commands of --without, or else those that are not there yet and that no name of --only has a word of.
+
+    What --each-byte asks for is not left out.
+    """
+    if options.each_byte:
+        return []
+    if options.without is not None:
+        return [command for command in options.without.split(",") if command not in ("", "none")]
     return [command for command in NOT_YET if all(command not in name.split("-") for name in named())]
 
 
@@ -300,7 +326,7 @@ def main():
     for kind in sorted(counts):
         print("%-20s %6d passed, %d failed" % (kind, *counts[kind]))
     if left_out():
-        print("left out, since the program doesn't have it yet: %s" % ", ".join(left_out()))
+        print("left out, since the program doesn't have it: %s" % ", ".join(left_out()))
     if wrote_errors:
         print("standard error was written in %d runs" % wrote_errors)
     if failed:

@@ -156,29 +156,42 @@ class Trail:
         return items
 
 
-def breach(records):
-    """The first position of a book that breaks a rule, with the first rule that it breaks; else None."""
+def trail_of(records):
+    """What happened, by the records of a book."""
     kinds = {1: "join", 2: "leave", 3: "packet"}
-    members = [Place(record.place, record.generation) for record in records]
-    trail = Trail(
-        [
+    events = []
+    for n, record in enumerate(records):
+        member = Place(record.place, record.generation)
+        events.append(
             Event(n, record.moment, kinds[record.kind], member, listens=record.listens, packet=record.packet)
-            for n, (record, member) in enumerate(zip(records, members))
-        ],
-        256,
-        False,
-        0,
-    )
-    for n, (record, member) in enumerate(zip(records, members)):
-        if n and record.moment < records[n - 1].moment:
-            return n, "moment"
-        if record.kind == 1 and any(other.place == member.place for other in trail.those_in(n)):
-            return n, "member"
-        if record.kind == 2 and not trail.is_in(member, n):
-            return n, "member"
-        if record.kind == 3 and (record.verdict, record.value) != (trail.verdicts[n][0], trail.value(n)):
-            return n, "verdict"
+        )
+    return Trail(events, 256, False, 0)
+
+
+def broken_rule(records, trail, n):
+    """The first rule that the record at this position breaks; None where it breaks none."""
+    record, member = records[n], trail.events[n].member
+    if n and record.moment < records[n - 1].moment:
+        return "moment"
+    if record.kind == 1 and any(other.place == member.place for other in trail.those_in(n)):
+        return "member"
+    if record.kind == 2 and not trail.is_in(member, n):
+        return "member"
+    if record.kind == 3 and (record.verdict, record.value) != (trail.verdicts[n][0], trail.value(n)):
+        return "verdict"
     return None
+
+
+def check_line(records):
+    """What `check` says of a book with these records."""
+    trail = trail_of(records)
+    rules = [broken_rule(records, trail, n) for n in range(len(records))]
+    for n, rule in enumerate(rules):
+        if rule:
+            return "input refused at %d: %s" % (n, rule)
+    opened = [n for n in range(len(records)) if trail.verdicts[n] and trail.verdicts[n][0] == "opened"]
+    admitted = [n for n in range(len(records)) if trail.is_admitted(n)]
+    return "legal %d records %d streams %d admitted" % (len(records), len(opened), len(admitted))
 
 
 def judged(records):

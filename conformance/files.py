@@ -89,14 +89,18 @@ Record = namedtuple("Record", "kind moment place generation listens verdict valu
 
 
 def read_book(data):
+    """All records: a book is judged that is a book to its end."""
+    return list(book_records(data))
+
+
+def book_records(data):
     fields = Fields(data)
     fields.magic(BOOK_MAGIC)
     fields.number(1, ord("A"), ord("Z"))
-    records = []
     while True:
         kind = fields.kind((1, 2, 3))
         if kind is None:
-            return records
+            return
         fields.number(1, 0, 3)  # link
         fields.number(8)  # index
         moment = fields.number(8)
@@ -112,7 +116,7 @@ def read_book(data):
             verdict = VERDICTS[fields.number(1, 1, 8) - 1]
             value = fields.take(12, lambda field: is_value(verdict, field))
             packet = decode(fields.take(54, lambda field: isinstance(decode(field), Stream)))
-        records.append(Record(kind, moment, place, generation, listens, verdict, value, packet))
+        yield Record(kind, moment, place, generation, listens, verdict, value, packet)
 
 
 def is_value(verdict, field):

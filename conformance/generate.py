@@ -9,6 +9,7 @@ import shlex
 import sys
 
 import books
+import breaches
 import traces
 from draws import CALM, SHARP, WILD, Clock, Draw, Talk, any_packet, sealed, spoiled
 from files import BOOK_MAGIC
@@ -205,6 +206,10 @@ KINDS = {
     "make-small": (2, make_small),
     "check-legal": (4, books.check_legal),
     "check-broken": (6, books.check_broken),
+    "check-breach": (10, breaches.check_breach),
+    "check-breach-and-bytes": (3, breaches.check_breach_and_bytes),
+    "check-long": (1, breaches.check_long),
+    "check-bounds": (6, books.check_bounds),
     "check-bytes": (6, books.check_bytes),
     "words-judge": (1, words_plain("judge")),
     "words-show": (1, words_plain("show")),

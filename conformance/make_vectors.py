@@ -11,7 +11,7 @@ import os
 
 import made
 import reference
-from books import book_record
+from book_vectors import BOOKS, spoiled_crc
 from compare import parts_of
 from draws import LAST_MOMENT, named, stream
 from files import BOOK_MAGIC, TRACE_MAGIC, InputRefused, read_book, read_trace
@@ -64,10 +64,6 @@ def with_lsd(addresses, kind, meta):
     return stream(0xABCD, 0x7FFF, True, None, bytes(range(16)), lsd)
 
 
-def spoiled_crc(packet):
-    return packet[:53] + bytes([packet[53] ^ 1])
-
-
 def lines(*packets):
     return b"".join(packet.hex().upper().encode() + b"\n" for packet in packets)
 
@@ -78,22 +74,6 @@ def trace(*entries):
 
 def records(*parts):
     return b"".join(judge_record(*part) for part in parts)
-
-
-def book(*parts):
-    return BOOK_MAGIC + b"A" + b"".join(parts)
-
-
-def joined(moment, place, generation=0, listens=0):
-    return book_record(1, 0, 0, moment, (place, generation), bytes([listens]) + encode("AB1CD").to_bytes(6, "big"))
-
-
-def left(moment, place, generation=0, why=1):
-    return book_record(2, 0, 0, moment, (place, generation), bytes([why]))
-
-
-def judged(moment, place, packet, verdict, value=bytes(12), generation=0):
-    return book_record(3, 0, 0, moment, (place, generation), bytes([verdict]) + value + packet)
 
 
 # ---- show
@@ -508,37 +488,8 @@ vector("make-evening", "make 18446744073709551615 0150", b"", "The greatest seed
 
 # ---- check
 
-TALK = (
-    joined(0, 0),
-    joined(0, 255, 2**64 - 1),
-    joined(0, 1, 0, 1),
-    judged(0, 0, stream(1, 5), 1),
-    judged(0, 255, stream(2, 0), 3, bytes(12), 2**64 - 1),
-    judged(40, 0, stream(1, 5), 4),
-    judged(40, 0, stream(1, 4), 5, bytes(11) + b"\5"),
-    judged(40, 0, stream(1, 6, True), 2),
-    judged(80, 0, stream(1, 7), 6),
-    judged(80, 1, stream(1, 0), 8),
-    judged(80, 7, stream(1, 0), 7),
-    judged(80, 0, stream(1, 0), 7, bytes(12), 1),
-    left(80, 0),
-    joined(80, 0, 1),
-    judged(80, 0, stream(1, 7), 1, bytes(12), 1),
-)
-vector("check-nothing", "check", book(), "A book without records.")
-vector("check-legal", "check", book(*TALK), "Each verdict once.")
-OVERLAP = judged(0, 255, stream(2, 0), 1, bytes(12), 2**64 - 1)
-OTHER_HOLDER = judged(0, 255, stream(2, 0), 3, bytes(11) + b"\1", 2**64 - 1)
-vector("check-verdict", "check", book(*TALK[:4], OVERLAP), "Two streams at once.")
-vector("check-holder", "check", book(*TALK[:4], OTHER_HOLDER), "A busy verdict names the holder.")
-vector("check-moment", "check", book(joined(10, 0), joined(9, 0, 1)), "A moment that falls, and then a held place.")
-vector("check-held-place", "check", book(joined(10, 0), joined(10, 0, 1)), "A join at a place that is held.")
-vector("check-leave", "check", book(joined(0, 0), left(0, 0, 1)), "A leave of a member that isn't in.")
-vector("check-module", "check", BOOK_MAGIC + b"a\0", "The module byte is a field.")
-vector("check-value", "check", book(judged(0, 0, stream(1, 0), 5, bytes(10) + b"\x80\0")), "The value is a field.")
-vector("check-packet", "check", book(judged(0, 0, spoiled_crc(stream(1, 0)), 7)), "So is the packet.")
-vector("check-kind", "check", book(joined(0, 0), b"\4"), "An unknown kind of record.")
-vector("check-cut", "check", book(joined(0, 0), joined(0, 0))[:-1], "A book is read whole first.")
+for its_name, its_data, it_shows in BOOKS:
+    vector("check-" + its_name, "check", its_data, it_shows)
 
 # ---- words
 

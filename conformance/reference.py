@@ -65,11 +65,10 @@ def show(data):
 
 
 def check(data):
-    records = read_book(data)
     floor = Floor()
     members = {}
-    streams = admitted = 0
-    for index, record in enumerate(records):
+    records = streams = admitted = 0
+    for index, record in enumerate(read_book(data)):
         if record.moment < floor.moment:
             raise InputRefused(index, "moment")
         floor.moves_to(record.moment)
@@ -89,7 +88,8 @@ def check(data):
                 raise InputRefused(index, "verdict")
             streams += verdict.word == "opened"
             admitted += verdict.word in ("opened", "continued")
-    yield "legal %d records %d streams %d admitted" % (len(records), streams, admitted)
+        records += 1
+    yield "legal %d records %d streams %d admitted" % (records, streams, admitted)
 
 
 Plan = namedtuple("Plan", "name modules parrots places")

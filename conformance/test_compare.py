@@ -17,6 +17,7 @@ import sys
 import tempfile
 import unittest
 
+import breaches
 import generate
 import make_vectors
 import reference
@@ -58,17 +59,22 @@ def changed_folder(folder, file, old, new):
         source.write(text.replace(old, new))
 
 
-def differing(name):
-    """How many cases find this wrong program."""
-    file, old, new, kinds = WRONG[name]
-    cases, expected = drawn(kinds)
+def said_by(name, cases):
+    """What this wrong program says to each case."""
+    file, old, new, _ = WRONG[name]
     with tempfile.TemporaryDirectory() as folder:
         changed_folder(folder, file, old, new)
         environment = dict(os.environ, PYTHONPATH=folder)
         command = [sys.executable, "-c", RUNNER]
         done = subprocess.run(command, input=pickle.dumps(cases), stdout=subprocess.PIPE, cwd=folder, env=environment)
     done.check_returncode()
-    return sum(one != other for one, other in zip(expected, pickle.loads(done.stdout)))
+    return pickle.loads(done.stdout)
+
+
+def differing(name):
+    """How many cases find this wrong program."""
+    cases, expected = drawn(WRONG[name][3])
+    return sum(one != other for one, other in zip(expected, said_by(name, cases)))
 
 
 def found_by():
@@ -104,18 +110,33 @@ class Compare(unittest.TestCase):
         status, lines = compare("--program", program, "--vectors", make_vectors.FOLDER, "--only", ALL)
         self.assertEqual((status, lines[-1]), (0, "%d passed, 0 failed" % len(make_vectors.VECTORS)))
 
-    def test_a_command_that_is_not_there_yet_is_left_out(self):
+    def test_a_command_that_is_not_there_is_left_out(self):
         with tempfile.TemporaryDirectory() as folder:
-            changed_folder(folder, "reference", 'if command in ("judge", "show", "check"):', 'if command in ("judge", "show"):')
+            without = ("reference", '("judge", "show", "check"):', '("judge", "show"):')
+            changed_folder(folder, *without)
             program = "%s %s" % (sys.executable, os.path.join(folder, "reference.py"))
             words = ("--program", program, "--failures", os.path.join(folder, "failures"))
-            told = "left out, since the program doesn't have it yet: check"
-            for more in (("--cases", "40"), ("--vectors", make_vectors.FOLDER), ("--cases", "20", "--only", "words")):
-                status, lines = compare(*words, *more)
+            vectors = ("--vectors", make_vectors.FOLDER)
+            told = "left out, since the program doesn't have it: check"
+            for more in (("--cases", "40"), vectors, ("--cases", "20", "--only", "words")):
+                status, lines = compare(*words, "--without", "check", *more)
                 self.assertEqual((status, told in lines, lines[-1].endswith(" passed, 0 failed")), (0, True, True))
-            for more in (("--cases", "10", "--only", "check"), ("--vectors", make_vectors.FOLDER, "--only", ALL)):
+            some = ("--cases", "10", "--only", "check")
+            for more in (some, (*vectors, "--only", ALL), (*vectors, "--without", "none")):
                 status, lines = compare(*words, *more)
                 self.assertEqual((status, told in lines), (1, False))
+
+    def test_vectors_are_chosen_by_their_names(self):
+        program = "%s %s" % (sys.executable, os.path.join(FOLDER, "reference.py"))
+        status, lines = compare("--program", program, "--vectors", make_vectors.FOLDER, "--only", "check")
+        count = sum(name.startswith("check") for name, *_ in make_vectors.VECTORS)
+        self.assertEqual((status, lines[-1]), (0, "%d passed, 0 failed" % count))
+
+    def test_a_change_of_a_byte_finds_wrong_programs(self):
+        cases = [([b"check"], data) for _, data in breaches.with_each_byte_changed((1, 0x80))]
+        expected = [reference.run(words, lambda: data) for words, data in cases]
+        for name in ("value_is_not_compared", "value_is_not_judged", "leave_is_forgotten", "moments_may_fall"):
+            self.assertNotEqual(said_by(name, cases), expected, name)
 
     def test_a_failure_is_printed_kept_and_repeated(self):
         with tempfile.TemporaryDirectory() as folder:

@@ -536,10 +536,10 @@ class Words(unittest.TestCase):
 
 
 class Examples(unittest.TestCase):
-    """What README.md shows of the inputs in examples/."""
+    """What docs/operating.md shows of the inputs in examples/."""
 
     def shown(self, command):
-        with open(os.path.join(REPOSITORY, "README.md")) as file:
+        with open(os.path.join(REPOSITORY, "docs", "operating.md")) as file:
             text = file.read()
         block = text.split("$ ./m17 " + command + "\n", 1)[1]
         lines = []
@@ -550,10 +550,16 @@ class Examples(unittest.TestCase):
         raise AssertionError("no end")
 
     def test_examples(self):
-        for command, name in (("judge", "judge.bin"), ("show", "show.hex")):
+        for command, name in (("judge", "judge.bin"), ("show", "show.hex"), ("replay", "evening.trace")):
             with open(os.path.join(REPOSITORY, "examples", name), "rb") as file:
                 data = file.read()
             self.assertEqual(output([command], data), (0, self.shown("%s < examples/%s" % (command, name))))
+
+    def test_books(self):
+        legal = (0, ["legal 10 records 1 streams 4 admitted"])
+        for name, said in (("evening", legal), ("disputed", (1, ["input refused at 4: verdict"]))):
+            with open(os.path.join(REPOSITORY, "examples", name + ".book"), "rb") as file:
+                self.assertEqual(output(["check"], file.read()), said)
 
 
 if __name__ == "__main__":

@@ -4,6 +4,8 @@ Each has a name, the file, a text that stands there once, what stands there inst
 find it.
 """
 
+from wrong_checks import WRONG_CHECKS
+
 WRONG = {
     # packets
     "first_letter_is_most_significant": (
@@ -470,39 +472,7 @@ WRONG = {
         "field[:4] == b\"M17 \")",
         "check",
     ),
-    # check
-    "moments_may_fall": (
-        "reference",
-        "if record.moment < floor.moment:",
-        "if False:",
-        "check",
-    ),
-    "join_at_a_held_place_is_legal": (
-        "reference",
-        "if member is not None:\n",
-        "if is_in:\n",
-        "check",
-    ),
-    "generation_is_no_part_of_a_member": (
-        "reference",
-        "member is not None and member.generation == record.generation",
-        "member is not None",
-        "check",
-    ),
-    "value_is_not_compared": (
-        "reference",
-        "(verdict.word, value_bytes(verdict)) != (record.verdict, record.value)",
-        "verdict.word != record.verdict",
-        "check",
-    ),
-    "member_before_moment": (
-        "reference",
-        "        if record.moment < floor.moment:\n",
-        "        if record.kind == 1 and record.place in members:\n"
-        "            raise InputRefused(index, \"member\")\n"
-        "        if record.moment < floor.moment:\n",
-        "check",
-    ),
+    **WRONG_CHECKS,
     # show
     "carriage_return_is_a_digit_too_many": (
         "reference",

@@ -1,0 +1,121 @@
+"""The books among the vectors, each with its name and what it shows."""
+
+from books import book_record
+from draws import stream
+from files import BOOK_MAGIC
+from packets import encode
+
+
+def book(*parts):
+    return BOOK_MAGIC + b"A" + b"".join(parts)
+
+
+def joined(moment, place, generation=0, listens=0):
+    return book_record(1, 0, 0, moment, (place, generation), bytes([listens]) + encode("AB1CD").to_bytes(6, "big"))
+
+
+def left(moment, place, generation=0, why=1):
+    return book_record(2, 0, 0, moment, (place, generation), bytes([why]))
+
+
+def judged(moment, place, packet, verdict, value=bytes(12), generation=0):
+    return book_record(3, 0, 0, moment, (place, generation), bytes([verdict]) + value + packet)
+
+
+def by(place, generation=0):
+    """The value of a busy verdict."""
+    return place.to_bytes(4, "big") + generation.to_bytes(8, "big")
+
+
+def behind(number):
+    """The value of a late verdict."""
+    return number.to_bytes(12, "big")
+
+
+def spoiled_crc(packet):
+    return packet[:53] + bytes([packet[53] ^ 1])
+
+
+MOST = 2**64 - 1
+TALK = (
+    joined(0, 0),
+    joined(0, 255, MOST),
+    joined(0, 1, 0, 1),
+    judged(0, 0, stream(1, 5), 1),
+    judged(0, 255, stream(2, 0), 3, by(0), MOST),
+    judged(40, 0, stream(1, 5), 4),
+    judged(40, 0, stream(1, 4), 5, behind(5)),
+    judged(40, 0, stream(1, 6, True), 2),
+    judged(80, 0, stream(1, 7), 6),
+    judged(80, 1, stream(1, 0), 8),
+    judged(80, 7, stream(1, 0), 7),
+    judged(80, 0, stream(1, 0), 7, bytes(12), 1),
+    left(80, 0),
+    joined(80, 0, 1),
+    judged(80, 0, stream(1, 7), 1, bytes(12), 1),
+)
+# The member at place 0 talks, and the one at place 1 is in.
+ONE = joined(0, 0), joined(0, 1), judged(0, 0, stream(1, 0), 1)
+
+BOOKS = (
+    ("nothing", book(), "A book without records."),
+    ("legal", book(*TALK), "Each verdict once."),
+    ("all-places", book(*[joined(0, place, place) for place in range(256)]), "256 members are in."),
+    ("last-moment", book(joined(MOST, 0), judged(MOST, 0, stream(1, 0), 1)), "The last moment."),
+    # moments and members
+    ("moment", book(joined(10, 0), joined(9, 0, 1)), "A moment that falls, and then a held place."),
+    ("moment-of-packet", book(joined(1, 0), judged(0, 0, stream(1, 0), 2)), "The moment comes before the verdict."),
+    ("held-place", book(joined(10, 0), joined(10, 0, 1)), "A join at a place that is held."),
+    ("same-member", book(*ONE, joined(0, 0)), "The very member that is in joins again."),
+    ("leave", book(joined(0, 0), left(0, 0, 1)), "A leave of a member that isn't in."),
+    ("generation", book(*ONE, left(0, 0, 2**32)), "A generation has 64 bits."),
+    # verdicts
+    ("verdict", book(*TALK[:4], judged(0, 255, stream(2, 0), 1, bytes(12), MOST)), "Two streams at once."),
+    ("overlap", book(*ONE, judged(0, 1, stream(2, 0), 2)), "Another stream doesn't go on while the floor is held."),
+    (
+        "behind-a-leave",
+        book(*ONE, left(0, 1), joined(0, 1), judged(0, 1, stream(2, 0), 1)),
+        "Behind a leave two streams overlap.",
+    ),
+    ("floor-of-who-left", book(*ONE, left(0, 0), judged(0, 1, stream(2, 0), 1)), "Who leaves gives up the floor."),
+    (
+        "comes-again",
+        book(*ONE, left(40, 0), joined(40, 0), judged(40, 0, stream(1, 0), 1)),
+        "Who leaves and joins again has no last frame.",
+    ),
+    ("left", book(joined(0, 0), left(0, 0), judged(0, 0, stream(1, 0), 1)), "Who left speaks no more."),
+    ("listens", book(joined(0, 0, 0, 1), judged(0, 0, stream(1, 0), 1)), "Who listens opens nothing."),
+    ("kind-of-verdict", book(*ONE, judged(0, 0, stream(1, 0), 6)), "A repeat is not after the end."),
+    (
+        "holder",
+        book(*TALK[:4], judged(0, 255, stream(2, 0), 3, by(0, 1), MOST)),
+        "A busy verdict names the holder.",
+    ),
+    ("nobody-there", book(*ONE, judged(0, 1, stream(2, 0), 3, by(9))), "Busy by one that isn't in."),
+    ("own-second", book(*ONE, judged(0, 0, stream(2, 0), 3, by(0))), "Busy by one's own other stream."),
+    ("late", book(*ONE, judged(0, 0, stream(1, 32767), 5, behind(1))), "A late verdict names the last number."),
+    (
+        "silence",
+        book(
+            *ONE,
+            judged(1599, 1, stream(2, 0), 3, by(0)),
+            judged(1600, 1, stream(2, 1), 1),
+            judged(3199, 0, stream(1, 1), 3, by(1)),
+            judged(3200, 0, stream(1, 1), 1),
+        ),
+        "The floor is free 1,600 ms after the last admitted frame.",
+    ),
+    (
+        "memory",
+        book(*ONE, judged(9999, 0, stream(1, 0), 4), judged(10000, 0, stream(1, 0), 1)),
+        "A frame is remembered less than 10,000 ms.",
+    ),
+    # what is no book
+    ("module", BOOK_MAGIC + b"a\0", "The module byte is a field."),
+    ("value", book(judged(0, 0, stream(1, 0), 5, behind(32768))), "The value is a field."),
+    ("packet", book(judged(0, 0, spoiled_crc(stream(1, 0)), 7)), "So is the packet."),
+    ("kind", book(joined(0, 0), b"\4"), "An unknown kind of record."),
+    ("cut", book(joined(0, 0), joined(0, 0))[:-1], "A book is read whole first."),
+    ("cut-first", book(*ONE, joined(0, 0), b"\3"), "What is no book is not judged."),
+    ("kind-first", book(*ONE, joined(0, 0), b"\t"), "The same at an unknown kind."),
+)
