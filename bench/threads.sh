@@ -1,6 +1,6 @@
 #!/bin/bash
 # threads.sh [N]: runs each test of a run over threads N times, 20 where no N is given: each run has a schedule of its own.
-# It says how many runs passed, each of all tests, and how long each took. Builds the tests of m17_reflect first, which takes
+# It says how many runs passed, each of all tests, and how long each took. Builds m17_run_tests first, which takes
 # minutes where something of them was not proved yet. The status is 0 where all runs passed.
 set -e
 top=$(cd "$(dirname "$0")/.." && pwd)
@@ -8,9 +8,9 @@ runs=${1:-20}
 ulimit -c 0
 log=$(mktemp)
 trap 'rm -f "$log"' EXIT
-cd "$top/crates/m17_reflect"
+cd "$top/crates/m17_run_tests"
 rt test > "$log" 2>&1 || { tail -n 20 "$log"; exit 1; }
-program=$PWD/out/m17_reflect_tests
+program=$PWD/out/m17_run_tests_tests
 tests=$("$program" --list | sed -n 's/: test$//p')
 [ -n "$tests" ] || { echo "there are no tests"; exit 1; }
 
