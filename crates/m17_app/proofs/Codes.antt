@@ -1,7 +1,7 @@
 -- The numbers of statuses, and the words that name a command.
 use Rattle.std.proofs.Common.{◌≡◌, ◌≢◌, ◌⊎◌, ℕ, List, refl, sym, ap, subst, ◌∙◌, arith, inl, inr}
 use Rattle.m17_words.specs.declared.command.Command.{Command}
-use Rattle.m17_words.specs.declared.command.Command.TheVariants.{Judge, Show, Replay, Make, Talk, Serve}
+use Rattle.m17_words.specs.declared.command.Command.TheVariants.{Judge, Show, Replay, Make, Check, Talk, Serve}
 use Rattle.m17_app.specs.declared.status.Status.{Status}
 use Rattle.m17_app.specs.declared.status.Status.TheVariants.{Finished, InputRefused, WordsRefused, ReadFailed, WriteFailed, PortFailed, CrewRefused, LinkLost, BookFailed, NoMemory}
 use Rattle.m17_io.specs.Faults.{HasRisen}
@@ -41,6 +41,7 @@ not_words_refused : {L : Type 0} (command : Command) (status : Status) (before a
 not_words_refused Judge status before after run runs = (none_of_streams status runs.0.answer).no_words
 not_words_refused Show status before after run runs = (none_of_streams status runs.0.answer).no_words
 not_words_refused (Make seed count) status before after run runs = never WordsRefused Finished status runs.0.answer (λ e. cc) (λ e. cc)
+not_words_refused Check status before after run runs = (none_of_streams status runs.0.answer).no_words
 not_words_refused (Replay call modules parrots places summary) status before after run runs = replay_not_words status runs.0.answer
 not_words_refused (Talk order) status before after run runs = λ is. subst (λ (s : Status). TellsTalk order s before after (talk_side run)) is runs.0.tells
 not_words_refused (Serve order) status before after run runs = λ is. subst (λ (s : Status). TellsServe order s before after (serve_side run)) is runs.0.tells
@@ -106,6 +107,7 @@ module _ {L : Type 0} where
   ports_of Judge status before after run runs is = absurd ((none_of_streams status runs.0.answer).no_ports is)
   ports_of Show status before after run runs is = absurd ((none_of_streams status runs.0.answer).no_ports is)
   ports_of (Make seed count) status before after run runs is = absurd (never PortFailed Finished status runs.0.answer (λ e. cc) (λ e. cc) is)
+  ports_of Check status before after run runs is = absurd ((none_of_streams status runs.0.answer).no_ports is)
   ports_of (Replay call modules parrots places summary) status before after run runs is = absurd (replay_not_ports status runs.0.answer is)
   ports_of (Talk order) status before after run runs is =
       let tells : TellsTalk order PortFailed before after (talk_side run) = subst (λ (s : Status). TellsTalk order s before after (talk_side run)) is runs.0.tells in tells.0.risen
@@ -117,6 +119,7 @@ module _ {L : Type 0} where
   crew_of Judge status before after run runs is = absurd ((none_of_streams status runs.0.answer).no_crew is)
   crew_of Show status before after run runs is = absurd ((none_of_streams status runs.0.answer).no_crew is)
   crew_of (Make seed count) status before after run runs is = absurd (never CrewRefused Finished status runs.0.answer (λ e. cc) (λ e. cc) is)
+  crew_of Check status before after run runs is = absurd ((none_of_streams status runs.0.answer).no_crew is)
   crew_of (Replay call modules parrots places summary) status before after run runs is = runs.0.crew_refused is
   crew_of (Talk order) status before after run runs is = absurd (subst (λ (s : Status). TellsTalk order s before after (talk_side run)) is runs.0.tells)
   crew_of (Serve order) status before after run runs is =

@@ -4,6 +4,7 @@ pub mod LastLines
 pub mod Concluded
 pub mod JudgeRuns
 pub mod ShowRuns
+pub mod CheckRuns
 pub mod MakeRuns
 pub mod ReplayRuns
 pub mod Runnable

@@ -7,7 +7,7 @@ use Rattle.std.proofs.lemmas.Bool.Decides.{nat_tests}
 use Rattle.m17_control.specs.declared.modules.Modules.{Modules}
 use Rattle.m17_control.specs.Modules.{serves, letters_of}
 use Rattle.m17_words.specs.declared.command.Command.{Command}
-use Rattle.m17_words.specs.declared.command.Command.TheVariants.{Judge, Show, Replay, Make, Talk, Serve}
+use Rattle.m17_words.specs.declared.command.Command.TheVariants.{Judge, Show, Replay, Make, Check, Talk, Serve}
 use Rattle.m17_words.specs.Values.{IsNumberIfAny, NamesModules, NamesParrots}
 use Rattle.m17_words.specs.Words.{Names, Gives}
 use Rattle.m17_app.specs.Commands.{IsRunnable}
@@ -52,6 +52,7 @@ gives_runnable : (words : List (List ℕ)) (command : Command) → Gives words c
 gives_runnable words Judge gives = tt
 gives_runnable words Show gives = tt
 gives_runnable words (Make seed count) gives = gives.1.count_is.at_most
+gives_runnable words Check gives = tt
 gives_runnable words (Talk order) gives = tt
 gives_runnable words (Serve order) gives = record {
   plan = record {

@@ -4,13 +4,14 @@ use Rattle.m17_control.specs.declared.modules.Modules.{Modules}
 use Rattle.m17_house.specs.declared.plan.Plan.{Plan}
 use Rattle.m17_house.specs.Replay.{IsPlan}
 use Rattle.m17_words.specs.declared.command.Command.{Command}
-use Rattle.m17_words.specs.declared.command.Command.TheVariants.{Judge, Show, Replay, Make, Talk, Serve}
+use Rattle.m17_words.specs.declared.command.Command.TheVariants.{Judge, Show, Replay, Make, Check, Talk, Serve}
 use Rattle.m17_words.specs.Words.{Names}
 use Rattle.m17_app.specs.declared.status.Status.{Status}
 use Rattle.m17_app.specs.declared.status.Status.TheVariants.{NoMemory}
 use Rattle.m17_app.specs.Status.{Outside}
 use Rattle.m17_app.specs.Run.{AreRefused, RunsJudge, RunsShow, RefusesWords}
 use Rattle.m17_app.specs.Make.{RunsMake}
+use Rattle.m17_app.specs.Check.{RunsCheck}
 use Rattle.m17_app.specs.Replayed.{RunsReplay}
 use Rattle.m17_app.specs.Talk.{RunsTalk}
 use Rattle.m17_app.specs.Doing.{Doing, AsksForNothing, DoesNothing, ServesNothing, crew_side, talk_side}
@@ -35,6 +36,7 @@ Runs Judge status before after run = RunsJudge status before after × DoesNothin
 Runs Show status before after run = RunsShow status before after × DoesNothing run
 Runs (Make seed count) status before after run =
     RunsMake seed count status before after × DoesNothing run
+Runs Check status before after run = RunsCheck status before after × DoesNothing run
 Runs (Replay call modules parrots places summary) status before after run =
     RunsReplay (plan_of call modules parrots places) summary status before after (crew_side run)
     × AsksForNothing run
@@ -64,6 +66,7 @@ abbrev pub IsRunnable : Command → Type 0
 IsRunnable Judge = Unit {0}
 IsRunnable Show = Unit {0}
 IsRunnable (Make seed count) = count ≤ 100000
+IsRunnable Check = Unit {0}
 IsRunnable (Replay call modules parrots places summary) =
     IsPlan (plan_of call modules parrots places)
 IsRunnable (Talk order) = Unit {0}

@@ -1,6 +1,7 @@
 pub mod Status
 pub mod Run
 pub mod Make
+pub mod Check
 pub mod Replayed
 pub mod Talk
 pub mod Doing

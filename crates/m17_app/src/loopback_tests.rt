@@ -1,10 +1,9 @@
 //! `serve` and `talk`, each from its words to its status, over sockets of the loopback.
-use crate::run::run;
 use crate::talk_tests::script;
-use crate::tests::words;
-use m17_devices::{BytesSink, BytesSource, StdCrew};
+use crate::tests::{must, sink_that, status_over};
+use m17_devices::{BytesSource, StdCrew};
 use m17_net::UdpPorts;
-use std::alloc::{AllocError, Global};
+use std::alloc::Global;
 use std::fs::File;
 use std::net::{Net, UdpSocket};
 use std::process::Abort;
@@ -23,45 +22,35 @@ type Ran = (u8, Vec<u8>);
 
 // Runs the program over sockets.
 fn ran_on_sockets<
-    R: Threads + Wait + Net + Files<File = File> + Clock + Copy + Drop + Send + 'static,
->(rt: &R, alloc: Global, given: &[&str], input: Vec<u8>) -> Result<Ran, AllocError> {
-    let mut ports = UdpPorts::new(*rt);
-    let mut crew = StdCrew::new();
+    R: Threads + Wait + Net + Files<File = File> + Clock + Abort + Copy + Drop + Send + 'static,
+>(rt: &R, alloc: Global, given: &[&str], input: Vec<u8>) -> Ran {
+    let (mut ports, mut crew) = (UdpPorts::new(*rt), StdCrew::new());
     let mut source = BytesSource::new(input, Vec::new(alloc));
-    let Ok(mut sink) = BytesSink::make(alloc, 100, Vec::new(alloc)) else {
-        return Err(AllocError);
-    };
-    let words = words(alloc, given)?;
-    let done = run(
+    let mut sink = sink_that(rt, alloc, 100, &[]);
+    let status = status_over(
         rt,
         alloc,
-        &words,
+        given,
         &mut ports,
         &mut crew,
         &mut source,
         &mut sink,
     );
-    Ok((done.status, sink.bytes().to_vec(alloc)?))
+    (status, must(rt, sink.bytes().to_vec(alloc)))
 }
 
 // A reflector at this address.
-fn served<R: Threads + Wait + Net + Files<File = File> + Clock + Copy + Drop + Send + 'static>(
-    rt: &R,
-    alloc: Global,
-    at: &str,
-) -> Result<Ran, AllocError> {
+fn served<
+    R: Threads + Wait + Net + Files<File = File> + Clock + Abort + Copy + Drop + Send + 'static,
+>(rt: &R, alloc: Global, at: &str) -> Ran {
     let given = ["serve", "--call", "M17-TST", "--for", "3", at];
     ran_on_sockets(rt, alloc, &given, Vec::new(alloc))
 }
 
 // A talk to the reflector at this address, which began at `start` or later, and whether it was over well before that was.
-fn talked<R: Threads + Wait + Net + Files<File = File> + Clock + Copy + Drop + Send + 'static>(
-    rt: &R,
-    alloc: Global,
-    at: &str,
-    script: Vec<u8>,
-    start: Instant,
-) -> Result<(Ran, bool), AllocError> {
+fn talked<
+    R: Threads + Wait + Net + Files<File = File> + Clock + Abort + Copy + Drop + Send + 'static,
+>(rt: &R, alloc: Global, at: &str, script: Vec<u8>, start: Instant) -> (Ran, bool) {
     let given = [
         "talk",
         "--call",
@@ -74,10 +63,10 @@ fn talked<R: Threads + Wait + Net + Files<File = File> + Clock + Copy + Drop + S
         at,
     ];
     thread::sleep(rt, Duration::from_millis(100));
-    let ran = ran_on_sockets(rt, alloc, &given, script)?;
+    let ran = ran_on_sockets(rt, alloc, &given, script);
     let over_by = Duration::from_millis(OVER_BY_MS);
     let in_time = start.elapsed(rt).is_ok_and(|since| since < over_by);
-    Ok((ran, in_time))
+    (ran, in_time)
 }
 
 // An address of the loopback whose port nothing has.
@@ -101,16 +90,15 @@ fn expect_lines(rt: &impl Abort, served: &Ran, talked: &Ran) {
 fn a_reflector_serves_a_talk_over_the_loopback(rt: HostRuntime) -> Result<(), Fail> {
     let alloc = rt.alloc();
     for _try in 0..3 {
-        let script = script(alloc, &[0, 40, 80])?;
+        let script = script(&rt, alloc, &[0, 40, 80]);
         let address = free_address(&rt, alloc)?;
-        let start = Instant::now(&rt)?;
+        let start = must(&rt, Instant::now(&rt));
         let (lend, at) = (&rt, address.as_str());
-        let (served, talked) = thread::join(
+        let (served, (talked, in_time)) = thread::join(
             lend,
             move || served(lend, alloc, at),
             move || talked(lend, alloc, at, script, start),
         );
-        let (served, (talked, in_time)) = (served?, talked?);
         if in_time && served.0 != 5 {
             expect_lines(&rt, &served, &talked);
             return Ok(());

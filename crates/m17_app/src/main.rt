@@ -10,6 +10,7 @@ mod conclude;
 mod done;
 mod interruption;
 mod run;
+mod run_check;
 mod run_make;
 mod run_replay;
 mod run_serve;
@@ -70,6 +71,8 @@ fn words_of(rt: HostRuntime) -> Option<Vec<String>> {
     }
 }
 
+#[cfg(test)]
+mod check_tests;
 #[cfg(test)]
 mod evening_tests;
 #[cfg(test)]

@@ -9,6 +9,7 @@ ghost use Rattle.m17_app.specs.Commands.{Runs, RunsWords, EndsRefused, IsRunnabl
 
 use crate::conclude::{conclude, refuse_words};
 use crate::done::{Done, Ended, alone, answer_of};
+use crate::run_check::run_check;
 use crate::run_make::run_make;
 use crate::run_replay::run_replay;
 use crate::run_serve::run_serve;
@@ -97,6 +98,7 @@ fn run_command<R: Threads + Wait + Copy + Send + 'static, P: Ports, C: Crew, S: 
         Command::Judge => alone(run_judge(alloc, input, out)),
         Command::Show => alone(run_show(input, out)),
         Command::Make { seed, count } => alone(run_make(seed, count, input, out)),
+        Command::Check => alone(run_check(input, out)),
         Command::Replay {
             call,
             modules,

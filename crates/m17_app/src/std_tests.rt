@@ -3,14 +3,17 @@
 use crate::std_in::StdIn;
 use crate::std_out::StdOut;
 use crate::streams::run_on;
-use m17_devices::{ScriptPorts, StdCrew};
+use crate::tests::{must, no_ports, words};
+use m17_devices::StdCrew;
 use m17_io::{Outlet, Source};
 use m17_values::Failed;
 use std::alloc::Global;
 use std::cell::{Cell, RefCell};
 use std::fmt::Display;
 use std::io::{self, Error, ErrorKind, Read};
-use std::test::Fail;
+use std::process::Abort;
+use std::sync::Wait;
+use std::thread::Threads;
 
 // What the system answers to one call.
 #[derive(Clone, Copy)]
@@ -118,23 +121,33 @@ impl Print for Collected<'_> {
     }
 }
 
+// What two reads answer of a reader of five bytes that answers so, and whether bytes are at hand then.
+fn reads(answers: &[Answer]) -> ([Result<usize, Failed>; 2], bool) {
+    let mut into = [0u8; 8];
+    let mut input = StdIn::new(reader_of(b"abcde", answers));
+    let first = input.read(&mut into);
+    let second = input.read(&mut into);
+    ([first, second], input.is_at_hand())
+}
+
+// What a send of five bytes and one of these answer where what prints answers so, and whether this is printed then.
+fn sends(
+    alloc: Global,
+    answers: &[Answer],
+    more: &[u8],
+    printed: &[u8],
+) -> ([Result<usize, Failed>; 2], bool) {
+    let to = printer_that(alloc, answers);
+    let mut out = StdOut::new(&to);
+    let first = out.send(b"abcde");
+    let second = out.send(more);
+    ([first, second], to.holds(printed))
+}
+
 // However often a signal interrupts a call it is made again, and each other kind of error is a fault, at once.
 #[test]
-fn interruptions_pass_and_other_errors_are_faults(rt: HostRuntime) -> Result<(), Fail> {
-    let alloc = rt.alloc();
-    let mut answers = Vec::new(alloc);
-    for _ in 0..1000 {
-        answers.push(Interrupted)?;
-    }
-    answers.push(Bytes(3))?;
-    let mut into = [0u8; 8];
-    let mut input = StdIn::new(reader_of(b"abcde", &answers));
-    assert_eq!(rt; input.read(&mut into), Ok(3));
-    assert!(rt; !input.is_at_hand());
-    let to = printer_that(alloc, &answers);
-    assert_eq!(rt; StdOut::new(&to).send(b"abcde"), Ok(3));
-    assert!(rt; to.holds(b"abc"));
-    for kind in [
+fn interruptions_pass_and_other_errors_are_faults(rt: HostRuntime) {
+    const KINDS: [ErrorKind; 7] = [
         ErrorKind::BrokenPipe,
         ErrorKind::WouldBlock,
         ErrorKind::TimedOut,
@@ -142,118 +155,72 @@ fn interruptions_pass_and_other_errors_are_faults(rt: HostRuntime) -> Result<(),
         ErrorKind::StorageFull,
         ErrorKind::OutOfMemory,
         ErrorKind::Other,
-    ] {
-        let fails = [Interrupted, Fails(kind), Bytes(8)];
-        let mut input = StdIn::new(reader_of(b"abcde", &fails));
-        assert_eq!(rt; input.read(&mut into), Err(Failed));
-        assert_eq!(rt; input.read(&mut into), Ok(5));
-        let to = printer_that(alloc, &fails);
-        let mut out = StdOut::new(&to);
-        assert_eq!(rt; out.send(b"abcde"), Err(Failed));
-        assert_eq!(rt; out.send(b"abcde"), Ok(5));
-        assert!(rt; to.holds(b"abcde"));
+    ];
+    let alloc = rt.alloc();
+    let mut answers = must(&rt, vec![in alloc; Interrupted; 1000]);
+    must(&rt, answers.push(Bytes(3)));
+    assert!(rt; reads(&answers) == ([Ok(3), Ok(2)], false));
+    assert!(rt; sends(alloc, &answers, b"", b"abc") == ([Ok(3), Ok(0)], true));
+    let (failed, all) = (([Err(Failed), Ok(5)], false), ([Err(Failed), Ok(5)], true));
+    for kind in KINDS {
+        let answers = [Interrupted, Fails(kind), Bytes(8)];
+        let sent = sends(alloc, &answers, b"abcde", b"abcde");
+        assert!(rt; reads(&answers) == failed && sent == all);
     }
-    let to = printer_that(alloc, &[Bytes(0)]);
-    assert_eq!(rt; StdOut::new(&to).send(b"abcde"), Err(Failed));
-    assert_eq!(rt; StdOut::new(&to).send(b""), Ok(0));
-    Ok(())
+    let sent = sends(alloc, &[Bytes(0)], b"", b"");
+    assert!(rt; sent == ([Err(Failed), Ok(0)], true));
 }
 
 // The program's words, its reader's bytes and answers, its printer's answers, and then its status and what it printed.
-#[derive(Drop)]
-struct Run<'a> {
-    words: &'a [&'a str],
-    input: &'a [u8],
-    reads: &'a [Answer],
-    writes: &'a [Answer],
-    status: u8,
-    printed: &'a [u8],
+type Run = (
+    &'static [&'static str],
+    &'static [u8],
+    &'static [Answer],
+    &'static [Answer],
+    u8,
+    &'static [u8],
+);
+
+// Whether the program comes to what a row says.
+fn is_run<R: Threads + Wait + Abort + Copy + Send + 'static>(
+    rt: &R,
+    alloc: Global,
+    run: &Run,
+) -> bool {
+    let (given, input, reads, writes, status, printed) = *run;
+    let words = words(rt, alloc, given);
+    let to = printer_that(alloc, writes);
+    let (mut ports, mut crew) = (no_ports(alloc), StdCrew::new());
+    let reader = reader_of(input, reads);
+    let ended = run_on(rt, alloc, &words, &mut ports, &mut crew, reader, &to);
+    ended == status && to.holds(printed)
 }
 
 #[test]
-fn each_status_of_the_program_comes_with_its_line(rt: HostRuntime) -> Result<(), Fail> {
-    let alloc = rt.alloc();
-    let (one, all) = ([Bytes(1)], [Bytes(usize::MAX)]);
-    let lines = b"4d31370\n".as_slice();
-    let fails = [Bytes(4), Fails(ErrorKind::BrokenPipe)];
-    let table = [
-        Run {
-            words: &["show"],
-            input: b"",
-            reads: &all,
-            writes: &all,
-            status: 0,
-            printed: b"",
-        },
-        Run {
-            words: &["show"],
-            input: lines,
-            reads: &one,
-            writes: &one,
-            status: 1,
-            printed: b"input refused at 0: odd\n",
-        },
-        Run {
-            words: &["judge"],
-            input: b"short",
-            reads: &one,
-            writes: &one,
-            status: 1,
-            printed: b"input refused at 5: cut\n",
-        },
-        Run {
-            words: &[],
-            input: lines,
-            reads: &all,
-            writes: &one,
-            status: 2,
-            printed: b"words refused\n",
-        },
-        Run {
-            words: &["show", "show"],
-            input: lines,
-            reads: &all,
-            writes: &all,
-            status: 2,
-            printed: b"words refused\n",
-        },
-        Run {
-            words: &["judge", ""],
-            input: lines,
-            reads: &all,
-            writes: &all,
-            status: 2,
-            printed: b"words refused\n",
-        },
-        Run {
-            words: &["show"],
-            input: lines,
-            reads: &fails,
-            writes: &one,
-            status: 3,
-            printed: b"read failed\n",
-        },
-        Run {
-            words: &["show"],
-            input: lines,
-            reads: &all,
-            writes: &fails,
-            status: 4,
-            printed: b"inpu",
-        },
+fn each_status_of_the_program_comes_with_its_line(rt: HostRuntime) {
+    const ONE: &[Answer] = &[Bytes(1)];
+    const ALL: &[Answer] = &[Bytes(usize::MAX)];
+    const FAILS: &[Answer] = &[Bytes(4), Fails(ErrorKind::BrokenPipe)];
+    const LINES: &[u8] = b"4d31370\n";
+    const REFUSED: &[u8] = b"words refused\n";
+    const RUNS: [Run; 8] = [
+        (&["show"], b"", ALL, ALL, 0, b""),
+        (&["show"], LINES, ONE, ONE, 1, b"input refused at 0: odd\n"),
+        (
+            &["judge"],
+            b"short",
+            ONE,
+            ONE,
+            1,
+            b"input refused at 5: cut\n",
+        ),
+        (&[], LINES, ALL, ONE, 2, REFUSED),
+        (&["show", "show"], LINES, ALL, ALL, 2, REFUSED),
+        (&["judge", ""], LINES, ALL, ALL, 2, REFUSED),
+        (&["show"], LINES, FAILS, ONE, 3, b"read failed\n"),
+        (&["show"], LINES, ALL, FAILS, 4, b"inpu"),
     ];
-    for (i, run) in table.iter().enumerate() {
-        let mut words = Vec::new(alloc);
-        for word in run.words {
-            words.push(String::from_str(alloc, word)?)?;
-        }
-        let to = printer_that(alloc, run.writes);
-        let mut ports = ScriptPorts::new(Vec::new(alloc), Vec::new(alloc), Vec::new(alloc));
-        let reader = reader_of(run.input, run.reads);
-        let mut crew = StdCrew::new();
-        let status = run_on(&rt, alloc, &words, &mut ports, &mut crew, reader, &to);
-        assert_eq!(rt; status, run.status, "run {i}");
-        assert!(rt; to.holds(run.printed), "run {i}");
+    for (i, run) in RUNS.iter().enumerate() {
+        assert!(rt; is_run(&rt, rt.alloc(), run), "run {i}");
     }
-    Ok(())
 }

@@ -1,328 +1,451 @@
-//! What no clause says: the worked runs of the commands, over devices in memory.
+//! What no clause says: the worked runs of the commands, over devices in memory. What a run is given and what comes of it
+//! is data; `expect` runs the program by it.
+use crate::done::Done;
 use crate::run::run;
-use m17_devices::{BytesSink, BytesSource, Crew, RefusingCrew, ScriptPorts, StdCrew};
-use std::alloc::{AllocError, Global};
+use m17_devices::{BytesSink, BytesSource, Crew, Ports, RefusingCrew, ScriptPorts, StdCrew};
+use m17_samples::frame;
+use m17_stream::write;
+use std::alloc::Global;
+use std::process::Abort;
 use std::sync::Wait;
-use std::test::Fail;
 use std::thread::Threads;
 
-// A record of `judge`: its moment, its talker, and the stream id, number and end bit of its packet.
-#[derive(Clone, Copy, Debug)]
-struct Spoken(u64, u16, u16, u16, bool);
-
-fn records(alloc: Global, spoken: &[Spoken]) -> Result<Vec<u8>, AllocError> {
-    let mut input = Vec::new(alloc);
-    for Spoken(at, talker, sid, number, last) in spoken.iter().copied() {
-        input.extend_from_slice(&at.to_be_bytes())?;
-        input.extend_from_slice(&talker.to_be_bytes())?;
-        input.extend_from_slice(&m17_stream::write(&m17_samples::frame(sid, number, last)))?;
-    }
-    Ok(input)
+/// What was made; the test ends where it was not.
+pub(crate) fn must<T, E: Drop>(rt: &impl Abort, made: Result<T, E>) -> T {
+    made.ok().expect(rt, "made")
 }
 
-pub fn words(alloc: Global, given: &[&str]) -> Result<Vec<String>, AllocError> {
+/// A piece of an input. Peers are named by the last number of their address 10.0.0.0.
+#[derive(Clone, Copy)]
+pub(crate) enum Piece {
+    /// These bytes.
+    Bytes(&'static [u8]),
+    /// This text.
+    Text(&'static str),
+    /// A record of `judge`: its moment, its talker, and the stream id, number and end bit of its packet.
+    Spoken(u64, u16, u16, u16, bool),
+    /// A stream packet alone: its stream id, number and end bit.
+    Frame(u16, u16, bool),
+    /// The last bytes so far are these in place of what they were, so many bytes before the end.
+    Put(usize, &'static [u8]),
+    /// So many bytes fewer.
+    Cut(usize),
+    /// What a trace begins with.
+    Header,
+    /// An entry of a trace: these bytes, 64 at most, came from this peer at this moment.
+    Came(u64, u8, &'static [u8]),
+    /// An entry of a trace: a packet of stream 1234 (hex) with this number and end bit.
+    Packet(u64, u8, u16, u16, bool),
+    /// So many faults.
+    Faults(usize),
+}
+
+/// What a run is given, its words, its input, and which calls of the source and of the sink fail, and what comes of it:
+/// its status and what it wrote.
+pub(crate) type Row = (
+    &'static [&'static str],
+    &'static [Piece],
+    &'static [u64],
+    &'static [u64],
+    u8,
+    &'static str,
+);
+
+fn extend(rt: &impl Abort, input: &mut Vec<u8>, bytes: &[u8]) {
+    must(rt, input.extend_from_slice(bytes));
+}
+
+/// Puts an entry of a trace behind the others.
+pub(crate) fn push_came(rt: &impl Abort, input: &mut Vec<u8>, at: u64, host: u8, bytes: &[u8]) {
+    let length = (bytes.len() % 256) as u8;
+    extend(rt, input, &[0x01]);
+    extend(rt, input, &at.to_be_bytes());
+    extend(rt, input, &[0x04, 10, 0, 0, host, 0x42, 0x68, length]);
+    extend(rt, input, bytes);
+}
+
+fn put(input: &mut Vec<u8>, back: usize, bytes: &[u8]) {
+    let from = input.len().saturating_sub(back);
+    for (byte, new) in input.iter_mut().skip(from).zip(bytes) {
+        *byte = *new;
+    }
+}
+
+fn push_piece(rt: &impl Abort, input: &mut Vec<u8>, piece: Piece) {
+    match piece {
+        Piece::Bytes(bytes) => extend(rt, input, bytes),
+        Piece::Text(text) => extend(rt, input, text.as_bytes()),
+        Piece::Spoken(at, talker, sid, number, last) => {
+            extend(rt, input, &at.to_be_bytes());
+            extend(rt, input, &talker.to_be_bytes());
+            extend(rt, input, &write(&frame(sid, number, last)));
+        }
+        Piece::Frame(sid, number, last) => {
+            extend(rt, input, &write(&frame(sid, number, last)));
+        }
+        Piece::Put(back, bytes) => put(input, back, bytes),
+        Piece::Cut(back) => input.truncate(input.len().saturating_sub(back)),
+        Piece::Header => extend(rt, input, b"M17TRACE"),
+        Piece::Came(at, host, bytes) => push_came(rt, input, at, host, bytes),
+        Piece::Packet(at, host, sid, number, last) => {
+            push_came(rt, input, at, host, &write(&frame(sid, number, last)));
+        }
+        Piece::Faults(count) => {
+            for _fault in 0..count {
+                extend(rt, input, &[0x03]);
+            }
+        }
+    }
+}
+
+/// The input of these pieces.
+pub(crate) fn input_of(rt: &impl Abort, alloc: Global, pieces: &[Piece]) -> Vec<u8> {
+    let mut input = Vec::new(alloc);
+    for piece in pieces {
+        push_piece(rt, &mut input, *piece);
+    }
+    input
+}
+
+/// The words of a command line.
+pub(crate) fn words(rt: &impl Abort, alloc: Global, given: &[&str]) -> Vec<String> {
     let mut words = Vec::new(alloc);
     for word in given {
-        words.push(String::from_str(alloc, word)?)?;
+        must(rt, words.push(must(rt, String::from_str(alloc, word))));
     }
-    Ok(words)
+    words
 }
 
-// Runs the program, and hands back its status and what it wrote.
-pub fn ran<R: Threads + Wait + Copy + Send + 'static>(
+/// A sink with room for so many bytes, that fails at these calls.
+pub(crate) fn sink_that(rt: &impl Abort, alloc: Global, room: usize, fails: &[u64]) -> BytesSink {
+    must(
+        rt,
+        BytesSink::make(alloc, room, must(rt, fails.to_vec(alloc))),
+    )
+}
+
+/// Runs the program by these words over these devices and this crew.
+pub(crate) fn run_over<P: Ports, C: Crew, R: Threads + Wait + Abort + Copy + Send + 'static>(
     rt: &R,
     alloc: Global,
     given: &[&str],
-    input: Vec<u8>,
-    read_fails: &[u64],
-    write_fails: &[u64],
-) -> Result<(u8, Vec<u8>), AllocError> {
-    let mut crew = StdCrew::new();
-    ran_by(rt, alloc, given, &mut crew, input, read_fails, write_fails)
-}
-
-// The same by this crew.
-fn ran_by<C: Crew, R: Threads + Wait + Copy + Send + 'static>(
-    rt: &R,
-    alloc: Global,
-    given: &[&str],
+    ports: &mut P,
     crew: &mut C,
-    input: Vec<u8>,
-    read_fails: &[u64],
-    write_fails: &[u64],
-) -> Result<(u8, Vec<u8>), AllocError> {
-    let mut source = BytesSource::new(input, read_fails.to_vec(alloc)?);
-    let Ok(mut sink) = BytesSink::make(alloc, 4096, write_fails.to_vec(alloc)?) else {
-        return Err(AllocError);
-    };
-    let mut ports = ScriptPorts::new(Vec::new(alloc), Vec::new(alloc), Vec::new(alloc));
-    let words = words(alloc, given)?;
-    let done = run(rt, alloc, &words, &mut ports, crew, &mut source, &mut sink);
-    Ok((done.status, sink.bytes().to_vec(alloc)?))
+    source: &mut BytesSource,
+    sink: &mut BytesSink,
+) -> Done<P::Ear, P::Mouth, P::Book> {
+    let words = words(rt, alloc, given);
+    run(rt, alloc, &words, ports, crew, source, sink)
 }
+
+/// The same where its status alone counts.
+pub(crate) fn status_over<P: Ports, C: Crew, R: Threads + Wait + Abort + Copy + Send + 'static>(
+    rt: &R,
+    alloc: Global,
+    given: &[&str],
+    ports: &mut P,
+    crew: &mut C,
+    source: &mut BytesSource,
+    sink: &mut BytesSink,
+) -> u8 {
+    run_over(rt, alloc, given, ports, crew, source, sink).status
+}
+
+/// Ports of which nothing is had.
+pub(crate) fn no_ports(alloc: Global) -> ScriptPorts {
+    ScriptPorts::new(Vec::new(alloc), Vec::new(alloc), Vec::new(alloc))
+}
+
+/// The status and the text of the program that these words and this input come to; no device fails.
+pub(crate) fn text_of<R: Threads + Wait + Abort + Copy + Send + 'static>(
+    rt: &R,
+    alloc: Global,
+    given: &[&str],
+    input: Vec<u8>,
+    room: usize,
+) -> (u8, Vec<u8>) {
+    let mut source = BytesSource::new(input, Vec::new(alloc));
+    let mut sink = sink_that(rt, alloc, room, &[]);
+    let (mut ports, mut crew) = (no_ports(alloc), StdCrew::new());
+    let status = status_over(
+        rt,
+        alloc,
+        given,
+        &mut ports,
+        &mut crew,
+        &mut source,
+        &mut sink,
+    );
+    (status, must(rt, sink.bytes().to_vec(alloc)))
+}
+
+// Runs the program over such devices by this crew, and demands what comes of it.
+fn expect_by<C: Crew, R: Threads + Wait + Abort + Copy + Send + 'static>(
+    rt: &R,
+    alloc: Global,
+    row: &Row,
+    crew: &mut C,
+) {
+    let (given, input, reads, writes, wanted, text) = *row;
+    let reads = must(rt, reads.to_vec(alloc));
+    let mut source = BytesSource::new(input_of(rt, alloc, input), reads);
+    let mut sink = sink_that(rt, alloc, 4096, writes);
+    let mut ports = no_ports(alloc);
+    let status = status_over(rt, alloc, given, &mut ports, crew, &mut source, &mut sink);
+    assert!(rt;
+        status == wanted && sink.bytes() == text.as_bytes(),
+        "{status} {text}"
+    );
+}
+
+/// Runs the program by each of these rows, and demands what comes of it.
+pub(crate) fn expect<R: Threads + Wait + Abort + Copy + Send + 'static>(
+    rt: &R,
+    alloc: Global,
+    rows: &[Row],
+) {
+    for row in rows {
+        expect_by(rt, alloc, row, &mut StdCrew::new());
+    }
+}
+
+const JUDGE: &[&str] = &["judge"];
 
 // A crew that refuses the first start: nothing of the trace is told. Without a trace the crew is not asked.
 #[test]
-fn a_refused_start_is_told(rt: HostRuntime) -> Result<(), Fail> {
-    let alloc = rt.alloc();
-    for (input, status, text) in [
-        (b"M17TRACE\x03".as_slice(), 6, b"crew refused\n".as_slice()),
-        (b"M17", 1, b"input refused at 3: cut\n"),
-    ] {
-        let mut crew = RefusingCrew::new(Vec::from_array(alloc, [0])?);
-        let (ended, written) = ran_by(
-            &rt,
-            alloc,
-            &["replay"],
-            &mut crew,
-            input.to_vec(alloc)?,
-            &[],
-            &[],
-        )?;
-        assert_eq!(rt; ended, status);
-        assert_eq!(rt; written.as_slice(), text);
-    }
-    Ok(())
-}
-
-#[test]
-fn the_floor_is_held_lost_and_given_up(rt: HostRuntime) -> Result<(), Fail> {
-    let two = [Spoken(0, 3, 1, 0, false), Spoken(0, 4, 2, 0, false)];
-    let one_stream = [
-        Spoken(0, 0, 1, 5, false),
-        Spoken(40, 0, 1, 5, false),
-        Spoken(80, 0, 1, 4, false),
-        Spoken(120, 0, 1, 7, false),
-        Spoken(160, 0, 1, 6, false),
-    ];
-    let round = [Spoken(0, 0, 1, 32767, false), Spoken(0, 0, 1, 0, false)];
-    let half_less = [Spoken(0, 0, 1, 0, false), Spoken(0, 0, 1, 16383, false)];
-    let half = [Spoken(0, 0, 1, 0, false), Spoken(0, 0, 1, 16384, false)];
-    let ended = [
-        Spoken(0, 0, 1, 7, false),
-        Spoken(40, 0, 1, 9, true),
-        Spoken(80, 0, 1, 8, false),
-        Spoken(10_039, 0, 1, 0, false),
-        Spoken(10_040, 0, 1, 0, false),
-    ];
-    let silent = [
-        Spoken(0, 0, 1, 0, false),
-        Spoken(1_599, 1, 2, 0, false),
-        Spoken(1_600, 1, 2, 0, false),
-        Spoken(1_600, 0, 1, 1, false),
-    ];
-    let back = [
-        Spoken(5_000, 0, 1, 0, false),
-        Spoken(0, 1, 2, 0, false),
-        Spoken(6_600, 1, 2, 0, false),
-    ];
-    let runs: [(&[Spoken], &str); 8] = [
-        (&two, "0 opened\n1 busy 3\n"),
+fn a_refused_start_is_told(rt: HostRuntime) {
+    const REPLAY: &[&str] = &["replay"];
+    const ROWS: [Row; 2] = [
         (
-            &one_stream,
-            "0 opened\n1 repeat\n2 late 5\n3 continued\n4 late 7\n",
+            REPLAY,
+            &[Piece::Header, Piece::Faults(1)],
+            &[],
+            &[],
+            6,
+            "crew refused\n",
         ),
-        (&round, "0 opened\n1 continued\n"),
-        (&half_less, "0 opened\n1 continued\n"),
-        (&half, "0 opened\n1 late 0\n"),
         (
-            &ended,
-            "0 opened\n1 continued\n2 after-end\n3 after-end\n4 opened\n",
-        ),
-        (&silent, "0 opened\n1 busy 0\n2 opened\n3 busy 1\n"),
-        (&back, "0 opened\n1 busy 0\n2 opened\n"),
-    ];
-    for (spoken, text) in runs {
-        let (status, written) = ran(
-            &rt,
-            rt.alloc(),
-            &["judge"],
-            records(rt.alloc(), spoken)?,
-            &[],
-            &[],
-        )?;
-        assert_eq!(rt; status, 0, "{text}");
-        assert_eq!(rt; written.as_slice(), text.as_bytes());
-    }
-    Ok(())
-}
-
-#[test]
-fn a_refused_packet_moves_the_moment_alone(rt: HostRuntime) -> Result<(), Fail> {
-    let spoken = [
-        Spoken(0, 0, 1, 0, false),
-        Spoken(1_600, 1, 2, 0, false),
-        Spoken(1_500, 1, 2, 0, false),
-    ];
-    let mut input = records(rt.alloc(), &spoken)?;
-    assert_eq!(rt; input.len(), 192);
-    input[64 + 10 + 53] = 0xff;
-    input[64 + 10 + 52] = 0xff;
-    let (status, written) = ran(&rt, rt.alloc(), &["judge"], input, &[], &[])?;
-    assert_eq!(rt; status, 0);
-    let mut lines = written.as_slice().split(|byte| *byte == b'\n');
-    assert_eq!(rt; lines.next(), Some(b"0 opened".as_slice()));
-    let refused = lines.next().ok_or("one line")?;
-    assert!(rt; refused.starts_with(b"1 refused crc FFFF "));
-    assert_eq!(rt; lines.next(), Some(b"2 opened".as_slice()));
-    Ok(())
-}
-
-#[test]
-fn a_wrong_magic_is_named(rt: HostRuntime) -> Result<(), Fail> {
-    let mut input = records(rt.alloc(), &[Spoken(0, 0, 1, 0, false)])?;
-    assert_eq!(rt; input.len(), 64);
-    input[10] = b'C';
-    input[11] = b'O';
-    input[12] = b'N';
-    input[13] = b'X';
-    let (status, written) = ran(&rt, rt.alloc(), &["judge"], input, &[], &[])?;
-    assert_eq!(rt; status, 0);
-    assert_eq!(rt;
-        written.as_slice(),
-        b"0 refused magic 434F4E58\n".as_slice()
-    );
-    Ok(())
-}
-
-#[test]
-fn each_way_to_end_has_its_status_and_last_line(rt: HostRuntime) -> Result<(), Fail> {
-    let alloc = rt.alloc();
-    let spoken = [Spoken(0, 3, 1, 0, false), Spoken(0, 4, 2, 0, false)];
-    let mut cut = records(alloc, &spoken)?;
-    cut.truncate(65);
-    let runs: [(&[&str], Vec<u8>, &[u64], &[u64], u8, &str); 15] = [
-        (
-            &["judge"],
-            cut,
+            REPLAY,
+            &[Piece::Bytes(b"M17")],
             &[],
             &[],
             1,
-            "0 opened\ninput refused at 65: cut\n",
+            "input refused at 3: cut\n",
         ),
-        (&["judge"], Vec::new(alloc), &[], &[], 0, ""),
-        (
-            &["judge"],
-            records(alloc, &spoken)?,
-            &[0],
-            &[],
-            3,
-            "read failed\n",
-        ),
-        (
-            &["judge"],
-            records(alloc, &spoken)?,
-            &[1],
-            &[],
-            3,
-            "0 opened\nread failed\n",
-        ),
-        (&["judge"], records(alloc, &spoken)?, &[], &[0], 4, ""),
-        (
-            &["judge"],
-            records(alloc, &spoken)?,
-            &[],
-            &[1],
-            4,
-            "0 opened\n",
-        ),
-        (&[], Vec::new(alloc), &[], &[], 2, "words refused\n"),
-        (
-            &["judge", "judge"],
-            Vec::new(alloc),
-            &[],
-            &[],
-            2,
-            "words refused\n",
-        ),
-        (&["Judge"], Vec::new(alloc), &[], &[], 2, "words refused\n"),
-        (&["help"], Vec::new(alloc), &[], &[], 2, "words refused\n"),
-        (
-            &["show"],
-            b"4".to_vec(alloc)?,
-            &[],
-            &[],
-            1,
-            "input refused at 0: odd\n",
-        ),
-        // Call 2 of the sink writes the last line, which is empty, and call 3 is the flush.
-        (
-            &["judge"],
-            records(alloc, &spoken)?,
-            &[],
-            &[2],
-            4,
-            "0 opened\n1 busy 3\n",
-        ),
-        (
-            &["judge"],
-            records(alloc, &spoken)?,
-            &[],
-            &[3],
-            4,
-            "0 opened\n1 busy 3\n",
-        ),
-        (&["help"], Vec::new(alloc), &[], &[0], 4, ""),
-        (&["help"], Vec::new(alloc), &[], &[1], 4, "words refused\n"),
     ];
-    for (given, input, read_fails, write_fails, status, text) in runs {
-        let (answer, written) = ran(&rt, rt.alloc(), given, input, read_fails, write_fails)?;
-        assert_eq!(rt; answer, status, "{text}");
-        assert_eq!(rt; written.as_slice(), text.as_bytes());
+    for row in ROWS {
+        let first = must(&rt, Vec::from_array(rt.alloc(), [0]));
+        expect_by(&rt, rt.alloc(), &row, &mut RefusingCrew::new(first));
     }
-    Ok(())
 }
 
-// The trace of `make 0 2`.
-#[rattlefmt::skip]
-pub const MADE: [u8; 64] = [
-    0x4d, 0x31, 0x37, 0x54, 0x52, 0x41, 0x43, 0x45, 0x01, 0, 0, 0, 0, 0, 0, 0, 0, 0x04, 0x0a, 0, 0,
-    0x01, 0x42, 0x68, 0x0b, 0x43, 0x4f, 0x4e, 0x4e, 0, 0, 0, 0x01, 0x79, 0x60, 0x41, 0x01, 0, 0, 0,
-    0, 0, 0, 0, 0, 0x04, 0x0a, 0, 0, 0x02, 0x42, 0x68, 0x0b, 0x43, 0x4f, 0x4e, 0x4e, 0, 0, 0, 0x02,
-    0x73, 0x60, 0x42,
+const TWO_TALKERS: &[Piece] = &[
+    Piece::Spoken(0, 3, 1, 0, false),
+    Piece::Spoken(0, 4, 2, 0, false),
+];
+
+const ONE_STREAM: &[Piece] = &[
+    Piece::Spoken(0, 0, 1, 5, false),
+    Piece::Spoken(40, 0, 1, 5, false),
+    Piece::Spoken(80, 0, 1, 4, false),
+    Piece::Spoken(120, 0, 1, 7, false),
+    Piece::Spoken(160, 0, 1, 6, false),
+];
+
+const ROUND: &[Piece] = &[
+    Piece::Spoken(0, 0, 1, 32767, false),
+    Piece::Spoken(0, 0, 1, 0, false),
+];
+
+const HALF_LESS: &[Piece] = &[
+    Piece::Spoken(0, 0, 1, 0, false),
+    Piece::Spoken(0, 0, 1, 16383, false),
+];
+
+const HALF: &[Piece] = &[
+    Piece::Spoken(0, 0, 1, 0, false),
+    Piece::Spoken(0, 0, 1, 16384, false),
+];
+
+const ENDED: &[Piece] = &[
+    Piece::Spoken(0, 0, 1, 7, false),
+    Piece::Spoken(40, 0, 1, 9, true),
+    Piece::Spoken(80, 0, 1, 8, false),
+    Piece::Spoken(10_039, 0, 1, 0, false),
+    Piece::Spoken(10_040, 0, 1, 0, false),
+];
+
+const SILENT: &[Piece] = &[
+    Piece::Spoken(0, 0, 1, 0, false),
+    Piece::Spoken(1_599, 1, 2, 0, false),
+    Piece::Spoken(1_600, 1, 2, 0, false),
+    Piece::Spoken(1_600, 0, 1, 1, false),
+];
+
+const BACK: &[Piece] = &[
+    Piece::Spoken(5_000, 0, 1, 0, false),
+    Piece::Spoken(0, 1, 2, 0, false),
+    Piece::Spoken(6_600, 1, 2, 0, false),
 ];
 
 #[test]
-fn an_evening_is_made(rt: HostRuntime) -> Result<(), Fail> {
-    let alloc = rt.alloc();
-    // Each call writes the header, an entry, or the last line, which is empty; the last call is the flush.
-    let runs: [(&[&str], &[u64], u8, usize); 7] = [
-        (&["make", "0", "2"], &[], 0, 64),
-        (&["make", "0", "0"], &[], 0, 8),
-        (&["make", "18446744073709551615", "0"], &[], 0, 8),
-        (&["make", "0", "2"], &[0], 4, 0),
-        (&["make", "0", "2"], &[2], 4, 36),
-        (&["make", "0", "2"], &[3], 4, 64),
-        (&["make", "0", "2"], &[4], 4, 64),
+fn the_floor_is_held_lost_and_given_up(rt: HostRuntime) {
+    const ROWS: [Row; 8] = [
+        (JUDGE, TWO_TALKERS, &[], &[], 0, "0 opened\n1 busy 3\n"),
+        (
+            JUDGE,
+            ONE_STREAM,
+            &[],
+            &[],
+            0,
+            "0 opened\n1 repeat\n2 late 5\n3 continued\n4 late 7\n",
+        ),
+        (JUDGE, ROUND, &[], &[], 0, "0 opened\n1 continued\n"),
+        (JUDGE, HALF_LESS, &[], &[], 0, "0 opened\n1 continued\n"),
+        (JUDGE, HALF, &[], &[], 0, "0 opened\n1 late 0\n"),
+        (
+            JUDGE,
+            ENDED,
+            &[],
+            &[],
+            0,
+            "0 opened\n1 continued\n2 after-end\n3 after-end\n4 opened\n",
+        ),
+        (
+            JUDGE,
+            SILENT,
+            &[],
+            &[],
+            0,
+            "0 opened\n1 busy 0\n2 opened\n3 busy 1\n",
+        ),
+        (JUDGE, BACK, &[], &[], 0, "0 opened\n1 busy 0\n2 opened\n"),
     ];
-    for (given, write_fails, status, length) in runs {
-        // A source that fails is not read.
-        let (answer, written) = ran(&rt, rt.alloc(), given, Vec::new(alloc), &[0], write_fails)?;
-        assert_eq!(rt; answer, status);
-        assert_eq!(rt; written.len(), length);
-        assert!(rt; MADE.starts_with(written.as_slice()));
-    }
-    Ok(())
+    expect(&rt, rt.alloc(), &ROWS);
 }
 
 #[test]
-fn words_past_their_bounds_are_refused(rt: HostRuntime) -> Result<(), Fail> {
-    let refused: [&[&str]; 10] = [
-        &["make", "0", "100001"],
-        &["make", "0"],
-        &["make", "18446744073709551616", "0"],
-        &["make", "0", "1", "2"],
-        &["replay", "--places", "257"],
-        &["replay", "--places", "0"],
-        &["replay", "--modules", "AA"],
-        &["replay", "--modules", ""],
-        &["replay", "--modules", "AB", "--parrots", "C"],
-        &["replay", "--call", "m17-tst"],
+fn a_refused_packet_moves_the_moment_alone(rt: HostRuntime) {
+    const INPUT: [Piece; 4] = [
+        Piece::Spoken(0, 0, 1, 0, false),
+        Piece::Spoken(1_600, 1, 2, 0, false),
+        Piece::Put(2, b"\xff\xff"),
+        Piece::Spoken(1_500, 1, 2, 0, false),
     ];
-    for given in refused {
-        let (status, written) = ran(&rt, rt.alloc(), given, Vec::new(rt.alloc()), &[0], &[])?;
-        assert_eq!(rt; status, 2);
-        assert_eq!(rt; written.as_slice(), b"words refused\n".as_slice());
-    }
-    Ok(())
+    let input = input_of(&rt, rt.alloc(), &INPUT);
+    assert_eq!(rt; input.len(), 192);
+    let (status, text) = text_of(&rt, rt.alloc(), JUDGE, input, 4096);
+    assert_eq!(rt; status, 0);
+    assert!(rt; text.starts_with(b"0 opened\n1 refused crc FFFF "));
+    let lines = text.iter().filter(|byte| **byte == b'\n').count();
+    assert!(rt; text.ends_with(b"\n2 opened\n") && lines == 3);
+}
+
+#[test]
+fn a_wrong_magic_is_named(rt: HostRuntime) {
+    const ROWS: [Row; 1] = [(
+        JUDGE,
+        &[Piece::Spoken(0, 0, 1, 0, false), Piece::Put(54, b"CONX")],
+        &[],
+        &[],
+        0,
+        "0 refused magic 434F4E58\n",
+    )];
+    expect(&rt, rt.alloc(), &ROWS);
+}
+
+#[test]
+fn each_way_to_end_has_its_status_and_last_line(rt: HostRuntime) {
+    const TWO: &[Piece] = &[
+        Piece::Spoken(0, 3, 1, 0, false),
+        Piece::Spoken(0, 4, 2, 0, false),
+    ];
+    const CUT: &[Piece] = &[
+        Piece::Spoken(0, 3, 1, 0, false),
+        Piece::Spoken(0, 4, 2, 0, false),
+        Piece::Cut(63),
+    ];
+    const CUT_LINES: &str = "0 opened\ninput refused at 65: cut\n";
+    const ODD: &[Piece] = &[Piece::Bytes(b"4")];
+    const HELP: &[&str] = &["help"];
+    const ROWS: [Row; 15] = [
+        (JUDGE, CUT, &[], &[], 1, CUT_LINES),
+        (JUDGE, &[], &[], &[], 0, ""),
+        (JUDGE, TWO, &[0], &[], 3, "read failed\n"),
+        (JUDGE, TWO, &[1], &[], 3, "0 opened\nread failed\n"),
+        (JUDGE, TWO, &[], &[0], 4, ""),
+        (JUDGE, TWO, &[], &[1], 4, "0 opened\n"),
+        (&[], &[], &[], &[], 2, "words refused\n"),
+        (&["judge", "judge"], &[], &[], &[], 2, "words refused\n"),
+        (&["Judge"], &[], &[], &[], 2, "words refused\n"),
+        (HELP, &[], &[], &[], 2, "words refused\n"),
+        (&["show"], ODD, &[], &[], 1, "input refused at 0: odd\n"),
+        // Call 2 of the sink writes the last line, which is empty, and call 3 is the flush.
+        (JUDGE, TWO, &[], &[2], 4, "0 opened\n1 busy 3\n"),
+        (JUDGE, TWO, &[], &[3], 4, "0 opened\n1 busy 3\n"),
+        (HELP, &[], &[], &[0], 4, ""),
+        (HELP, &[], &[], &[1], 4, "words refused\n"),
+    ];
+    expect(&rt, rt.alloc(), &ROWS);
+}
+
+/// The trace of `make 0 2`, and its header, and this with its first entry.
+pub(crate) const MADE: &str = "M17TRACE\
+    \x01\0\0\0\0\0\0\0\0\x04\x0a\0\0\x01\x42\x68\x0bCONN\0\0\0\x01\x79\x60A\
+    \x01\0\0\0\0\0\0\0\0\x04\x0a\0\0\x02\x42\x68\x0bCONN\0\0\0\x02\x73\x60B";
+
+const MADE_FIRST: &str = "M17TRACE\
+    \x01\0\0\0\0\0\0\0\0\x04\x0a\0\0\x01\x42\x68\x0bCONN\0\0\0\x01\x79\x60A";
+
+const MADE_NONE: &str = "M17TRACE";
+
+// Each call of the sink writes the header, an entry, or the last line, which is empty; the last call is the flush. A
+// source that fails is not read.
+#[test]
+fn an_evening_is_made(rt: HostRuntime) {
+    const TWO: &[&str] = &["make", "0", "2"];
+    const GREATEST: &[&str] = &["make", "18446744073709551615", "0"];
+    const ROWS: [Row; 7] = [
+        (TWO, &[], &[0], &[], 0, MADE),
+        (&["make", "0", "0"], &[], &[0], &[], 0, MADE_NONE),
+        (GREATEST, &[], &[0], &[], 0, MADE_NONE),
+        (TWO, &[], &[0], &[0], 4, ""),
+        (TWO, &[], &[0], &[2], 4, MADE_FIRST),
+        (TWO, &[], &[0], &[3], 4, MADE),
+        (TWO, &[], &[0], &[4], 4, MADE),
+    ];
+    assert!(rt; MADE_NONE.len() == 8 && MADE_FIRST.len() == 36 && MADE.len() == 64);
+    expect(&rt, rt.alloc(), &ROWS);
+}
+
+#[test]
+fn words_past_their_bounds_are_refused(rt: HostRuntime) {
+    const REFUSED: &str = "words refused\n";
+    const ROWS: [Row; 10] = [
+        (&["make", "0", "100001"], &[], &[0], &[], 2, REFUSED),
+        (&["make", "0"], &[], &[0], &[], 2, REFUSED),
+        (
+            &["make", "18446744073709551616", "0"],
+            &[],
+            &[0],
+            &[],
+            2,
+            REFUSED,
+        ),
+        (&["make", "0", "1", "2"], &[], &[0], &[], 2, REFUSED),
+        (&["replay", "--places", "257"], &[], &[0], &[], 2, REFUSED),
+        (&["replay", "--places", "0"], &[], &[0], &[], 2, REFUSED),
+        (&["replay", "--modules", "AA"], &[], &[0], &[], 2, REFUSED),
+        (&["replay", "--modules", ""], &[], &[0], &[], 2, REFUSED),
+        (
+            &["replay", "--modules", "AB", "--parrots", "C"],
+            &[],
+            &[0],
+            &[],
+            2,
+            REFUSED,
+        ),
+        (&["replay", "--call", "m17-tst"], &[], &[0], &[], 2, REFUSED),
+    ];
+    expect(&rt, rt.alloc(), &ROWS);
 }

@@ -27,3 +27,7 @@ pub mod BookExact
 pub mod VerdictReads
 pub mod RecordReads
 pub mod NextRight
+pub mod Rosters
+pub mod MoreChecked
+pub mod FirstBreach
+pub mod SeenBook

@@ -1,5 +1,5 @@
 -- A reader of a book that is right gives the next record wherever there is one, and the end where there is none.
-use Rattle.std.proofs.Common.{◌≡◌, ◌⊎◌, ℕ, ◌+◌, ◌<◌, ◌≤◌, Bool, true, false, List, [], ◌∷◌, ◌++◌, length, Option, None, Some, Result, Ok, Err, MatchResult, inl, inr, refl, sym, ap, subst, ◌∙◌, arith, length-append}
+use Rattle.std.proofs.Common.{◌≡◌, ◌⊎◌, ℕ, ◌+◌, List, [], ◌∷◌, ◌++◌, length, Option, None, Some, Result, Ok, Err, MatchResult, inl, inr, refl, sym, ap, subst, ◌∙◌, arith, length-append}
 use Rattle.std.proofs.lemmas.List.{append_cancel_left, append-nil}
 use Rattle.m17_book.specs.Book.{HasBookForm, StopsBook}
 use Rattle.m17_book.specs.Flaws.{RecordFlaw}
@@ -11,7 +11,7 @@ use Rattle.m17_book.specs.Records.{SpellsRecord}
 use Rattle.m17_book.specs.declared.record.Record.{Record}
 use Rattle.m17_book.specs.declared.refusal.FormRefusal.{FormRefusal}
 use Rattle.m17_book.specs.declared.refusal.FormRefusal.TheVariants.{ReadFault}
-use Rattle.m17_book.proofs.BookExact.{Stopped, stopped, same_header, header_not_refused}
+use Rattle.m17_book.proofs.BookExact.{stopped, same_header, header_not_refused}
 use Rattle.m17_book.proofs.Readings.{one_list, whole_or_many, same_values, many_or_flawed, whole_or_flawed}
 use Rattle.m17_book.proofs.Told.{flaw_of}
 use Rattle.m17_book.proofs.Within.{is_within, is_fresh}

@@ -6,6 +6,10 @@ pub mod Flaws
 pub mod Book
 pub mod Answers
 pub mod Laws
+pub mod Checks
+pub mod Roster
+pub mod Checked
+pub mod Tried
 pub mod Parsed
 pub mod Steps
 pub mod Walk

@@ -3,10 +3,15 @@
 //! It promises that writing spells an entry, a record or a header, and that a reader of a book gives records that the
 //! bytes spell, one by one, the end only where they are the whole input, and else a refusal that the bytes have.
 //! Where the source fails it says so, and its count of faults rose.
-//! What is heard or decided, and whether a book is legal, is left to the crates above.
+//! It says which books are legal, exactly: whether each record is what the floor rule makes of all the records before it
+//! (`specs/Checks.antt`, over `m17_floor`'s `specs/Legal.antt`), and else which record is the first that isn't, and why.
+//! What is heard or decided is left to the crates above.
 #![tactic(auto)]
 
 mod book;
+mod check_book;
+mod checker;
+mod checking;
 mod cursor;
 mod form;
 pub mod laws;
@@ -17,27 +22,26 @@ mod parse_verdict;
 mod reader;
 mod record;
 mod refusal;
+mod report;
+mod roster;
 mod settle;
 mod silent;
 mod spell_entry;
 mod spell_record;
+mod stay;
 mod steps;
 mod trace;
 
 pub use book::{read_book, read_book_for};
+pub use check_book::check_book_for;
+pub use checker::Checker;
+pub use checking::check;
+pub use m17_floor::Rule;
 pub use reader::Reader;
 pub use record::Record;
 pub(crate) use refusal::Flaw;
 pub use refusal::FormRefusal;
+pub use report::{Breach, Report};
 pub use spell_entry::{write_entry, write_trace_header};
 pub use spell_record::{write_header, write_record};
 pub use trace::{read_trace, read_trace_for};
-
-#[cfg(test)]
-mod pieces_tests;
-#[cfg(test)]
-mod plain_tests;
-#[cfg(test)]
-mod tests;
-#[cfg(test)]
-mod whole_tests;

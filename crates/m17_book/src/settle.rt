@@ -2,6 +2,7 @@ ghost use Rattle.std.specs.Prelude.{◌≡◌, ◌↔◌, ◌<◌, ℕ, Bool, tr
 ghost use Rattle.m17_io.specs.Faults.{HasCause};
 ghost use Rattle.m17_book.specs.Ahead.{held, IsAhead};
 ghost use Rattle.m17_book.specs.Answers.{IsOutside};
+ghost use Rattle.m17_book.specs.Checks.{TakesNoMemory};
 ghost use Rattle.m17_book.specs.Limits.{told, most_bytes};
 ghost use Rattle.m17_book.specs.Reading.{HasReadCause};
 ghost use Rattle.m17_book.specs.Walk.{IsCutAt, IsSettled};
@@ -27,8 +28,7 @@ pub(crate) fn add_to<T: Drop>(list: &mut Vec<T>, value: T) -> Result<(), FormRef
     }
 }
 
-/// The list that was read, or why it was not. A refusal of the bytes gives way to the one that there are too many of
-/// them, so the input is gone through to its end, or past the bound.
+/// The list that was read, or why it was not, once that is settled.
 pub(crate) fn finish<T: Drop, S: Input<K>, K: Sink>(
     read: Result<(), FormRefusal>,
     list: Vec<T>,
@@ -48,8 +48,34 @@ pub(crate) fn finish<T: Drop, S: Input<K>, K: Sink>(
     ensures cause { (before : ℕ) → HasReadCause before (S.faults source.old) read
         → HasReadCause before (S.faults source.new) result }
 {
-    match read {
+    match settle(read, cursor, source, out) {
         Ok(()) => Ok(list),
+        Err(refusal) => Err(refusal),
+    }
+}
+
+/// That an input was read, or why it was not: a refusal of the bytes gives way to the one that there are too many of them,
+/// so the input is gone through to its end, or past the bound.
+pub(crate) fn settle<S: Input<K>, K: Sink>(
+    read: Result<(), FormRefusal>,
+    cursor: &mut Cursor,
+    source: &mut S,
+    out: &K,
+) -> Result<(), FormRefusal>
+    requires quiet { K.held_back out.now ≡ 0 }
+    ensures ok { IfOk result (λ _. IsOk read × (source.new ≡ source.old)) }
+    ensures err { OnErr result (IsErr read) }
+    ensures outside { IfErr read (λ found. IsOutside found → IfErr result IsOutside) }
+    ensures settled { IfErr read (λ found. (total : ℕ) → (ahead : List ℕ)
+        → IsAhead (held cursor.old) (S.left source.old) ahead
+        → told total ≡ told (cursor.old.place + length ahead) → IsCutAt total found
+        → IfErr result (IsSettled total found)) }
+    ensures no_memory { IfErr read TakesNoMemory → IfErr result TakesNoMemory }
+    ensures cause { (before : ℕ) → HasReadCause before (S.faults source.old) read
+        → HasReadCause before (S.faults source.new) result }
+{
+    match read {
+        Ok(()) => Ok(()),
         Err(FormRefusal::NoMemory) => Err(FormRefusal::NoMemory),
         Err(FormRefusal::ReadFault) => Err(FormRefusal::ReadFault),
         Err(found) => match is_large(found, cursor, source, out) {

@@ -5,70 +5,93 @@ use m17_memory::{BytesOutlet, BytesSource, WaitingSource};
 use m17_values::Failed;
 use std::alloc::Global;
 use std::process::Abort;
-use std::test::Fail;
 
-// Bytes that count up from 0 to 250, over and over: 251 divides no size here, so a piece lost or moved shows.
-fn numbered(alloc: Global, len: usize) -> Result<Vec<u8>, Fail> {
-    let mut bytes = Vec::with_capacity(alloc, len)?;
-    for i in 0..len {
-        bytes.push((i % 251) as u8)?;
-    }
-    Ok(bytes)
+// What was made; the test ends where it was not.
+fn must<T, E: Drop>(rt: &impl Abort, made: Result<T, E>) -> T {
+    made.ok().expect(rt, "made")
 }
 
-// Reads to the end by a buffer of this size, and hands back the bytes, and how many of them came before each failure.
+// Bytes that count up from 0 to 250, over and over: 251 divides no size here, so a piece lost or moved shows.
+fn numbered(rt: &impl Abort, alloc: Global, len: usize) -> Vec<u8> {
+    let mut bytes = must(rt, Vec::with_capacity(alloc, len));
+    for i in 0..len {
+        must(rt, bytes.push((i % 251) as u8));
+    }
+    bytes
+}
+
+fn buffered(
+    rt: &impl Abort,
+    alloc: Global,
+    bytes: &[u8],
+    fails: &[u64],
+) -> BufferedSource<BytesSource> {
+    let below = BytesSource::new(must(rt, bytes.to_vec(alloc)), must(rt, fails.to_vec(alloc)));
+    must(rt, BufferedSource::make(alloc, below))
+}
+
+fn waiting(rt: &impl Abort, alloc: Global, fails: &[u64]) -> BufferedSource<WaitingSource> {
+    let below = WaitingSource::new(
+        must(rt, b"abc".to_vec(alloc)),
+        must(rt, fails.to_vec(alloc)),
+    );
+    must(rt, BufferedSource::make(alloc, below))
+}
+
+// Reads to the end by this buffer, and hands back the bytes, and how many of them came before each failure.
 fn read_all<S: Source>(
+    rt: &impl Abort,
     alloc: Global,
     source: &mut S,
-    size: usize,
-) -> Result<(Vec<u8>, Vec<usize>), Fail> {
-    let mut buffer = vec![in alloc; 0u8; size]?;
+    buffer: &mut [u8],
+) -> (Vec<u8>, Vec<usize>) {
     let mut bytes = Vec::new(alloc);
     let mut failures = Vec::new(alloc);
     for _ in 0..u64::MAX {
-        match source.read(&mut buffer) {
+        match source.read(buffer) {
             Ok(0) => break,
-            Ok(n) => bytes.extend_from_slice(buffer.get(..n).ok_or("too many bytes")?)?,
-            Err(Failed) => failures.push(bytes.len())?,
+            Ok(n) => must(
+                rt,
+                bytes.extend_from_slice(buffer.get(..n).expect(rt, "the bytes")),
+            ),
+            Err(Failed) => must(rt, failures.push(bytes.len())),
         }
     }
-    Ok((bytes, failures))
+    (bytes, failures)
+}
+
+// Whether a read to the end by a buffer of this size gives the bytes, with one failure after the first refill.
+fn are_read(rt: &impl Abort, alloc: Global, bytes: &[u8], size: usize) -> bool {
+    let mut input = buffered(rt, alloc, bytes, &[1]);
+    let mut buffer = must(rt, vec![in alloc; 0u8; size]);
+    let (read, failures) = read_all(rt, alloc, &mut input, &mut buffer);
+    read.as_slice() == bytes && failures.as_slice() == [BUFFER_BYTES].as_slice()
 }
 
 #[test]
-fn every_byte_comes_once_and_in_order_past_a_failure(rt: HostRuntime) -> Result<(), Fail> {
-    let alloc = rt.alloc();
-    let bytes = numbered(alloc, 2 * BUFFER_BYTES + 108)?;
+fn every_byte_comes_once_and_in_order_past_a_failure(rt: HostRuntime) {
+    let bytes = numbered(&rt, rt.alloc(), 2 * BUFFER_BYTES + 108);
     for size in [1, 64, 70_000] {
-        let below = BytesSource::new(bytes.to_vec(alloc)?, [1].to_vec(alloc)?);
-        let mut input = BufferedSource::make(alloc, below)?;
-        let (read, failures) = read_all(alloc, &mut input, size)?;
-        assert!(rt; read == bytes, "by {size}");
-        assert_eq!(rt; failures.as_slice(), [BUFFER_BYTES].as_slice(), "by {size}");
+        assert!(rt; are_read(&rt, rt.alloc(), &bytes, size), "by {size}");
     }
-    Ok(())
 }
 
 #[test]
-fn bytes_are_at_hand_while_they_are_in_the_buffer(rt: HostRuntime) -> Result<(), Fail> {
-    let alloc = rt.alloc();
-    let below = WaitingSource::new(b"abc".to_vec(alloc)?, Vec::new(alloc));
-    let mut input = BufferedSource::make(alloc, below)?;
-    assert_eq!(rt; input.read(&mut []), Ok(0));
+fn bytes_are_at_hand_while_they_are_in_the_buffer(rt: HostRuntime) {
+    let mut input = waiting(&rt, rt.alloc(), &[]);
+    assert!(rt; input.read(&mut []) == Ok(0));
     let mut one = [0u8; 1];
-    for (i, expected) in [false, true, true, false].iter().enumerate() {
-        assert_eq!(rt; input.is_at_hand(), *expected, "before byte {i}");
+    for at_hand in [false, true, true, false] {
+        assert!(rt; input.is_at_hand() == at_hand);
         let _ = input.read(&mut one);
     }
-    let below = BytesSource::new(b"abc".to_vec(alloc)?, Vec::new(alloc));
-    assert!(rt; BufferedSource::make(alloc, below)?.is_at_hand());
-    Ok(())
+    assert!(rt; buffered(&rt, rt.alloc(), b"abc", &[]).is_at_hand());
 }
 
 // A sink above an outlet that takes 40,000 bytes at a time and fails at these calls.
-fn sink(alloc: Global, fails: &[u64]) -> Result<BufferedSink<BytesOutlet>, Fail> {
-    let below = BytesOutlet::new(alloc, 40_000, fails.to_vec(alloc)?);
-    Ok(BufferedSink::make(alloc, below)?)
+fn sink(rt: &impl Abort, alloc: Global, fails: &[u64]) -> BufferedSink<BytesOutlet> {
+    let below = BytesOutlet::new(alloc, 40_000, must(rt, fails.to_vec(alloc)));
+    must(rt, BufferedSink::make(alloc, below))
 }
 
 // Whether these bytes, and no others, have left by now.
@@ -79,81 +102,83 @@ fn has_sent(out: &BufferedSink<BytesOutlet>, bytes: &[u8]) -> bool {
 // Writes the bytes line by line, and compares how many have left after each line.
 fn write_lines(rt: &impl Abort, out: &mut BufferedSink<BytesOutlet>, bytes: &[u8]) {
     for (i, line) in bytes.chunks(100).enumerate() {
-        assert!(rt; out.write(line).is_ok());
+        let written = out.write(line).is_ok();
         let gone = if i < 655 { 0 } else { 65_500 };
-        assert_eq!(rt; out.outlet().bytes().len(), gone, "after line {i}");
+        assert!(rt;
+            written && out.outlet().bytes().len() == gone,
+            "after line {i}"
+        );
     }
-    assert!(rt; out.flush().is_ok());
-    assert!(rt; has_sent(out, bytes));
+    let flushed = out.flush().is_ok();
+    assert!(rt; flushed && has_sent(out, bytes));
 }
 
-// What is longer than the buffer, between two short texts.
-fn write_long(rt: &impl Abort, out: &mut BufferedSink<BytesOutlet>, bytes: &[u8]) {
-    assert!(rt; out.write(b"before").is_ok());
-    assert!(rt; out.write(bytes).is_ok());
-    assert!(rt; out.write(b"after").is_ok());
-    assert!(rt; out.flush().is_ok());
+// What is longer than the buffer, between two short texts: what each call answers.
+fn write_long(out: &mut BufferedSink<BytesOutlet>, bytes: &[u8]) -> [bool; 4] {
+    [
+        out.write(b"before").is_ok(),
+        out.write(bytes).is_ok(),
+        out.write(b"after").is_ok(),
+        out.flush().is_ok(),
+    ]
 }
 
 // The buffer has room for 655 lines of 100 bytes, and not for the next. What is longer than it keeps its place.
 #[test]
-fn bytes_leave_at_a_full_buffer_and_at_a_flush(rt: HostRuntime) -> Result<(), Fail> {
-    let alloc = rt.alloc();
-    let bytes = numbered(alloc, 70_000)?;
-    let mut out = sink(alloc, &[])?;
+fn bytes_leave_at_a_full_buffer_and_at_a_flush(rt: HostRuntime) {
+    let bytes = numbered(&rt, rt.alloc(), 70_000);
+    let mut out = sink(&rt, rt.alloc(), &[]);
     write_lines(&rt, &mut out, &bytes);
-    write_long(&rt, &mut out, &bytes);
-    let expected = [&bytes, b"before".as_slice(), &bytes, b"after"].concat(alloc)?;
-    assert!(rt; has_sent(&out, &expected));
-    Ok(())
+    assert!(rt; write_long(&mut out, &bytes) == [true; 4]);
+    let pieces: [&[u8]; 4] = [&bytes, b"before", &bytes, b"after"];
+    assert!(rt; has_sent(&out, &must(&rt, pieces.concat(rt.alloc()))));
 }
 
-// Fails in the middle of a flush, and then in a write that has to wait for room.
-fn fail_twice(rt: &impl Abort, out: &mut BufferedSink<BytesOutlet>, bytes: &[u8]) {
-    assert!(rt; out.write(bytes).is_ok());
-    assert!(rt; out.flush().is_err());
-    assert_eq!(rt; out.outlet().bytes().len(), 40_000);
-    assert!(rt; out.write(bytes).is_err());
-    assert!(rt; out.flush().is_ok());
+// Fails in the middle of a flush, and then in a write that has to wait for room: what each call answers, and how many
+// bytes have left after the first failure.
+fn fail_twice(out: &mut BufferedSink<BytesOutlet>, bytes: &[u8]) -> ([bool; 4], usize) {
+    let (written, flushed) = (out.write(bytes).is_ok(), out.flush().is_ok());
+    let gone = out.outlet().bytes().len();
+    let (again, at_last) = (out.write(bytes).is_ok(), out.flush().is_ok());
+    ([written, flushed, again, at_last], gone)
 }
 
 // The second call of the outlet fails: 40,000 bytes have left then, and the others are still held.
 #[test]
-fn a_failure_loses_no_byte_and_repeats_none(rt: HostRuntime) -> Result<(), Fail> {
-    let bytes = numbered(rt.alloc(), 60_000)?;
-    let mut out = sink(rt.alloc(), &[1, 2])?;
-    fail_twice(&rt, &mut out, &bytes);
+fn a_failure_loses_no_byte_and_repeats_none(rt: HostRuntime) {
+    let bytes = numbered(&rt, rt.alloc(), 60_000);
+    let mut out = sink(&rt, rt.alloc(), &[1, 2]);
+    assert!(rt; fail_twice(&mut out, &bytes) == ([true, false, false, true], 40_000));
     assert!(rt; has_sent(&out, &bytes));
-    Ok(())
 }
 
-// Reads two bytes at the most, and compares the answer and what has left then.
+// Reads two bytes at the most: whether this is the answer, and this has left then.
 fn reads(
-    rt: &impl Abort,
     input: &mut BufferedSource<WaitingSource>,
     out: &mut BufferedSink<BytesOutlet>,
     answer: Result<usize, Fault>,
     sent: &[u8],
-) {
+) -> bool {
     let mut two = [0u8; 2];
-    assert_eq!(rt; read_tied(input, out, &mut two), answer);
-    assert!(rt; has_sent(out, sent));
+    read_tied(input, out, &mut two) == answer && has_sent(out, sent)
 }
 
 #[test]
-fn output_has_left_before_a_read_waits(rt: HostRuntime) -> Result<(), Fail> {
-    let alloc = rt.alloc();
-    let below = WaitingSource::new(b"abc".to_vec(alloc)?, [2].to_vec(alloc)?);
-    let mut input = BufferedSource::make(alloc, below)?;
-    let mut out = sink(alloc, &[1])?;
+fn output_has_left_before_a_read_waits(rt: HostRuntime) {
+    const THEN: [(Result<usize, Fault>, &[u8]); 4] = [
+        // A byte is at hand: nothing waits, and nothing leaves.
+        (Ok(1), b"first"),
+        // The sink fails, then the source comes to its end, then the source fails.
+        (Err(Fault::Write), b"first"),
+        (Ok(0), b"firstsecond"),
+        (Err(Fault::Read), b"firstsecond"),
+    ];
+    let mut input = waiting(&rt, rt.alloc(), &[2]);
+    let mut out = sink(&rt, rt.alloc(), &[1]);
     assert!(rt; out.write(b"first").is_ok());
-    reads(&rt, &mut input, &mut out, Ok(2), b"first");
-    // A byte is at hand: nothing waits, and nothing leaves.
+    assert!(rt; reads(&mut input, &mut out, Ok(2), b"first"));
     assert!(rt; out.write(b"second").is_ok());
-    reads(&rt, &mut input, &mut out, Ok(1), b"first");
-    // The sink fails, then the source comes to its end, then the source fails.
-    reads(&rt, &mut input, &mut out, Err(Fault::Write), b"first");
-    reads(&rt, &mut input, &mut out, Ok(0), b"firstsecond");
-    reads(&rt, &mut input, &mut out, Err(Fault::Read), b"firstsecond");
-    Ok(())
+    for (answer, sent) in THEN {
+        assert!(rt; reads(&mut input, &mut out, answer, sent));
+    }
 }

@@ -23,8 +23,3 @@ pub use client::{Client, MOST_ACTIONS};
 pub use script::is_in_order;
 pub use state::{Action, Ending, Input, LastKept, SAID_BYTES, State};
 pub use talking::{TalkEnd, talk};
-
-#[cfg(test)]
-mod talking_tests;
-#[cfg(test)]
-mod tests;

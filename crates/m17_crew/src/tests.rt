@@ -1,6 +1,6 @@
 //! What no clause says: that a start succeeds where there is memory, that a job is done once, by a thread of its own
 //! beside the caller's, and that a refused one is not done at all.
-ghost use Rattle.std.specs.Prelude.{◌≡◌, ◌*◌, ◌+◌, ◌<◌, ◌≤◌, ◌^◌, [], All, IfOk, OnOk, vec_len, vec_capacity};
+ghost use Rattle.std.specs.Prelude.{◌≡◌, ◌*◌, ◌+◌, ◌<◌, ◌≤◌, ◌^◌, [], All, Ok, OnOk, vec_len, vec_capacity};
 ghost use Rattle.std.specs.List.{AllZip};
 ghost use Rattle.m17_io.specs.Faults.{HasCause};
 ghost use Rattle.m17_crew.specs.Laws.{Ran};
@@ -8,10 +8,10 @@ ghost use Rattle.m17_crew.specs.Laws.{Ran};
 use super::*;
 use crate::running::begin;
 use m17_values::Failed;
-use std::alloc::{AllocError, Global};
+use std::alloc::Global;
+use std::process::Abort;
 use std::sync::atomic::{AtomicU64, Ordering};
 use std::sync::{Arc, Wait};
-use std::test::Fail;
 use std::thread::{Builder, Threads, yield_now};
 
 // Doubles its number, and counts how often that was done.
@@ -32,45 +32,49 @@ impl Work for Doubling {
     }
 }
 
-// The job with this number.
-fn make_job(number: u32, runs: &Arc<AtomicU64, Global>) -> Result<Doubling, AllocError>
-    ensures { IfOk result (λ job. job.number ≡ number) }
+// What was made; the test ends where it was not.
+fn must<T, E: Drop, R: Abort>(rt: &R, made: Result<T, E>) -> T
+    ensures { made ≡ Ok result }
 {
-    Ok(Doubling {
+    made.ok().expect(rt, "made")
+}
+
+// The job with this number.
+fn make_job<R: Abort>(rt: &R, number: u32, runs: &Arc<AtomicU64, Global>) -> Doubling
+    ensures { result.number ≡ number }
+{
+    Doubling {
         number,
-        runs: Arc::try_clone(runs)?,
-    })
+        runs: must(rt, Arc::try_clone(runs)),
+    }
 }
 
 // The jobs with the numbers 1 to `count`, in order.
-fn make_jobs(
+fn make_jobs<R: Abort>(
+    rt: &R,
     alloc: Global,
     count: u32,
     runs: &Arc<AtomicU64, Global>,
-) -> Result<Vec<Doubling>, AllocError>
+) -> Vec<Doubling>
     requires { count < 2 ^ 31 }
-    ensures ready { IfOk result (λ jobs. All (λ j. j.number < 2 ^ 31) jobs.items) }
-    ensures count { IfOk result (λ jobs. vec_len jobs ≡ count) }
+    ensures ready { All (λ j. j.number < 2 ^ 31) result.items }
+    ensures count { vec_len result ≡ count }
 {
     let mut jobs = Vec::new(alloc);
     for i in 0..count {
-        jobs.push(make_job(i + 1, runs)?)?;
+        must(rt, jobs.push(make_job(rt, i + 1, runs)));
     }
-    Ok(jobs)
+    jobs
 }
 
 #[test]
-fn one_job_is_started_and_joined(rt: HostRuntime) -> Result<(), Fail> {
+fn one_job_is_started_and_joined(rt: HostRuntime) {
     let alloc = rt.alloc();
-    let runs = Arc::new(alloc, AtomicU64::new(0))?;
-    let mut crew = StdCrew::new();
-    let running = crew
-        .start(&rt, alloc, make_job(21, &runs)?)
-        .ok()
-        .ok_or("refused")?;
-    assert_eq!(rt; running.join(&rt).number, 42);
-    assert_eq!(rt; runs.load(Ordering::SeqCst), 1);
-    Ok(())
+    let runs = must(&rt, Arc::new(alloc, AtomicU64::new(0)));
+    let job = make_job(&rt, 21, &runs);
+    let running = must(&rt, StdCrew::new().start(&rt, alloc, job));
+    let number = running.join(&rt).number;
+    assert!(rt; number == 42 && runs.load(Ordering::SeqCst) == 1);
 }
 
 // Starts all jobs and joins them. Its clauses show what those of the two calls say together.
@@ -96,80 +100,79 @@ fn do_all<W: Work, C: Crew, R: Threads + Wait + Copy + Send + 'static>(
     answer
 }
 
-#[test]
-fn seven_jobs_come_back_done_in_their_order(rt: HostRuntime) -> Result<(), Fail> {
-    let alloc = rt.alloc();
-    let runs = Arc::new(alloc, AtomicU64::new(0))?;
-    let mut jobs = make_jobs(alloc, 7, &runs)?;
-    let mut running = Vec::with_capacity(alloc, 7)?;
-    let mut crew = StdCrew::new();
-    assert_eq!(rt;
-        start_all(&rt, alloc, &mut crew, &mut jobs, &mut running),
-        Ok(())
-    );
-    join_all(&rt, &mut running, &mut jobs);
-    assert_eq!(rt; jobs.len(), 7);
+// Whether seven jobs came back, and each is done but the first so many.
+fn are_seven_done(jobs: &[Doubling], undone: usize) -> bool {
     for (i, job) in jobs.iter().enumerate() {
-        assert_eq!(rt; job.number as usize, 2 * (i + 1));
+        let times = if i < undone { 1 } else { 2 };
+        if job.number as usize != times * (i + 1) {
+            return false;
+        }
     }
-    assert_eq!(rt; runs.load(Ordering::SeqCst), 7);
-    Ok(())
+    jobs.len() == 7
 }
 
-// Starts seven jobs by a crew that refuses the start with this number, and joins those that run: the jobs, and how
-// often one was done.
-fn seven_by_a_refusing_crew<R: Threads + Wait + Copy + Send + 'static>(
+// Starts seven jobs by this crew, and joins those that run: whether all were started, whether each is done but the first
+// so many, and how often one was done.
+fn do_seven<C: Crew, R: Threads + Wait + Abort + Copy + Send + 'static>(
     rt: &R,
     alloc: Global,
-    refused: u64,
-) -> Result<(Vec<Doubling>, u64), Fail> {
-    let runs = Arc::new(alloc, AtomicU64::new(0))?;
-    let mut jobs = make_jobs(alloc, 7, &runs)?;
-    let mut running = Vec::with_capacity(alloc, 7)?;
-    let mut crew = RefusingCrew::new(Vec::from_array(alloc, [refused])?);
-    if do_all(rt, alloc, &mut crew, &mut jobs, &mut running).is_ok() {
-        return Err("nothing was refused".into());
-    }
-    Ok((jobs, runs.load(Ordering::SeqCst)))
+    crew: &mut C,
+    undone: usize,
+) -> (bool, bool, u64) {
+    let runs = must(rt, Arc::new(alloc, AtomicU64::new(0)));
+    let mut jobs = make_jobs(rt, alloc, 7, &runs);
+    let mut running = must(rt, Vec::with_capacity(alloc, 7));
+    let started = do_all(rt, alloc, crew, &mut jobs, &mut running).is_ok();
+    let done = are_seven_done(jobs.as_slice(), undone);
+    (started, done, runs.load(Ordering::SeqCst))
 }
 
 #[test]
-fn jobs_from_a_refused_one_on_come_back_undone(rt: HostRuntime) -> Result<(), Fail> {
-    for refused in 0..7 {
-        let (jobs, runs) = seven_by_a_refusing_crew(&rt, rt.alloc(), refused as u64)?;
-        assert_eq!(rt; jobs.len(), 7, "with start {refused} refused");
-        assert_eq!(rt; runs, refused as u64);
-        for (i, job) in jobs.iter().enumerate() {
-            let times = if i + refused < 7 { 1 } else { 2 };
-            assert_eq!(rt;
-                job.number as usize,
-                times * (i + 1),
-                "with start {refused} refused"
-            );
-        }
+fn seven_jobs_come_back_done_in_their_order(rt: HostRuntime) {
+    let seen = do_seven(&rt, rt.alloc(), &mut StdCrew::new(), 0);
+    assert!(rt; seen == (true, true, 7));
+}
+
+// The last job is started first.
+#[test]
+fn jobs_from_a_refused_one_on_come_back_undone(rt: HostRuntime) {
+    for refused in 0..7u64 {
+        let refusals = must(&rt, Vec::from_array(rt.alloc(), [refused]));
+        let mut crew = RefusingCrew::new(refusals);
+        let seen = do_seven(&rt, rt.alloc(), &mut crew, 7 - refused as usize);
+        assert!(rt;
+            seen == (false, true, refused),
+            "with start {refused} refused"
+        );
     }
-    Ok(())
+}
+
+// Starts a job with the number 5 and joins it: whether it was started, and its number then.
+fn start_five<C: Crew, R: Threads + Wait + Abort + Copy + Send + 'static>(
+    rt: &R,
+    alloc: Global,
+    crew: &mut C,
+    runs: &Arc<AtomicU64, Global>,
+) -> (bool, u32) {
+    match crew.start(rt, alloc, make_job(rt, 5, runs)) {
+        Ok(running) => (true, running.join(rt).number),
+        Err(back) => (false, back.number),
+    }
 }
 
 #[test]
-fn a_crew_refuses_the_starts_that_it_was_told_and_no_others(rt: HostRuntime) -> Result<(), Fail> {
+fn a_crew_refuses_the_starts_that_it_was_told_and_no_others(rt: HostRuntime) {
     let alloc = rt.alloc();
-    let runs = Arc::new(alloc, AtomicU64::new(0))?;
-    let mut crew = RefusingCrew::new(Vec::from_array(alloc, [0, 2, 3])?);
-    for (start, wanted) in [false, true, false, false, true].iter().enumerate() {
-        match crew.start(&rt, alloc, make_job(5, &runs)?) {
-            Ok(running) => {
-                assert!(rt; *wanted, "start {start}");
-                assert_eq!(rt; running.join(&rt).number, 10);
-            }
-            Err(back) => {
-                assert!(rt; !*wanted, "start {start}");
-                assert_eq!(rt; back.number, 5);
-            }
-        }
+    let runs = must(&rt, Arc::new(alloc, AtomicU64::new(0)));
+    let mut crew = RefusingCrew::new(must(&rt, Vec::from_array(alloc, [0, 2, 3])));
+    for (start, wanted) in [(false, 5), (true, 10), (false, 5), (false, 5), (true, 10)]
+        .iter()
+        .enumerate()
+    {
+        let seen = start_five(&rt, alloc, &mut crew, &runs);
+        assert!(rt; seen == *wanted, "start {start}");
     }
-    assert_eq!(rt; runs.load(Ordering::SeqCst), 2);
-    Ok(())
+    assert!(rt; runs.load(Ordering::SeqCst) == 2);
 }
 
 // Waits for a flag, for a bounded number of turns.
@@ -196,29 +199,30 @@ impl Work for Waiting {
 }
 
 #[test]
-fn a_job_runs_beside_the_thread_that_started_it(rt: HostRuntime) -> Result<(), Fail> {
+fn a_job_runs_beside_the_thread_that_started_it(rt: HostRuntime) {
     let alloc = rt.alloc();
-    let flag = Arc::new(alloc, AtomicU64::new(0))?;
+    let flag = must(&rt, Arc::new(alloc, AtomicU64::new(0)));
     let job = Waiting {
-        flag: Arc::try_clone(&flag)?,
+        flag: must(&rt, Arc::try_clone(&flag)),
         met: false,
     };
-    let mut crew = StdCrew::new();
-    let running = crew.start(&rt, alloc, job).ok().ok_or("refused")?;
+    let running = must(&rt, StdCrew::new().start(&rt, alloc, job));
     flag.store(1, Ordering::SeqCst);
-    assert!(rt; running.join(&rt).met);
-    Ok(())
+    let met = running.join(&rt).met;
+    assert!(rt; met);
+}
+
+// Whether a job with the number 5 came back, and was not done, where no thread can have its stack.
+fn comes_back<R: Threads + Wait + Abort + Copy + Send + 'static>(rt: &R, alloc: Global) -> bool {
+    let runs = must(rt, Arc::new(alloc, AtomicU64::new(0)));
+    let too_large = Builder::new().stack_size(usize::MAX);
+    match begin(rt, alloc, too_large, make_job(rt, 5, &runs)) {
+        Ok(_) => false,
+        Err(back) => back.number == 5 && runs.load(Ordering::SeqCst) == 0,
+    }
 }
 
 #[test]
-fn a_job_for_which_there_is_no_thread_is_not_done(rt: HostRuntime) -> Result<(), Fail> {
-    let alloc = rt.alloc();
-    let runs = Arc::new(alloc, AtomicU64::new(0))?;
-    let too_large = Builder::new().stack_size(usize::MAX);
-    match begin(&rt, alloc, too_large, make_job(5, &runs)?) {
-        Ok(_) => return Err("there was a thread".into()),
-        Err(back) => assert_eq!(rt; back.number, 5),
-    }
-    assert_eq!(rt; runs.load(Ordering::SeqCst), 0);
-    Ok(())
+fn a_job_for_which_there_is_no_thread_is_not_done(rt: HostRuntime) {
+    assert!(rt; comes_back(&rt, rt.alloc()));
 }

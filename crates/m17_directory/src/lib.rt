@@ -26,16 +26,3 @@ pub use dispatch::Dispatch;
 pub use known::{Departed, Known, Request};
 pub use post::Post;
 pub use verdict::{Act, LinkVerdict};
-
-#[cfg(test)]
-mod plain;
-#[cfg(test)]
-mod plain_lists;
-#[cfg(test)]
-mod plain_tests;
-#[cfg(test)]
-mod room_tests;
-#[cfg(test)]
-mod seen;
-#[cfg(test)]
-mod tests;

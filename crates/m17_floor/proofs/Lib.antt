@@ -15,3 +15,6 @@ mod RenamedVerdicts
 mod Repeats
 mod Standing
 mod VerdictsSoFar
+mod Breaches
+mod LikeLists
+mod NextBreach

@@ -1,6 +1,7 @@
 //! What the floor rule promises of every list of acts, and what one act more makes of what is looked up in it. Each
 //! function has no body: its clause is the law. This profile.
 ghost use Rattle.m17_floor.specs.Laws as law;
+ghost use Rattle.m17_floor.specs.LegalLaws as legal;
 
 /// What happens later changes no verdict.
 pub fn later_acts_change_no_verdict()
@@ -94,4 +95,32 @@ pub fn renaming_changes_no_verdict()
     ensures members { law.RenamingChangesNoMembership }
     ensures verdicts { law.RenamingChangesNoVerdict }
     ensures floor { law.RenamingChangesNoFloor }
+{}
+
+/// What a book keeps later changes no breach; a breach is at a position of the list, and a list has one first breach at
+/// most. A legal list with one act more that breaks no rule is legal; and whether it breaks one is told by what the acts
+/// before it leave behind.
+pub fn books_are_judged_act_by_act()
+    ensures later { legal.LaterActsChangeNoBreach }
+    ensures within { legal.BreachesAreInTheList }
+    ensures one_more { legal.LegalWithOneMore }
+    ensures next { legal.BreachByWhatIsLeft }
+    ensures one_first { legal.OneFirstBreach }
+{}
+
+/// Whether a member is in after one act more, and the verdict on one packet more, by what the acts before left behind.
+pub fn one_act_more_goes_by_what_is_left()
+    ensures nobody { legal.StayOfNone }
+    ensures stays { legal.StayOfOneMore }
+    ensures verdict { legal.VerdictByWhatIsLeft }
+{}
+
+/// Lists that leave the same behind go on alike.
+pub fn like_lists_go_on_alike()
+    ensures nothing { legal.NothingLeavesTheSame }
+    ensures idle { legal.SameWithoutIdleActs }
+    ensures joins { legal.SameAfterJoins }
+    ensures replacements { legal.SameAfterReplacements }
+    ensures leaves { legal.SameAfterLeaves }
+    ensures packets { legal.SameAfterPackets }
 {}

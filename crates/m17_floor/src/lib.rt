@@ -10,13 +10,11 @@
 mod act;
 mod floor;
 pub mod laws;
-#[cfg(test)]
-mod list_tests;
 pub mod plain;
-#[cfg(test)]
-mod tests;
+mod rule;
 mod verdict;
 
 pub use act::{Act, ActKind};
 pub use floor::{FLOOR_TIMEOUT_MS, Floor, Last, STREAM_MEMORY_MS};
+pub use rule::Rule;
 pub use verdict::Verdict;

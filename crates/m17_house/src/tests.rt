@@ -1,4 +1,6 @@
-ghost use Rattle.std.specs.Prelude.{◌<◌};
+//! What no clause says: worked evenings of the reflector in one thread. Each is data, what the peers say and what becomes
+//! of it; `expect` replays it.
+ghost use Rattle.std.specs.Prelude.{◌≡◌, ◌<◌, Ok};
 ghost use Rattle.m17_house.specs.Replay.{IsPlan};
 
 use crate::{Plan, laws, replay_plain};
@@ -7,12 +9,17 @@ use m17_control::{Control, ModuleLetter, Modules, write};
 use m17_directory::{Act, LinkVerdict};
 use m17_floor::Verdict;
 use m17_port_memory::TallyMouth;
-use m17_ports::Tally;
 use m17_samples::{ab1cd, frame, n0call};
 use m17_values::{Gram, Heard, Peer};
 use std::alloc::Global;
 use std::process::Abort;
-use std::test::Fail;
+
+// What was made; the test ends where it was not.
+fn must<T, E: Drop>(rt: &impl Abort, made: Result<T, E>) -> T
+    ensures { made ≡ Ok result }
+{
+    made.ok().expect(rt, "made")
+}
 
 // What a peer says.
 #[derive(Clone, Copy)]
@@ -28,8 +35,22 @@ enum Say {
     Fault,
 }
 
-// A peer, by the last number of its address 10.0.0.x, the moment, and what it says.
-type Row = (u8, u64, Say);
+// What becomes of it: anything; a verdict of the module with this letter; a packet of the module A, and the verdict of its
+// floor; another verdict; or that this module is not served. Only on a packet of a module its floor has a verdict.
+#[derive(Clone, Copy)]
+enum Comes {
+    Any,
+    To(u8, Act),
+    Judged(Verdict),
+    Is(LinkVerdict),
+    NotServed(u8),
+}
+
+// A peer, by the last number of its address 10.0.0.x, the moment, what it says, and what becomes of it.
+type Row = (u8, u64, Say, Comes);
+
+// Tallies of peers: ACKN, NACK, PING, PONG, DISC and frames; none of a peer that is not named.
+type Tallied = (u8, Option<[u64; 6]>);
 
 fn peer(number: u8) -> Peer {
     let mut ip = [0; 16];
@@ -75,7 +96,7 @@ fn gram(rt: &impl Abort, say: Say) -> Gram {
 }
 
 fn heard(rt: &impl Abort, row: &Row) -> Heard {
-    let (number, at, say) = *row;
+    let (number, at, say, _) = *row;
     match say {
         Say::Quiet => Heard::Quiet { at },
         Say::Fault => Heard::Fault,
@@ -85,14 +106,6 @@ fn heard(rt: &impl Abort, row: &Row) -> Heard {
             bytes: gram(rt, say),
         },
     }
-}
-
-// What a replay gave.
-#[derive(Drop)]
-struct Evening {
-    verdicts: Vec<LinkVerdict>,
-    packets: Vec<Option<Verdict>>,
-    mouth: TallyMouth,
 }
 
 // A plan with the modules A, B and C, and so many places.
@@ -116,203 +129,201 @@ fn plan(rt: &impl Abort, places: u32) -> Plan
     }
 }
 
-// Replays the rows, with the mouth's tallies of the peers 1 to 4.
-fn replay(rt: &impl Abort, alloc: Global, places: u32, rows: &[Row]) -> Result<Evening, Fail>
+fn verdict(rt: &impl Abort, comes: Comes) -> LinkVerdict {
+    let (letter, act) = match comes {
+        Comes::Any => (b'A', Act::Join),
+        Comes::To(letter, act) => (letter, act),
+        Comes::Judged(_) => (b'A', Act::Packet),
+        Comes::Is(verdict) => return verdict,
+        Comes::NotServed(letter) => {
+            let module = ModuleLetter::new(letter).expect(rt, "a letter");
+            return LinkVerdict::NotServed { module };
+        }
+    };
+    let module = ModuleLetter::new(letter).expect(rt, "a letter");
+    LinkVerdict::Routed { module, act }
+}
+
+// Whether the verdicts on an entry are these.
+fn are_on(rt: &impl Abort, verdicts: (LinkVerdict, Option<Verdict>), comes: Comes) -> bool {
+    let judged = match comes {
+        Comes::Any => return true,
+        Comes::Judged(verdict) => Some(verdict),
+        _ => None,
+    };
+    verdicts == (verdict(rt, comes), judged)
+}
+
+// Whether so many entries came to what the rows say, and then the end.
+fn came_to(
+    rt: &impl Abort,
+    verdicts: &[LinkVerdict],
+    packets: &[Option<Verdict>],
+    rows: &[Row],
+    count: usize,
+) -> bool {
+    let mut rows = rows.iter();
+    let mut left = count;
+    for (link, floor) in verdicts.iter().zip(packets) {
+        let comes = match rows.next() {
+            Some(row) if left != 1 => row.3,
+            _ => Comes::Is(LinkVerdict::Ended),
+        };
+        if !are_on(rt, (*link, *floor), comes) {
+            return false;
+        }
+        left = left.saturating_sub(1);
+    }
+    verdicts.len() == count && packets.len() == count
+}
+
+fn are_tallied(mouth: &TallyMouth, tallies: &[Tallied]) -> bool {
+    for (number, wanted) in tallies {
+        let told = match mouth.tally(&peer(*number)) {
+            Some(t) => Some([t.ackn, t.nack, t.ping, t.pong, t.disc, t.frame]),
+            None => None,
+        };
+        if told != *wanted {
+            return false;
+        }
+    }
+    true
+}
+
+// Replays the rows, with the mouth's tallies of the peers 1 to 4, and demands what comes of so many entries.
+fn expect(
+    rt: &impl Abort,
+    alloc: Global,
+    places: u32,
+    rows: &[Row],
+    count: usize,
+    tallies: &[Tallied],
+)
     requires some { 0 < places }
     requires at_most { places < 257 }
 {
     let mut entries = Vec::new(alloc);
     for row in rows {
-        entries.push(heard(rt, row))?;
+        must(rt, entries.push(heard(rt, row)));
     }
-    entries.push(Heard::End)?;
-    let mut mouth = TallyMouth::make(alloc, &[peer(1), peer(2), peer(3), peer(4)])?;
-    laws::an_end_ends_it();
-    let (verdicts, packets) = replay_plain(alloc, &plan(rt, places), &entries, &mut mouth)?;
-    Ok(Evening {
-        verdicts,
-        packets,
-        mouth,
-    })
-}
-
-fn tally(ackn: u64, nack: u64, ping: u64, pong: u64, disc: u64, frame: u64) -> Tally {
-    Tally {
-        ackn,
-        nack,
-        ping,
-        pong,
-        disc,
-        frame,
-    }
-}
-
-fn joined(letter: u8, act: Act) -> Option<LinkVerdict> {
-    Some(LinkVerdict::Routed {
-        module: ModuleLetter::new(letter)?,
-        act,
-    })
-}
-
-// Whether the verdict of an entry is that of a module.
-fn is_routed(evening: &Evening, index: usize, letter: u8, act: Act) -> bool {
-    evening.verdicts.get(index).copied() == joined(letter, act)
-}
-
-fn is_verdict(evening: &Evening, index: usize, verdict: LinkVerdict) -> bool {
-    evening.verdicts.get(index).copied() == Some(verdict)
-}
-
-fn floor_verdict(evening: &Evening, index: usize) -> Option<Verdict> {
-    match evening.packets.get(index) {
-        Some(packet) => *packet,
-        None => None,
-    }
-}
-
-#[test]
-fn an_empty_evening_only_ends(rt: HostRuntime) -> Result<(), Fail> {
-    let evening = replay(&rt, rt.alloc(), 256, &[])?;
-    assert_eq!(rt;
-        evening.verdicts.as_slice(),
-        [LinkVerdict::Ended].as_slice()
+    must(rt, entries.push(Heard::End));
+    let mut mouth = must(
+        rt,
+        TallyMouth::make(alloc, &[peer(1), peer(2), peer(3), peer(4)]),
     );
-    assert_eq!(rt; evening.packets.as_slice(), [None].as_slice());
-    assert!(rt; evening.mouth.tally(&peer(1)) == Some(tally(0, 0, 0, 0, 0, 0)));
-    assert!(rt; evening.mouth.tally(&peer(5)) == None);
-    Ok(())
+    laws::an_end_ends_it();
+    let replayed = replay_plain(alloc, &plan(rt, places), &entries, &mut mouth);
+    let (verdicts, packets) = must(rt, replayed);
+    assert!(rt; came_to(rt, &verdicts, &packets, rows, count) && are_tallied(&mouth, tallies));
+}
+
+const JOINS: Comes = Comes::To(b'A', Act::Join);
+
+const LEAVES: Comes = Comes::To(b'A', Act::Leave);
+
+const CONTINUED: Comes = Comes::Judged(Verdict::Continued);
+
+const STRANGER: Comes = Comes::Is(LinkVerdict::NotConnected);
+
+const STRAY: Comes = Comes::Is(LinkVerdict::Stray);
+
+const TIMED: Comes = Comes::Is(LinkVerdict::Timed);
+
+#[test]
+fn an_empty_evening_only_ends(rt: HostRuntime) {
+    const TALLIES: [Tallied; 2] = [(1, Some([0, 0, 0, 0, 0, 0])), (5, None)];
+    expect(&rt, rt.alloc(), 256, &[], 1, &TALLIES);
 }
 
 #[test]
-fn a_listener_hears_until_it_leaves(rt: HostRuntime) -> Result<(), Fail> {
-    let rows = [
-        (1, 0, Say::Conn(b'A')),
-        (1, 40, Say::Frame(0x1234, 0)),
-        (2, 50, Say::Lstn(b'A')),
-        (1, 80, Say::Frame(0x1234, 1)),
-        (1, 120, Say::Frame(0x1234, 2)),
-        (2, 130, Say::Disc),
-        (1, 160, Say::Last(0x1234, 3)),
+fn a_listener_hears_until_it_leaves(rt: HostRuntime) {
+    const ROWS: [Row; 7] = [
+        (1, 0, Say::Conn(b'A'), JOINS),
+        (1, 40, Say::Frame(0x1234, 0), Comes::Judged(Verdict::Opened)),
+        (2, 50, Say::Lstn(b'A'), JOINS),
+        (1, 80, Say::Frame(0x1234, 1), CONTINUED),
+        (1, 120, Say::Frame(0x1234, 2), CONTINUED),
+        (2, 130, Say::Disc, LEAVES),
+        (1, 160, Say::Last(0x1234, 3), CONTINUED),
     ];
-    let evening = replay(&rt, rt.alloc(), 256, &rows)?;
-    assert_eq!(rt; evening.verdicts.len(), 8);
-    assert!(rt; is_routed(&evening, 0, b'A', Act::Join));
-    assert!(rt; is_routed(&evening, 1, b'A', Act::Packet));
-    assert!(rt; is_routed(&evening, 2, b'A', Act::Join));
-    assert!(rt; is_routed(&evening, 5, b'A', Act::Leave));
-    assert!(rt; is_verdict(&evening, 7, LinkVerdict::Ended));
-    assert!(rt; floor_verdict(&evening, 0) == None);
-    assert!(rt; floor_verdict(&evening, 1) == Some(Verdict::Opened));
-    assert!(rt; floor_verdict(&evening, 3) == Some(Verdict::Continued));
-    assert!(rt; floor_verdict(&evening, 4) == Some(Verdict::Continued));
-    assert!(rt; floor_verdict(&evening, 6) == Some(Verdict::Continued));
-    assert!(rt; evening.mouth.tally(&peer(1)) == Some(tally(1, 0, 0, 0, 1, 0)));
-    assert!(rt; evening.mouth.tally(&peer(2)) == Some(tally(1, 0, 0, 0, 1, 2)));
-    Ok(())
+    const TALLIES: [Tallied; 2] = [(1, Some([1, 0, 0, 0, 1, 0])), (2, Some([1, 0, 0, 0, 1, 2]))];
+    expect(&rt, rt.alloc(), 256, &ROWS, 8, &TALLIES);
 }
 
 #[test]
-fn who_may_not_speak_is_told_so_by_verdicts(rt: HostRuntime) -> Result<(), Fail> {
-    let rows = [
-        (2, 0, Say::Lstn(b'A')),
-        (2, 0, Say::Frame(1, 0)),
-        (3, 0, Say::Frame(2, 0)),
-        (3, 0, Say::Conn(b'D')),
+fn who_may_not_speak_is_told_so_by_verdicts(rt: HostRuntime) {
+    const ROWS: [Row; 4] = [
+        (2, 0, Say::Lstn(b'A'), JOINS),
+        (2, 0, Say::Frame(1, 0), Comes::Judged(Verdict::ListenOnly)),
+        (3, 0, Say::Frame(2, 0), STRANGER),
+        (3, 0, Say::Conn(b'D'), Comes::NotServed(b'D')),
     ];
-    let evening = replay(&rt, rt.alloc(), 256, &rows)?;
-    assert!(rt; is_routed(&evening, 1, b'A', Act::Packet));
-    assert!(rt; floor_verdict(&evening, 1) == Some(Verdict::ListenOnly));
-    assert!(rt; is_verdict(&evening, 2, LinkVerdict::NotConnected));
-    assert!(rt; floor_verdict(&evening, 2) == None);
-    let module = ModuleLetter::new(b'D').expect(&rt, "a letter");
-    assert!(rt; is_verdict(&evening, 3, LinkVerdict::NotServed { module }));
-    assert!(rt; evening.mouth.tally(&peer(3)) == Some(tally(0, 1, 0, 0, 0, 0)));
-    Ok(())
+    const TALLIES: [Tallied; 1] = [(3, Some([0, 1, 0, 0, 0, 0]))];
+    expect(&rt, rt.alloc(), 256, &ROWS, 5, &TALLIES);
 }
 
 #[test]
-fn a_place_is_given_again(rt: HostRuntime) -> Result<(), Fail> {
-    let rows = [
-        (1, 0, Say::Conn(b'A')),
-        (2, 0, Say::Conn(b'A')),
-        (3, 0, Say::Conn(b'A')),
-        (1, 0, Say::Disc),
-        (3, 0, Say::Conn(b'A')),
+fn a_place_is_given_again(rt: HostRuntime) {
+    const ROWS: [Row; 5] = [
+        (1, 0, Say::Conn(b'A'), JOINS),
+        (2, 0, Say::Conn(b'A'), JOINS),
+        (3, 0, Say::Conn(b'A'), Comes::Is(LinkVerdict::Full)),
+        (1, 0, Say::Disc, LEAVES),
+        (3, 0, Say::Conn(b'A'), JOINS),
     ];
-    let evening = replay(&rt, rt.alloc(), 2, &rows)?;
-    assert!(rt; is_verdict(&evening, 2, LinkVerdict::Full));
-    assert!(rt; is_routed(&evening, 3, b'A', Act::Leave));
-    assert!(rt; is_routed(&evening, 4, b'A', Act::Join));
-    assert!(rt; evening.mouth.tally(&peer(3)) == Some(tally(1, 1, 0, 0, 1, 0)));
-    Ok(())
+    const TALLIES: [Tallied; 1] = [(3, Some([1, 1, 0, 0, 1, 0]))];
+    expect(&rt, rt.alloc(), 2, &ROWS, 6, &TALLIES);
 }
 
 #[test]
-fn a_peer_moves_and_asks_again(rt: HostRuntime) -> Result<(), Fail> {
-    let rows = [
-        (1, 0, Say::Conn(b'A')),
-        (1, 10, Say::Conn(b'B')),
-        (1, 20, Say::Conn(b'B')),
+fn a_peer_moves_and_asks_again(rt: HostRuntime) {
+    const ROWS: [Row; 3] = [
+        (1, 0, Say::Conn(b'A'), JOINS),
+        (1, 10, Say::Conn(b'B'), Comes::To(b'B', Act::Join)),
+        (1, 20, Say::Conn(b'B'), Comes::To(b'B', Act::Again)),
     ];
-    let evening = replay(&rt, rt.alloc(), 1, &rows)?;
-    assert!(rt; is_routed(&evening, 0, b'A', Act::Join));
-    assert!(rt; is_routed(&evening, 1, b'B', Act::Join));
-    assert!(rt; is_routed(&evening, 2, b'B', Act::Again));
-    assert!(rt; evening.mouth.tally(&peer(1)) == Some(tally(3, 0, 0, 0, 1, 0)));
-    Ok(())
+    const TALLIES: [Tallied; 1] = [(1, Some([3, 0, 0, 0, 1, 0]))];
+    expect(&rt, rt.alloc(), 1, &ROWS, 4, &TALLIES);
 }
 
+// The sixteenth fault is the end; after fifteen the end is what was heard last.
 #[test]
-fn sixteen_faults_in_a_row_end_it(rt: HostRuntime) -> Result<(), Fail> {
-    let fault = (0, 0, Say::Fault);
-    let lost = replay(&rt, rt.alloc(), 256, &[fault; 16])?;
-    assert_eq!(rt; lost.verdicts.len(), 16);
-    assert!(rt; is_verdict(&lost, 14, LinkVerdict::Faulted));
-    assert!(rt; is_verdict(&lost, 15, LinkVerdict::Ended));
-    let kept = replay(&rt, rt.alloc(), 256, &[fault; 15])?;
-    assert_eq!(rt; kept.verdicts.len(), 16);
-    assert!(rt; is_verdict(&kept, 14, LinkVerdict::Faulted));
-    let more = replay(&rt, rt.alloc(), 256, &[fault; 20])?;
-    assert_eq!(rt; more.verdicts.len(), 16);
-    Ok(())
-}
-
-#[test]
-fn a_silent_peer_is_asked_before_it_is_told_to_go(rt: HostRuntime) -> Result<(), Fail> {
-    let rows = [
-        (1, 0, Say::Conn(b'A')),
-        (0, 29_999, Say::Quiet),
-        (0, 30_000, Say::Quiet),
-        (1, 30_001, Say::Ping),
+fn sixteen_faults_in_a_row_end_it(rt: HostRuntime) {
+    const FAULT: Row = (0, 0, Say::Fault, Comes::Is(LinkVerdict::Faulted));
+    const FAULTS: [Row; 20] = [
+        FAULT, FAULT, FAULT, FAULT, FAULT, FAULT, FAULT, FAULT, FAULT, FAULT, FAULT, FAULT, FAULT,
+        FAULT, FAULT, FAULT, FAULT, FAULT, FAULT, FAULT,
     ];
-    let evening = replay(&rt, rt.alloc(), 256, &rows)?;
-    assert!(rt; is_verdict(&evening, 1, LinkVerdict::Timed));
-    assert!(rt; is_verdict(&evening, 2, LinkVerdict::Timed));
-    assert!(rt; is_verdict(&evening, 3, LinkVerdict::NotConnected));
-    assert!(rt; evening.mouth.tally(&peer(1)) == Some(tally(1, 0, 2, 0, 1, 0)));
-    Ok(())
+    expect(&rt, rt.alloc(), 256, &FAULTS[..15], 16, &[]);
+    expect(&rt, rt.alloc(), 256, &FAULTS[..16], 16, &[]);
+    expect(&rt, rt.alloc(), 256, &FAULTS, 16, &[]);
 }
 
 #[test]
-fn bytes_that_are_no_packet_do_nothing(rt: HostRuntime) -> Result<(), Fail> {
-    let rows = [
-        (1, 0, Say::Bytes(b"")),
-        (1, 0, Say::Bytes(b"CONN")),
-        (1, 0, Say::Bytes(b"M17 0123456789")),
-        (1, 0, Say::Bytes(b"ACKN")),
-        (1, 0, Say::Ping),
-        (1, 0, Say::Conn(b'C')),
-        (1, 0, Say::Ping),
-        (1, 0, Say::Bytes(b"NACK")),
-        (4, 0, Say::Disc),
+fn a_silent_peer_is_asked_before_it_is_told_to_go(rt: HostRuntime) {
+    const ROWS: [Row; 4] = [
+        (1, 0, Say::Conn(b'A'), JOINS),
+        (0, 29_999, Say::Quiet, TIMED),
+        (0, 30_000, Say::Quiet, TIMED),
+        (1, 30_001, Say::Ping, STRANGER),
     ];
-    let evening = replay(&rt, rt.alloc(), 1, &rows)?;
-    assert!(rt; is_verdict(&evening, 3, LinkVerdict::Stray));
-    assert!(rt; is_verdict(&evening, 4, LinkVerdict::NotConnected));
-    assert!(rt; is_routed(&evening, 6, b'C', Act::Pong));
-    assert!(rt; is_verdict(&evening, 7, LinkVerdict::Stray));
-    assert!(rt; is_verdict(&evening, 8, LinkVerdict::NotConnected));
-    assert!(rt; evening.mouth.tally(&peer(1)) == Some(tally(1, 0, 0, 1, 1, 0)));
-    assert!(rt; evening.mouth.tally(&peer(4)) == Some(tally(0, 0, 0, 0, 1, 0)));
-    Ok(())
+    const TALLIES: [Tallied; 1] = [(1, Some([1, 0, 2, 0, 1, 0]))];
+    expect(&rt, rt.alloc(), 256, &ROWS, 5, &TALLIES);
+}
+
+#[test]
+fn bytes_that_are_no_packet_do_nothing(rt: HostRuntime) {
+    const ROWS: [Row; 9] = [
+        (1, 0, Say::Bytes(b""), Comes::Any),
+        (1, 0, Say::Bytes(b"CONN"), Comes::Any),
+        (1, 0, Say::Bytes(b"M17 0123456789"), Comes::Any),
+        (1, 0, Say::Bytes(b"ACKN"), STRAY),
+        (1, 0, Say::Ping, STRANGER),
+        (1, 0, Say::Conn(b'C'), Comes::To(b'C', Act::Join)),
+        (1, 0, Say::Ping, Comes::To(b'C', Act::Pong)),
+        (1, 0, Say::Bytes(b"NACK"), STRAY),
+        (4, 0, Say::Disc, STRANGER),
+    ];
+    const TALLIES: [Tallied; 2] = [(1, Some([1, 0, 0, 1, 1, 0])), (4, Some([0, 0, 0, 0, 1, 0]))];
+    expect(&rt, rt.alloc(), 1, &ROWS, 10, &TALLIES);
 }

@@ -1,65 +1,78 @@
 //! What no clause says of a doze: which pushes end it, and that nothing is left behind.
+ghost use Rattle.std.specs.Prelude.{◌<◌};
+
+use super::tests::must;
 use super::*;
+use std::alloc::Global;
+use std::process::Abort;
 use std::sync::Wait;
-use std::test::Fail;
 use std::thread;
 use std::thread::Threads;
 use std::time::{Clock, Duration};
 
-#[test]
-fn a_doze_ends_once_enough_quiet_items_are_there(rt: HostRuntime) -> Result<(), Fail> {
-    for (capacity, enough) in [(64, 8), (16, 8), (9, 5), (2, 1), (1, 1)] {
-        let (mut pusher, popper) = make_one(rt.alloc(), capacity)?;
-        let bell = &popper.lane.filled;
-        let announced = bell.announce_doze();
-        for item in 1..enough {
-            pusher.push_quietly(&rt, item);
-            assert!(rt; bell.is_dozed_on(), "item {item} of a lane of {capacity}");
-        }
-        pusher.push_quietly(&rt, enough);
-        assert!(rt; !bell.is_dozed_on(), "the last of a lane of {capacity}");
-        announced.sleep(&rt);
+// The consumer of a lane with this room dozes, and so many items are pushed quietly: whether it dozed behind each but
+// the last, and behind the last.
+fn dozes_behind<R: Abort + Wait>(rt: &R, alloc: Global, capacity: u32, enough: u32) -> (bool, bool)
+    requires { 0 < capacity }
+{
+    let (mut pusher, popper) = must(rt, make_one(alloc, capacity));
+    let bell = &popper.lane.filled;
+    let announced = bell.announce_doze();
+    let mut each = true;
+    for item in 1..enough {
+        pusher.push_quietly(rt, item);
+        each = each && bell.is_dozed_on();
     }
-    Ok(())
+    pusher.push_quietly(rt, enough);
+    let last = bell.is_dozed_on();
+    announced.sleep(rt);
+    (each, last)
 }
 
 #[test]
-fn any_other_push_ends_a_doze(rt: HostRuntime) -> Result<(), Fail> {
-    let (mut pusher, popper) = make_one(rt.alloc(), 64)?;
+fn a_doze_ends_once_enough_quiet_items_are_there(rt: HostRuntime) {
+    for (capacity, enough) in [(64, 8), (16, 8), (9, 5), (2, 1), (1, 1)] {
+        let dozes = dozes_behind(&rt, rt.alloc(), capacity, enough);
+        assert!(rt; dozes == (true, false), "a lane of {capacity}");
+    }
+}
+
+#[test]
+fn any_other_push_ends_a_doze(rt: HostRuntime) {
+    let (mut pusher, popper) = must(&rt, make_one(rt.alloc(), 64));
     let bell = &popper.lane.filled;
     let announced = bell.announce_doze();
     pusher.push_quietly(&rt, 1u8);
-    assert!(rt; bell.is_dozed_on());
+    let quietly = bell.is_dozed_on();
     pusher.push_waiting(&rt, 2);
-    assert!(rt; !bell.is_dozed_on());
+    let waiting = bell.is_dozed_on();
     announced.sleep(&rt);
     let announced = bell.announce_doze();
-    assert_eq!(rt; pusher.try_push(&rt, 3), Ok(()));
-    assert!(rt; !bell.is_dozed_on());
+    let pushed = pusher.try_push(&rt, 3);
+    let trying = bell.is_dozed_on();
     announced.sleep(&rt);
-    Ok(())
+    assert!(rt; (quietly, waiting, pushed, trying) == (true, false, Ok(()), false));
 }
 
 #[test]
-fn a_quiet_push_ends_a_sleep(rt: HostRuntime) -> Result<(), Fail> {
-    let (mut pusher, popper) = make_one(rt.alloc(), 64)?;
+fn a_quiet_push_ends_a_sleep(rt: HostRuntime) {
+    let (mut pusher, popper) = must(&rt, make_one(rt.alloc(), 64));
     let announced = popper.lane.filled.announce();
     pusher.push_quietly(&rt, 1u8);
     announced.sleep(&rt);
-    Ok(())
 }
 
 // A quiet push sets its mark, so that who looks for marks finds the item.
 #[test]
-fn a_quiet_push_sets_its_mark(rt: HostRuntime) -> Result<(), Fail> {
-    let bell = Bell::make_marked(rt.alloc(), 4)?;
-    let (mut pusher, _popper) = make_one_marked(rt.alloc(), &bell, 2, 64)?;
+fn a_quiet_push_sets_its_mark(rt: HostRuntime) {
+    let bell = must(&rt, Bell::make_marked(rt.alloc(), 4));
+    let (mut pusher, _popper) = must(&rt, make_one_marked(rt.alloc(), &bell, 2, 64));
     let announced = bell.announce_doze();
     pusher.push_quietly(&rt, 1u8);
-    assert!(rt; bell.is_dozed_on());
-    assert_eq!(rt; (bell.marked_words(0), bell.take_marks(0)), (0b1, 0b100));
+    let dozes = bell.is_dozed_on();
+    let taken = [bell.marked_words(0), bell.take_marks(0)];
     drop(announced);
-    Ok(())
+    assert!(rt; dozes && taken == [0b1, 0b100]);
 }
 
 // The number that says that a producer pushes no more.
@@ -108,20 +121,33 @@ fn push_by_two<R: Threads + Wait + Clock + Sync>(
     );
 }
 
+// Two producers push so many numbers each by a lane with this room, whose consumer dozes: how many it took.
+fn take_of_two<R: Abort + Threads + Wait + Clock + Sync>(
+    rt: &R,
+    alloc: Global,
+    capacity: u32,
+    count: u32,
+) -> u32
+    requires { 0 < capacity }
+{
+    let (mut pushers, popper) = must(rt, make(alloc, 2, capacity));
+    let second = pushers.pop().expect(rt, "two pushers");
+    let first = pushers.pop().expect(rt, "two pushers");
+    let (_, taken) = thread::join(
+        rt,
+        move || push_by_two(rt, first, second, count),
+        move || take_from_two(rt, popper),
+    );
+    taken
+}
+
 // Where a push that fills the lane never rang, all would be asleep for ever; the gate stops a test after 60 seconds.
 #[test]
-fn nothing_is_left_behind_by_a_doze(rt: HostRuntime) -> Result<(), Fail> {
+fn nothing_is_left_behind_by_a_doze(rt: HostRuntime) {
     for capacity in [1, 2, 3, 64] {
-        let (mut pushers, popper) = make(rt.alloc(), 2, capacity)?;
-        let second = pushers.pop().expect(&rt, "two pushers");
-        let first = pushers.pop().expect(&rt, "two pushers");
-        let lend = &rt;
-        let (_, taken) = thread::join(
-            lend,
-            move || push_by_two(lend, first, second, 500),
-            move || take_from_two(lend, popper),
+        assert!(rt;
+            take_of_two(&rt, rt.alloc(), capacity, 500) == 1000,
+            "{capacity}"
         );
-        assert_eq!(rt; taken, 1000, "at capacity {capacity}");
     }
-    Ok(())
 }

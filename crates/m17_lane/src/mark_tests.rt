@@ -1,47 +1,60 @@
 //! What no clause says of marks: that a push sets its own and no other, that a mark is taken once, and that a push with a
 //! mark ends a rest.
+use super::tests::must;
 use super::*;
 use std::sync::Wait;
-use std::test::Fail;
 use std::thread;
 use std::time::{Clock, Duration};
 
+// What a bell shows of its words and marks, one after the other.
+fn shown_by(bell: &Bell) -> [u64; 10] {
+    [
+        bell.marked_words(0),
+        bell.marked_words(0),
+        bell.take_marks(0),
+        bell.take_marks(0),
+        bell.take_marks(2),
+        bell.take_marks(2),
+        bell.take_marks(1),
+        bell.take_marks(3),
+        bell.marked_words(1),
+        bell.take_marks(99),
+    ]
+}
+
+// A lane without a mark sets none, and a refused push sets none.
 #[test]
-fn marks_tell_which_lanes_were_pushed_to(rt: HostRuntime) -> Result<(), Fail> {
-    let bell = Bell::make_marked(rt.alloc(), 200)?;
-    let (mut low, _from_low) = make_one_marked(rt.alloc(), &bell, 3, 2)?;
-    let (mut high, _from_high) = make_one_marked(rt.alloc(), &bell, 130, 2)?;
-    let (mut plain, _from_plain) = make_one_with(rt.alloc(), &bell, 2)?;
-    assert_eq!(rt; (bell.groups(), bell.marked_words(0)), (1, 0));
-    assert_eq!(rt; plain.try_push(&rt, 1u8), Ok(()));
-    assert_eq!(rt; bell.marked_words(0), 0, "a lane without a mark sets none");
-    assert_eq!(rt; low.try_push(&rt, 2u8), Ok(()));
-    assert_eq!(rt; high.try_push(&rt, 3u8), Ok(()));
-    assert_eq!(rt; high.try_push(&rt, 4u8), Ok(()));
+fn marks_tell_which_lanes_were_pushed_to(rt: HostRuntime) {
+    let bell = must(&rt, Bell::make_marked(rt.alloc(), 200));
+    let (mut low, _from_low) = must(&rt, make_one_marked(rt.alloc(), &bell, 3, 2));
+    let (mut high, _from_high) = must(&rt, make_one_marked(rt.alloc(), &bell, 130, 2));
+    let (mut plain, _from_plain) = must(&rt, make_one_with(rt.alloc(), &bell, 2));
+    let groups = bell.groups();
+    let new = bell.marked_words(0);
+    let unmarked = (plain.try_push(&rt, 1u8), bell.marked_words(0));
+    let pushed = [
+        low.try_push(&rt, 2u8),
+        high.try_push(&rt, 3u8),
+        high.try_push(&rt, 4u8),
+    ];
     bell.rest(&rt);
-    assert_eq!(rt; (bell.marked_words(0), bell.marked_words(0)), (0b101, 0));
-    assert_eq!(rt; (bell.take_marks(0), bell.take_marks(0)), (0b1000, 0));
-    assert_eq!(rt; (bell.take_marks(2), bell.take_marks(2)), (0b100, 0));
-    assert_eq!(rt; (bell.take_marks(1), bell.take_marks(3)), (0, 0));
-    assert_eq!(rt; (bell.marked_words(1), bell.take_marks(99)), (0, 0));
-    assert_eq!(rt; high.try_push(&rt, 5u8), Err(5));
-    assert_eq!(rt; bell.marked_words(0), 0, "a refused push sets none");
-    Ok(())
+    let shown = shown_by(&bell);
+    let refused = (high.try_push(&rt, 5u8), bell.marked_words(0));
+    assert!(rt; groups == 1 && new == 0 && unmarked == (Ok(()), 0));
+    assert!(rt; pushed == [Ok(()); 3] && refused == (Err(5), 0));
+    assert!(rt; shown == [0b101, 0, 0b1000, 0, 0b100, 0, 0, 0, 0, 0]);
 }
 
 #[test]
-fn each_producer_of_a_lane_sets_its_mark(rt: HostRuntime) -> Result<(), Fail> {
-    let bell = Bell::make_marked(rt.alloc(), 8)?;
-    let (mut pushers, _popper) = make_marked(rt.alloc(), &bell, 6, 2, 4)?;
-    assert_eq!(rt; pushers.len(), 2);
+fn each_producer_of_a_lane_sets_its_mark(rt: HostRuntime) {
+    let bell = must(&rt, Bell::make_marked(rt.alloc(), 8));
+    let (mut pushers, _popper) = must(&rt, make_marked(rt.alloc(), &bell, 6, 2, 4));
+    assert!(rt; pushers.len() == 2);
     for pusher in pushers.iter_mut() {
-        assert_eq!(rt; pusher.try_push(&rt, 1u8), Ok(()));
-        assert_eq!(rt;
-            (bell.marked_words(0), bell.take_marks(0)),
-            (0b1, 0b100_0000)
-        );
+        let pushed = pusher.try_push(&rt, 1u8);
+        let taken = [bell.marked_words(0), bell.take_marks(0)];
+        assert!(rt; pushed.is_ok() && taken == [0b1, 0b100_0000]);
     }
-    Ok(())
 }
 
 // Pushes a number by each end in turn, with a rest before each, so that the consumer is asleep when it comes.
@@ -91,10 +104,10 @@ fn take_marked<R: Wait>(rt: &R, bell: &Bell, ends: (Popper<u32>, Popper<u32>), c
 }
 
 #[test]
-fn a_push_with_a_mark_ends_a_rest(rt: HostRuntime) -> Result<(), Fail> {
-    let bell = Bell::make_marked(rt.alloc(), 71)?;
-    let (a, from_a) = make_one_marked(rt.alloc(), &bell, 5, 1)?;
-    let (b, from_b) = make_one_marked(rt.alloc(), &bell, 70, 1)?;
+fn a_push_with_a_mark_ends_a_rest(rt: HostRuntime) {
+    let bell = must(&rt, Bell::make_marked(rt.alloc(), 71));
+    let (a, from_a) = must(&rt, make_one_marked(rt.alloc(), &bell, 5, 1));
+    let (b, from_b) = must(&rt, make_one_marked(rt.alloc(), &bell, 70, 1));
     let ends = (a, b);
     let poppers = (from_a, from_b);
     let shared = &bell;
@@ -104,6 +117,5 @@ fn a_push_with_a_mark_ends_a_rest(rt: HostRuntime) -> Result<(), Fail> {
         move || push_in_turn(lend, ends, 200),
         move || take_marked(lend, shared, poppers, 600),
     );
-    assert_eq!(rt; taken, 600);
-    Ok(())
+    assert!(rt; taken == 600);
 }

@@ -1,16 +1,23 @@
 //! What no clause says: that calls go through with ample memory, that an end can go to another thread, that the lane had
 //! no room or no item when a call says so, that sleepers are woken, and that an item is dropped once.
-ghost use Rattle.std.specs.Prelude.{◌≡◌, ◌<◌, ◌+◌, ◌^◌};
+ghost use Rattle.std.specs.Prelude.{◌≡◌, ◌<◌, ◌+◌, ◌^◌, Ok};
 ghost use Rattle.m17_lane.specs.Ends.{pushed_to, popped_from};
 
 use super::*;
 use std::alloc::Global;
+use std::process::Abort;
 use std::sync::Wait;
 use std::sync::atomic::{AtomicU64, Ordering};
-use std::test::Fail;
 use std::thread;
 use std::thread::Threads;
 use std::time::{Clock, Duration};
+
+// What was made; the test ends where it was not.
+pub(crate) fn must<T, E: Drop, R: Abort>(rt: &R, made: Result<T, E>) -> T
+    ensures { made ≡ Ok result }
+{
+    made.ok().expect(rt, "made")
+}
 
 // One thread pushes an item by an end that it owns, another pops one; both ends come back.
 fn pass_on<T: Drop + Send, R: Threads + Wait + Sync>(
@@ -160,82 +167,113 @@ fn three_thousand<R: Threads + Wait + Clock + Sync>(
     ((a, b, c), popped)
 }
 
+// A lane of three producers: its pushers in their order, and its popper.
+fn ends_of_three<R: Abort>(rt: &R, alloc: Global, capacity: u32) -> (Three, Popper<u32>)
+    requires { 0 < capacity }
+    ensures first { result.0.0.lane ≡ result.1.lane }
+    ensures second { result.0.1.lane ≡ result.1.lane }
+    ensures third { result.0.2.lane ≡ result.1.lane }
+    ensures producers { result.1.producers ≡ 3 }
+{
+    let (mut pushers, popper) = must(rt, make(alloc, 3, capacity));
+    let third = pushers.pop().expect(rt, "three pushers");
+    let second = pushers.pop().expect(rt, "three pushers");
+    let first = pushers.pop().expect(rt, "three pushers");
+    ((first, second, third), popper)
+}
+
+// The first five items that such a lane has left when it is finished, its ends handed in in this order.
+fn left_by_three<R: Abort + Wait>(
+    rt: &R,
+    alloc: Global,
+    ends: Three,
+    popper: Popper<u32>,
+) -> [Option<u32>; 5]
+    requires first { ends.0.lane ≡ popper.lane }
+    requires second { ends.1.lane ≡ popper.lane }
+    requires third { ends.2.lane ≡ popper.lane }
+    requires producers { popper.producers ≡ 3 }
+{
+    let (a, b, c) = ends;
+    let mut trail = finish(must(rt, Vec::from_array(alloc, [a, b, c])), popper);
+    five_left(rt, &mut trail)
+}
+
+// The next five items that are left.
+fn five_left<R: Wait>(rt: &R, trail: &mut Trail<u32>) -> [Option<u32>; 5] {
+    let mut left = [None; 5];
+    for i in 0..5 {
+        left[i] = trail.left(rt);
+    }
+    left
+}
+
 #[test]
-fn a_full_lane_gives_the_item_back(rt: HostRuntime) -> Result<(), Fail> {
-    let (mut pushers, mut popper) = make(rt.alloc(), 2, 1)?;
+fn a_full_lane_gives_the_item_back(rt: HostRuntime) {
+    let (mut pushers, mut popper) = must(&rt, make(rt.alloc(), 2, 1));
     let mut second = pushers.pop().expect(&rt, "two pushers");
     let mut first = pushers.pop().expect(&rt, "two pushers");
-    assert_eq!(rt; first.try_push(&rt, 7), Ok(()));
-    assert_eq!(rt; second.try_push(&rt, 8), Err(8));
-    assert_eq!(rt; popper.try_pop(&rt), Some(7));
-    assert_eq!(rt; popper.try_pop(&rt), None);
-    assert_eq!(rt; second.try_push(&rt, 9), Ok(()));
-    assert_eq!(rt; popper.try_pop(&rt), Some(9));
-    Ok(())
+    let pushed = [first.try_push(&rt, 7), second.try_push(&rt, 8)];
+    let popped = [popper.try_pop(&rt), popper.try_pop(&rt)];
+    let again = (second.try_push(&rt, 9), popper.try_pop(&rt));
+    assert!(rt; pushed == [Ok(()), Err(8)]);
+    assert!(rt; popped == [Some(7), None] && again == (Ok(()), Some(9)));
 }
 
 #[test]
-fn what_is_left_comes_out_of_the_trail(rt: HostRuntime) -> Result<(), Fail> {
-    let (pusher, popper) = make_one(rt.alloc(), 3)?;
+fn what_is_left_comes_out_of_the_trail(rt: HostRuntime) {
+    let (pusher, popper) = must(&rt, make_one(rt.alloc(), 3));
     let (pusher, taken) = try_numbers(&rt, pusher, 1, 5);
-    assert_eq!(rt; taken, 3);
     let (popper, item) = pop_one(&rt, popper);
-    assert_eq!(rt; item, 1);
     let mut trail = finish_one(pusher, popper);
-    assert_eq!(rt; (trail.left(&rt), trail.left(&rt)), (Some(2), Some(3)));
-    assert_eq!(rt; (trail.left(&rt), trail.left(&rt)), (None, None));
-    Ok(())
+    let left = five_left(&rt, &mut trail);
+    assert!(rt; (taken, item) == (3, 1));
+    assert!(rt; left == [Some(2), Some(3), None, None, None]);
 }
 
+// The lane has room for four.
 #[test]
-fn what_several_producers_left_comes_out_in_order(rt: HostRuntime) -> Result<(), Fail> {
-    let (mut pushers, popper) = make(rt.alloc(), 3, 4)?;
-    let third = pushers.pop().expect(&rt, "three pushers");
-    let second = pushers.pop().expect(&rt, "three pushers");
-    let first = pushers.pop().expect(&rt, "three pushers");
+fn what_several_producers_left_comes_out_in_order(rt: HostRuntime) {
+    let ((first, second, third), popper) = ends_of_three(&rt, rt.alloc(), 4);
     let (second, two) = try_numbers(&rt, second, 20, 22);
     let (first, one) = try_numbers(&rt, first, 10, 11);
     let (third, three) = try_numbers(&rt, third, 30, 33);
-    assert_eq!(rt; (one, two, three), (1, 2, 1), "the lane has room for four");
     let (popper, item) = pop_one(&rt, popper);
-    assert_eq!(rt; item, 20);
-    pushers.push(third)?;
-    pushers.push(first)?;
-    pushers.push(second)?;
-    let mut trail = finish(pushers, popper);
-    assert_eq!(rt; (trail.left(&rt), trail.left(&rt)), (Some(21), Some(10)));
-    assert_eq!(rt; (trail.left(&rt), trail.left(&rt)), (Some(30), None));
-    assert_eq!(rt; trail.left(&rt), None);
-    Ok(())
+    let left = left_by_three(&rt, rt.alloc(), (third, first, second), popper);
+    assert!(rt; [one, two, three, item] == [1, 2, 1, 20]);
+    assert!(rt; left == [Some(21), Some(10), Some(30), None, None]);
 }
 
 #[test]
-fn an_end_goes_to_another_thread_and_comes_back(rt: HostRuntime) -> Result<(), Fail> {
-    let (pusher, popper) = make_one(rt.alloc(), 1)?;
+fn an_end_goes_to_another_thread_and_comes_back(rt: HostRuntime) {
+    let (pusher, popper) = must(&rt, make_one(rt.alloc(), 1));
     let (pusher, (popper, item)) = pass_on(&rt, pusher, popper, 5u8);
-    assert_eq!(rt; item, 5);
     let mut trail = finish_one(pusher, popper);
-    assert_eq!(rt; trail.left(&rt), None);
-    Ok(())
+    let left = trail.left(&rt);
+    assert!(rt; (item, left) == (5, None));
+}
+
+// Three threads push so many numbers each by a lane with this room: how many came out of their order, and what is left
+// when all were popped.
+fn pass_thousands<R: Abort + Threads + Wait + Clock + Sync>(
+    rt: &R,
+    alloc: Global,
+    capacity: u32,
+    each: u32,
+    rest: u64,
+) -> (u32, Option<u32>)
+    requires { (0 < capacity) × (each < 1001) }
+{
+    let (ends, popper) = ends_of_three(rt, alloc, capacity);
+    let (ends, (popper, wrong)) = three_thousand(rt, ends, popper, each, rest);
+    let [left, ..] = left_by_three(rt, alloc, ends, popper);
+    (wrong, left)
 }
 
 #[test]
-fn each_producers_numbers_come_in_its_order(rt: HostRuntime) -> Result<(), Fail> {
-    for (capacity, each, rest) in [(4, 1000, 0), (1, 50, 300)] {
-        let (mut pushers, popper) = make(rt.alloc(), 3, capacity)?;
-        let third = pushers.pop().expect(&rt, "three pushers");
-        let second = pushers.pop().expect(&rt, "three pushers");
-        let first = pushers.pop().expect(&rt, "three pushers");
-        let ends = (first, second, third);
-        let (ends, (popper, wrong)) = three_thousand(&rt, ends, popper, each, rest);
-        assert_eq!(rt; wrong, 0, "at capacity {capacity}");
-        pushers.push(ends.0)?;
-        pushers.push(ends.1)?;
-        pushers.push(ends.2)?;
-        let mut trail = finish(pushers, popper);
-        assert_eq!(rt; trail.left(&rt), None, "at capacity {capacity}");
-    }
-    Ok(())
+fn each_producers_numbers_come_in_its_order(rt: HostRuntime) {
+    assert!(rt; pass_thousands(&rt, rt.alloc(), 4, 1000, 0) == (0, None));
+    assert!(rt; pass_thousands(&rt, rt.alloc(), 1, 50, 300) == (0, None));
 }
 
 // Pushes a number by each end in turn, with a rest before each, so that the consumer is asleep when it comes.
@@ -262,26 +300,32 @@ fn take_from_three<R: Wait>(rt: &R, bell: &Bell, ends: Poppers, count: u32) -> u
             break;
         }
         let announced = bell.announce();
-        let tried = (a.try_pop(rt), b.try_pop(rt), c.try_pop(rt));
-        match tried {
-            (None, None, None) => announced.sleep(rt),
-            (first, second, third) => {
-                let found = u32::from(first.is_some())
-                    + u32::from(second.is_some())
-                    + u32::from(third.is_some());
-                taken = taken.saturating_add(found);
-            }
+        let found = found_of([a.try_pop(rt), b.try_pop(rt), c.try_pop(rt)]);
+        if found == 0 {
+            announced.sleep(rt);
         }
+        taken = taken.saturating_add(found);
     }
     taken
 }
 
+// How many items there are.
+fn found_of(tried: [Option<u32>; 3]) -> u32 {
+    let mut found = 0u32;
+    for item in tried {
+        if item.is_some() {
+            found = found.saturating_add(1);
+        }
+    }
+    found
+}
+
 #[test]
-fn one_bell_wakes_the_consumer_of_three_lanes(rt: HostRuntime) -> Result<(), Fail> {
-    let bell = Bell::make(rt.alloc())?;
-    let (a, from_a) = make_one_with(rt.alloc(), &bell, 1)?;
-    let (b, from_b) = make_one_with(rt.alloc(), &bell, 1)?;
-    let (c, from_c) = make_one_with(rt.alloc(), &bell, 1)?;
+fn one_bell_wakes_the_consumer_of_three_lanes(rt: HostRuntime) {
+    let bell = must(&rt, Bell::make(rt.alloc()));
+    let (a, from_a) = must(&rt, make_one_with(rt.alloc(), &bell, 1));
+    let (b, from_b) = must(&rt, make_one_with(rt.alloc(), &bell, 1));
+    let (c, from_c) = must(&rt, make_one_with(rt.alloc(), &bell, 1));
     let ends = (a, b, c);
     let poppers = (from_a, from_b, from_c);
     let shared = &bell;
@@ -291,8 +335,7 @@ fn one_bell_wakes_the_consumer_of_three_lanes(rt: HostRuntime) -> Result<(), Fai
         move || ring_in_turn(lend, ends, 100),
         move || take_from_three(lend, shared, poppers, 300),
     );
-    assert_eq!(rt; taken, 300);
-    Ok(())
+    assert!(rt; taken == 300);
 }
 
 // Pushes bursts of a thousand numbers, and rests after each until the other thread says that it has them.
@@ -336,17 +379,16 @@ fn take_bursts<R: Wait + Clock>(
 // A missed wake-up leaves both threads asleep for ever. The bound of time is the gate's, which stops a test after 60
 // seconds: with every wake-up this one takes a few, 0.4 of them at rest, so only a missed one passes the bound.
 #[test]
-fn two_hundred_thousand_items_in_bursts_arrive(rt: HostRuntime) -> Result<(), Fail> {
-    let (pusher, popper) = make_one(rt.alloc(), 16)?;
-    let (answers, answered) = make_one(rt.alloc(), 1)?;
+fn two_hundred_thousand_items_in_bursts_arrive(rt: HostRuntime) {
+    let (pusher, popper) = must(&rt, make_one(rt.alloc(), 16));
+    let (answers, answered) = must(&rt, make_one(rt.alloc(), 1));
     let lend = &rt;
     let wrong = thread::join(
         lend,
         move || send_bursts(lend, pusher, answered, 200),
         move || take_bursts(lend, popper, answers, 200),
     );
-    assert_eq!(rt; wrong, (0, 0));
-    Ok(())
+    assert!(rt; wrong == (0, 0));
 }
 
 // An item that counts itself when it is dropped.
@@ -359,29 +401,35 @@ impl Drop for Counted<'_> {
     }
 }
 
+// How many items were dropped.
+fn count(dropped: &AtomicU64) -> u64 {
+    dropped.load(Ordering::SeqCst)
+}
+
+// Tries to push an item: whether it was taken, and how many items were dropped while it was not let go that came back.
+fn push_counted<'a, R: Wait>(
+    rt: &R,
+    pusher: &mut Pusher<Counted<'a>>,
+    dropped: &'a AtomicU64,
+) -> (bool, u64) {
+    let answer = pusher.try_push(rt, Counted(dropped));
+    (answer.is_ok(), count(dropped))
+}
+
 #[test]
-fn an_item_is_dropped_once(rt: HostRuntime) -> Result<(), Fail> {
+fn an_item_is_dropped_once(rt: HostRuntime) {
     let dropped = AtomicU64::new(0);
-    let (mut pusher, mut popper) = make_one(rt.alloc(), 1)?;
-    assert!(rt; pusher.try_push(&rt, Counted(&dropped)).is_ok());
-    let back = pusher.try_push(&rt, Counted(&dropped));
-    assert_eq!(rt;
-        dropped.load(Ordering::SeqCst),
-        0,
-        "the refused item came back"
-    );
-    drop(back);
-    assert_eq!(rt; dropped.load(Ordering::SeqCst), 1);
+    let (mut pusher, mut popper) = must(&rt, make_one(rt.alloc(), 1));
+    let first = push_counted(&rt, &mut pusher, &dropped);
+    let refused = push_counted(&rt, &mut pusher, &dropped);
+    let back = count(&dropped);
     drop(popper.try_pop(&rt));
-    assert_eq!(rt; dropped.load(Ordering::SeqCst), 2);
-    assert!(rt; pusher.try_push(&rt, Counted(&dropped)).is_ok());
+    let popped = count(&dropped);
+    let second = push_counted(&rt, &mut pusher, &dropped);
     drop(pusher);
-    assert_eq!(rt;
-        dropped.load(Ordering::SeqCst),
-        2,
-        "one item is in the lane"
-    );
+    let in_the_lane = count(&dropped);
     drop(popper);
-    assert_eq!(rt; dropped.load(Ordering::SeqCst), 3);
-    Ok(())
+    let last = count(&dropped);
+    assert!(rt; [first, refused, second] == [(true, 0), (false, 0), (true, 2)]);
+    assert!(rt; [back, popped, in_the_lane, last] == [1, 2, 2, 3]);
 }

@@ -1,5 +1,5 @@
 //! What no clause says: that all jobs go where there are threads and memory, and that none does where one start is refused.
-ghost use Rattle.std.specs.Prelude.{◌≡◌, false, IfOk, vec_capacity};
+ghost use Rattle.std.specs.Prelude.{◌≡◌, false, Ok, vec_capacity};
 ghost use Rattle.m17_rows.specs.Starts.{HasStarted};
 ghost use Rattle.m17_launch.specs.Groups.{CanStart};
 
@@ -8,8 +8,8 @@ use m17_crew::{Crew, Order, RefusingCrew, StdCrew, Work};
 use m17_lane::{Popper, make_one};
 use m17_rows::starts;
 use std::alloc::Global;
+use std::process::Abort;
 use std::sync::Wait;
-use std::test::Fail;
 use std::thread::Threads;
 
 // Keeps in mind whether it was told to go.
@@ -29,52 +29,60 @@ impl Work for Obeying {
     }
 }
 
-fn one_job(alloc: Global) -> Result<Group<Obeying>, Fail>
-    ensures { IfOk result (λ g. CanStart (λ j. j.went ≡ false) g.jobs.items g.running.items
-        (vec_capacity g.running)) }
+// What was made; the test ends where it was not.
+fn must<T, E: Drop, R: Abort>(rt: &R, made: Result<T, E>) -> T
+    ensures { made ≡ Ok result }
 {
-    let (told, order) = make_one(alloc, 2)?;
-    let jobs = vec![in alloc; Obeying { order, went: false }]?;
-    let orders = vec![in alloc; told]?;
-    let running = Vec::with_capacity(alloc, 1)?;
-    Ok(Group {
-        jobs,
-        orders,
-        running,
-    })
+    made.ok().expect(rt, "made")
 }
 
-// Launches three groups of one job each: whether all were started, and how many of them went.
-fn launch_three<C: Crew, R: Threads + Wait + Copy + Send + 'static>(
+fn one_job<R: Abort>(rt: &R, alloc: Global) -> Group<Obeying>
+    ensures { CanStart (λ j. j.went ≡ false) result.jobs.items result.running.items
+        (vec_capacity result.running) }
+{
+    let (told, order) = must(rt, make_one(alloc, 2));
+    let job = Obeying { order, went: false };
+    Group {
+        jobs: must(rt, Vec::from_array(alloc, [job])),
+        orders: must(rt, Vec::from_array(alloc, [told])),
+        running: must(rt, Vec::with_capacity(alloc, 1)),
+    }
+}
+
+// How many of the jobs went.
+fn count_went(jobs: &[Obeying]) -> usize {
+    jobs.iter().filter(|job| job.went).count()
+}
+
+// Launches three groups of one job each: whether all were started, and how many of each went.
+fn launch_three<C: Crew, R: Threads + Wait + Abort + Copy + Send + 'static>(
     rt: &R,
     alloc: Global,
     crew: &mut C,
-) -> Result<(bool, usize), Fail> {
-    let (mut a, mut b, mut c) = (one_job(alloc)?, one_job(alloc)?, one_job(alloc)?);
+) -> (bool, [usize; 3]) {
+    let mut a = one_job(rt, alloc);
+    let mut b = one_job(rt, alloc);
+    let mut c = one_job(rt, alloc);
     let started = launch(rt, alloc, crew, &mut a, &mut b, &mut c).is_ok();
-    let went = a.jobs.iter().filter(|j| j.went).count();
-    let more = b.jobs.iter().filter(|j| j.went).count();
-    let most = c.jobs.iter().filter(|j| j.went).count();
-    Ok((started, went.saturating_add(more).saturating_add(most)))
+    let went = [
+        count_went(a.jobs.as_slice()),
+        count_went(b.jobs.as_slice()),
+        count_went(c.jobs.as_slice()),
+    ];
+    (started, went)
 }
 
 #[test]
-fn all_jobs_go_where_none_is_refused(rt: HostRuntime) -> Result<(), Fail> {
-    let mut crew = StdCrew::new();
-    assert_eq!(rt; launch_three(&rt, rt.alloc(), &mut crew)?, (true, 3));
-    Ok(())
+fn all_jobs_go_where_none_is_refused(rt: HostRuntime) {
+    let seen = launch_three(&rt, rt.alloc(), &mut StdCrew::new());
+    assert!(rt; seen == (true, [1; 3]));
 }
 
 #[test]
-fn no_job_goes_where_one_is_refused(rt: HostRuntime) -> Result<(), Fail> {
-    for refused in 0..3 {
-        let numbers = Vec::from_array(rt.alloc(), [refused])?;
-        let mut crew = RefusingCrew::new(numbers);
-        assert_eq!(rt;
-            launch_three(&rt, rt.alloc(), &mut crew)?,
-            (false, 0),
-            "start {refused}"
-        );
+fn no_job_goes_where_one_is_refused(rt: HostRuntime) {
+    for refused in 0..3u64 {
+        let refusals = must(&rt, Vec::from_array(rt.alloc(), [refused]));
+        let seen = launch_three(&rt, rt.alloc(), &mut RefusingCrew::new(refusals));
+        assert!(rt; seen == (false, [0; 3]), "start {refused}");
     }
-    Ok(())
 }

@@ -1,78 +1,89 @@
 use crate::{BytesOutlet, BytesSink, BytesSource, WaitingSource};
 use m17_io::{Fault, Outlet, Sink, Source, read_tied};
 use m17_values::Failed;
-use std::test::Fail;
+use std::alloc::Global;
+use std::process::Abort;
+
+// What was made; the test ends where it was not.
+fn must<T, E: Drop>(rt: &impl Abort, made: Result<T, E>) -> T {
+    made.ok().expect(rt, "made")
+}
+
+fn source(rt: &impl Abort, alloc: Global, bytes: &[u8], fails: &[u64]) -> BytesSource {
+    let bytes = must(rt, bytes.to_vec(alloc));
+    BytesSource::new(bytes, must(rt, fails.to_vec(alloc)))
+}
+
+fn sink(rt: &impl Abort, alloc: Global, room: usize, fails: &[u64]) -> BytesSink {
+    must(
+        rt,
+        BytesSink::make(alloc, room, must(rt, fails.to_vec(alloc))),
+    )
+}
 
 #[test]
-fn bytes_come_in_order_and_listed_calls_fail(rt: HostRuntime) -> Result<(), Fail> {
-    let alloc = rt.alloc();
-    let mut source = BytesSource::new(b"abcde".to_vec(alloc)?, [1, 3].to_vec(alloc)?);
+fn bytes_come_in_order_and_listed_calls_fail(rt: HostRuntime) {
+    let mut source = source(&rt, rt.alloc(), b"abcde", &[1, 3]);
     let mut into = [0u8; 3];
-    assert_eq!(rt; source.read(&mut into), Ok(3));
-    assert_eq!(rt; into, *b"abc");
-    assert_eq!(rt; source.read(&mut into), Err(Failed));
-    assert_eq!(rt; source.read(&mut into), Ok(2));
-    assert_eq!(rt; into, *b"dec");
-    assert_eq!(rt; source.read(&mut into), Err(Failed));
-    assert_eq!(rt; source.read(&mut into), Ok(0));
-    assert!(rt; source.is_at_hand());
-    Ok(())
+    let first = source.read(&mut into);
+    assert!(rt; first == Ok(3) && into == *b"abc");
+    let then = [
+        source.read(&mut into),
+        source.read(&mut into),
+        source.read(&mut into),
+        source.read(&mut into),
+    ];
+    assert!(rt; then == [Err(Failed), Ok(2), Err(Failed), Ok(0)]);
+    assert!(rt; into == *b"dec" && source.is_at_hand());
 }
 
 #[test]
-fn a_sink_keeps_what_fits_and_fails_where_it_was_told(rt: HostRuntime) -> Result<(), Fail> {
-    let alloc = rt.alloc();
-    let mut sink = BytesSink::make(alloc, 5, [1, 4].to_vec(alloc)?)
-        .ok()
-        .ok_or("no memory")?;
-    assert_eq!(rt; sink.write(b"abc"), Ok(()));
-    assert_eq!(rt; sink.write(b"d"), Err(Failed));
-    assert_eq!(rt; sink.write(b"def"), Err(Failed));
-    assert_eq!(rt; sink.write(b"de"), Ok(()));
-    assert_eq!(rt; sink.flush(), Err(Failed));
-    assert_eq!(rt; sink.flush(), Ok(()));
-    assert_eq!(rt; sink.bytes(), b"abcde".as_slice());
-    let mut none = BytesSink::make(alloc, 0, Vec::new(alloc))
-        .ok()
-        .ok_or("no memory")?;
-    assert_eq!(rt; none.write(b""), Ok(()));
-    assert_eq!(rt; none.write(b"a"), Err(Failed));
-    Ok(())
+fn a_sink_keeps_what_fits_and_fails_where_it_was_told(rt: HostRuntime) {
+    let mut out = sink(&rt, rt.alloc(), 5, &[1, 4]);
+    let answers = [
+        out.write(b"abc"),
+        out.write(b"d"),
+        out.write(b"def"),
+        out.write(b"de"),
+        out.flush(),
+        out.flush(),
+    ];
+    let (ok, failed) = (Ok(()), Err(Failed));
+    assert!(rt;
+        answers == [ok, failed, failed, ok, failed, ok] && out.bytes() == b"abcde".as_slice()
+    );
+    let mut none = sink(&rt, rt.alloc(), 0, &[]);
+    assert!(rt; [none.write(b""), none.write(b"a")] == [ok, failed]);
 }
 
 #[test]
-fn an_outlet_takes_a_few_bytes_at_a_time(rt: HostRuntime) -> Result<(), Fail> {
-    let alloc = rt.alloc();
-    let mut outlet = BytesOutlet::new(alloc, 3, [1].to_vec(alloc)?);
-    assert_eq!(rt; outlet.send(b"abcde"), Ok(3));
-    assert_eq!(rt; outlet.send(b"de"), Err(Failed));
-    assert_eq!(rt; outlet.send(b"de"), Ok(2));
-    assert_eq!(rt; outlet.send(b""), Ok(0));
-    assert_eq!(rt; outlet.bytes(), b"abcde".as_slice());
-    Ok(())
+fn an_outlet_takes_a_few_bytes_at_a_time(rt: HostRuntime) {
+    let fails = must(&rt, [1].to_vec(rt.alloc()));
+    let mut outlet = BytesOutlet::new(rt.alloc(), 3, fails);
+    let answers = [
+        outlet.send(b"abcde"),
+        outlet.send(b"de"),
+        outlet.send(b"de"),
+        outlet.send(b""),
+    ];
+    assert!(rt;
+        answers == [Ok(3), Err(Failed), Ok(2), Ok(0)] && outlet.bytes() == b"abcde".as_slice()
+    );
 }
 
 // The sink's second flush fails, and the source's second read: the first of these comes first.
 #[test]
-fn a_tied_read_says_which_device_failed(rt: HostRuntime) -> Result<(), Fail> {
-    let alloc = rt.alloc();
-    let mut source = WaitingSource::new(b"abc".to_vec(alloc)?, [1].to_vec(alloc)?);
-    let mut sink = BytesSink::make(alloc, 9, [1].to_vec(alloc)?)
-        .ok()
-        .ok_or("no memory")?;
+fn a_tied_read_says_which_device_failed(rt: HostRuntime) {
+    let bytes = must(&rt, b"abc".to_vec(rt.alloc()));
+    let mut source = WaitingSource::new(bytes, must(&rt, [1].to_vec(rt.alloc())));
+    let mut sink = sink(&rt, rt.alloc(), 9, &[1]);
     let mut into = [0u8; 2];
-    assert_eq!(rt; read_tied(&mut source, &mut sink, &mut into), Ok(2));
-    assert_eq!(rt;
+    let answers = [
         read_tied(&mut source, &mut sink, &mut into),
-        Err(Fault::Write)
-    );
-    assert_eq!(rt;
         read_tied(&mut source, &mut sink, &mut into),
-        Err(Fault::Read)
-    );
-    assert_eq!(rt; read_tied(&mut source, &mut sink, &mut into), Ok(1));
-    assert_eq!(rt; into, *b"cb");
-    assert!(rt; !source.is_at_hand());
-    assert!(rt; Fault::Read != Fault::Write);
-    Ok(())
+        read_tied(&mut source, &mut sink, &mut into),
+        read_tied(&mut source, &mut sink, &mut into),
+    ];
+    assert!(rt; answers == [Ok(2), Err(Fault::Write), Err(Fault::Read), Ok(1)]);
+    assert!(rt; into == *b"cb" && !source.is_at_hand() && Fault::Read != Fault::Write);
 }

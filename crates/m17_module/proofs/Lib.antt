@@ -27,3 +27,4 @@ mod SeatCounts
 mod RenamedSeats
 mod RenamedEchoes
 mod RenamedItems
+mod BookLegal

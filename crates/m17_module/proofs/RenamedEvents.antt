@@ -7,7 +7,7 @@ use Rattle.m17_values.specs.declared.member.Member.{Member}
 use Rattle.m17_control.specs.declared.event.Body.{Body}
 use Rattle.m17_control.specs.declared.event.Body.TheVariants as body
 use Rattle.m17_control.specs.declared.event.Event.{Event}
-use Rattle.m17_control.specs.Renamed.{joiner_of, leaver_of, joiner_at, leaver_at, LeavesBetween, TakeFreePlaces, IsRenamedBody, IsRenamedEvent, AreRenamedEvents}
+use Rattle.m17_control.specs.Renamed.{joiner_of, leaver_of, joiner_at, LeavesBetween, TakeFreePlaces, IsRenamedBody, IsRenamedEvent, AreRenamedEvents}
 use Rattle.m17_floor.specs.declared.act.Act.{Act}
 use Rattle.m17_floor.specs.Renamed as floor
 use Rattle.m17_floor.specs.Renamed.{IsRenamedKind, unnamed_verdict}

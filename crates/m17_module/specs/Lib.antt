@@ -1,11 +1,12 @@
 -- What callers speak of: the events as the floor sees them, who is in, what a parrot plays back, what each event
--- gives, what a module stands for.
+-- gives, what a module stands for, what its book keeps.
 pub mod Events
 pub mod Seats
 pub mod Echoes
 pub mod Items
 pub mod StandsFor
 pub mod Laws
+pub mod Book
 -- For the code alone: the row of held places, and how a recorder follows the room.
 pub mod Held
 pub mod Following

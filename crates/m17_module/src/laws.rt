@@ -1,5 +1,6 @@
 //! What the definitions promise of every list of events. Each function does nothing: its clause is the law. This
 //! profile.
+ghost use Rattle.m17_module.specs.Book as book;
 ghost use Rattle.m17_module.specs.Laws as law;
 
 use m17_floor::laws as floor_laws;
@@ -86,4 +87,21 @@ pub fn renaming_changes_nothing_said()
     ensures verdicts { law.RenamingChangesNoVerdict }
 {
     floor_laws::renaming_changes_no_verdict();
+}
+
+/// What a module of at most 256 places keeps in its book is legal, whatever the events are: each Join at a place at which
+/// nobody is in any more, each Leave of a member that is in, and each packet with the verdict that the floor rule gives
+/// for what is kept, in a book of 256 places. This profile.
+pub fn records_are_legal()
+    ensures { book.RecordsAreLegal }
+{
+    floor_laws::later_acts_change_no_verdict();
+    floor_laws::later_acts_change_nothing_before();
+    floor_laws::the_greatest_moment_counts();
+    floor_laws::one_member_at_a_place();
+    floor_laws::other_acts_change_nothing();
+    floor_laws::strangers_change_nothing();
+    floor_laws::books_are_judged_act_by_act();
+    floor_laws::one_act_more_goes_by_what_is_left();
+    floor_laws::like_lists_go_on_alike();
 }

@@ -17,12 +17,3 @@ pub use basket::{BASKET_ROOM, Basket};
 pub use room::MOST_PLACES;
 pub use seat::Seat;
 pub use state::{Module, PING_EVERY_MS};
-
-#[cfg(test)]
-mod list_tests;
-#[cfg(test)]
-mod parrot_tests;
-#[cfg(test)]
-mod plain_echo;
-#[cfg(test)]
-mod tests;

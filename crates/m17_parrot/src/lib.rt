@@ -5,7 +5,5 @@
 #![tactic(auto)]
 
 mod parrot;
-#[cfg(test)]
-mod tests;
 
 pub use parrot::{FIRST_AFTER_MS, FRAME_EVERY_MS, Kept, MOST_FRAMES, Parrot};

@@ -7,12 +7,8 @@
 #![tactic(auto)]
 
 pub mod laws;
-#[cfg(test)]
-mod part_tests;
 mod receivers;
 mod rest;
-#[cfg(test)]
-mod tests;
 mod trails;
 mod workers;
 

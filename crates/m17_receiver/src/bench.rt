@@ -1,5 +1,5 @@
 //! A receiver for tests, with the other ends of its lanes.
-ghost use Rattle.std.specs.Prelude.{◌≡◌, ◌<◌, ◌≤◌, false, [], All, IfOk, IsTrue, None, length};
+ghost use Rattle.std.specs.Prelude.{◌≡◌, ◌<◌, ◌≤◌, false, [], All, IfOk, IsTrue, None, Ok, length};
 ghost use Rattle.m17_lane.specs.Ends.{PushEnd};
 ghost use Rattle.m17_ports.specs.Told.{StartsEmpty};
 ghost use Rattle.m17_roll.specs.Seat.{HasLists};
@@ -22,7 +22,6 @@ use m17_values::{Gram, Heard, Member, NoMemory, Peer};
 use std::alloc::{AllocError, Global};
 use std::process::Abort;
 use std::sync::Wait;
-use std::test::Fail;
 use std::thread::Threads;
 
 /// What a receiver is made with, the capacity of its inboxes and of its door among it.
@@ -47,24 +46,32 @@ pub(crate) struct Bench<E, B> {
     pub(crate) other: RollSeat,
 }
 
+/// What was made. Where it was not, the test ends.
+pub(crate) fn must<T, E: Drop, R: Abort>(rt: &R, made: Result<T, E>) -> T
+    ensures { made ≡ Ok result }
+{
+    made.ok().expect(rt, "made")
+}
+
 // So many inboxes.
-fn inboxes(
+fn inboxes<R: Abort>(
+    rt: &R,
     alloc: Global,
     count: u32,
     room: u32,
-) -> Result<(Vec<Pusher<Event>>, Vec<Popper<Event>>), Fail>
+) -> (Vec<Pusher<Event>>, Vec<Popper<Event>>)
     requires { 0 < room }
-    ensures count { IfOk result (λ r. length r.0.items ≡ count) }
-    ensures unused { IfOk result (λ r. IsNewRow r.0.items) }
+    ensures count { length result.0.items ≡ count }
+    ensures unused { IsNewRow result.0.items }
 {
     let mut pushers = Vec::new(alloc);
     let mut poppers = Vec::new(alloc);
     'inboxes: for _made in 0..count {
-        let (pusher, popper) = make_one(alloc, room)?;
-        pushers.push(pusher)?;
-        poppers.push(popper)?;
+        let (pusher, popper) = must(rt, make_one(alloc, room));
+        must(rt, pushers.push(pusher));
+        must(rt, poppers.push(popper));
     }
-    Ok((pushers, poppers))
+    (pushers, poppers)
 }
 
 // A tape with so many cells.
@@ -105,20 +112,20 @@ struct Ends {
 }
 
 // Lanes of a receiver of these modules. A push on its door sets mark 0 of the bell.
-fn make_ends(alloc: Global, modules: Modules, plan: &Plan, bell: &Bell) -> Result<Ends, Fail>
+fn make_ends<R: Abort>(rt: &R, alloc: Global, modules: Modules, plan: &Plan, bell: &Bell) -> Ends
     requires room { 0 < plan.now.room }
     requires door { 0 < plan.now.door }
-    ensures count { IfOk result (λ e. length e.inboxes.items ≡ length (letters_of modules)) }
-    ensures inboxes { IfOk result (λ e. IsNewRow e.inboxes.items) }
-    ensures door { IfOk result (λ e. IsNewPusher e.door) }
-    ensures notes { IfOk result (λ e. IsNewPopper e.notes) }
-    ensures order { IfOk result (λ e. IsNewPopper e.order) }
+    ensures count { length result.inboxes.items ≡ length (letters_of modules) }
+    ensures inboxes { IsNewRow result.inboxes.items }
+    ensures door { IsNewPusher result.door }
+    ensures notes { IsNewPopper result.notes }
+    ensures order { IsNewPopper result.order }
 {
-    let (inboxes, from_inboxes) = inboxes(alloc, modules.count(), plan.room)?;
-    let (door, from_door) = make_one_marked(alloc, bell, 0, plan.door)?;
-    let (to_notes, notes) = make_one(alloc, 512)?;
-    let (orders, order) = make_one(alloc, 2)?;
-    Ok(Ends {
+    let (inboxes, from_inboxes) = inboxes(rt, alloc, modules.count(), plan.room);
+    let (door, from_door) = must(rt, make_one_marked(alloc, bell, 0, plan.door));
+    let (to_notes, notes) = must(rt, make_one(alloc, 512));
+    let (orders, order) = must(rt, make_one(alloc, 2));
+    Ends {
         inboxes,
         from_inboxes,
         door,
@@ -127,50 +134,50 @@ fn make_ends(alloc: Global, modules: Modules, plan: &Plan, bell: &Bell) -> Resul
         to_notes,
         order,
         orders,
-    })
+    }
 }
 
 // The directory of link 0, which has heard nothing.
-fn directory_of(alloc: Global, plan: &Plan, modules: Modules) -> Result<Directory, Fail>
+fn directory_of<R: Abort>(rt: &R, alloc: Global, plan: &Plan, modules: Modules) -> Directory
     requires { (0 < plan.now.places) × (plan.now.places ≤ 256) }
-    ensures link { IfOk result (λ d. d.setup.link ≡ 0) }
-    ensures places { IfOk result (λ d. d.setup.places ≡ plan.now.places) }
-    ensures modules { IfOk result (λ d. d.setup.modules ≡ modules) }
-    ensures stands { IfOk result (λ d. StandsFor d []) }
-    ensures idle { IfOk result (λ d. (d.asked ≡ None) × (d.departing ≡ []) × (d.ended ≡ false)) }
+    ensures link { result.setup.link ≡ 0 }
+    ensures places { result.setup.places ≡ plan.now.places }
+    ensures modules { result.setup.modules ≡ modules }
+    ensures stands { StandsFor result [] }
+    ensures idle { (result.asked ≡ None) × (result.departing ≡ []) × (result.ended ≡ false) }
 {
-    let name = CallAddress::new(encode("M17-TST").ok().ok_or("no address")?);
-    let name = name.ok_or("no callsign")?;
-    let directory = Directory::make(alloc, 0, name, plan.places, modules)?;
-    Ok(directory)
+    let name = CallAddress::new(must(rt, encode("M17-TST")));
+    let name = name.expect(rt, "a callsign");
+    must(rt, Directory::make(alloc, 0, name, plan.places, modules))
 }
 
 /// A receiver that can be started. A push on its door sets mark 0 of the bell.
-pub(crate) fn make_bench<E: Ear + Drop, B: Book + Drop>(
+pub(crate) fn make_bench<E: Ear + Drop, B: Book + Drop, R: Abort>(
+    rt: &R,
     alloc: Global,
     plan: &Plan,
     bell: &Bell,
     ear: E,
     trace: B,
-) -> Result<Bench<E, B>, Fail>
+) -> Bench<E, B>
     requires ear { StartsEmpty (E.heard ear) }
     requires trace { StartsEmpty (B.written trace) }
     requires places { (0 < plan.now.places) × (plan.now.places ≤ 256) }
     requires room { 0 < plan.now.room }
     requires door { 0 < plan.now.door }
-    ensures { IfOk result (λ b. IsReady (record {
+    ensures { IsReady (record {
       heard = E.heard;
       ear_faults = E.faults;
       written = B.written;
       trace_faults = B.faults;
-    }) b.receiver) }
+    }) result.receiver }
 {
-    let modules = Modules::read(plan.letters).ok().ok_or("no modules")?;
-    let directory = directory_of(alloc, plan, modules)?;
-    let post = Post::make(alloc)?;
-    let ends = make_ends(alloc, modules, plan, bell)?;
-    let (seat, other) = seats(alloc, plan.places)?;
-    let tape = empty_tape(alloc, plan.cells)?;
+    let modules = must(rt, Modules::read(plan.letters));
+    let directory = directory_of(rt, alloc, plan, modules);
+    let post = must(rt, Post::make(alloc));
+    let ends = make_ends(rt, alloc, modules, plan, bell);
+    let (seat, other) = must(rt, seats(alloc, plan.places));
+    let tape = must(rt, empty_tape(alloc, plan.cells));
     let Ends {
         inboxes,
         from_inboxes,
@@ -199,47 +206,45 @@ pub(crate) fn make_bench<E: Ear + Drop, B: Book + Drop>(
         lost: false,
         trace_failed: false,
     };
-    Ok(Bench {
+    Bench {
         receiver,
         inboxes: from_inboxes,
         door: from_door,
         notes: to_notes,
         orders,
         other,
-    })
+    }
 }
 
 /// A trace of the tests has room for so many bytes.
 const ROOM: usize = 65_536;
 
 /// A receiver that has gone over what was heard, with the write of its trace that is to fail.
-pub(crate) fn run_through<R: Wait>(
+pub(crate) fn run_through<R: Wait + Abort>(
     rt: &R,
     alloc: Global,
     plan: &Plan,
     heard: Vec<Heard>,
     fails: Vec<u64>,
-) -> Result<Bench<ScriptEar, ListBook>, Fail> {
+) -> Bench<ScriptEar, ListBook> {
     run_by(rt, alloc, plan, heard, fails, Order::Go)
 }
 
 /// The same with this order, behind a Stop.
-pub(crate) fn run_by<R: Wait>(
+pub(crate) fn run_by<R: Wait + Abort>(
     rt: &R,
     alloc: Global,
     plan: &Plan,
     heard: Vec<Heard>,
     fails: Vec<u64>,
     order: Order,
-) -> Result<Bench<ScriptEar, ListBook>, Fail> {
-    if !is_plan(plan) {
-        return Err("no plan".into());
-    }
-    let bell = Bell::make_marked(alloc, 1)?;
+) -> Bench<ScriptEar, ListBook> {
+    assert!(rt; is_plan(plan));
+    let bell = must(rt, Bell::make_marked(alloc, 1));
     let ear = ScriptEar::new(heard);
-    let trace = ListBook::make(alloc, ROOM, fails)?;
-    let b = make_bench(alloc, plan, &bell, ear, trace)?;
-    Ok(go(rt, b, order))
+    let trace = must(rt, ListBook::make(alloc, ROOM, fails));
+    let b = make_bench(rt, alloc, plan, &bell, ear, trace);
+    go(rt, b, order)
 }
 
 /// Has the receiver go by this order, behind a Stop, with a note that is there before it.
@@ -307,34 +312,36 @@ pub(crate) struct Started {
 }
 
 /// Starts a receiver over what is heard, after the other seat has claimed, where it is to.
-pub(crate) fn start_over<R: Threads + Wait + Copy + Send + 'static>(
+pub(crate) fn start_over<R: Threads + Wait + Abort + Copy + Send + 'static>(
     rt: &R,
     alloc: Global,
     plan: &Plan,
     heard: Vec<Heard>,
     claims: bool,
-) -> Result<Started, Fail> {
-    if !is_plan(plan) {
-        return Err("no plan".into());
-    }
-    let bell = Bell::make_marked(alloc, 1)?;
+) -> Started {
+    assert!(rt; is_plan(plan));
+    let bell = must(rt, Bell::make_marked(alloc, 1));
     let ear = ScriptEar::new(heard);
-    let trace = ListBook::make(alloc, ROOM, Vec::new(alloc))?;
-    let mut b = make_bench(alloc, plan, &bell, ear, trace)?;
+    let trace = must(rt, ListBook::make(alloc, ROOM, Vec::new(alloc)));
+    let mut b = make_bench(rt, alloc, plan, &bell, ear, trace);
     b.orders.push_waiting(rt, Order::Go);
-    let inbox = b.inboxes.pop().ok_or("no inbox")?;
+    let inbox = b.inboxes.pop().expect(rt, "an inbox");
     let held = if claims { b.other.claim(99) } else { None };
     let mut crew = StdCrew::new();
-    let started = crew.start(rt, alloc, b.receiver);
-    let running = started.ok().ok_or("refused")?;
-    Ok(Started {
+    let running = must(rt, crew.start(rt, alloc, b.receiver));
+    Started {
         running,
         inbox,
         door: b.door,
         notes: b.notes,
         other: b.other,
         held,
-    })
+    }
+}
+
+/// Joins a receiver that was started, and lets go of all that the test had of it.
+pub(crate) fn join<R: Threads + Wait>(rt: &R, started: Started) {
+    let _receiver = started.running.join(rt);
 }
 
 /// A member.

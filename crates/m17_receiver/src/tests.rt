@@ -4,8 +4,8 @@ ghost use Rattle.std.specs.Prelude.{None};
 ghost use Rattle.m17_ports.specs.Told.{StartsEmpty};
 
 use crate::bench::{
-    Bench, Plan, conn, disc, go, is_plan, make_bench, member, peer, ping, run_by, run_through,
-    voice,
+    Bench, Plan, conn, disc, go, is_plan, make_bench, member, must, peer, ping, run_by,
+    run_through, voice,
 };
 use m17_control::{Body, Control, ModuleLetter};
 use m17_crew::Order;
@@ -13,11 +13,10 @@ use m17_directory::{Act, LinkVerdict};
 use m17_lane::Bell;
 use m17_port_memory::{ListBook, ScriptEar};
 use m17_ports::{Book, Ear, Shelf};
-use m17_values::{Failed, Heard};
+use m17_values::{Failed, Heard, Member, Peer};
 use std::alloc::Global;
 use std::process::Abort;
 use std::sync::Wait;
-use std::test::Fail;
 
 const ONE_MODULE: Plan = Plan {
     letters: "A",
@@ -59,17 +58,33 @@ fn kind_of(body: &Body) -> u8 {
     }
 }
 
-// A cell of a tape.
-fn cell(tape: &Vec<Option<LinkVerdict>>, n: usize) -> Option<LinkVerdict> {
-    match tape.as_slice().get(n) {
-        Some(cell) => *cell,
-        None => None,
+// A cell of the tape.
+fn cell<E: Drop, B: Drop>(b: &Bench<E, B>, n: usize) -> Option<LinkVerdict> {
+    *b.receiver.tape.as_slice().get(n)?
+}
+
+// Nine events of the one inbox, each by the letter of its kind; a dot where there was none.
+fn popped<E: Drop, B: Drop, R: Wait>(rt: &R, b: &mut Bench<E, B>) -> [u8; 9] {
+    let mut kinds = [b'.'; 9];
+    if let Some(inbox) = b.inboxes.first_mut() {
+        for kind in kinds.iter_mut() {
+            if let Some(event) = inbox.try_pop(rt) {
+                *kind = kind_of(&event.body);
+            }
+        }
     }
+    kinds
+}
+
+// The next reply at the door: to whom, and what.
+fn replied<E: Drop, B: Drop, R: Wait>(rt: &R, b: &mut Bench<E, B>) -> Option<(Peer, Control)> {
+    let direct = b.door.try_pop(rt)?;
+    Some((direct.peer, direct.control))
 }
 
 // An evening of one link: a peer joins, speaks, asks whether the reflector is there, and leaves; another one asks for a
 // module that isn't served.
-fn an_evening(rt: &impl Abort, alloc: Global) -> Result<Vec<Heard>, Fail> {
+fn an_evening(rt: &impl Abort, alloc: Global) -> Vec<Heard> {
     let heard = [
         conn(rt, peer(1), 0, b'A'),
         voice(peer(1), 40, 7),
@@ -78,14 +93,29 @@ fn an_evening(rt: &impl Abort, alloc: Global) -> Result<Vec<Heard>, Fail> {
         disc(rt, peer(1), 61),
         Heard::Quiet { at: 61 },
     ];
-    Ok(Vec::from_array(alloc, heard)?)
+    must(rt, Vec::from_array(alloc, heard))
+}
+
+// A receiver of one module that has gone over the evening.
+fn after_the_evening<R: Abort + Wait>(rt: &R, alloc: Global) -> Bench<ScriptEar, ListBook> {
+    let heard = an_evening(rt, alloc);
+    run_through(rt, alloc, &ONE_MODULE, heard, Vec::new(alloc))
+}
+
+// The tape of eight cells.
+fn taped<E: Drop, B: Drop>(b: &Bench<E, B>) -> [Option<LinkVerdict>; 8] {
+    let mut cells = [None; 8];
+    for (at, taped) in cells.iter_mut().enumerate() {
+        *taped = cell(b, at);
+    }
+    cells
 }
 
 #[test]
-fn each_entry_has_its_verdict_on_the_tape(rt: HostRuntime) -> Result<(), Fail> {
-    let alloc = rt.alloc();
-    let heard = an_evening(&rt, alloc)?;
-    let b = run_through(&rt, alloc, &ONE_MODULE, heard, Vec::new(alloc))?;
+fn each_entry_has_its_verdict_on_the_tape(rt: HostRuntime) {
+    let b = after_the_evening(&rt, rt.alloc());
+    let (cells, taped) = (b.receiver.tape.len(), taped(&b));
+    drop(b);
     let verdicts = [
         routed(&rt, b'A', Act::Join),
         routed(&rt, b'A', Act::Packet),
@@ -96,41 +126,39 @@ fn each_entry_has_its_verdict_on_the_tape(rt: HostRuntime) -> Result<(), Fail> {
         Some(LinkVerdict::Ended),
         None,
     ];
-    assert_eq!(rt; b.receiver.tape.as_slice(), verdicts.as_slice());
-    Ok(())
+    assert!(rt; cells == 8 && taped == verdicts);
 }
 
 #[test]
-fn events_and_replies_come_in_order(rt: HostRuntime) -> Result<(), Fail> {
-    let alloc = rt.alloc();
-    let heard = an_evening(&rt, alloc)?;
-    let mut b = run_through(&rt, alloc, &ONE_MODULE, heard, Vec::new(alloc))?;
-    let mut inbox = b.inboxes.pop().ok_or("no inbox")?;
-    let mut kinds = Vec::new(alloc);
-    for _event in 0..9u8 {
-        if let Some(event) = inbox.try_pop(&rt) {
-            kinds.push(kind_of(&event.body))?;
-        }
-    }
-    assert_eq!(rt; kinds.as_slice(), b"JTPTRLS".as_slice());
-    let direct = b.door.try_pop(&rt).ok_or("nothing at the door")?;
-    assert_eq!(rt; direct.peer, peer(2));
-    assert_eq!(rt; direct.control, Control::Nack);
+fn events_and_replies_come_in_order(rt: HostRuntime) {
+    let mut b = after_the_evening(&rt, rt.alloc());
+    let kinds = popped(&rt, &mut b);
+    let reply = replied(&rt, &mut b);
     let left = b.receiver.notes.try_pop(&rt);
-    assert_eq!(rt; left, None, "notes are taken before an entry is heard");
-    Ok(())
+    drop(b);
+    assert!(rt; kinds == *b"JTPTRLS..");
+    assert!(rt; reply == Some((peer(2), Control::Nack)));
+    assert!(rt; left.is_none(), "notes are taken before an entry is heard");
+}
+
+// Of a trace: whether it begins as one, and how much it holds.
+fn traced(b: &Bench<ScriptEar, ListBook>) -> (bool, usize) {
+    let bytes = b.receiver.trace.bytes();
+    (bytes.starts_with(b"M17TRACE"), bytes.len())
+}
+
+// Whether the link was lost, and whether its trace failed.
+fn failed<E: Drop, B: Drop>(b: &Bench<E, B>) -> (bool, bool) {
+    (b.receiver.lost, b.receiver.trace_failed)
 }
 
 #[test]
-fn the_trace_holds_what_was_heard(rt: HostRuntime) -> Result<(), Fail> {
-    let alloc = rt.alloc();
-    let heard = an_evening(&rt, alloc)?;
-    let b = run_through(&rt, alloc, &ONE_MODULE, heard, Vec::new(alloc))?;
-    let bytes = b.receiver.trace.bytes();
-    assert!(rt; bytes.starts_with(b"M17TRACE"));
-    assert_eq!(rt; bytes.len(), 8 + 5 * 17 + 11 + 54 + 10 + 11 + 10 + 9);
-    assert!(rt; !b.receiver.lost && !b.receiver.trace_failed);
-    Ok(())
+fn the_trace_holds_what_was_heard(rt: HostRuntime) {
+    let b = after_the_evening(&rt, rt.alloc());
+    let (traced, failed) = (traced(&b), failed(&b));
+    drop(b);
+    assert!(rt; traced == (true, 8 + 5 * 17 + 11 + 54 + 10 + 11 + 10 + 9));
+    assert!(rt; failed == (false, false));
 }
 
 // A trace that keeps nothing and says so, and counts its writes.
@@ -164,57 +192,70 @@ impl Book for UnkeptTrace {
     }
 }
 
-// A receiver that has gone over an evening with this trace.
+// A receiver that has gone over what was heard, with this trace.
 fn run_into<B: Book + Drop + Send + 'static, R: Abort + Wait>(
     rt: &R,
     alloc: Global,
+    heard: Vec<Heard>,
+    bell: &Bell,
     trace: B,
-) -> Result<Bench<ScriptEar, B>, Fail>
+) -> Bench<ScriptEar, B>
     requires { StartsEmpty (B.written trace) }
 {
-    if !is_plan(&ONE_MODULE) {
-        return Err("no plan".into());
+    assert!(rt; is_plan(&ONE_MODULE));
+    let ear = ScriptEar::new(heard);
+    let b = make_bench(rt, alloc, &ONE_MODULE, bell, ear, trace);
+    go(rt, b, Order::Go)
+}
+
+// The same on a shelf, over the evening.
+fn shelved<B: Book + Drop + Send + 'static, R: Abort + Wait>(
+    rt: &R,
+    alloc: Global,
+    trace: B,
+) -> Bench<ScriptEar, Shelf<B>>
+    requires { StartsEmpty (B.written trace) }
+{
+    let bell = must(rt, Bell::make_marked(alloc, 1));
+    let inner = Some(trace);
+    run_into(rt, alloc, an_evening(rt, alloc), &bell, Shelf { inner })
+}
+
+// How often the trace on the shelf was written.
+fn writes(b: &Bench<ScriptEar, Shelf<UnkeptTrace>>) -> Option<u64> {
+    Some(b.receiver.trace.inner.as_ref()?.writes)
+}
+
+#[test]
+fn a_trace_that_keeps_nothing_is_never_written(rt: HostRuntime) {
+    let b = shelved(&rt, rt.alloc(), UnkeptTrace { writes: 0 });
+    let (writes, failed, last) = (writes(&b), b.receiver.trace_failed, cell(&b, 6));
+    drop(b);
+    assert!(rt; writes == Some(0) && !failed);
+    assert!(rt; last == Some(LinkVerdict::Ended));
+}
+
+// Whether both traces hold the same.
+fn hold_the_same(
+    shelved: &Bench<ScriptEar, Shelf<ListBook>>,
+    alone: &Bench<ScriptEar, ListBook>,
+) -> bool {
+    match &shelved.receiver.trace.inner {
+        Some(trace) => trace.bytes() == alone.receiver.trace.bytes(),
+        None => false,
     }
-    let bell = Bell::make_marked(alloc, 1)?;
-    let ear = ScriptEar::new(an_evening(rt, alloc)?);
-    Ok(go(
-        rt,
-        make_bench(alloc, &ONE_MODULE, &bell, ear, trace)?,
-        Order::Go,
-    ))
 }
 
 #[test]
-fn a_trace_that_keeps_nothing_is_never_written(rt: HostRuntime) -> Result<(), Fail> {
-    let inner = Some(UnkeptTrace { writes: 0 });
-    let b = run_into(&rt, rt.alloc(), Shelf { inner })?;
-    let trace = b.receiver.trace.inner.as_ref().ok_or("no trace")?;
-    assert_eq!(rt; (trace.writes, b.receiver.trace_failed), (0, false));
-    assert_eq!(rt; cell(&b.receiver.tape, 6), Some(LinkVerdict::Ended));
-    Ok(())
-}
-
-// What a trace of its own holds of the evening.
-fn trace_alone<R: Abort + Wait>(rt: &R, alloc: Global) -> Result<Vec<u8>, Fail> {
-    let heard = an_evening(rt, alloc)?;
-    let b = run_through(rt, alloc, &ONE_MODULE, heard, Vec::new(alloc))?;
-    Ok(b.receiver.trace.bytes().to_vec(alloc)?)
-}
-
-// What a trace on a shelf holds of the evening.
-fn trace_on_a_shelf<R: Abort + Wait>(rt: &R, alloc: Global) -> Result<Vec<u8>, Fail> {
-    let inner = Some(ListBook::make(alloc, 1_000, Vec::new(alloc))?);
-    let b = run_into(rt, alloc, Shelf { inner })?;
-    let trace = b.receiver.trace.inner.as_ref().ok_or("no trace")?;
-    Ok(trace.bytes().to_vec(alloc)?)
-}
-
-#[test]
-fn a_shelf_with_a_trace_holds_what_was_heard(rt: HostRuntime) -> Result<(), Fail> {
-    let on_a_shelf = trace_on_a_shelf(&rt, rt.alloc())?;
-    let alone = trace_alone(&rt, rt.alloc())?;
-    assert_eq!(rt; on_a_shelf, alone);
-    Ok(())
+fn a_shelf_with_a_trace_holds_what_was_heard(rt: HostRuntime) {
+    let alloc = rt.alloc();
+    let trace = must(&rt, ListBook::make(alloc, 1_000, Vec::new(alloc)));
+    let on_a_shelf = shelved(&rt, alloc, trace);
+    let alone = after_the_evening(&rt, alloc);
+    let same = hold_the_same(&on_a_shelf, &alone);
+    drop(on_a_shelf);
+    drop(alone);
+    assert!(rt; same);
 }
 
 // A trace that keeps nothing, and sees at each write whether the door was pushed to since the last one.
@@ -251,110 +292,156 @@ impl Book for WatchingTrace {
     }
 }
 
-// The first entry is in the trace before its reply is at the door, and the second one behind that.
-#[test]
-fn an_entry_is_written_before_what_it_posts_is_pushed(rt: HostRuntime) -> Result<(), Fail> {
-    let alloc = rt.alloc();
-    let heard = [conn(&rt, peer(1), 0, b'B'), Heard::Quiet { at: 5 }];
-    let heard = Vec::from_array(alloc, heard)?;
-    let bell = Bell::make_marked(alloc, 1)?;
+// What the trace saw at its first and its second write.
+fn seen<E: Drop>(b: &Bench<E, WatchingTrace>) -> (Option<bool>, Option<bool>) {
+    (b.receiver.trace.first, b.receiver.trace.second)
+}
+
+// A receiver that has gone over what was heard, with a trace that watches its door.
+fn watched<R: Abort + Wait>(
+    rt: &R,
+    alloc: Global,
+    heard: Vec<Heard>,
+) -> Bench<ScriptEar, WatchingTrace> {
+    let bell = must(rt, Bell::make_marked(alloc, 1));
     let trace = WatchingTrace {
-        door: bell.share()?,
+        door: must(rt, bell.share()),
         first: None,
         second: None,
     };
-    if !is_plan(&ONE_MODULE) {
-        return Err("no plan".into());
-    }
-    let ear = ScriptEar::new(heard);
-    let b = make_bench(alloc, &ONE_MODULE, &bell, ear, trace)?;
-    let b = go(&rt, b, Order::Go);
-    assert_eq!(rt; b.receiver.trace.first, Some(false));
-    assert_eq!(rt; b.receiver.trace.second, Some(true));
-    Ok(())
+    run_into(rt, alloc, heard, &bell, trace)
+}
+
+// The first entry is in the trace before its reply is at the door, and the second one behind that.
+#[test]
+fn an_entry_is_written_before_what_it_posts_is_pushed(rt: HostRuntime) {
+    let heard = [conn(&rt, peer(1), 0, b'B'), Heard::Quiet { at: 5 }];
+    let heard = must(&rt, Vec::from_array(rt.alloc(), heard));
+    let b = watched(&rt, rt.alloc(), heard);
+    let seen = seen(&b);
+    drop(b);
+    assert!(rt; seen == (Some(false), Some(true)));
+}
+
+// After Quit: how much was written, the first cell, the note that came before, and whether the entry is to be heard yet.
+fn left<R: Wait>(
+    rt: &R,
+    b: &mut Bench<ScriptEar, ListBook>,
+) -> (usize, Option<LinkVerdict>, Option<Member>, bool) {
+    (
+        b.receiver.trace.bytes().len(),
+        cell(b, 0),
+        b.receiver.notes.try_pop(rt),
+        b.receiver.ear.hear() == Heard::Quiet { at: 5 },
+    )
 }
 
 // After Quit nothing was heard, written, pushed or noted.
 #[test]
-fn quit_leaves_all_as_it_was(rt: HostRuntime) -> Result<(), Fail> {
+fn quit_leaves_all_as_it_was(rt: HostRuntime) {
     let alloc = rt.alloc();
-    let heard = Vec::from_array(alloc, [Heard::Quiet { at: 5 }])?;
-    let none = Vec::new(alloc);
-    let mut b = run_by(&rt, alloc, &ONE_MODULE, heard, none, Order::Quit)?;
-    let mut inbox = b.inboxes.pop().ok_or("no inbox")?;
-    assert!(rt; inbox.try_pop(&rt).is_none());
-    assert_eq!(rt; b.receiver.trace.bytes().len(), 0);
-    assert_eq!(rt; cell(&b.receiver.tape, 0), None);
-    assert_eq!(rt; b.receiver.notes.try_pop(&rt), Some(member(9, 9)));
-    assert_eq!(rt; b.receiver.ear.hear(), Heard::Quiet { at: 5 });
-    Ok(())
+    let heard = must(&rt, Vec::from_array(alloc, [Heard::Quiet { at: 5 }]));
+    let mut b = run_by(&rt, alloc, &ONE_MODULE, heard, Vec::new(alloc), Order::Quit);
+    let pushed = popped(&rt, &mut b);
+    let left = left(&rt, &mut b);
+    drop(b);
+    assert!(rt; pushed == [b'.'; 9]);
+    assert!(rt; left == (0, None, Some(member(9, 9)), true));
 }
 
-// Three quiet moments, and a trace whose write with this number fails: whether it failed, and how much it holds.
-fn fails_at<R: Abort + Wait>(rt: &R, alloc: Global, call: u64) -> Result<(bool, usize), Fail> {
+// Three quiet moments, and a trace whose write with this number fails: the last cell, whether the trace failed, and how
+// much it holds.
+fn fails_at<R: Abort + Wait>(
+    rt: &R,
+    alloc: Global,
+    call: u64,
+) -> (Option<LinkVerdict>, bool, usize) {
     let heard = [
         Heard::Quiet { at: 1 },
         Heard::Quiet { at: 2 },
         Heard::Quiet { at: 3 },
     ];
-    let heard = Vec::from_array(alloc, heard)?;
-    let fails = Vec::from_array(alloc, [call])?;
-    let b = run_through(rt, alloc, &ONE_MODULE, heard, fails)?;
-    assert_eq!(rt; cell(&b.receiver.tape, 3), Some(LinkVerdict::Ended));
-    Ok((b.receiver.trace_failed, b.receiver.trace.bytes().len()))
+    let heard = must(rt, Vec::from_array(alloc, heard));
+    let fails = must(rt, Vec::from_array(alloc, [call]));
+    let b = run_through(rt, alloc, &ONE_MODULE, heard, fails);
+    let (last, failed, traced) = (cell(&b, 3), b.receiver.trace_failed, traced(&b));
+    drop(b);
+    (last, failed, traced.1)
 }
+
+// Which write fails, whether one does, and how much is written at least and at most.
+const FAILS: [(u64, bool, usize, usize); 4] = [
+    (0, true, 0, 16),
+    (1, true, 17, 25),
+    (2, true, 26, 34),
+    (3, false, 35, 35),
+];
 
 // Whichever write of the trace fails, the link goes on to its end, and the trace is written no more.
 #[test]
-fn a_trace_fails_at_each_write(rt: HostRuntime) -> Result<(), Fail> {
-    let alloc = rt.alloc();
-    let first = fails_at(&rt, alloc, 0)?;
-    assert!(rt; first.0 && first.1 < 17);
-    let second = fails_at(&rt, alloc, 1)?;
-    assert!(rt; second.0 && second.1 >= 17 && second.1 < 26);
-    let third = fails_at(&rt, alloc, 2)?;
-    assert!(rt; third.0 && third.1 >= 26 && third.1 < 35);
-    assert_eq!(rt; fails_at(&rt, alloc, 3)?, (false, 35));
-    Ok(())
+fn a_trace_fails_at_each_write(rt: HostRuntime) {
+    for (call, fails, least, most) in FAILS {
+        let (last, failed, written) = fails_at(&rt, rt.alloc(), call);
+        assert!(rt; last == Some(LinkVerdict::Ended), "write {call} fails");
+        assert!(rt;
+            failed == fails && least <= written && written <= most,
+            "write {call} fails"
+        );
+    }
 }
 
 // So many faults, and then the end: whether the link was lost, and how much its trace holds.
-fn faults<R: Wait>(rt: &R, alloc: Global, count: usize) -> Result<(bool, usize), Fail> {
+fn faults<R: Abort + Wait>(rt: &R, alloc: Global, count: usize) -> (bool, usize) {
     let mut heard = Vec::new(alloc);
     for _fault in 0..count {
-        heard.push(Heard::Fault)?;
+        must(rt, heard.push(Heard::Fault));
     }
-    let b = run_through(rt, alloc, &ONE_MODULE, heard, Vec::new(alloc))?;
-    Ok((b.receiver.lost, b.receiver.trace.bytes().len()))
+    let b = run_through(rt, alloc, &ONE_MODULE, heard, Vec::new(alloc));
+    let (lost, traced) = (b.receiver.lost, traced(&b));
+    drop(b);
+    (lost, traced.1)
 }
 
 // The sixteenth failure in a row ends the link, and it is lost; after fifteen the end ends it, and it is not.
 #[test]
-fn a_link_is_lost_by_sixteen_failures(rt: HostRuntime) -> Result<(), Fail> {
-    assert_eq!(rt; faults(&rt, rt.alloc(), 15)?, (false, 23));
-    assert_eq!(rt; faults(&rt, rt.alloc(), 16)?, (true, 24));
-    assert_eq!(rt; faults(&rt, rt.alloc(), 17)?, (true, 24));
-    Ok(())
+fn a_link_is_lost_by_sixteen_failures(rt: HostRuntime) {
+    for (count, lost, written) in [(15, false, 23), (16, true, 24), (17, true, 24)] {
+        assert!(rt;
+            faults(&rt, rt.alloc(), count) == (lost, written),
+            "{count} failures"
+        );
+    }
 }
 
-// Three peers ask where there are two places: what becomes of the third, whom the door answers, and how often.
-fn third_of_two<R: Abort + Wait>(rt: &R, alloc: Global, plan: &Plan) -> Result<(), Fail> {
+// Three peers ask where there are two places: what becomes of the third, and whom the door answers.
+fn third_of_two<R: Abort + Wait>(
+    rt: &R,
+    alloc: Global,
+    plan: &Plan,
+) -> (Option<LinkVerdict>, [Option<Peer>; 2]) {
     let heard = [
         conn(rt, peer(1), 0, b'A'),
         conn(rt, peer(2), 0, b'A'),
         conn(rt, peer(3), 0, b'A'),
     ];
-    let heard = Vec::from_array(alloc, heard)?;
-    let mut b = run_through(rt, alloc, plan, heard, Vec::new(alloc))?;
-    assert_eq!(rt; cell(&b.receiver.tape, 2), Some(LinkVerdict::Full));
-    let direct = b.door.try_pop(rt).ok_or("nothing at the door")?;
-    assert_eq!(rt; direct.peer, peer(3));
-    assert!(rt; b.door.try_pop(rt).is_none());
-    Ok(())
+    let heard = must(rt, Vec::from_array(alloc, heard));
+    let mut b = run_through(rt, alloc, plan, heard, Vec::new(alloc));
+    let third = cell(&b, 2);
+    let answered = [next_answered(rt, &mut b), next_answered(rt, &mut b)];
+    drop(b);
+    (third, answered)
+}
+
+// Whom the next reply at the door goes to.
+fn next_answered<E: Drop, B: Drop, R: Wait>(rt: &R, b: &mut Bench<E, B>) -> Option<Peer> {
+    Some(b.door.try_pop(rt)?.peer)
 }
 
 #[test]
-fn a_full_roll_turns_away(rt: HostRuntime) -> Result<(), Fail> {
-    third_of_two(&rt, rt.alloc(), &ONE_MODULE)?;
-    third_of_two(&rt, rt.alloc(), &PATIENT)
+fn a_full_roll_turns_away(rt: HostRuntime) {
+    for plan in [&ONE_MODULE, &PATIENT] {
+        let (third, answered) = third_of_two(&rt, rt.alloc(), plan);
+        assert!(rt; third == Some(LinkVerdict::Full));
+        assert!(rt; answered == [Some(peer(3)), None]);
+    }
 }

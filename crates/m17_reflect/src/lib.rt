@@ -7,22 +7,12 @@
 //! below; this one puts their clauses together, by these alone.
 #![tactic(auto)]
 
-#[cfg(test)]
-mod bench;
-#[cfg(test)]
-mod beside_tests;
 mod gather;
 mod jobs;
 pub mod laws;
-#[cfg(test)]
-mod made_tests;
-#[cfg(test)]
-mod meeting;
 mod parted;
 mod returned;
 mod running;
-#[cfg(test)]
-mod tests;
 
 pub use returned::{HouseRefusal, Refused, Returned};
 pub use running::reflect;

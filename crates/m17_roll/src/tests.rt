@@ -1,41 +1,48 @@
-ghost use Rattle.std.specs.Prelude.{◌≡◌, ◌<◌, ◌≤◌, ◌++◌, ◌∷◌, [], ℕ, length, IfOk};
+ghost use Rattle.std.specs.Prelude.{◌≡◌, ◌<◌, ◌≤◌, ◌++◌, ◌∷◌, [], ℕ, length, Ok};
 ghost use Rattle.m17_roll.specs.Seat.{IsSeatOf, IsSameSeat, HasLists};
 ghost use Rattle.m17_roll.specs.Closing.{IsEnded};
 
 use crate::{RollEnd, RollSeat, close, make};
-use m17_values::{Member, NoMemory};
-use std::alloc::{AllocError, Global};
+use m17_values::Member;
+use std::alloc::Global;
+use std::process::Abort;
 use std::snapshot::Snapshot;
 use std::sync::Wait;
-use std::test::Fail;
 use std::thread;
 use std::thread::{Promise, Threads, yield_now};
 
-// The seats of a roll of two.
-fn two_seats(alloc: Global, places: u32) -> Result<(RollSeat, RollSeat), NoMemory>
-    requires { (0 < places) × (places ≤ 256) }
-    ensures { IfOk result (λ s. IsSeatOf s.0.roll 2 places s.0 × IsSeatOf s.0.roll 2 places s.1) }
+// What was made; the test ends where it was not.
+fn must<T, E: Drop, R: Abort>(rt: &R, made: Result<T, E>) -> T
+    ensures { made ≡ Ok result }
 {
-    let mut seats = make(alloc, places, 2)?;
+    made.ok().expect(rt, "made")
+}
+
+// The seats of a roll of two.
+fn two_seats<R: Abort>(rt: &R, alloc: Global, places: u32) -> (RollSeat, RollSeat)
+    requires { (0 < places) × (places ≤ 256) }
+    ensures { IsSeatOf result.0.roll 2 places result.0 × IsSeatOf result.0.roll 2 places result.1 }
+{
+    let mut seats = must(rt, make(alloc, places, 2));
     let Some(second) = seats.pop() else {
         unreachable!()
     };
     let Some(first) = seats.pop() else {
         unreachable!()
     };
-    Ok((first, second))
+    (first, second)
 }
 
 // Ends a roll of two seats.
-fn close_both(alloc: Global, first: RollSeat, second: RollSeat) -> Result<RollEnd, AllocError>
+fn close_both<R: Abort>(rt: &R, alloc: Global, first: RollSeat, second: RollSeat) -> RollEnd
     requires { IsSeatOf first.roll 2 first.places second × (first.seats ≡ 2) }
-    ensures ended { IfOk result (λ e. IsEnded e) }
-    ensures places { IfOk result (λ e. length e.words ≡ first.places) }
+    ensures ended { IsEnded result }
+    ensures places { length result.words ≡ first.places }
 {
-    let mut seats = Vec::with_capacity(alloc, 2)?;
+    let mut seats = must(rt, Vec::with_capacity(alloc, 2));
     seats.push_reserved(first);
     seats.push_reserved(second);
-    Ok(close(seats))
+    close(seats)
 }
 
 fn member(place: u32, generation: u64) -> Member {
@@ -43,64 +50,76 @@ fn member(place: u32, generation: u64) -> Member {
 }
 
 #[test]
-fn a_place_goes_from_seat_to_seat(rt: HostRuntime) -> Result<(), Fail> {
-    let (mut first, mut second) = two_seats(rt.alloc(), 1)?;
-    assert_eq!(rt; first.claim(0), Some(member(0, 0)));
-    assert_eq!(rt; second.claim(0), None);
+fn a_place_goes_from_seat_to_seat(rt: HostRuntime) {
+    let (mut first, mut second) = two_seats(&rt, rt.alloc(), 1);
+    let claimed = [first.claim(0), second.claim(0)];
     give_until_taken(&rt, &mut first, member(0, 0));
-    assert!(rt; !first.give(member(0, 0)));
-    assert_eq!(rt; second.claim(0), Some(member(0, 1)));
-    assert_eq!(rt; first.look(0), Some(3));
-    assert_eq!(rt; first.look(1), None);
-    let mut end = close_both(rt.alloc(), first, second)?;
-    assert_eq!(rt; end.word(0), 3);
-    Ok(())
+    let again = first.give(member(0, 0));
+    let next = second.claim(0);
+    let words = [first.look(0), first.look(1)];
+    let mut end = close_both(&rt, rt.alloc(), first, second);
+    let word = end.word(0);
+    assert!(rt; claimed == [Some(member(0, 0)), None] && !again);
+    assert!(rt; next == Some(member(0, 1)) && words == [Some(3), None] && word == 3);
 }
 
-#[test]
-fn the_lowest_free_place_is_claimed(rt: HostRuntime) -> Result<(), Fail> {
-    let (mut first, mut second) = two_seats(rt.alloc(), 256)?;
+// Whether the first 256 claims of a seat get the places in turn.
+fn claims_in_turn(seat: &mut RollSeat) -> bool {
     for place in 0..256 {
-        assert_eq!(rt; first.claim(7), Some(member(place, 0)));
+        if seat.claim(7) != Some(member(place, 0)) {
+            return false;
+        }
     }
-    assert_eq!(rt; second.claim(7), None);
-    assert_eq!(rt; second.look(255), Some(1));
-    assert_eq!(rt; second.look(256), None);
-    assert_eq!(rt; second.look(u32::MAX), None);
-    assert!(rt; second.give(member(255, 0)));
-    assert!(rt; second.give(member(3, 0)));
-    assert_eq!(rt; first.claim(7), Some(member(3, 1)));
-    Ok(())
+    true
 }
 
 #[test]
-fn one_place_is_claimed_alone(rt: HostRuntime) -> Result<(), Fail> {
-    let (mut first, mut second) = two_seats(rt.alloc(), 2)?;
-    assert_eq!(rt; first.claim_at(1), Some(member(1, 0)));
-    assert_eq!(rt; second.claim_at(1), None);
-    assert_eq!(rt; second.look(0), Some(0));
-    assert!(rt; first.give(member(1, 0)));
-    assert_eq!(rt; second.claim_at(1), Some(member(1, 1)));
-    assert_eq!(rt; second.claim_at(2), None);
-    assert_eq!(rt; second.claim_at(u32::MAX), None);
-    assert_eq!(rt; first.claim(5), Some(member(0, 0)));
-    Ok(())
+fn the_lowest_free_place_is_claimed(rt: HostRuntime) {
+    let (mut first, mut second) = two_seats(&rt, rt.alloc(), 256);
+    let in_turn = claims_in_turn(&mut first);
+    let none = second.claim(7);
+    let words = [second.look(255), second.look(256), second.look(u32::MAX)];
+    let given = [second.give(member(255, 0)), second.give(member(3, 0))];
+    let next = first.claim(7);
+    assert!(rt; in_turn && none.is_none() && words == [Some(1), None, None]);
+    assert!(rt; given == [true, true] && next == Some(member(3, 1)));
 }
 
 #[test]
-fn no_place_comes_to_its_last_generations(rt: HostRuntime) -> Result<(), Fail> {
-    let (mut first, _) = two_seats(rt.alloc(), 2)?;
-    assert_eq!(rt; first.claim(0), Some(member(0, 0)));
+fn one_place_is_claimed_alone(rt: HostRuntime) {
+    let (mut first, mut second) = two_seats(&rt, rt.alloc(), 2);
+    let claimed = [first.claim_at(1), second.claim_at(1)];
+    let word = second.look(0);
+    let given = first.give(member(1, 0));
+    let next = [
+        second.claim_at(1),
+        second.claim_at(2),
+        second.claim_at(u32::MAX),
+        first.claim(5),
+    ];
+    assert!(rt; claimed == [Some(member(1, 0)), None] && word == Some(0) && given);
+    assert!(rt; next == [Some(member(1, 1)), None, None, Some(member(0, 0))]);
+}
+
+#[test]
+fn no_place_comes_to_its_last_generations(rt: HostRuntime) {
+    let (mut first, _) = two_seats(&rt, rt.alloc(), 2);
+    let claimed = first.claim(0);
     let most = 1 << 63;
-    for generation in [1, most - 2, most - 1, most, u64::MAX] {
-        assert!(rt; !first.give(member(0, generation)));
+    for (place, generation) in [
+        (0, 1),
+        (0, most - 2),
+        (0, most - 1),
+        (0, most),
+        (0, u64::MAX),
+        (1, 0),
+        (2, 0),
+        (u32::MAX, 0),
+    ] {
+        assert!(rt; !first.give(member(place, generation)));
     }
-    assert!(rt; !first.give(member(1, 0)));
-    assert!(rt; !first.give(member(2, 0)));
-    assert!(rt; !first.give(member(u32::MAX, 0)));
-    assert_eq!(rt; first.look(0), Some(1));
-    assert_eq!(rt; first.look(1), Some(0));
-    Ok(())
+    let words = [first.look(0), first.look(1)];
+    assert!(rt; claimed == Some(member(0, 0)) && words == [Some(1), Some(0)]);
 }
 
 // What a thread has after its rounds.
@@ -161,81 +180,83 @@ fn give_until_taken<R: Wait>(rt: &R, seat: &mut RollSeat, member: Member)
 }
 
 // Whether no member stands twice.
-fn are_distinct(mut members: Vec<Member>) -> Result<bool, AllocError> {
-    members.sort_by_key(|m| (m.place, m.generation))?;
+fn are_distinct<R: Abort>(rt: &R, mut members: Vec<Member>) -> bool {
+    must(rt, members.sort_by_key(|m| (m.place, m.generation)));
     let members = members.as_slice();
     for i in 1..members.len() {
         if members[i - 1] == members[i] {
-            return Ok(false);
+            return false;
         }
     }
-    Ok(true)
+    true
 }
 
 // Two threads play 1,000 rounds each with a seat of its own.
-fn played_by_two<R: Threads + Wait + Copy + Send + 'static>(
+fn played_by_two<R: Threads + Wait + Abort + Copy + Send + 'static>(
     rt: &R,
     alloc: Global,
     first: RollSeat,
     second: RollSeat,
-) -> Result<(Played, Played), AllocError>
-    ensures { IfOk result (λ p. IsSameSeat first p.0.seat × IsSameSeat second p.1.seat) }
+) -> (Played, Played)
+    ensures { IsSameSeat first result.0.seat × IsSameSeat second result.1.seat }
 {
     let here = *rt;
     let seat = SameSeat(Snapshot::of(&first));
     let none = Vec::new(alloc);
-    let one = thread::spawn_with(rt, seat, move || play(&here, first, none, 1000))?;
+    let one = thread::spawn_with(rt, seat, move || play(&here, first, none, 1000));
+    let one = must(rt, one);
     let seat = SameSeat(Snapshot::of(&second));
     let none = Vec::new(alloc);
-    let two = thread::spawn_with(rt, seat, move || play(&here, second, none, 1000))?;
-    Ok((one.join(rt), two.join(rt)))
+    let two = thread::spawn_with(rt, seat, move || play(&here, second, none, 1000));
+    let two = must(rt, two);
+    (one.join(rt), two.join(rt))
 }
 
 // Whether 1,000 and 1,000 members are all different.
-fn are_two_thousand(mut one: Vec<Member>, two: &[Member]) -> Result<bool, AllocError> {
+fn are_two_thousand<R: Abort>(rt: &R, mut one: Vec<Member>, two: &[Member]) -> bool {
     if one.len() != 1000 || two.len() != 1000 {
-        return Ok(false);
+        return false;
     }
-    for member in two {
-        one.push(*member)?;
-    }
-    are_distinct(one)
+    must(rt, one.extend_from_slice(two));
+    are_distinct(rt, one)
 }
 
 #[test]
-fn two_threads_get_each_member_once(rt: HostRuntime) -> Result<(), Fail> {
+fn two_threads_get_each_member_once(rt: HostRuntime) {
     let alloc = rt.alloc();
-    let (first, second) = two_seats(alloc, 2)?;
-    let (one, two) = played_by_two(&rt, alloc, first, second)?;
+    let (first, second) = two_seats(&rt, alloc, 2);
+    let (one, two) = played_by_two(&rt, alloc, first, second);
     let Played {
         seat: mut first,
         members,
     } = one;
-    assert!(rt; are_two_thousand(members, two.members.as_slice())?);
-    assert_eq!(rt; first.look(0).map(|word| word % 2), Some(0));
-    assert_eq!(rt; first.look(1).map(|word| word % 2), Some(0));
-    let mut end = close_both(alloc, first, two.seat)?;
-    assert_eq!(rt; end.word(0) % 2, 0);
-    assert_eq!(rt; end.word(0).wrapping_add(end.word(1)), 4000);
-    Ok(())
+    let distinct = are_two_thousand(&rt, members, two.members.as_slice());
+    let words = [first.look(0), first.look(1)].map(|word| word.map(|word| word % 2));
+    let mut end = close_both(&rt, alloc, first, two.seat);
+    let ends = [end.word(0), end.word(1)];
+    assert!(rt; distinct && words == [Some(0), Some(0)]);
+    assert!(rt; ends[0] % 2 == 0 && ends[0].wrapping_add(ends[1]) == 4000);
+}
+
+// All members of those who played.
+fn all_members<R: Abort>(rt: &R, alloc: Global, played: &[Played]) -> Vec<Member> {
+    let mut members = Vec::new(alloc);
+    for one in played {
+        must(rt, members.extend_from_slice(one.members.as_slice()));
+    }
+    members
 }
 
 #[test]
-fn four_threads_share_eight_places(rt: HostRuntime) -> Result<(), Fail> {
+fn four_threads_share_eight_places(rt: HostRuntime) {
     let alloc = rt.alloc();
-    let seats = make(alloc, 8, 4)?;
+    let seats = must(&rt, make(alloc, 8, 4));
     let played = thread::map_vec(
         &rt,
         seats,
         &|seat| { play(&rt, seat, Vec::new(alloc), 500) },
-    )?;
-    let mut members = Vec::new(alloc);
-    for one in &played {
-        for member in &one.members {
-            members.push(*member)?;
-        }
-    }
-    assert_eq!(rt; members.len(), 2000);
-    assert!(rt; are_distinct(members)?);
-    Ok(())
+    );
+    let played = must(&rt, played);
+    let members = all_members(&rt, alloc, played.as_slice());
+    assert!(rt; members.len() == 2000 && are_distinct(&rt, members));
 }

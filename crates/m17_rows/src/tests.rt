@@ -1,83 +1,93 @@
 //! What no clause says: that an item pushed at a place comes out of the lane of that place and of no other, that a full
 //! lane gives it back at once, that a job is started by the order it finds, and that a count goes on to its last.
-ghost use Rattle.std.specs.Prelude.{◌≡◌, IfOk, vec_len};
+ghost use Rattle.std.specs.Prelude.{◌≡◌, Ok, vec_len};
 
 use super::*;
 use m17_crew::Order;
 use m17_lane::{Popper, Pusher, make_one};
 use std::alloc::Global;
-use std::test::Fail;
+use std::process::Abort;
+
+// What was made; the test ends where it was not.
+fn must<T, E: Drop, R: Abort>(rt: &R, made: Result<T, E>) -> T
+    ensures { made ≡ Ok result }
+{
+    made.ok().expect(rt, "made")
+}
 
 type Ends = (Vec<Pusher<u32>>, Vec<Popper<u32>>);
 
 // The ends of three lanes that hold one item each.
-fn three_lanes(alloc: Global) -> Result<Ends, Fail>
-    ensures { IfOk result (λ r. (vec_len r.0 ≡ 3) × (vec_len r.1 ≡ 3)) }
+fn three_lanes<R: Abort>(rt: &R, alloc: Global) -> Ends
+    ensures { (vec_len result.0 ≡ 3) × (vec_len result.1 ≡ 3) }
 {
-    let (a, from_a) = make_one(alloc, 1)?;
-    let (b, from_b) = make_one(alloc, 1)?;
-    let (c, from_c) = make_one(alloc, 1)?;
-    let pushers = vec![in alloc; a, b, c]?;
-    let poppers = vec![in alloc; from_a, from_b, from_c]?;
-    Ok((pushers, poppers))
+    let (a, from_a) = must(rt, make_one(alloc, 1));
+    let (b, from_b) = must(rt, make_one(alloc, 1));
+    let (c, from_c) = must(rt, make_one(alloc, 1));
+    let pushers = must(rt, Vec::from_array(alloc, [a, b, c]));
+    let poppers = must(rt, Vec::from_array(alloc, [from_a, from_b, from_c]));
+    (pushers, poppers)
 }
 
 #[test]
-fn an_item_comes_out_at_its_own_place(rt: HostRuntime) -> Result<(), Fail> {
-    let (mut pushers, mut poppers) = three_lanes(rt.alloc())?;
+fn an_item_comes_out_at_its_own_place(rt: HostRuntime) {
+    let (mut pushers, mut poppers) = three_lanes(&rt, rt.alloc());
     push_at(&rt, &mut pushers, 1, 20);
     push_quietly_at(&rt, &mut pushers, 2, 30);
-    assert_eq!(rt; pop_at(&rt, &mut poppers, 0), None);
-    assert_eq!(rt; pop_at(&rt, &mut poppers, 1), Some(20));
-    assert_eq!(rt; pop_at(&rt, &mut poppers, 1), None);
-    assert_eq!(rt; pop_at(&rt, &mut poppers, 2), Some(30));
-    Ok(())
+    let popped = [
+        pop_at(&rt, &mut poppers, 0),
+        pop_at(&rt, &mut poppers, 1),
+        pop_at(&rt, &mut poppers, 1),
+        pop_at(&rt, &mut poppers, 2),
+    ];
+    assert!(rt; popped == [None, Some(20), None, Some(30)]);
 }
 
 #[test]
-fn a_full_lane_gives_the_item_back_and_its_neighbour_takes_it(rt: HostRuntime) -> Result<(), Fail> {
-    let (mut pushers, mut poppers) = three_lanes(rt.alloc())?;
-    assert_eq!(rt; try_push_at(&rt, &mut pushers, 0, 10), Ok(()));
-    assert_eq!(rt; try_push_at(&rt, &mut pushers, 0, 11), Err(11));
-    assert_eq!(rt; try_push_at(&rt, &mut pushers, 1, 11), Ok(()));
-    assert_eq!(rt; pop_at(&rt, &mut poppers, 0), Some(10));
-    assert_eq!(rt; try_push_at(&rt, &mut pushers, 0, 12), Ok(()));
-    Ok(())
+fn a_full_lane_gives_the_item_back_and_its_neighbour_takes_it(rt: HostRuntime) {
+    let (mut pushers, mut poppers) = three_lanes(&rt, rt.alloc());
+    let pushed = [
+        try_push_at(&rt, &mut pushers, 0, 10),
+        try_push_at(&rt, &mut pushers, 0, 11),
+        try_push_at(&rt, &mut pushers, 1, 11),
+    ];
+    let popped = pop_at(&rt, &mut poppers, 0);
+    let again = try_push_at(&rt, &mut pushers, 0, 12);
+    assert!(rt; pushed == [Ok(()), Err(11), Ok(())]);
+    assert!(rt; popped == Some(10) && again.is_ok());
 }
 
 #[test]
-fn a_grid_pops_by_row_and_place(rt: HostRuntime) -> Result<(), Fail> {
-    let (mut pushers, first) = three_lanes(rt.alloc())?;
-    let (mut others, second) = three_lanes(rt.alloc())?;
+fn a_grid_pops_by_row_and_place(rt: HostRuntime) {
+    let (mut pushers, first) = three_lanes(&rt, rt.alloc());
+    let (mut others, second) = three_lanes(&rt, rt.alloc());
     push_at(&rt, &mut pushers, 2, 30);
     push_at(&rt, &mut others, 0, 40);
-    let mut grid = vec![in rt.alloc(); first, second]?;
-    assert_eq!(rt; pop_in(&rt, &mut grid, 1, 2), None);
-    assert_eq!(rt; pop_in(&rt, &mut grid, 0, 0), None);
-    assert_eq!(rt; pop_in(&rt, &mut grid, 1, 0), Some(40));
-    assert_eq!(rt; pop_in(&rt, &mut grid, 0, 2), Some(30));
-    Ok(())
+    let mut grid = must(&rt, Vec::from_array(rt.alloc(), [first, second]));
+    let popped = [
+        pop_in(&rt, &mut grid, 1, 2),
+        pop_in(&rt, &mut grid, 0, 0),
+        pop_in(&rt, &mut grid, 1, 0),
+        pop_in(&rt, &mut grid, 0, 2),
+    ];
+    assert!(rt; popped == [None, None, Some(40), Some(30)]);
 }
 
 #[test]
-fn a_job_goes_or_quits_by_its_order_and_leaves_what_comes_after_it(
-    rt: HostRuntime,
-) -> Result<(), Fail> {
-    let (mut orders, mut told) = make_one(rt.alloc(), 4)?;
+fn a_job_goes_or_quits_by_its_order_and_leaves_what_comes_after_it(rt: HostRuntime) {
+    let (mut orders, mut told) = must(&rt, make_one(rt.alloc(), 4));
     orders.push_waiting(&rt, Order::Stop);
     orders.push_waiting(&rt, Order::Go);
     orders.push_waiting(&rt, Order::Quit);
     orders.push_waiting(&rt, Order::Stop);
-    assert!(rt; starts(&rt, &mut told));
-    assert!(rt; !starts(&rt, &mut told));
-    assert_eq!(rt; told.try_pop(&rt), Some(Order::Stop));
-    Ok(())
+    let went = [starts(&rt, &mut told), starts(&rt, &mut told)];
+    let left = told.try_pop(&rt);
+    assert!(rt; went == [true, false] && left == Some(Order::Stop));
 }
 
 #[test]
-fn a_count_goes_on(rt: HostRuntime) -> Result<(), Fail> {
+fn a_count_goes_on(rt: HostRuntime) {
     let first = count_one(&rt, 0);
-    assert_eq!(rt; count_one(&rt, first), 2);
-    assert_eq!(rt; count_one(&rt, u64::MAX - 1), u64::MAX);
-    Ok(())
+    let counts = [count_one(&rt, first), count_one(&rt, u64::MAX - 1)];
+    assert!(rt; counts == [2, u64::MAX]);
 }

@@ -8,5 +8,4 @@ mod Queued
 mod Spoken
 mod Rests
 mod Ended
-mod Few
 mod Frames

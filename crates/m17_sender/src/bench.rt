@@ -1,5 +1,5 @@
 //! A sender for tests, with the other ends of its lanes, and what is pushed there.
-ghost use Rattle.std.specs.Prelude.{◌≡◌, ◌<◌, ◌∷◌, [], None, IfOk};
+ghost use Rattle.std.specs.Prelude.{◌≡◌, ◌<◌, ◌∷◌, [], None, Ok};
 ghost use Rattle.m17_lane.specs.Ends.{new_popper};
 ghost use Rattle.m17_sender.specs.Ready.{IsReady};
 
@@ -9,8 +9,9 @@ use m17_control::{Control, Direct, Item, Said, Why};
 use m17_crew::{Order, Work};
 use m17_lane::{Bell, Popper, Pusher, make_one, make_one_marked};
 use m17_ports::Mouth;
-use m17_values::{Member, NoMemory, Peer};
+use m17_values::{Member, Peer};
 use std::alloc::Global;
+use std::process::Abort;
 use std::sync::Wait;
 
 // A sender of one link and of one module with three places, and the other ends of its lanes.
@@ -30,65 +31,60 @@ pub(crate) struct Far {
     pub(crate) notes: Popper<Member>,
 }
 
-fn one<T: Drop>(alloc: Global, a: T) -> Result<Vec<T>, NoMemory>
-    ensures { IfOk result (λ v. v.items ≡ a ∷ []) }
+// What was made; the test ends where it was not.
+pub(crate) fn must<T, E: Drop, R: Abort>(rt: &R, made: Result<T, E>) -> T
+    ensures { made ≡ Ok result }
 {
-    let Ok(mut all) = Vec::with_capacity(alloc, 1) else {
-        return Err(NoMemory);
-    };
-    all.push_reserved(a);
-    Ok(all)
+    made.ok().expect(rt, "made")
 }
 
-fn three<T: Drop>(alloc: Global, a: T, b: T, c: T) -> Result<Vec<T>, NoMemory>
-    ensures { IfOk result (λ v. v.items ≡ a ∷ b ∷ c ∷ []) }
+fn one<T: Drop, R: Abort>(rt: &R, alloc: Global, a: T) -> Vec<T>
+    ensures { result.items ≡ a ∷ [] }
 {
-    let Ok(mut all) = Vec::with_capacity(alloc, 3) else {
-        return Err(NoMemory);
-    };
+    let mut all = must(rt, Vec::with_capacity(alloc, 1));
+    all.push_reserved(a);
+    all
+}
+
+fn three<T: Drop, R: Abort>(rt: &R, alloc: Global, a: T, b: T, c: T) -> Vec<T>
+    ensures { result.items ≡ a ∷ b ∷ c ∷ [] }
+{
+    let mut all = must(rt, Vec::with_capacity(alloc, 3));
     all.push_reserved(a);
     all.push_reserved(b);
     all.push_reserved(c);
-    Ok(all)
+    all
 }
 
-// Cells in which nothing is held back.
-fn empty_cells<T: Drop>(alloc: Global) -> Result<Vec<Option<T>>, NoMemory>
-    ensures { IfOk result (λ row. row.items ≡ None ∷ None ∷ None ∷ []) }
-{
-    three(alloc, None, None, None)
-}
-
-// Such a sender with this mouth, whose notes hold so many members.
-pub(crate) fn lay<M: Mouth + Drop>(
+// Such a sender with this mouth, whose notes hold so many members and whose door so many replies.
+pub(crate) fn lay<M: Mouth + Drop, R: Abort>(
+    rt: &R,
     alloc: Global,
-    name: CallAddress,
     mouth: M,
-    room: u32,
-) -> Result<Laid<M>, NoMemory>
-    requires { 0 < room }
-    ensures { IfOk result (λ laid. IsReady laid.sender) }
+    notes: u32,
+    door: u32,
+) -> Laid<M>
+    requires { (0 < notes) × (0 < door) }
+    ensures { IsReady result.sender }
 {
-    let bell = Bell::make_marked(alloc, 5)?;
-    let (first, from_first) = make_one_marked(alloc, &bell, 0, 64)?;
-    let (second, from_second) = make_one_marked(alloc, &bell, 1, 64)?;
-    let (third, from_third) = make_one_marked(alloc, &bell, 2, 64)?;
-    let (door, from_door) = make_one_marked(alloc, &bell, 3, 256)?;
-    let (orders, order) = make_one_marked(alloc, &bell, 4, 2)?;
-    let (to_notes, notes) = make_one(alloc, room)?;
-    let queues = one(alloc, three(alloc, from_first, from_second, from_third)?)?;
-    let held = one(alloc, empty_cells(alloc)?)?;
-    let mouths = one(alloc, mouth)?;
+    let bell = must(rt, Bell::make_marked(alloc, 5));
+    let (first, from_first) = must(rt, make_one_marked(alloc, &bell, 0, 64));
+    let (second, from_second) = must(rt, make_one_marked(alloc, &bell, 1, 64));
+    let (third, from_third) = must(rt, make_one_marked(alloc, &bell, 2, 64));
+    let (door, from_door) = must(rt, make_one_marked(alloc, &bell, 3, door));
+    let (orders, order) = must(rt, make_one_marked(alloc, &bell, 4, 2));
+    let (to_notes, notes) = must(rt, make_one(alloc, notes));
+    let queues = three(rt, alloc, from_first, from_second, from_third);
     let sender = Sender {
-        name,
-        mouths,
-        queues,
+        name: callsign(rt),
+        mouths: one(rt, alloc, mouth),
+        queues: one(rt, alloc, queues),
         door: from_door,
-        notes: one(alloc, to_notes)?,
-        held,
+        notes: one(rt, alloc, to_notes),
+        held: one(rt, alloc, three(rt, alloc, None, None, None)),
         order,
         places: 3,
-        hint: Hint::make(alloc, bell, 3)?,
+        hint: must(rt, Hint::make(alloc, bell, 3)),
     };
     let far = Far {
         first,
@@ -98,8 +94,13 @@ pub(crate) fn lay<M: Mouth + Drop>(
         orders,
         notes,
     };
-    Ok(Laid { sender, far })
+    Laid { sender, far }
 }
+
+// Let a sender go, and the other ends.
+pub(crate) fn let_sender_go<M: Drop>(_sender: Sender<M>) {}
+
+pub(crate) fn let_far_go(_far: Far) {}
 
 // Does a job, by what a job is.
 pub(crate) fn done<W: Work, R: Wait>(rt: &R, job: W) -> W
@@ -165,6 +166,7 @@ pub(crate) fn push_five<R: Wait>(rt: &R, end: &mut Pusher<Item>, place: u32) {
     }
 }
 
-pub(crate) fn callsign() -> Option<CallAddress> {
-    CallAddress::new(Address::new(0x13_89f9_baed)?)
+fn callsign(rt: &impl Abort) -> CallAddress {
+    let address = Address::new(0x13_89f9_baed).expect(rt, "an address");
+    CallAddress::new(address).expect(rt, "a callsign")
 }

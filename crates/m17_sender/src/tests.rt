@@ -1,32 +1,110 @@
 //! What no clause says: in which order a sender gets to things, that it ends and sleeps, and what its mouths hold then.
-ghost use Rattle.std.specs.Prelude.{IfOk};
+ghost use Rattle.std.specs.Prelude.{◌<◌};
 ghost use Rattle.m17_sender.specs.Ready.{IsReady};
 
 use crate::Sender;
 use crate::bench::{
-    Far, Laid, answer, bye, callsign, done, hello, item, lay, ping, push_five, reply,
+    Far, Laid, answer, bye, done, hello, item, lay, let_far_go, let_sender_go, must, ping,
+    push_five, reply,
 };
-use m17_callsign::CallAddress;
 use m17_control::{Direct, Item, Said};
 use m17_crew::Order;
-use m17_lane::{Pusher, make_one};
+use m17_lane::{Popper, Pusher};
 use m17_port_memory::ListMouth;
 use m17_samples::frame;
 use m17_stream::{FRAME_NUMBERS, StreamPacket, write};
-use m17_values::NoMemory;
+use m17_values::Member;
 use std::alloc::Global;
+use std::process::Abort;
 use std::sync::Wait;
-use std::test::Fail;
 use std::thread;
 use std::thread::Threads;
 use std::time::{Clock, Duration};
 
+// What is for a member: a PING, an answer, a Bye, or a Hello that waits for so many notes.
+enum What {
+    Ping,
+    Answer,
+    Bye,
+    Hello(u64),
+}
+
+// An item: its queue, 0 to 2, the place and the link of its member, and what it is.
+type ItemRow = (u8, u32, u8, What);
+
+// What a datagram is to show: the port that it went to, and how it begins.
+type Start = (u16, [u8; 4]);
+
+// What a sender of one link finds when it starts, and what is to be seen when it has ended.
+#[derive(Drop)]
+struct Scene {
+    // Its orders.
+    orders: &'static [Order],
+    // The calls of its mouth that fail.
+    fails: &'static [u64],
+    // What its queues hold.
+    items: &'static [ItemRow],
+    // The links and ports of what its door holds.
+    replies: &'static [(u8, u16)],
+    // All datagrams that are said, in order.
+    said: &'static [Start],
+    // The places of the members that are noted, in order.
+    noted: &'static [u32],
+    // How many items are left in each queue, and whether a Hello is held back there.
+    left: [(u32, bool); 3],
+}
+
+// A sender is told to go and to stop, with nothing queued, and says nothing.
+const QUIET: Scene = Scene {
+    orders: &[Order::Go, Order::Stop],
+    fails: &[],
+    items: &[],
+    replies: &[],
+    said: &[],
+    noted: &[],
+    left: [(0, false); 3],
+};
+
+fn item_of(row: &ItemRow) -> Item {
+    let (_, place, link, what) = row;
+    match what {
+        What::Ping => ping(*place),
+        What::Answer => answer(*place),
+        What::Bye => bye(*place, *link),
+        What::Hello(after) => hello(*place, *link, *after),
+    }
+}
+
+fn push_item<R: Wait>(rt: &R, far: &mut Far, row: &ItemRow) {
+    let queue = match row.0 {
+        0 => &mut far.first,
+        1 => &mut far.second,
+        _ => &mut far.third,
+    };
+    queue.push_waiting(rt, item_of(row));
+}
+
+// Pushes all that the sender is to find.
+fn push_all<R: Wait>(rt: &R, far: &mut Far, scene: &Scene) {
+    for order in scene.orders {
+        far.orders.push_waiting(rt, *order);
+    }
+    for row in scene.items {
+        push_item(rt, far, row);
+    }
+    for (link, port) in scene.replies {
+        far.door.push_waiting(rt, reply(*link, *port));
+    }
+}
+
 // A sender with a mouth that keeps what it says, and fails at these calls.
-fn lay_list(alloc: Global, name: CallAddress, fails: Vec<u64>) -> Result<Laid<ListMouth>, NoMemory>
-    ensures { IfOk result (λ laid. IsReady laid.sender) }
+fn lay_list<R: Abort>(rt: &R, alloc: Global, fails: &[u64], door: u32) -> Laid<ListMouth>
+    requires { 0 < door }
+    ensures { IsReady result.sender }
 {
-    let mouth = ListMouth::make(alloc, 4000, fails)?;
-    lay(alloc, name, mouth, 512)
+    let fails = must(rt, Vec::from_slice(alloc, fails));
+    let mouth = must(rt, ListMouth::make(alloc, 4000, fails));
+    lay(rt, alloc, mouth, 512, door)
 }
 
 // What a sender said by its link: of each datagram the port it went to and how it begins.
@@ -39,122 +117,157 @@ fn said_by(sender: &Sender<ListMouth>, at: usize) -> Option<(u16, [u8; 4])> {
     }
 }
 
-#[test]
-fn a_bye_is_said_before_the_greeting_that_waits_for_it(rt: HostRuntime) -> Result<(), Fail> {
-    let name = callsign().ok_or("no callsign")?;
-    let Laid { sender, mut far } = lay_list(rt.alloc(), name, Vec::new(rt.alloc()))?;
-    far.orders.push_waiting(&rt, Order::Go);
-    far.orders.push_waiting(&rt, Order::Stop);
-    let [waiting, leaving] = [hello(0, 0, 1), bye(1, 0)];
-    far.first.push_waiting(&rt, waiting);
-    far.second.push_waiting(&rt, leaving);
-    let sent = done(&rt, sender);
-    assert_eq!(rt; said_by(&sent, 0), Some((1, *b"DISC")));
-    assert_eq!(rt; said_by(&sent, 1), Some((0, *b"ACKN")));
-    assert_eq!(rt; said_by(&sent, 2), None);
-    assert_eq!(rt; far.notes.try_pop(&rt).map(|member| member.place), Some(1));
-    assert_eq!(rt; far.notes.try_pop(&rt), None);
-    Ok(())
+// It said these datagrams and no more.
+fn check_said<R: Abort>(rt: &R, sent: &Sender<ListMouth>, wanted: &[Start]) {
+    for (at, next) in wanted.iter().enumerate() {
+        assert!(rt; said_by(sent, at) == Some(*next), "datagram {at}");
+    }
+    assert!(rt; said_by(sent, wanted.len()).is_none());
+}
+
+// The members of these places are noted, and no more.
+fn check_noted<R: Wait + Abort>(rt: &R, notes: &mut Popper<Member>, wanted: &[u32]) {
+    for place in wanted {
+        assert!(rt; notes.try_pop(rt).map(|member| member.place) == Some(*place));
+    }
+    assert!(rt; notes.try_pop(rt).is_none());
+}
+
+// How many items are left in a queue.
+fn count_left<R: Wait>(rt: &R, queue: &mut Popper<Item>) -> u32 {
+    for left in 0..64 {
+        if queue.try_pop(rt).is_none() {
+            return left;
+        }
+    }
+    64
+}
+
+// So many items are left in each queue, and a Hello is held back there or not.
+fn check_left<R: Wait + Abort>(rt: &R, sent: &mut Sender<ListMouth>, wanted: &[(u32, bool); 3]) {
+    let queues = sent.queues.first_mut().expect(rt, "one module");
+    let cells = sent.held.first().expect(rt, "one module");
+    for (at, next) in wanted.iter().enumerate() {
+        let queue = queues.get_mut(at).expect(rt, "three places");
+        let cell = cells.get(at).expect(rt, "three places");
+        let seen = (count_left(rt, queue), cell.is_some());
+        assert!(rt; seen == *next, "queue {at}");
+    }
+}
+
+// Has a sender go, and looks at all that is to be seen then.
+fn play<R: Wait + Abort>(rt: &R, alloc: Global, scene: &Scene) {
+    let Laid { sender, mut far } = lay_list(rt, alloc, scene.fails, 256);
+    push_all(rt, &mut far, scene);
+    let mut sent = done(rt, sender);
+    check_said(rt, &sent, scene.said);
+    check_noted(rt, &mut far.notes, scene.noted);
+    check_left(rt, &mut sent, &scene.left);
+    let_sender_go(sent);
+    let_far_go(far);
 }
 
 #[test]
-fn other_queues_go_on_while_a_greeting_waits(rt: HostRuntime) -> Result<(), Fail> {
-    let name = callsign().ok_or("no callsign")?;
-    let Laid { sender, mut far } = lay_list(rt.alloc(), name, Vec::new(rt.alloc()))?;
-    far.orders.push_waiting(&rt, Order::Go);
-    far.orders.push_waiting(&rt, Order::Stop);
-    far.first.push_waiting(&rt, hello(0, 0, 2));
-    far.first.push_waiting(&rt, ping(0));
-    for next in [ping(1), answer(1), bye(1, 0)] {
-        far.second.push_waiting(&rt, next);
-    }
-    for next in [answer(2), ping(2), ping(2), bye(2, 0)] {
-        far.third.push_waiting(&rt, next);
-    }
-    let sent = done(&rt, sender);
-    for (at, wanted) in [
-        (1, *b"PING"),
-        (2, *b"NACK"),
-        (1, *b"NACK"),
-        (2, *b"PING"),
-        (1, *b"DISC"),
-        (2, *b"PING"),
-        (2, *b"DISC"),
-        (0, *b"ACKN"),
-        (0, *b"PING"),
-    ]
-    .iter()
-    .enumerate()
-    {
-        assert_eq!(rt; said_by(&sent, at), Some(*wanted), "datagram {at}");
-    }
-    assert_eq!(rt; said_by(&sent, 9), None);
-    Ok(())
+fn a_bye_is_said_before_the_greeting_that_waits_for_it(rt: HostRuntime) {
+    const SCENE: Scene = Scene {
+        items: &[(0, 0, 0, What::Hello(1)), (1, 1, 0, What::Bye)],
+        said: &[(1, *b"DISC"), (0, *b"ACKN")],
+        noted: &[1],
+        ..QUIET
+    };
+    play(&rt, rt.alloc(), &SCENE);
 }
 
 #[test]
-fn a_greeting_that_waits_in_vain_is_handed_back(rt: HostRuntime) -> Result<(), Fail> {
-    let name = callsign().ok_or("no callsign")?;
-    let Laid { sender, mut far } = lay_list(rt.alloc(), name, Vec::new(rt.alloc()))?;
-    far.orders.push_waiting(&rt, Order::Go);
-    far.orders.push_waiting(&rt, Order::Stop);
-    far.first.push_waiting(&rt, hello(0, 0, 1));
-    far.first.push_waiting(&rt, ping(0));
-    far.second.push_waiting(&rt, hello(1, 0, 0));
-    let mut sent = done(&rt, sender);
-    assert_eq!(rt; said_by(&sent, 0), Some((1, *b"ACKN")));
-    assert_eq!(rt; said_by(&sent, 1), None);
-    let held = sent.held.pop().expect(&rt, "one module");
-    assert!(rt;
-        matches!(held.first(), Some(Some(_))),
-        "the greeting is held back"
-    );
-    let mut queues = sent.queues.pop().expect(&rt, "one module");
-    queues.reverse();
-    let mut first = queues.pop().expect(&rt, "three places");
-    assert!(rt;
-        first.try_pop(&rt).is_some(),
-        "what is behind the greeting was not popped"
-    );
-    Ok(())
+fn other_queues_go_on_while_a_greeting_waits(rt: HostRuntime) {
+    const SCENE: Scene = Scene {
+        items: &[
+            (0, 0, 0, What::Hello(2)),
+            (0, 0, 0, What::Ping),
+            (1, 1, 0, What::Ping),
+            (1, 1, 0, What::Answer),
+            (1, 1, 0, What::Bye),
+            (2, 2, 0, What::Answer),
+            (2, 2, 0, What::Ping),
+            (2, 2, 0, What::Ping),
+            (2, 2, 0, What::Bye),
+        ],
+        said: &[
+            (1, *b"PING"),
+            (2, *b"NACK"),
+            (1, *b"NACK"),
+            (2, *b"PING"),
+            (1, *b"DISC"),
+            (2, *b"PING"),
+            (2, *b"DISC"),
+            (0, *b"ACKN"),
+            (0, *b"PING"),
+        ],
+        noted: &[1, 2],
+        ..QUIET
+    };
+    play(&rt, rt.alloc(), &SCENE);
+}
+
+// The greeting is held back, and what is behind it was not popped.
+#[test]
+fn a_greeting_that_waits_in_vain_is_handed_back(rt: HostRuntime) {
+    const SCENE: Scene = Scene {
+        items: &[
+            (0, 0, 0, What::Hello(1)),
+            (0, 0, 0, What::Ping),
+            (1, 1, 0, What::Hello(0)),
+        ],
+        said: &[(1, *b"ACKN")],
+        left: [(1, true), (0, false), (0, false)],
+        ..QUIET
+    };
+    play(&rt, rt.alloc(), &SCENE);
 }
 
 #[test]
-fn a_sender_that_is_to_quit_touches_nothing(rt: HostRuntime) -> Result<(), Fail> {
-    let name = callsign().ok_or("no callsign")?;
-    let Laid { sender, mut far } = lay_list(rt.alloc(), name, Vec::new(rt.alloc()))?;
-    far.orders.push_waiting(&rt, Order::Quit);
-    for next in [ping(0), bye(0, 0)] {
-        far.first.push_waiting(&rt, next);
-    }
-    let mut left = done(&rt, sender);
-    assert_eq!(rt; said_by(&left, 0), None);
-    let mut queues = left.queues.pop().expect(&rt, "one module");
-    queues.reverse();
-    let mut first = queues.pop().expect(&rt, "three places");
-    assert!(rt; first.try_pop(&rt).is_some(), "the item was not popped");
-    Ok(())
+fn a_sender_that_is_to_quit_touches_nothing(rt: HostRuntime) {
+    const SCENE: Scene = Scene {
+        orders: &[Order::Quit],
+        items: &[(0, 0, 0, What::Ping), (0, 0, 0, What::Bye)],
+        left: [(2, false), (0, false), (0, false)],
+        ..QUIET
+    };
+    play(&rt, rt.alloc(), &SCENE);
+}
+
+// The lost Bye is noted too.
+#[test]
+fn a_datagram_that_a_mouth_fails_to_say_is_lost_alone(rt: HostRuntime) {
+    const SCENE: Scene = Scene {
+        fails: &[0, 2],
+        items: &[
+            (0, 0, 0, What::Ping),
+            (0, 0, 0, What::Answer),
+            (0, 0, 0, What::Bye),
+            (0, 0, 0, What::Ping),
+        ],
+        said: &[(0, *b"NACK"), (0, *b"PING")],
+        noted: &[0],
+        ..QUIET
+    };
+    play(&rt, rt.alloc(), &SCENE);
 }
 
 #[test]
-fn a_datagram_that_a_mouth_fails_to_say_is_lost_alone(rt: HostRuntime) -> Result<(), Fail> {
-    let name = callsign().ok_or("no callsign")?;
-    let fails = vec![in rt.alloc(); 0, 2]?;
-    let Laid { sender, mut far } = lay_list(rt.alloc(), name, fails)?;
-    far.orders.push_waiting(&rt, Order::Go);
-    far.orders.push_waiting(&rt, Order::Stop);
-    for next in [ping(0), answer(0), bye(0, 0), ping(0)] {
-        far.first.push_waiting(&rt, next);
-    }
-    let sent = done(&rt, sender);
-    assert_eq!(rt; said_by(&sent, 0), Some((0, *b"NACK")));
-    assert_eq!(rt; said_by(&sent, 1), Some((0, *b"PING")));
-    assert_eq!(rt; said_by(&sent, 2), None);
-    assert!(rt;
-        far.notes.try_pop(&rt).is_some(),
-        "the lost Bye is noted too"
-    );
-    Ok(())
+fn what_names_no_link_or_place_is_passed_over(rt: HostRuntime) {
+    const SCENE: Scene = Scene {
+        items: &[
+            (0, 0, 1, What::Bye),
+            (0, 3, 0, What::Bye),
+            (0, 0, 255, What::Hello(9)),
+            (0, 2, 0, What::Ping),
+        ],
+        replies: &[(1, 7), (0, 8), (200, 9)],
+        said: &[(8, *b"NACK"), (2, *b"PING")],
+        ..QUIET
+    };
+    play(&rt, rt.alloc(), &SCENE);
 }
 
 // Three hundred replies.
@@ -167,41 +280,15 @@ fn push_replies<R: Wait>(rt: &R, door: &mut Pusher<Direct>) {
 // After the stop order a turn in which the door alone had something is not the last: a turn takes 256 of the 300
 // replies.
 #[test]
-fn a_turn_that_only_answers_is_not_the_last(rt: HostRuntime) -> Result<(), Fail> {
-    let name = callsign().ok_or("no callsign")?;
-    let Laid {
-        mut sender,
-        mut far,
-    } = lay_list(rt.alloc(), name, Vec::new(rt.alloc()))?;
-    let (mut door, from_door) = make_one(rt.alloc(), 512)?;
-    sender.door = from_door;
-    far.orders.push_waiting(&rt, Order::Go);
-    far.orders.push_waiting(&rt, Order::Stop);
-    push_replies(&rt, &mut door);
+fn a_turn_that_only_answers_is_not_the_last(rt: HostRuntime) {
+    let Laid { sender, mut far } = lay_list(&rt, rt.alloc(), &[], 512);
+    push_all(&rt, &mut far, &QUIET);
+    push_replies(&rt, &mut far.door);
     let sent = done(&rt, sender);
-    assert_eq!(rt; said_by(&sent, 299), Some((9, *b"NACK")));
-    assert_eq!(rt; said_by(&sent, 300), None);
-    Ok(())
-}
-
-#[test]
-fn what_names_no_link_or_place_is_passed_over(rt: HostRuntime) -> Result<(), Fail> {
-    let name = callsign().ok_or("no callsign")?;
-    let Laid { sender, mut far } = lay_list(rt.alloc(), name, Vec::new(rt.alloc()))?;
-    far.orders.push_waiting(&rt, Order::Go);
-    far.orders.push_waiting(&rt, Order::Stop);
-    for next in [bye(0, 1), bye(3, 0), hello(0, 255, 9), ping(2)] {
-        far.first.push_waiting(&rt, next);
-    }
-    for (link, port) in [(1, 7), (0, 8), (200, 9)] {
-        far.door.push_waiting(&rt, reply(link, port));
-    }
-    let sent = done(&rt, sender);
-    assert_eq!(rt; said_by(&sent, 0), Some((8, *b"NACK")));
-    assert_eq!(rt; said_by(&sent, 1), Some((2, *b"PING")));
-    assert_eq!(rt; said_by(&sent, 2), None);
-    assert_eq!(rt; far.notes.try_pop(&rt), None);
-    Ok(())
+    let last = [said_by(&sent, 299), said_by(&sent, 300)];
+    let_sender_go(sent);
+    let_far_go(far);
+    assert!(rt; last == [Some((9, *b"NACK")), None]);
 }
 
 // Pushes bursts to the three queues and the door, each after a rest in which the sender falls asleep, and then the stop
@@ -247,24 +334,23 @@ fn count_to(sender: &Sender<ListMouth>, port: u16) -> u32 {
     count
 }
 
-// A missed wake-up leaves the sender asleep for ever: the gate stops a test after 60 seconds, and this one takes one.
-#[test]
-fn bursts_over_several_queues_wake_the_sender(rt: HostRuntime) -> Result<(), Fail> {
-    let name = callsign().ok_or("no callsign")?;
-    let Laid { sender, far } = lay_list(rt.alloc(), name, Vec::new(rt.alloc()))?;
-    let lend = &rt;
+// How many datagrams went to the ports of the three queues and of the door, where bursts come while the sender sleeps.
+fn count_bursts<R: Threads + Wait + Clock + Abort + Sync>(rt: &R, alloc: Global) -> [u32; 4] {
+    let Laid { sender, far } = lay_list(rt, alloc, &[], 256);
     let (_, sent) = thread::join(
-        lend,
-        move || feed(lend, far, 300),
+        rt,
+        move || feed(rt, far, 300),
         move || -> Sender<ListMouth>
             requires { IsReady sender }
-        { done(lend, sender) },
+        { done(rt, sender) },
     );
-    assert_eq!(rt; count_to(&sent, 0), 1500);
-    assert_eq!(rt; count_to(&sent, 1), 750);
-    assert_eq!(rt; count_to(&sent, 2), 500);
-    assert_eq!(rt; count_to(&sent, 9), 300);
-    Ok(())
+    [0, 1, 2, 9].map(|port| count_to(&sent, port))
+}
+
+// A missed wake-up leaves the sender asleep for ever: the gate stops a test after 60 seconds, and this one takes one.
+#[test]
+fn bursts_over_several_queues_wake_the_sender(rt: HostRuntime) {
+    assert!(rt; count_bursts(&rt, rt.alloc()) == [1500, 750, 500, 300]);
 }
 
 // Whether the datagram at this place went to this port, and holds the packet's bytes and no more.
@@ -273,6 +359,14 @@ fn says_packet(sender: &Sender<ListMouth>, at: usize, port: u16, packet: &Stream
         Some((to, gram)) => to.port == port && gram.bytes() == write(packet).as_slice(),
         None => false,
     }
+}
+
+// It said these packets to these ports and no more.
+fn check_packets<R: Abort>(rt: &R, sent: &Sender<ListMouth>, wanted: &[(u16, StreamPacket)]) {
+    for (at, (port, packet)) in wanted.iter().enumerate() {
+        assert!(rt; says_packet(sent, at, *port, packet), "datagram {at}");
+    }
+    assert!(rt; said_by(sent, wanted.len()).is_none());
 }
 
 // A frame for the member at a place, and an echo.
@@ -311,23 +405,27 @@ fn push_frames<R: Wait>(rt: &R, far: &mut Far, one: &StreamPacket, other: &Strea
 }
 
 #[test]
-fn frames_and_echoes_are_said_with_their_bytes(rt: HostRuntime) -> Result<(), Fail> {
-    let name = callsign().ok_or("no callsign")?;
-    let Laid { sender, mut far } = lay_list(rt.alloc(), name, Vec::new(rt.alloc()))?;
-    far.orders.push_waiting(&rt, Order::Go);
-    far.orders.push_waiting(&rt, Order::Stop);
+fn frames_and_echoes_are_said_with_their_bytes(rt: HostRuntime) {
+    let Laid { sender, mut far } = lay_list(&rt, rt.alloc(), &[], 256);
+    push_all(&rt, &mut far, &QUIET);
     let one = frame(0x1234, 7, false);
     let other = frame(!0x1234, 7, false);
     push_frames(&rt, &mut far, &one, &other);
     let sent = done(&rt, sender);
-    for at in 0..3u16 {
-        assert!(rt; says_packet(&sent, at as usize, at, &one));
-    }
-    assert!(rt; says_packet(&sent, 3, 0, &other));
-    assert!(rt; says_packet(&sent, 4, 0, &one));
-    assert!(rt; says_packet(&sent, 5, 0, &other));
-    assert_eq!(rt; said_by(&sent, 6), None);
-    Ok(())
+    check_packets(
+        &rt,
+        &sent,
+        &[
+            (0, one),
+            (1, one),
+            (2, one),
+            (0, other),
+            (0, one),
+            (0, other),
+        ],
+    );
+    let_sender_go(sent);
+    let_far_go(far);
 }
 
 // A frame that differs from this one in one field.
@@ -361,20 +459,24 @@ fn push_unlike<R: Wait>(rt: &R, end: &mut Pusher<Item>, packet: &StreamPacket) {
     }
 }
 
+// Both of each pair were said.
+fn check_unlike<R: Abort>(rt: &R, sent: &Sender<ListMouth>, packet: &StreamPacket) {
+    for field in 0..9u32 {
+        let at = 2 * field as usize;
+        assert!(rt; says_packet(sent, at, 0, packet), "before field {field}");
+        let other = unlike(packet, field);
+        assert!(rt; says_packet(sent, at + 1, 0, &other), "field {field}");
+    }
+}
+
 #[test]
-fn a_frame_unlike_the_last_in_one_field_is_said_as_it_is(rt: HostRuntime) -> Result<(), Fail> {
-    let name = callsign().ok_or("no callsign")?;
-    let Laid { sender, mut far } = lay_list(rt.alloc(), name, Vec::new(rt.alloc()))?;
-    far.orders.push_waiting(&rt, Order::Go);
-    far.orders.push_waiting(&rt, Order::Stop);
+fn a_frame_unlike_the_last_in_one_field_is_said_as_it_is(rt: HostRuntime) {
+    let Laid { sender, mut far } = lay_list(&rt, rt.alloc(), &[], 256);
+    push_all(&rt, &mut far, &QUIET);
     let packet = frame(0x1234, 7, false);
     push_unlike(&rt, &mut far.first, &packet);
     let sent = done(&rt, sender);
-    for field in 0..9u32 {
-        let at = 2 * field as usize;
-        assert!(rt; says_packet(&sent, at, 0, &packet), "before field {field}");
-        let other = unlike(&packet, field);
-        assert!(rt; says_packet(&sent, at + 1, 0, &other), "field {field}");
-    }
-    Ok(())
+    check_unlike(&rt, &sent, &packet);
+    let_sender_go(sent);
+    let_far_go(far);
 }

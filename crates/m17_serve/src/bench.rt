@@ -1,5 +1,5 @@
 //! A small evening, and the reflector run over it on devices in memory.
-ghost use Rattle.std.specs.Prelude.{IfOk};
+ghost use Rattle.std.specs.Prelude.{◌≡◌, Ok};
 ghost use Rattle.m17_serve.specs.Served.{IsServable};
 
 use crate::{Served, serve};
@@ -14,15 +14,25 @@ use m17_words::ServeOrder;
 use std::alloc::Global;
 use std::process::Abort;
 use std::sync::Wait;
-use std::test::Fail;
 use std::thread::Threads;
 
-// What a run came to, and its sink.
-pub(crate) type Done = (Served<ScriptEar, ListMouth, ListBook>, BytesSink);
+/// What a run came to.
+pub(crate) type Done = Served<ScriptEar, ListMouth, ListBook>;
+
+/// What was made; the test ends where it was not.
+pub(crate) fn must<T, E: Drop>(rt: &impl Abort, made: Result<T, E>) -> T
+    ensures { made ≡ Ok result }
+{
+    made.ok().expect(rt, "made")
+}
+
+fn text(rt: &impl Abort, alloc: Global, text: &str) -> String {
+    must(rt, String::from_str(alloc, text))
+}
 
 // The reflector M17-TST with module A over one link, with this folder.
-pub(crate) fn order(rt: &impl Abort, alloc: Global, book: Option<&str>) -> Result<ServeOrder, Fail>
-    ensures { IfOk result IsServable }
+fn order(rt: &impl Abort, alloc: Global, book: Option<&str>) -> ServeOrder
+    ensures { IsServable result }
 {
     let modules = match Modules::read("A") {
         Ok(modules) => modules,
@@ -31,13 +41,12 @@ pub(crate) fn order(rt: &impl Abort, alloc: Global, book: Option<&str>) -> Resul
     assert!(rt; modules.count() != 0);
     let address = Address::new(0x13_89F9_BAED).expect(rt, "an address");
     let call = CallAddress::new(address).expect(rt, "a callsign");
+    let binds = must(rt, Vec::from_array(alloc, [text(rt, alloc, "x")]));
     let book = match book {
-        Some(folder) => Some(String::from_str(alloc, folder)?),
+        Some(folder) => Some(text(rt, alloc, folder)),
         None => None,
     };
-    let mut binds = Vec::new(alloc);
-    binds.push(String::from_str(alloc, "x")?)?;
-    Ok(ServeOrder {
+    ServeOrder {
         call,
         modules,
         parrots: Modules::none(),
@@ -45,7 +54,7 @@ pub(crate) fn order(rt: &impl Abort, alloc: Global, book: Option<&str>) -> Resul
         seconds: None,
         book,
         binds,
-    })
+    }
 }
 
 pub(crate) fn peer(number: u8) -> Peer {
@@ -73,7 +82,7 @@ fn packet(at: u64, number: u16) -> Heard {
 }
 
 // AB1CD joins module A and talks; N0CALL comes to listen, and leaves before the last packet.
-pub(crate) fn evening(rt: &impl Abort, alloc: Global) -> Result<Vec<Heard>, Fail> {
+fn evening(rt: &impl Abort, alloc: Global) -> Vec<Heard> {
     let talker = CallAddress::new(ab1cd()).expect(rt, "a callsign");
     let listener = CallAddress::new(n0call()).expect(rt, "a callsign");
     let module = ModuleLetter::new(b'A').expect(rt, "a letter");
@@ -97,12 +106,12 @@ pub(crate) fn evening(rt: &impl Abort, alloc: Global) -> Result<Vec<Heard>, Fail
         said(2, 130, leaves.as_slice()),
         packet(160, 3),
     ];
-    Ok(Vec::from_array(alloc, heard)?)
+    must(rt, Vec::from_array(alloc, heard))
 }
 
 // AB1CD joins module A, and is silent for 30 s; then it asks whether the reflector is there. N0CALL listens, and says at
 // 20 s that it is there.
-pub(crate) fn silence(alloc: Global) -> Result<Vec<Heard>, Fail> {
+fn silence(rt: &impl Abort, alloc: Global) -> Vec<Heard> {
     let heard = [
         said(1, 0, b"CONN\x00\x00\x00\x9f\xdd\x51A"),
         said(2, 0, b"LSTN\x00\x00\x4b\x13\xd1\x06A"),
@@ -112,20 +121,45 @@ pub(crate) fn silence(alloc: Global) -> Result<Vec<Heard>, Fail> {
         said(1, 30_000, b"PING\x00\x00\x00\x9f\xdd\x51"),
         Heard::Quiet { at: 33_000 },
     ];
-    Ok(Vec::from_array(alloc, heard)?)
+    must(rt, Vec::from_array(alloc, heard))
 }
 
-// What fails: calls of the ports, of the mouth, of the trace, of the book and of the sink.
+// So many faults.
+fn faults(rt: &impl Abort, alloc: Global, count: usize) -> Vec<Heard> {
+    let mut heard = Vec::new(alloc);
+    for _fault in 0..count {
+        must(rt, heard.push(Heard::Fault));
+    }
+    heard
+}
+
+/// What the ear of the link hears.
 #[derive(Clone, Copy)]
-pub(crate) struct Fails<'a> {
-    pub(crate) ports: &'a [u64],
-    pub(crate) mouth: &'a [u64],
-    pub(crate) trace: &'a [u64],
-    pub(crate) book: &'a [u64],
-    pub(crate) sink: &'a [u64],
+pub(crate) enum Hears {
+    Evening,
+    Silence,
+    Faults(usize),
 }
 
-pub(crate) const NONE: Fails<'static> = Fails {
+fn heard(rt: &impl Abort, alloc: Global, hears: Hears) -> Vec<Heard> {
+    match hears {
+        Hears::Evening => evening(rt, alloc),
+        Hears::Silence => silence(rt, alloc),
+        Hears::Faults(count) => faults(rt, alloc, count),
+    }
+}
+
+/// What fails: calls of the ports, of the mouth, of the trace, of the book and of the sink.
+#[derive(Clone, Copy)]
+pub(crate) struct Fails {
+    pub(crate) ports: &'static [u64],
+    pub(crate) mouth: &'static [u64],
+    pub(crate) trace: &'static [u64],
+    pub(crate) book: &'static [u64],
+    pub(crate) sink: &'static [u64],
+}
+
+pub(crate) const NONE: Fails = Fails {
     ports: &[],
     mouth: &[],
     trace: &[],
@@ -133,31 +167,48 @@ pub(crate) const NONE: Fails<'static> = Fails {
     sink: &[],
 };
 
-// Ports with one link, whose ear hears this, and two books.
-fn ports(alloc: Global, heard: Vec<Heard>, fails: Fails) -> Result<ScriptPorts, Fail> {
-    let mouth = ListMouth::make(alloc, 32, fails.mouth.to_vec(alloc)?)?;
-    let trace = ListBook::make(alloc, 1_000, fails.trace.to_vec(alloc)?)?;
-    let book = ListBook::make(alloc, 1_000, fails.book.to_vec(alloc)?)?;
-    let mut links = Vec::new(alloc);
-    links.push((ScriptEar::new(heard), mouth))?;
-    let mut books = Vec::new(alloc);
-    books.push(trace)?;
-    books.push(book)?;
-    Ok(ScriptPorts::new(links, books, fails.ports.to_vec(alloc)?))
+fn calls(rt: &impl Abort, alloc: Global, fails: &[u64]) -> Vec<u64> {
+    must(rt, fails.to_vec(alloc))
 }
 
-// Runs the reflector over such ports.
+// Ports with one link, whose ear hears this, and two books.
+fn ports(rt: &impl Abort, alloc: Global, heard: Vec<Heard>, fails: Fails) -> ScriptPorts {
+    let mouth = must(
+        rt,
+        ListMouth::make(alloc, 32, calls(rt, alloc, fails.mouth)),
+    );
+    let trace = must(
+        rt,
+        ListBook::make(alloc, 1_000, calls(rt, alloc, fails.trace)),
+    );
+    let book = must(
+        rt,
+        ListBook::make(alloc, 1_000, calls(rt, alloc, fails.book)),
+    );
+    let links = must(rt, Vec::from_array(alloc, [(ScriptEar::new(heard), mouth)]));
+    let books = must(rt, Vec::from_array(alloc, [trace, book]));
+    ScriptPorts::new(links, books, calls(rt, alloc, fails.ports))
+}
+
+/// Runs the reflector over such ports: what it came to, and whether this text was printed.
 pub(crate) fn run<C: Crew, R: Threads + Wait + Abort + Copy + Send + 'static>(
     rt: &R,
     alloc: Global,
     book: Option<&str>,
-    heard: Vec<Heard>,
+    hears: Hears,
     fails: Fails,
     crew: &mut C,
-) -> Result<Done, Fail> {
-    let order = order(rt, alloc, book)?;
-    let mut ports = ports(alloc, heard, fails)?;
-    let mut sink = BytesSink::make(alloc, 100, fails.sink.to_vec(alloc)?)?;
+    text: &str,
+) -> (Done, bool) {
+    let order = order(rt, alloc, book);
+    let mut ports = ports(rt, alloc, heard(rt, alloc, hears), fails);
+    let mut sink = must(
+        rt,
+        BytesSink::make(alloc, 100, calls(rt, alloc, fails.sink)),
+    );
     let served = serve(rt, alloc, &order, &mut ports, crew, &mut sink);
-    Ok((served, sink))
+    (served, sink.bytes() == text.as_bytes())
 }
+
+/// Lets go what a run came to.
+pub(crate) fn let_go(_done: Done) {}

@@ -19,8 +19,3 @@ pub use ending::{TalkEnding, Talked};
 pub use reading::read_script;
 pub use reason::{ScriptFailure, ScriptReason};
 pub use talk_command::talk;
-
-#[cfg(test)]
-mod mouth_tests;
-#[cfg(test)]
-mod tests;

@@ -16,8 +16,6 @@ mod lines;
 mod rooms;
 mod site;
 mod staffing;
-#[cfg(test)]
-mod tests;
 mod vectors;
 
 pub use rooms::{JobRooms, LaneRooms, OrderRooms, Rooms};

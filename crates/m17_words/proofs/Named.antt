@@ -1,76 +1,94 @@
--- Words that name no command, from those after the first one.
-use Rattle.std.proofs.Common.{◌≡◌, List, ◌∷◌, codes, slice_index, ap, arith}
+-- Which command words name, by the first of them and the values that the others give.
+use Rattle.std.proofs.Common.{◌≡◌, List, [], ◌∷◌, String, Global, codes, get_or, map, string_bytes, refl, sym, ap, subst, ◌∙◌}
+use Rattle.std.specs.Prelude.{if◌then◌else◌}
+use Rattle.std.specs.Str.{bytes_eq}
 use Rattle.clap.specs.Words.{Text}
 use Rattle.m17_words.specs.declared.command.Command.{Command}
-use Rattle.m17_words.specs.declared.command.Command.TheVariants.{Judge, Show, Replay, Make, Talk, Serve}
-use Rattle.m17_words.specs.Tables.{judge_table, show_table, replay_table, make_table, talk_table, serve_table, Takes, found}
-use Rattle.m17_words.specs.Words.{IsReplayWith, IsMakeWith, IsTalkWith, IsServeWith, Names}
+use Rattle.m17_words.specs.declared.command.Command.TheVariants as command
+use Rattle.m17_words.specs.declared.first.FirstWord.{FirstWord}
+use Rattle.m17_words.specs.declared.first.FirstWord.TheVariants.{Judge, Show, Replay, Make, Check, Talk, Serve}
+use Rattle.m17_words.specs.First.{text_of_first, table_of_word}
+use Rattle.m17_words.specs.Given.{IsGiven}
+use Rattle.m17_words.specs.Tables.{Takes, found}
+use Rattle.m17_words.specs.Words.{word_of, Gives, Names}
 
--- the first letter tells commands apart, or the second
-first_letter : (a b : Text) → a ≡ b → slice_index a 0 ≡ slice_index b 0
-first_letter a b e = ap (λ (t : Text). slice_index t 0) e
+-- the first word of a command
+abbrev pub first_of : Command → FirstWord
+first_of command.Judge = Judge
+first_of command.Show = Show
+first_of (command.Replay call modules parrots places summary) = Replay
+first_of (command.Make seed count) = Make
+first_of command.Check = Check
+first_of (command.Talk order) = Talk
+first_of (command.Serve order) = Serve
 
-second_letter : (a b : Text) → a ≡ b → slice_index a 1 ≡ slice_index b 1
-second_letter a b e = ap (λ (t : Text). slice_index t 1) e
+pub word_is : (given : Command) → word_of given ≡ text_of_first (first_of given)
+word_is command.Judge = refl
+word_is command.Show = refl
+word_is (command.Replay call modules parrots places summary) = refl
+word_is (command.Make seed count) = refl
+word_is command.Check = refl
+word_is (command.Talk order) = refl
+word_is (command.Serve order) = refl
 
-pub no_judge : (words : List Text) → (Takes judge_table words → ⊥) → (command : Command) → Names (codes "judge" ∷ words) command → ⊥
-no_judge words refuses Judge named = refuses named.1
-no_judge words refuses Show named = omega (arith, first_letter (codes "judge") (codes "show") named.0)
-no_judge words refuses (Replay call modules parrots places summary) named = omega (arith, first_letter (codes "judge") (codes "replay") named.0)
-no_judge words refuses (Make seed count) named = omega (arith, first_letter (codes "judge") (codes "make") named.0)
-no_judge words refuses (Talk order) named = omega (arith, first_letter (codes "judge") (codes "talk") named.0)
-no_judge words refuses (Serve order) named = omega (arith, first_letter (codes "judge") (codes "serve") named.0)
+-- the first of the words is the command's own
+pub first_is : (words : List (String Global)) (d : String Global) (given : Command) → Names (map string_bytes words) given
+    → string_bytes (get_or words 0 d) ≡ word_of given
+first_is [] d given named = absurd named
+first_is (first ∷ words) d given named = named.0
 
-pub no_show : (words : List Text) → (Takes show_table words → ⊥) → (command : Command) → Names (codes "show" ∷ words) command → ⊥
-no_show words refuses Judge named = omega (arith, first_letter (codes "show") (codes "judge") named.0)
-no_show words refuses Show named = refuses named.1
-no_show words refuses (Replay call modules parrots places summary) named = omega (arith, first_letter (codes "show") (codes "replay") named.0)
-no_show words refuses (Make seed count) named = omega (arith, first_letter (codes "show") (codes "make") named.0)
-no_show words refuses (Talk order) named = omega (arith, first_letter (codes "show") (codes "talk") named.0)
-no_show words refuses (Serve order) named = omega (arith, second_letter (codes "show") (codes "serve") named.0)
+-- the word that a text is
+abbrev word_back : Text → FirstWord
+word_back text =
+    if bytes_eq text (codes "judge") then Judge else (
+    if bytes_eq text (codes "show") then Show else (
+    if bytes_eq text (codes "replay") then Replay else (
+    if bytes_eq text (codes "make") then Make else (
+    if bytes_eq text (codes "check") then Check else (
+    if bytes_eq text (codes "talk") then Talk else Serve)))))
 
--- a replay: `clap` refuses the words, or the values are none of a replay
-pub no_replay : (words : List Text) → (Takes replay_table words → (command : Command) → IsReplayWith (found replay_table words) command → ⊥)
-    → (command : Command) → Names (codes "replay" ∷ words) command → ⊥
-no_replay words refuses Judge named = omega (arith, first_letter (codes "replay") (codes "judge") named.0)
-no_replay words refuses Show named = omega (arith, first_letter (codes "replay") (codes "show") named.0)
-no_replay words refuses (Replay call modules parrots places summary) named = refuses named.1.0 (Replay call modules parrots places summary) named.1.1
-no_replay words refuses (Make seed count) named = omega (arith, first_letter (codes "replay") (codes "make") named.0)
-no_replay words refuses (Talk order) named = omega (arith, first_letter (codes "replay") (codes "talk") named.0)
-no_replay words refuses (Serve order) named = omega (arith, first_letter (codes "replay") (codes "serve") named.0)
+back_is : (word : FirstWord) → word_back (text_of_first word) ≡ word
+back_is Judge = refl
+back_is Show = refl
+back_is Replay = refl
+back_is Make = refl
+back_is Check = refl
+back_is Talk = refl
+back_is Serve = refl
 
-pub no_make : (words : List Text) → (Takes make_table words → (command : Command) → IsMakeWith (found make_table words) command → ⊥)
-    → (command : Command) → Names (codes "make" ∷ words) command → ⊥
-no_make words refuses Judge named = omega (arith, first_letter (codes "make") (codes "judge") named.0)
-no_make words refuses Show named = omega (arith, first_letter (codes "make") (codes "show") named.0)
-no_make words refuses (Replay call modules parrots places summary) named = omega (arith, first_letter (codes "make") (codes "replay") named.0)
-no_make words refuses (Make seed count) named = refuses named.1.0 (Make seed count) named.1.1
-no_make words refuses (Talk order) named = omega (arith, first_letter (codes "make") (codes "talk") named.0)
-no_make words refuses (Serve order) named = omega (arith, first_letter (codes "make") (codes "serve") named.0)
+-- a text is one word
+pub same_word : (a b : FirstWord) → text_of_first a ≡ text_of_first b → a ≡ b
+same_word a b e = sym (back_is a) ∙ ap word_back e ∙ back_is b
 
-pub no_talk : (words : List Text) → (Takes talk_table words → (command : Command) → IsTalkWith (found talk_table words) command → ⊥)
-    → (command : Command) → Names (codes "talk" ∷ words) command → ⊥
-no_talk words refuses Judge named = omega (arith, first_letter (codes "talk") (codes "judge") named.0)
-no_talk words refuses Show named = omega (arith, first_letter (codes "talk") (codes "show") named.0)
-no_talk words refuses (Replay call modules parrots places summary) named = omega (arith, first_letter (codes "talk") (codes "replay") named.0)
-no_talk words refuses (Make seed count) named = omega (arith, first_letter (codes "talk") (codes "make") named.0)
-no_talk words refuses (Talk order) named = refuses named.1.0 (Talk order) named.1.1
-no_talk words refuses (Serve order) named = omega (arith, first_letter (codes "talk") (codes "serve") named.0)
+-- what the words after the first one give, by the table of the command's word
+pub gives : (words : List Text) (given : Command) → Gives words given
+    → Takes (table_of_word (first_of given)) words × IsGiven (first_of given) (found (table_of_word (first_of given)) words) given
+gives words command.Judge h = (h, refl)
+gives words command.Show h = (h, refl)
+gives words (command.Replay call modules parrots places summary) h = h
+gives words (command.Make seed count) h = h
+gives words command.Check h = (h, refl)
+gives words (command.Talk order) h = h
+gives words (command.Serve order) h = h
 
-pub no_serve : (words : List Text) → (Takes serve_table words → (command : Command) → IsServeWith (found serve_table words) command → ⊥)
-    → (command : Command) → Names (codes "serve" ∷ words) command → ⊥
-no_serve words refuses Judge named = omega (arith, first_letter (codes "serve") (codes "judge") named.0)
-no_serve words refuses Show named = omega (arith, second_letter (codes "serve") (codes "show") named.0)
-no_serve words refuses (Replay call modules parrots places summary) named = omega (arith, first_letter (codes "serve") (codes "replay") named.0)
-no_serve words refuses (Make seed count) named = omega (arith, first_letter (codes "serve") (codes "make") named.0)
-no_serve words refuses (Talk order) named = omega (arith, first_letter (codes "serve") (codes "talk") named.0)
-no_serve words refuses (Serve order) named = refuses named.1.0 (Serve order) named.1.1
+-- and so the values of each command that begins with this word
+pub values_of : (word : FirstWord) (words : List Text) (given : Command) → Names (text_of_first word ∷ words) given
+    → Takes (table_of_word word) words × IsGiven word (found (table_of_word word) words) given
+values_of word words given named =
+    subst (λ (word : FirstWord). Takes (table_of_word word) words × IsGiven word (found (table_of_word word) words) given)
+    (sym (same_word word (first_of given) (named.0 ∙ word_is given))) (gives words given named.1)
 
-pub no_first : (first : Text) (words : List Text) → (first ≡ codes "judge" → ⊥) → (first ≡ codes "show" → ⊥) → (first ≡ codes "replay" → ⊥) → (first ≡ codes "make" → ⊥) → (first ≡ codes "talk" → ⊥) → (first ≡ codes "serve" → ⊥)
-    → (command : Command) → Names (first ∷ words) command → ⊥
-no_first first words judge show replay make talk serve Judge named = judge named.0
-no_first first words judge show replay make talk serve Show named = show named.0
-no_first first words judge show replay make talk serve (Replay call modules parrots places summary) named = replay named.0
-no_first first words judge show replay make talk serve (Make seed count) named = make named.0
-no_first first words judge show replay make talk serve (Talk order) named = talk named.0
-no_first first words judge show replay make talk serve (Serve order) named = serve named.0
+-- the values give a command that begins with this word
+pub named : (word : FirstWord) (words : List Text) → Takes (table_of_word word) words → (given : Command)
+    → IsGiven word (found (table_of_word word) words) given → Names (text_of_first word ∷ words) given
+named Judge words taken given is = subst (λ (given : Command). Names (codes "judge" ∷ words) given) (sym is) (refl, taken)
+named Show words taken given is = subst (λ (given : Command). Names (codes "show" ∷ words) given) (sym is) (refl, taken)
+named Replay words taken (command.Replay call modules parrots places summary) is = (refl, (taken, is))
+named Replay words taken _ is = absurd is
+named Make words taken (command.Make seed count) is = (refl, (taken, is))
+named Make words taken _ is = absurd is
+named Check words taken given is = subst (λ (given : Command). Names (codes "check" ∷ words) given) (sym is) (refl, taken)
+named Talk words taken (command.Talk order) is = (refl, (taken, is))
+named Talk words taken _ is = absurd is
+named Serve words taken (command.Serve order) is = (refl, (taken, is))
+named Serve words taken _ is = absurd is

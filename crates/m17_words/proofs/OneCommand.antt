@@ -1,20 +1,18 @@
 -- Words name one command.
-use Rattle.std.proofs.Common.{◌≡◌, ℕ, Bool, true, false, List, [], ◌∷◌, Option, None, Some, codes, slice_index, sym, ap, ap₂, refl, ◌∙◌, arith, rules}
+use Rattle.std.proofs.Common.{◌≡◌, ℕ, Bool, true, false, List, [], ◌∷◌, Option, None, Some, sym, ap, subst, ap₂, refl, ◌∙◌, rules}
 use Rattle.std.specs.Prelude.{IsTrue, map, string_bytes}
 use Rattle.m17_words.specs.declared.order.ServeOrder.{ServeOrder}
-use Rattle.clap.specs.Words.{Text}
+use Rattle.clap.specs.Words.{Row, Text}
 use Rattle.m17_control.specs.declared.modules.Modules.{Modules}
 use Rattle.m17_control.specs.Modules.{serves}
-use Rattle.m17_words.specs.declared.command.Command.TheVariants.{Judge, Show, Replay, Make, Talk, Serve}
+use Rattle.m17_words.specs.declared.command.Command.{Command}
+use Rattle.m17_words.specs.declared.command.Command.TheVariants as command
+use Rattle.m17_words.specs.declared.first.FirstWord.{FirstWord}
+use Rattle.m17_words.specs.declared.first.FirstWord.TheVariants.{Judge, Show, Replay, Make, Check, Talk, Serve}
+use Rattle.m17_words.specs.Given.{IsGiven}
+use Rattle.m17_words.proofs.Named.{first_of, word_is, gives, values_of}
 use Rattle.m17_words.specs.Values.{IsNumberIfAny, NamesLetter, NamesModules, NamesParrots}
-use Rattle.m17_words.specs.Laws.{SameModules, OneCommand}
-
--- one word begins with one letter, and goes on with one
-letters : (first a b : Text) → first ≡ a → first ≡ b → slice_index a 0 ≡ slice_index b 0
-letters first a b e e' = ap (λ (t : Text). slice_index t 0) (sym e ∙ e')
-
-seconds : (first a b : Text) → first ≡ a → first ≡ b → slice_index a 1 ≡ slice_index b 1
-seconds first a b e e' = ap (λ (t : Text). slice_index t 1) (sym e ∙ e')
+use Rattle.m17_words.specs.Laws.{SameModules, SameCommand, OneCommand}
 
 not_true : (b : Bool) → b ≡ false → IsTrue b → ⊥
 not_true true e h = let bad = e in cc
@@ -45,74 +43,50 @@ same_binds : (found : Option (List Text)) (o o' : ServeOrder) → found ≡ Some
     → found ≡ Some (map string_bytes o'.binds.items) → map string_bytes o'.binds.items ≡ map string_bytes o.binds.items
 same_binds found o o' a b = let e : Some (map string_bytes o'.binds.items) ≡ Some (map string_bytes o.binds.items) = sym b ∙ a in cc
 
+-- the values of a word are those of one command
+one_given : (word : FirstWord) (found : List Row) (given other : Command) → IsGiven word found given → IsGiven word found other → SameCommand given other
+one_given Judge found given other a b = subst (λ (given : Command). SameCommand given other) (sym a) b
+one_given Show found given other a b = subst (λ (given : Command). SameCommand given other) (sym a) b
+one_given Replay found (command.Replay c m p n s) (command.Replay c' m' p' n' s') a b = (
+  b.call_is.sum ∙ sym a.call_is.sum,
+  same_modules _ m m' a.modules_are b.modules_are,
+  same_parrots _ m m' p p' a.parrots_are b.parrots_are,
+  b.places_are.value ∙ sym a.places_are.value,
+  ((λ h. a.summary_is.1 (b.summary_is.0 h)), (λ h. b.summary_is.1 (a.summary_is.0 h))),
+)
+one_given Replay found (command.Replay c m p n s) _ a b = absurd b
+one_given Replay found _ other a b = absurd a
+one_given Make found (command.Make seed count) (command.Make seed' count') a b =
+    ap₂ command.Make (b.seed_is.value ∙ sym a.seed_is.value) (b.count_is.value ∙ sym a.count_is.value)
+one_given Make found (command.Make seed count) _ a b = absurd b
+one_given Make found _ other a b = absurd a
+one_given Check found given other a b = subst (λ (given : Command). SameCommand given other) (sym a) b
+one_given Talk found (command.Talk o) (command.Talk o') a b = record {
+  call = b.call_is.sum ∙ sym a.call_is.sum;
+  letter = one_letter _ o.letter o'.letter a.module_is b.module_is;
+  listen = ((λ h. a.listen_is.1 (b.listen_is.0 h)), (λ h. b.listen_is.1 (a.listen_is.0 h)));
+  bind = b.bind_is ∙ sym a.bind_is;
+  to = sym b.to_is.text_is ∙ a.to_is.text_is;
+  stay = b.stay_is.value ∙ sym a.stay_is.value;
+  book = b.book_is ∙ sym a.book_is;
+}
+one_given Talk found (command.Talk o) _ a b = absurd b
+one_given Talk found _ other a b = absurd a
+one_given Serve found (command.Serve o) (command.Serve o') a b = record {
+  call = b.call_is.sum ∙ sym a.call_is.sum;
+  modules = same_modules _ o.modules o'.modules a.modules_are b.modules_are;
+  parrots = same_parrots _ o.modules o'.modules o.parrots o'.parrots a.parrots_are b.parrots_are;
+  places = b.places_are.value ∙ sym a.places_are.value;
+  seconds = one_number _ _ _ o.seconds o'.seconds a.seconds_are b.seconds_are;
+  book = b.book_is ∙ sym a.book_is;
+  binds = same_binds _ o o' a.binds_are b.binds_are;
+}
+one_given Serve found (command.Serve o) _ a b = absurd b
+one_given Serve found _ other a b = absurd a
+
 pub one_command : OneCommand
-one_command [] command other named named' = absurd named
-one_command (first ∷ words) Judge Judge named named' = refl
-one_command (first ∷ words) Judge Show named named' = absurd (omega (arith, letters first (codes "judge") (codes "show") named.0 named'.0))
-one_command (first ∷ words) Judge (Replay c m p n s) named named' = absurd (omega (arith, letters first (codes "judge") (codes "replay") named.0 named'.0))
-one_command (first ∷ words) Judge (Make seed count) named named' = absurd (omega (arith, letters first (codes "judge") (codes "make") named.0 named'.0))
-one_command (first ∷ words) Judge (Talk o) named named' = absurd (omega (arith, letters first (codes "judge") (codes "talk") named.0 named'.0))
-one_command (first ∷ words) Judge (Serve o) named named' = absurd (omega (arith, letters first (codes "judge") (codes "serve") named.0 named'.0))
-one_command (first ∷ words) Show Judge named named' = absurd (omega (arith, letters first (codes "show") (codes "judge") named.0 named'.0))
-one_command (first ∷ words) Show Show named named' = refl
-one_command (first ∷ words) Show (Replay c m p n s) named named' = absurd (omega (arith, letters first (codes "show") (codes "replay") named.0 named'.0))
-one_command (first ∷ words) Show (Make seed count) named named' = absurd (omega (arith, letters first (codes "show") (codes "make") named.0 named'.0))
-one_command (first ∷ words) Show (Talk o) named named' = absurd (omega (arith, letters first (codes "show") (codes "talk") named.0 named'.0))
-one_command (first ∷ words) Show (Serve o) named named' = absurd (omega (arith, seconds first (codes "show") (codes "serve") named.0 named'.0))
-one_command (first ∷ words) (Replay c m p n s) Judge named named' = absurd (omega (arith, letters first (codes "replay") (codes "judge") named.0 named'.0))
-one_command (first ∷ words) (Replay c m p n s) Show named named' = absurd (omega (arith, letters first (codes "replay") (codes "show") named.0 named'.0))
-one_command (first ∷ words) (Replay c m p n s) (Replay c' m' p' n' s') named named' =
-    let a = named.1.1 in
-    let b = named'.1.1 in (
-      b.call_is.sum ∙ sym a.call_is.sum,
-      same_modules _ m m' a.modules_are b.modules_are,
-      same_parrots _ m m' p p' a.parrots_are b.parrots_are,
-      b.places_are.value ∙ sym a.places_are.value,
-      ((λ h. a.summary_is.1 (b.summary_is.0 h)), (λ h. b.summary_is.1 (a.summary_is.0 h))),
-    )
-one_command (first ∷ words) (Replay c m p n s) (Make seed count) named named' = absurd (omega (arith, letters first (codes "replay") (codes "make") named.0 named'.0))
-one_command (first ∷ words) (Replay c m p n s) (Talk o) named named' = absurd (omega (arith, letters first (codes "replay") (codes "talk") named.0 named'.0))
-one_command (first ∷ words) (Replay c m p n s) (Serve o) named named' = absurd (omega (arith, letters first (codes "replay") (codes "serve") named.0 named'.0))
-one_command (first ∷ words) (Make seed count) Judge named named' = absurd (omega (arith, letters first (codes "make") (codes "judge") named.0 named'.0))
-one_command (first ∷ words) (Make seed count) Show named named' = absurd (omega (arith, letters first (codes "make") (codes "show") named.0 named'.0))
-one_command (first ∷ words) (Make seed count) (Replay c m p n s) named named' = absurd (omega (arith, letters first (codes "make") (codes "replay") named.0 named'.0))
-one_command (first ∷ words) (Make seed count) (Make seed' count') named named' =
-    let a = named.1.1 in
-    let b = named'.1.1 in
-    ap₂ Make (b.seed_is.value ∙ sym a.seed_is.value) (b.count_is.value ∙ sym a.count_is.value)
-one_command (first ∷ words) (Make seed count) (Talk o) named named' = absurd (omega (arith, letters first (codes "make") (codes "talk") named.0 named'.0))
-one_command (first ∷ words) (Make seed count) (Serve o) named named' = absurd (omega (arith, letters first (codes "make") (codes "serve") named.0 named'.0))
-one_command (first ∷ words) (Talk o) Judge named named' = absurd (omega (arith, letters first (codes "talk") (codes "judge") named.0 named'.0))
-one_command (first ∷ words) (Talk o) Show named named' = absurd (omega (arith, letters first (codes "talk") (codes "show") named.0 named'.0))
-one_command (first ∷ words) (Talk o) (Replay c m p n s) named named' = absurd (omega (arith, letters first (codes "talk") (codes "replay") named.0 named'.0))
-one_command (first ∷ words) (Talk o) (Make seed count) named named' = absurd (omega (arith, letters first (codes "talk") (codes "make") named.0 named'.0))
-one_command (first ∷ words) (Talk o) (Talk o') named named' =
-    let a = named.1.1 in
-    let b = named'.1.1 in
-    record {
-      call = b.call_is.sum ∙ sym a.call_is.sum;
-      letter = one_letter _ o.letter o'.letter a.module_is b.module_is;
-      listen = ((λ h. a.listen_is.1 (b.listen_is.0 h)), (λ h. b.listen_is.1 (a.listen_is.0 h)));
-      bind = b.bind_is ∙ sym a.bind_is;
-      to = sym b.to_is.text_is ∙ a.to_is.text_is;
-      stay = b.stay_is.value ∙ sym a.stay_is.value;
-      book = b.book_is ∙ sym a.book_is;
-    }
-one_command (first ∷ words) (Talk o) (Serve o') named named' = absurd (omega (arith, letters first (codes "talk") (codes "serve") named.0 named'.0))
-one_command (first ∷ words) (Serve o) Judge named named' = absurd (omega (arith, letters first (codes "serve") (codes "judge") named.0 named'.0))
-one_command (first ∷ words) (Serve o) Show named named' = absurd (omega (arith, seconds first (codes "serve") (codes "show") named.0 named'.0))
-one_command (first ∷ words) (Serve o) (Replay c m p n s) named named' = absurd (omega (arith, letters first (codes "serve") (codes "replay") named.0 named'.0))
-one_command (first ∷ words) (Serve o) (Make seed count) named named' = absurd (omega (arith, letters first (codes "serve") (codes "make") named.0 named'.0))
-one_command (first ∷ words) (Serve o) (Talk o') named named' = absurd (omega (arith, letters first (codes "serve") (codes "talk") named.0 named'.0))
-one_command (first ∷ words) (Serve o) (Serve o') named named' =
-    let a = named.1.1 in
-    let b = named'.1.1 in
-    record {
-      call = b.call_is.sum ∙ sym a.call_is.sum;
-      modules = same_modules _ o.modules o'.modules a.modules_are b.modules_are;
-      parrots = same_parrots _ o.modules o'.modules o.parrots o'.parrots a.parrots_are b.parrots_are;
-      places = b.places_are.value ∙ sym a.places_are.value;
-      seconds = one_number _ _ _ o.seconds o'.seconds a.seconds_are b.seconds_are;
-      book = b.book_is ∙ sym a.book_is;
-      binds = same_binds _ o o' a.binds_are b.binds_are;
-    }
+one_command [] given other h h' = absurd h
+one_command (first ∷ words) given other h h' =
+    let a = gives words given h.1 in
+    let b = values_of (first_of given) words other ((sym (h.0 ∙ word_is given) ∙ h'.0), h'.1) in
+    one_given (first_of given) _ given other a.1 b.1

@@ -1,14 +1,17 @@
--- Values that are none: of a command, of an option, and parrots among modules.
-use Rattle.std.proofs.Common.{ℕ, List, Option, None, Some, IfNone}
+-- Values that are none: of an option, parrots among modules, a plan, and a command.
+use Rattle.std.proofs.Common.{ℕ, List, [], Option, None, Some, IfNone, codes}
 use Rattle.std.specs.Prelude.{IsTrue}
 use Rattle.std.proofs.lemmas.List.Elements.{All-weaker}
 use Rattle.clap.specs.Words.{Row}
 use Rattle.m17_control.specs.declared.modules.Modules.{Modules}
 use Rattle.m17_control.specs.Modules.{serves}
 use Rattle.m17_words.specs.declared.command.Command.{Command}
-use Rattle.m17_words.specs.declared.command.Command.TheVariants.{Judge, Show, Replay, Make, Talk, Serve}
+use Rattle.m17_words.specs.declared.command.Command.TheVariants.{Replay, Make, Serve}
+use Rattle.m17_words.specs.declared.order.ServeOrder.{ServeOrder}
+use Rattle.m17_words.specs.declared.plan.Plan.{Plan}
+use Rattle.m17_words.specs.Plans.{IsPlan}
 use Rattle.m17_words.specs.Values.{NamesModules, NamesParrots}
-use Rattle.m17_words.specs.Words.{ReplayOptions, options, IsReplay, IsReplayWith}
+use Rattle.m17_words.specs.Words.{IsReplayWith, IsMake, IsMakeWith, IsServe, IsServeWith}
 
 pub if_none : {X : Type 0} (o : Option X) (P : Type 0) → P → IfNone o P
 if_none None P h = h
@@ -30,11 +33,24 @@ same_parrots text m m' (Some t) p named named' some = (
       (λ letter served. (named'.letters letter).1 ((named.letters letter).0 served)) t some.1,
 )
 
-pub not_replay : (rows : List Row) → ((o : ReplayOptions) → IsReplay rows o → ⊥)
-    → (command : Command) → IsReplayWith rows command → ⊥
-not_replay rows none Judge values = values
-not_replay rows none Show values = values
-not_replay rows none (Replay call modules parrots places summary) values = none (options call modules parrots places summary) values
-not_replay rows none (Make seed count) values = values
-not_replay rows none (Talk order) values = values
-not_replay rows none (Serve order) values = values
+-- where there is no plan, there is no replay and no run of the reflector
+pub no_replay : (found : List Row) → ((plan : Plan) → IsPlan found (codes "M17-TST") plan → ⊥)
+    → (command : Command) → IsReplayWith found command → ⊥
+no_replay found none (Replay call modules parrots places summary) replay = none
+    (record { call = call; modules = modules; parrots = parrots; places = places })
+    (record { call_is = replay.call_is; modules_are = replay.modules_are; parrots_are = replay.parrots_are; places_are = replay.places_are })
+no_replay found none _ replay = replay
+
+pub no_make : (found : List Row) → ((seed count : ℕ) → IsMake found seed count → ⊥) → (command : Command) → IsMakeWith found command → ⊥
+no_make found none (Make seed count) make = none seed count make
+no_make found none _ make = make
+
+pub no_serve : (found : List Row) → ((order : ServeOrder) → IsServe found order → ⊥)
+    → (command : Command) → IsServeWith found command → ⊥
+no_serve found none (Serve order) serve = none order serve
+no_serve found none _ serve = serve
+
+pub no_plan : (found : List Row) → ((plan : Plan) → IsPlan found [] plan → ⊥) → (order : ServeOrder) → IsServe found order → ⊥
+no_plan found none order serve = none
+    (record { call = order.call; modules = order.modules; parrots = order.parrots; places = order.places })
+    (record { call_is = serve.call_is; modules_are = serve.modules_are; parrots_are = serve.parrots_are; places_are = serve.places_are })

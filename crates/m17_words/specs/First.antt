@@ -1,13 +1,24 @@
--- The first word of a command, for the code alone. This profile.
+-- The first word of a command, and its table, for the code alone. This profile.
 use Rattle.std.specs.Prelude.{codes}
-use Rattle.clap.specs.Words.{Text}
+use Rattle.clap.specs.Words.{App, Text}
 use Rattle.m17_words.specs.declared.first.FirstWord.{FirstWord}
-use Rattle.m17_words.specs.declared.first.FirstWord.TheVariants.{Judge, Show, Replay, Make, Talk, Serve}
+use Rattle.m17_words.specs.declared.first.FirstWord.TheVariants.{Judge, Show, Replay, Make, Check, Talk, Serve}
+use Rattle.m17_words.specs.Tables.{judge_table, show_table, replay_table, make_table, check_table, talk_table, serve_table}
 
 abbrev pub text_of_first : FirstWord → Text
 text_of_first Judge = codes "judge"
 text_of_first Show = codes "show"
 text_of_first Replay = codes "replay"
 text_of_first Make = codes "make"
+text_of_first Check = codes "check"
 text_of_first Talk = codes "talk"
 text_of_first Serve = codes "serve"
+
+abbrev pub table_of_word : FirstWord → App
+table_of_word Judge = judge_table
+table_of_word Show = show_table
+table_of_word Replay = replay_table
+table_of_word Make = make_table
+table_of_word Check = check_table
+table_of_word Talk = talk_table
+table_of_word Serve = serve_table

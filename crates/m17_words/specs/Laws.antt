@@ -8,7 +8,7 @@ use Rattle.m17_peer.specs.Text.{text_of}
 use Rattle.m17_words.specs.declared.order.TalkOrder.{TalkOrder}
 use Rattle.m17_words.specs.declared.order.ServeOrder.{ServeOrder}
 use Rattle.m17_words.specs.declared.command.Command.{Command}
-use Rattle.m17_words.specs.declared.command.Command.TheVariants.{Judge, Show, Replay, Make, Talk, Serve}
+use Rattle.m17_words.specs.declared.command.Command.TheVariants.{Judge, Show, Replay, Make, Check, Talk, Serve}
 use Rattle.m17_words.specs.Words.{Names}
 
 -- the sets have the same modules
@@ -44,6 +44,7 @@ SameCommand (Replay call modules parrots places summary)
     × (places' ≡ places) × (IsTrue summary' ↔ IsTrue summary)
 SameCommand (Replay call modules parrots places summary) other = ⊥
 SameCommand (Make seed count) other = other ≡ Make seed count
+SameCommand Check other = other ≡ Check
 SameCommand (Talk order) (Talk order') = SameOrder order order'
 SameCommand (Talk order) other = ⊥
 SameCommand (Serve order) (Serve order') = SameServe order order'

@@ -4,5 +4,7 @@ pub mod Words
 pub mod Laws
 -- for proofs alone
 pub mod First
+pub mod Given
+pub mod Listed
+pub mod Plans
 pub mod TalkValues
-pub mod ServeValues

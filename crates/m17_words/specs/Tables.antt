@@ -1,5 +1,5 @@
 -- The options and arguments of each command, as `clap` takes them. This profile.
-use Rattle.std.specs.Prelude.{◌≡◌, true, List, [], codes, Option, Some, unwrap_or}
+use Rattle.std.specs.Prelude.{◌≡◌, true, List, [], ◌∷◌, codes, Option, Some, fold, unwrap_or}
 use Rattle.clap.specs.Lexer.{usize_max}
 use Rattle.clap.specs.Words.{App, Row, Rule, Text, all_of, fault_of, first_of, is_simple_and_free, matches_of, new_app, new_rule, with_rule}
 use Rattle.clap.specs.Simple.{on_top}
@@ -34,41 +34,53 @@ arguments name = record (new_rule name) {
   range = Some (record { start_inclusive = 1; end_inclusive = usize_max });
 }
 
+-- a command with these options and arguments, in their order
+abbrev pub table_of : Text → List Rule → App
+table_of name rules = fold with_rule (bare name) rules
+
 -- The table of each command. This profile.
 unfoldable pub judge_table : App
-judge_table = bare (codes "judge")
+judge_table = table_of (codes "judge") []
 
 unfoldable pub show_table : App
-show_table = bare (codes "show")
+show_table = table_of (codes "show") []
 
 unfoldable pub replay_table : App
-replay_table = with_rule (with_rule (with_rule (with_rule (with_rule (bare (codes "replay"))
-    (option (codes "call"))) (option (codes "modules"))) (option (codes "parrots")))
-    (option (codes "places"))) (flag (codes "summary"))
+replay_table = table_of (codes "replay") (
+    option (codes "call")
+    ∷ option (codes "modules")
+    ∷ option (codes "parrots")
+    ∷ option (codes "places")
+    ∷ flag (codes "summary")
+    ∷ [])
 
 unfoldable pub make_table : App
-make_table = with_rule (with_rule (bare (codes "make")) (argument (codes "seed")))
-    (argument (codes "count"))
+make_table = table_of (codes "make") (argument (codes "seed") ∷ argument (codes "count") ∷ [])
 
--- what `talk` has to be told, and then all that it may be told
-abbrev pub needed_table : App
-needed_table = with_rule (with_rule (with_rule (with_rule (bare (codes "talk"))
-    (needed (codes "call"))) (needed (codes "module"))) (needed (codes "bind")))
-    (needed (codes "to"))
+unfoldable pub check_table : App
+check_table = table_of (codes "check") []
 
 unfoldable pub talk_table : App
-talk_table = with_rule (with_rule (with_rule needed_table (flag (codes "listen")))
-    (option (codes "stay"))) (option (codes "book"))
-
--- how a reflector is run, and then all that `serve` may be told
-abbrev pub plan_table : App
-plan_table = with_rule (with_rule (with_rule (with_rule (bare (codes "serve"))
-    (needed (codes "call"))) (option (codes "modules"))) (option (codes "parrots")))
-    (option (codes "places"))
+talk_table = table_of (codes "talk") (
+    needed (codes "call")
+    ∷ needed (codes "module")
+    ∷ needed (codes "bind")
+    ∷ needed (codes "to")
+    ∷ flag (codes "listen")
+    ∷ option (codes "stay")
+    ∷ option (codes "book")
+    ∷ [])
 
 unfoldable pub serve_table : App
-serve_table = with_rule (with_rule (with_rule plan_table (option (codes "for")))
-    (option (codes "book"))) (arguments (codes "bind"))
+serve_table = table_of (codes "serve") (
+    needed (codes "call")
+    ∷ option (codes "modules")
+    ∷ option (codes "parrots")
+    ∷ option (codes "places")
+    ∷ option (codes "for")
+    ∷ option (codes "book")
+    ∷ arguments (codes "bind")
+    ∷ [])
 
 -- the words that such a command takes, and what it finds among them, are known from `clap`'s own definitions
 unfoldable pub IsSimple : App → Type 0

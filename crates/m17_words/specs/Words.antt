@@ -8,8 +8,8 @@ use Rattle.m17_peer.specs.Text.{IsTextOf}
 use Rattle.m17_words.specs.declared.order.TalkOrder.{TalkOrder}
 use Rattle.m17_words.specs.declared.order.ServeOrder.{ServeOrder}
 use Rattle.m17_words.specs.declared.command.Command.{Command}
-use Rattle.m17_words.specs.declared.command.Command.TheVariants.{Judge, Show, Replay, Make, Talk, Serve}
-use Rattle.m17_words.specs.Tables.{judge_table, show_table, replay_table, make_table, talk_table, serve_table, Takes, found, text_of, text_or, texts_of}
+use Rattle.m17_words.specs.declared.command.Command.TheVariants.{Judge, Show, Replay, Make, Check, Talk, Serve}
+use Rattle.m17_words.specs.Tables.{judge_table, show_table, replay_table, make_table, check_table, talk_table, serve_table, Takes, found, text_of, text_or, texts_of}
 use Rattle.m17_words.specs.Values.{IsNumber, IsNumberIfAny, NamesLetter, NamesModules, NamesParrots, IsFlagged}
 
 -- the word that names a command
@@ -18,6 +18,7 @@ word_of Judge = codes "judge"
 word_of Show = codes "show"
 word_of (Replay call modules parrots places summary) = codes "replay"
 word_of (Make seed count) = codes "make"
+word_of Check = codes "check"
 word_of (Talk order) = codes "talk"
 word_of (Serve order) = codes "serve"
 
@@ -101,6 +102,7 @@ Gives words Show = Takes show_table words
 Gives words (Replay call modules parrots places summary) = Takes replay_table words
     × IsReplay (found replay_table words) (options call modules parrots places summary)
 Gives words (Make seed count) = Takes make_table words × IsMake (found make_table words) seed count
+Gives words Check = Takes check_table words
 Gives words (Talk order) = Takes talk_table words × IsTalk (found talk_table words) order
 Gives words (Serve order) = Takes serve_table words × IsServe (found serve_table words) order
 

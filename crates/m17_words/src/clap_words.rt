@@ -8,7 +8,6 @@ use clap::error::ErrorKind;
 use clap::{ArgMatches, Command};
 
 // What `clap` finds among the words.
-#[tactic(auto, unfolding(crate::specs::Tables::IsSimple, crate::specs::Tables::Takes, crate::specs::Tables::found))]
 pub(crate) fn find<'a>(
     command: Command<'a>,
     words: &'a [String],

@@ -23,6 +23,8 @@ pub enum Command {
         seed: u64,
         count: u32,
     },
+    /// `check`: whether a book is legal.
+    Check,
     /// `talk`: a client of a reflector, by a script.
     Talk(TalkOrder),
     /// `serve`: the reflector.

@@ -1,7 +1,5 @@
 //! Each option and each argument at the edges of what it may be.
-use crate::tests::read;
-use std::alloc::Global;
-use std::test::Fail;
+use crate::tests::expect_all;
 
 // A value that is missing, one that stands twice, values just past their bounds, also past those of 64 bits, and words
 // that no command has.
@@ -62,19 +60,8 @@ const TAKEN: [&str; 13] = [
     "show --",
 ];
 
-// The first of these lines that is taken or refused otherwise.
-fn first_other<'a>(alloc: Global, lines: &[&'a str], taken: bool) -> Result<Option<&'a str>, Fail> {
-    for line in lines {
-        if read(alloc, line)?.is_ok() != taken {
-            return Ok(Some(*line));
-        }
-    }
-    Ok(None)
-}
-
 #[test]
-fn each_value_is_taken_up_to_its_edge(rt: HostRuntime) -> Result<(), Fail> {
-    assert_eq!(rt; first_other(rt.alloc(), &TAKEN, true)?, None);
-    assert_eq!(rt; first_other(rt.alloc(), &REFUSED, false)?, None);
-    Ok(())
+fn each_value_is_taken_up_to_its_edge(rt: HostRuntime) {
+    expect_all(&rt, rt.alloc(), &TAKEN, true);
+    expect_all(&rt, rt.alloc(), &REFUSED, false);
 }

@@ -10,6 +10,7 @@ mod command;
 mod first;
 pub mod laws;
 mod order;
+mod plan;
 mod reading;
 mod serve_words;
 mod tables;

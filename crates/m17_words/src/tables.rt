@@ -1,10 +1,92 @@
-ghost use Rattle.std.specs.Prelude.{◌≡◌, IfOk, IfErr, false};
+ghost use Rattle.std.specs.Prelude.{◌≡◌, IfOk, IfErr, false, map};
 ghost use Rattle.clap.specs.Words.{app_of, rule_of, with_rule};
-ghost use Rattle.m17_words.specs.Tables.{bare, option, needed, flag, argument, arguments, judge_table, show_table, replay_table, make_table, needed_table, talk_table, plan_table, serve_table};
+ghost use Rattle.m17_words.specs.First.{table_of_word};
+ghost use Rattle.m17_words.specs.Listed.{rule_for, rules_for};
+ghost use Rattle.m17_words.specs.Tables.{bare, table_of};
 
 use crate::WordsRefusal;
+use crate::first::FirstWord;
 use clap::{Arg, ArgAction, Command};
 use std::alloc::Global;
+
+// What kind of option or argument a name is.
+#[derive(Clone, Copy)]
+pub(crate) enum Kind {
+    // an option with a value
+    Value,
+    // the same, and it has to be there
+    Needed,
+    Flag,
+    // an argument that has to be there
+    Argument,
+    // the same, once or more often
+    Arguments,
+}
+
+// The options and arguments of a command, in the order of its table.
+const REPLAY: &[(&str, Kind)] = &[
+    ("call", Kind::Value),
+    ("modules", Kind::Value),
+    ("parrots", Kind::Value),
+    ("places", Kind::Value),
+    ("summary", Kind::Flag),
+];
+
+const MAKE: &[(&str, Kind)] = &[("seed", Kind::Argument), ("count", Kind::Argument)];
+
+const TALK: &[(&str, Kind)] = &[
+    ("call", Kind::Needed),
+    ("module", Kind::Needed),
+    ("bind", Kind::Needed),
+    ("to", Kind::Needed),
+    ("listen", Kind::Flag),
+    ("stay", Kind::Value),
+    ("book", Kind::Value),
+];
+
+const SERVE: &[(&str, Kind)] = &[
+    ("call", Kind::Needed),
+    ("modules", Kind::Value),
+    ("parrots", Kind::Value),
+    ("places", Kind::Value),
+    ("for", Kind::Value),
+    ("book", Kind::Value),
+    ("bind", Kind::Arguments),
+];
+
+// The table of a command.
+#[tactic(auto, unfolding(crate::specs::Tables::judge_table, crate::specs::Tables::show_table, crate::specs::Tables::replay_table, crate::specs::Tables::make_table, crate::specs::Tables::check_table, crate::specs::Tables::talk_table, crate::specs::Tables::serve_table))]
+pub(crate) fn table<'a>(alloc: Global, word: FirstWord) -> Result<Command<'a>, WordsRefusal>
+    ensures table { IfOk result (λ c. app_of c ≡ table_of_word word) }
+    ensures memory { IfErr result (λ e. e ≡ WordsRefusal.NoMemory) }
+{
+    match word {
+        FirstWord::Judge => Ok(bare(alloc, "judge")),
+        FirstWord::Show => Ok(bare(alloc, "show")),
+        FirstWord::Replay => listed(alloc, "replay", REPLAY),
+        FirstWord::Make => listed(alloc, "make", MAKE),
+        FirstWord::Check => Ok(bare(alloc, "check")),
+        FirstWord::Talk => listed(alloc, "talk", TALK),
+        FirstWord::Serve => listed(alloc, "serve", SERVE),
+    }
+}
+
+// A command with these options and arguments.
+fn listed<'a>(
+    alloc: Global,
+    name: &'a str,
+    options: &[(&'a str, Kind)],
+) -> Result<Command<'a>, WordsRefusal>
+    ensures table { IfOk result (λ c. app_of c
+        ≡ table_of name.entry.now (rules_for options.entry.now)) }
+    ensures memory { IfErr result (λ e. e ≡ WordsRefusal.NoMemory) }
+{
+    let mut command = bare(alloc, name);
+    for (option, kind) in options {
+        command = with(command, arg(alloc, option, *kind))?;
+    }
+    Ok(command)
+}
 
 // A command without flags for help and for the version, which is given the words after its own.
 fn bare<'a>(alloc: Global, name: &'a str) -> Command<'a>
@@ -16,44 +98,19 @@ fn bare<'a>(alloc: Global, name: &'a str) -> Command<'a>
         .disable_version_flag(true)
 }
 
-// An option with a value.
-fn option<'a>(alloc: Global, name: &'a str) -> Arg<'a>
-    ensures rule { rule_of result ≡ option name.entry.now }
+// The option or argument of a name.
+fn arg<'a>(alloc: Global, name: &'a str, kind: Kind) -> Arg<'a>
+    ensures rule { rule_of result ≡ rule_for name.entry.now kind }
     ensures own { result.global ≡ false }
 {
-    Arg::new(alloc, name).long(name)
-}
-
-// An option with a value that has to be there.
-fn needed<'a>(alloc: Global, name: &'a str) -> Arg<'a>
-    ensures rule { rule_of result ≡ needed name.entry.now }
-    ensures own { result.global ≡ false }
-{
-    Arg::new(alloc, name).long(name).required(true)
-}
-
-// A flag.
-fn flag<'a>(alloc: Global, name: &'a str) -> Arg<'a>
-    ensures rule { rule_of result ≡ flag name.entry.now }
-    ensures own { result.global ≡ false }
-{
-    Arg::new(alloc, name).long(name).action(ArgAction::SetTrue)
-}
-
-// An argument that has to be there.
-fn argument<'a>(alloc: Global, name: &'a str) -> Arg<'a>
-    ensures rule { rule_of result ≡ argument name.entry.now }
-    ensures own { result.global ≡ false }
-{
-    Arg::new(alloc, name).required(true)
-}
-
-// An argument that has to be there once or more often.
-fn arguments<'a>(alloc: Global, name: &'a str) -> Arg<'a>
-    ensures rule { rule_of result ≡ arguments name.entry.now }
-    ensures own { result.global ≡ false }
-{
-    Arg::new(alloc, name).required(true).num_args(1..)
+    let arg = Arg::new(alloc, name);
+    match kind {
+        Kind::Value => arg.long(name),
+        Kind::Needed => arg.long(name).required(true),
+        Kind::Flag => arg.long(name).action(ArgAction::SetTrue),
+        Kind::Argument => arg.required(true),
+        Kind::Arguments => arg.required(true).num_args(1..),
+    }
 }
 
 // The command with one more option or argument.
@@ -67,87 +124,4 @@ fn with<'a>(command: Command<'a>, arg: Arg<'a>) -> Result<Command<'a>, WordsRefu
         Ok(command) => Ok(command),
         Err(_) => Err(WordsRefusal::NoMemory),
     }
-}
-
-// The table of `judge`.
-#[tactic(auto, unfolding(crate::specs::Tables::judge_table))]
-pub(crate) fn judge_table<'a>(alloc: Global) -> Command<'a>
-    ensures { app_of result ≡ judge_table }
-{
-    bare(alloc, "judge")
-}
-
-// The table of `show`.
-#[tactic(auto, unfolding(crate::specs::Tables::show_table))]
-pub(crate) fn show_table<'a>(alloc: Global) -> Command<'a>
-    ensures { app_of result ≡ show_table }
-{
-    bare(alloc, "show")
-}
-
-// The table of `replay`.
-#[tactic(auto, unfolding(crate::specs::Tables::replay_table))]
-pub(crate) fn replay_table<'a>(alloc: Global) -> Result<Command<'a>, WordsRefusal>
-    ensures table { IfOk result (λ c. app_of c ≡ replay_table) }
-    ensures memory { IfErr result (λ e. e ≡ WordsRefusal.NoMemory) }
-{
-    let command = with(bare(alloc, "replay"), option(alloc, "call"))?;
-    let command = with(command, option(alloc, "modules"))?;
-    let command = with(command, option(alloc, "parrots"))?;
-    let command = with(command, option(alloc, "places"))?;
-    with(command, flag(alloc, "summary"))
-}
-
-// The table of `make`.
-#[tactic(auto, unfolding(crate::specs::Tables::make_table))]
-pub(crate) fn make_table<'a>(alloc: Global) -> Result<Command<'a>, WordsRefusal>
-    ensures table { IfOk result (λ c. app_of c ≡ make_table) }
-    ensures memory { IfErr result (λ e. e ≡ WordsRefusal.NoMemory) }
-{
-    let command = with(bare(alloc, "make"), argument(alloc, "seed"))?;
-    with(command, argument(alloc, "count"))
-}
-
-// The part of the table of `talk` that has to be there.
-fn needed_table<'a>(alloc: Global) -> Result<Command<'a>, WordsRefusal>
-    ensures table { IfOk result (λ c. app_of c ≡ needed_table) }
-    ensures memory { IfErr result (λ e. e ≡ WordsRefusal.NoMemory) }
-{
-    let command = with(bare(alloc, "talk"), needed(alloc, "call"))?;
-    let command = with(command, needed(alloc, "module"))?;
-    let command = with(command, needed(alloc, "bind"))?;
-    with(command, needed(alloc, "to"))
-}
-
-// The table of `talk`.
-#[tactic(auto, unfolding(crate::specs::Tables::talk_table))]
-pub(crate) fn talk_table<'a>(alloc: Global) -> Result<Command<'a>, WordsRefusal>
-    ensures table { IfOk result (λ c. app_of c ≡ talk_table) }
-    ensures memory { IfErr result (λ e. e ≡ WordsRefusal.NoMemory) }
-{
-    let command = with(needed_table(alloc)?, flag(alloc, "listen"))?;
-    let command = with(command, option(alloc, "stay"))?;
-    with(command, option(alloc, "book"))
-}
-
-// The part of the table of `serve` that says how the reflector is run.
-fn plan_table<'a>(alloc: Global) -> Result<Command<'a>, WordsRefusal>
-    ensures table { IfOk result (λ c. app_of c ≡ plan_table) }
-    ensures memory { IfErr result (λ e. e ≡ WordsRefusal.NoMemory) }
-{
-    let command = with(bare(alloc, "serve"), needed(alloc, "call"))?;
-    let command = with(command, option(alloc, "modules"))?;
-    let command = with(command, option(alloc, "parrots"))?;
-    with(command, option(alloc, "places"))
-}
-
-// The table of `serve`.
-#[tactic(auto, unfolding(crate::specs::Tables::serve_table))]
-pub(crate) fn serve_table<'a>(alloc: Global) -> Result<Command<'a>, WordsRefusal>
-    ensures table { IfOk result (λ c. app_of c ≡ serve_table) }
-    ensures memory { IfErr result (λ e. e ≡ WordsRefusal.NoMemory) }
-{
-    let command = with(plan_table(alloc)?, option(alloc, "for"))?;
-    let command = with(command, option(alloc, "book"))?;
-    with(command, arguments(alloc, "bind"))
 }

@@ -1,12 +1,11 @@
-ghost use Rattle.std.specs.Prelude.{◌≡◌, ◌∷◌, codes, map, string_bytes, IfOk, IfErr, IfSome, IfNone, option_map};
+ghost use Rattle.std.specs.Prelude.{◌≡◌, string_bytes, IfOk, IfErr, IfSome, IfNone, option_map};
 ghost use Rattle.clap.specs.Words.{found_of, rows_of};
 ghost use Rattle.m17_words.specs.declared.command.Command.{Command};
 ghost use Rattle.m17_words.specs.declared.order.TalkOrder.{TalkOrder};
 ghost use Rattle.m17_words.specs.TalkValues.{HasValues};
-ghost use Rattle.m17_words.specs.Words.{IsTalk, IsTalkWith, Names};
+ghost use Rattle.m17_words.specs.Words.{IsTalk, IsTalkWith};
 
-use crate::clap_words::{find, is_there, text_of, text_or};
-use crate::tables::talk_table;
+use crate::clap_words::{is_there, text_of, text_or};
 use crate::{Command, TalkOrder, WordsRefusal, values};
 use clap::ArgMatches;
 use m17_callsign::CallAddress;
@@ -18,7 +17,7 @@ use std::alloc::Global;
 const STAY_MAX: u64 = 86_400_000;
 
 // The values of a talk that take no memory.
-#[derive(Clone, Copy, Debug)]
+#[derive(Clone, Copy)]
 pub(crate) struct TalkValues {
     call: CallAddress,
     letter: ModuleLetter,
@@ -26,22 +25,14 @@ pub(crate) struct TalkValues {
     stay: u64,
 }
 
-// `talk`, with these words after it.
-pub(crate) fn read_talk(alloc: Global, words: &[String]) -> Result<Command, WordsRefusal>
-    ensures named { IfOk result (Names (codes "talk" ∷ map string_bytes words.now)) }
+// A talk with the values that were found.
+pub(crate) fn talk_of(alloc: Global, matches: &ArgMatches) -> Result<Command, WordsRefusal>
+    ensures given { IfOk result (IsTalkWith (rows_of (found_of matches.now))) }
     ensures refused { result ≡ Err WordsRefusal.Refused → (command : Command)
-        → ¬ Names (codes "talk" ∷ map string_bytes words.now) command }
+        → ¬ IsTalkWith (rows_of (found_of matches.now)) command }
 {
-    let table = match talk_table(alloc) {
-        Ok(table) => table,
-        Err(refusal) => return Err(refusal),
-    };
-    let matches = match find(table, words) {
-        Ok(matches) => matches,
-        Err(refusal) => return Err(refusal),
-    };
-    match talk_values(&matches) {
-        Some(values) => talk_of(alloc, &matches, &values),
+    match talk_values(matches) {
+        Some(values) => talk_with(alloc, matches, &values),
         None => Err(WordsRefusal::Refused),
     }
 }
@@ -65,7 +56,7 @@ fn talk_values(matches: &ArgMatches) -> Option<TalkValues>
 }
 
 // A talk with these values, and the texts that were found.
-fn talk_of(
+fn talk_with(
     alloc: Global,
     matches: &ArgMatches,
     values: &TalkValues,

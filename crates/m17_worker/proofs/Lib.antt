@@ -11,3 +11,4 @@ pub mod Noting
 pub mod Served
 pub mod Turning
 pub mod Working
+pub mod KeptRecords

@@ -2,6 +2,7 @@ pub mod Taken
 pub mod Offers
 pub mod Gifts
 pub mod Records
+pub mod BookLaws
 pub mod Written
 pub mod Tape
 pub mod Ready

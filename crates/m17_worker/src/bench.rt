@@ -1,5 +1,5 @@
 //! A worker for tests, with the other ends of what it holds, and events for it.
-ghost use Rattle.std.specs.Prelude.{◌≡◌, ◌<◌, ◌≤◌, [], IfOk};
+ghost use Rattle.std.specs.Prelude.{◌≡◌, ◌<◌, ◌≤◌, [], Ok};
 ghost use Rattle.m17_ports.specs.Told.{StartsEmpty};
 ghost use Rattle.m17_roll.specs.Seat.{HasLists};
 ghost use Rattle.m17_rows.specs.Rows.{IsNewRow};
@@ -19,7 +19,6 @@ use m17_values::{Member, Peer};
 use std::alloc::Global;
 use std::process::Abort;
 use std::sync::Wait;
-use std::test::Fail;
 
 pub(crate) fn member(place: u32, generation: u64) -> Member {
     Member { place, generation }
@@ -35,6 +34,13 @@ fn peer() -> Peer {
 
 pub(crate) fn callsign(rt: &impl Abort) -> CallAddress {
     CallAddress::new(ab1cd()).expect(rt, "a callsign")
+}
+
+/// What was made; the test ends where it was not.
+pub(crate) fn must<T, E: Drop, R: Abort>(rt: &R, made: Result<T, E>) -> T
+    ensures { made ≡ Ok result }
+{
+    made.ok().expect(rt, "made")
 }
 
 /// An event of link 0 that comes from the entry with this index.
@@ -76,71 +82,66 @@ pub(crate) struct Bench<B> {
     pub(crate) other_seat: RollSeat,
 }
 
+/// Lets a bench go.
+pub(crate) fn let_go<B: Drop>(bench: Bench<B>) {
+    drop(bench);
+}
+
+/// Lets a worker go.
+pub(crate) fn let_worker_go<B: Drop>(_worker: Worker<B>) {}
+
 // Queues for so many places.
-fn lay_queues(alloc: Global, places: u32) -> Result<(Vec<Pusher<Item>>, Vec<Popper<Item>>), Fail>
-    ensures queues { IfOk result (λ r. AreQueues places r.0.items) }
-    ensures new { IfOk result (λ r. IsNewRow r.0.items) }
+fn lay_queues<R: Abort>(
+    rt: &R,
+    alloc: Global,
+    places: u32,
+) -> (Vec<Pusher<Item>>, Vec<Popper<Item>>)
+    ensures queues { AreQueues places result.0.items }
+    ensures new { IsNewRow result.0.items }
 {
     let mut pushers = Vec::new(alloc);
     let mut poppers = Vec::new(alloc);
     for _ in 0..places {
-        let (pusher, popper) = make_one(alloc, 64)?;
-        pushers.push(pusher)?;
-        poppers.push(popper)?;
+        let (pusher, popper) = must(rt, make_one(alloc, 64));
+        must(rt, pushers.push(pusher));
+        must(rt, poppers.push(popper));
     }
-    Ok((pushers, poppers))
+    (pushers, poppers)
 }
 
 // Two new seats of a roll.
-fn two_seats(alloc: Global, places: u32) -> Result<(RollSeat, RollSeat), Fail>
+fn two_seats<R: Abort>(rt: &R, alloc: Global, places: u32) -> (RollSeat, RollSeat)
     requires { (0 < places) × (places ≤ 256) }
-    ensures { IfOk result (λ r. HasLists [] [] [] r.0) }
+    ensures { HasLists [] [] [] result.0 }
 {
-    let mut seats = make(alloc, places, 2)?;
-    let Some(second) = seats.pop() else {
-        unreachable!()
-    };
-    let Some(first) = seats.pop() else {
-        unreachable!()
-    };
-    Ok((first, second))
+    let mut seats = must(rt, make(alloc, places, 2));
+    let second = seats.pop().expect(rt, "two seats");
+    let first = seats.pop().expect(rt, "two seats");
+    (first, second)
 }
 
-/// A worker of module A with one link and so many places, and that book; its tape has four cells.
-pub(crate) fn lay<B: Book + Drop>(alloc: Global, places: u32, book: B) -> Result<Bench<B>, Fail>
-    requires places { (0 < places) × (places ≤ 256) }
-    requires book { StartsEmpty (B.written book) }
-    ensures { IfOk result (λ bench. IsReady (record {
-      written = B.written;
-      faults = B.faults;
-    }) bench.worker) }
-{
-    lay_as(alloc, places, book, false)
-}
-
-/// The same, whose module may be a parrot.
-pub(crate) fn lay_as<B: Book + Drop>(
+/// A worker of module A with one link and so many places, and that book; its tape has four cells, and its module may be
+/// a parrot.
+pub(crate) fn lay<B: Book + Drop, R: Abort>(
+    rt: &R,
     alloc: Global,
     places: u32,
     book: B,
     parrot: bool,
-) -> Result<Bench<B>, Fail>
+) -> Bench<B>
     requires places { (0 < places) × (places ≤ 256) }
     requires book { StartsEmpty (B.written book) }
-    ensures { IfOk result (λ bench. IsReady (record {
-      written = B.written;
-      faults = B.faults;
-    }) bench.worker) }
+    ensures { IsReady (record { written = B.written; faults = B.faults }) result.worker }
 {
-    let (pushers, poppers) = lay_queues(alloc, places)?;
-    let (events, inbox) = make_one(alloc, 256)?;
-    let (orders, order) = make_one(alloc, 2)?;
-    let (seat, other_seat) = two_seats(alloc, places)?;
+    let (pushers, queues) = lay_queues(rt, alloc, places);
+    let (events, inbox) = must(rt, make_one(alloc, 256));
+    let (orders, order) = must(rt, make_one(alloc, 2));
+    let (seat, other_seat) = two_seats(rt, alloc, places);
     let worker = Worker {
         letter: b'A',
         links: 1,
-        module: Module::make(alloc, places, parrot)?,
-        basket: Basket::make(alloc)?,
+        module: must(rt, Module::make(alloc, places, parrot)),
+        basket: must(rt, Basket::make(alloc)),
         book,
         inbox,
         offers: LaneOffers {
@@ -150,16 +151,16 @@ pub(crate) fn lay_as<B: Book + Drop>(
         },
         order,
         seat,
-        tape: vec![in alloc; None; 4]?,
+        tape: must(rt, vec![in alloc; None; 4]),
         book_failed: false,
     };
-    Ok(Bench {
+    Bench {
         worker,
-        queues: poppers,
+        queues,
         events,
         orders,
         other_seat,
-    })
+    }
 }
 
 /// Does the job.

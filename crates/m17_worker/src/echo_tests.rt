@@ -1,16 +1,16 @@
 //! A worker of a parrot, which hears of each Tick at once.
 ghost use Rattle.std.specs.Prelude.{None};
 
-use crate::bench::{event, join, lay_as, member, run, sends};
+use crate::bench::{event, join, lay, let_worker_go, member, run, sends};
 use m17_control::{Body, Event, Item, Said};
 use m17_crew::{Order, Work};
 use m17_lane::{Popper, Pusher};
 use m17_port_memory::ListBook;
 use m17_ports::Shelf;
 use m17_samples::frame;
+use std::alloc::Global;
 use std::process::Abort;
 use std::sync::Wait;
-use std::test::Fail;
 use std::thread;
 use std::thread::Threads;
 use std::time::{Clock, Duration};
@@ -54,30 +54,31 @@ fn run_beside<W: Work, R: Threads + Wait + Clock + Abort + Sync>(
     popper: Popper<Item>,
 ) -> W
     requires { W.ready job }
-    ensures { W.does job result }
 {
     let (job, _) = thread::join(
         rt,
         move || -> W
             requires { W.ready job }
-            ensures { W.does job result }
         { run(rt, job) },
         move || ask_for_echoes(rt, events, popper),
     );
     job
 }
 
+// The moment of a parrot's worker when it has ended, and how many events it admitted.
+fn end_of_a_parrot<R: Threads + Wait + Clock + Abort + Sync>(rt: &R, alloc: Global) -> (u64, u64) {
+    let inner: Option<ListBook> = None;
+    let mut bench = lay(rt, alloc, 1, Shelf { inner }, true);
+    bench.orders.push_waiting(rt, Order::Go);
+    let popper = bench.queues.pop().expect(rt, "a queue");
+    let worker = run_beside(rt, bench.worker, bench.events, popper);
+    let seen = (worker.module.moment(), worker.module.admitted());
+    let_worker_go(worker);
+    seen
+}
+
 // Where the worker dozed, the first echo would never come; the gate stops a test after 60 seconds.
 #[test]
-fn each_tick_wakes_a_parrot(rt: HostRuntime) -> Result<(), Fail> {
-    let inner: Option<ListBook> = None;
-    let mut bench = lay_as(rt.alloc(), 1, Shelf { inner }, true)?;
-    bench.orders.push_waiting(&rt, Order::Go);
-    let popper = bench.queues.pop().ok_or("no queue")?;
-    let worker = run_beside(&rt, bench.worker, bench.events, popper);
-    assert_eq!(rt;
-        (worker.module.moment(), worker.module.admitted()),
-        (2_100, 2)
-    );
-    Ok(())
+fn each_tick_wakes_a_parrot(rt: HostRuntime) {
+    assert!(rt; end_of_a_parrot(&rt, rt.alloc()) == (2_100, 2));
 }

@@ -1,20 +1,18 @@
 //! A worker whose Bye waits at a full queue, beside the thread that empties it.
-ghost use Rattle.std.specs.Prelude.{◌≡◌, None};
+ghost use Rattle.std.specs.Prelude.{None};
 ghost use Rattle.m17_worker.specs.Ready.{IsReady};
 
-use crate::Worker;
-use crate::bench::{Bench, event, join, lay, leaves, member, run, sends};
-use m17_control::{Body, Item, Said, Why};
+use crate::bench::{Bench, event, join, lay, leaves, let_worker_go, must, run, sends};
+use m17_control::{Body, Event, Item, Said, Why};
 use m17_crew::{Order, Work};
-use m17_lane::Popper;
+use m17_lane::{Popper, Pusher};
 use m17_ports::Book;
 use m17_roll::RollSeat;
-use m17_values::Failed;
+use m17_values::{Failed, Member};
 use std::alloc::Global;
 use std::process::Abort;
 use std::sync::atomic::{AtomicU64, Ordering};
 use std::sync::{Arc, Wait};
-use std::test::Fail;
 use std::thread;
 use std::thread::Threads;
 use std::time::{Clock, Duration};
@@ -108,76 +106,76 @@ fn run_beside<W: Work, R: Threads + Wait + Clock + Sync>(
     beside: Beside,
 ) -> (W, Seen)
     requires { W.ready job }
-    ensures { W.does job result.0 }
 {
     thread::join(
         rt,
         move || -> W
             requires { W.ready job }
-            ensures { W.does job result }
         { run(rt, job) },
         move || -> Seen { empty_late(rt, beside) },
     )
 }
 
-// A talker and a listener join, 70 frames come, and the listener leaves; both have their places.
-fn fill<B, R: Wait + Abort>(rt: &R, bench: Bench<B>) -> Bench<B>
-    ensures { result.worker ≡ bench.worker }
-{
-    let mut bench = bench;
-    let talker = member(0, 0);
-    let listener = member(1, 0);
-    bench.events.push_waiting(rt, join(rt, 0, 1_000, talker));
-    bench.events.push_waiting(rt, join(rt, 1, 1_000, listener));
+const TALKER: Member = Member {
+    place: 0,
+    generation: 0,
+};
+
+const LISTENER: Member = Member {
+    place: 1,
+    generation: 0,
+};
+
+// A talker and a listener join, 70 frames come, and the listener leaves.
+fn push_events<R: Wait + Abort>(rt: &R, events: &mut Pusher<Event>) {
+    events.push_waiting(rt, join(rt, 0, 1_000, TALKER));
+    events.push_waiting(rt, join(rt, 1, 1_000, LISTENER));
     for number in 0..70u16 {
-        bench
-            .events
-            .push_waiting(rt, sends(2, 1_000, talker, number));
+        events.push_waiting(rt, sends(2, 1_000, TALKER, number));
     }
-    bench
-        .events
-        .push_waiting(rt, leaves(3, 1_000, listener, Why::Asked));
-    bench.events.push_waiting(rt, event(4, 1_000, Body::Stop));
-    bench.orders.push_waiting(rt, Order::Go);
-    assert_eq!(rt; bench.other_seat.claim(0), Some(talker));
-    assert_eq!(rt; bench.other_seat.claim(1), Some(listener));
-    bench
+    events.push_waiting(rt, leaves(3, 1_000, LISTENER, Why::Asked));
+    events.push_waiting(rt, event(4, 1_000, Body::Stop));
 }
 
-// Does the job beside the thread that empties the last queue.
-fn go_beside<B: Book + Drop + Send + 'static, R: Threads + Wait + Clock + Sync>(
+// Does the job beside the thread that empties the last queue; both members have their places. How many frames came and
+// how many were left out, and the word of the listener's place while the Bye waited and at the end.
+fn go_beside<B: Book + Drop + Send + 'static, R: Threads + Wait + Clock + Abort + Sync>(
     rt: &R,
     bench: Bench<B>,
     writes: Arc<AtomicU64, Global>,
-) -> Option<(Worker<B>, Seen)>
+) -> ([u64; 2], [Option<u64>; 2])
     requires { IsReady (record { written = B.written; faults = B.faults }) bench.worker }
 {
     let mut bench = bench;
+    push_events(rt, &mut bench.events);
+    bench.orders.push_waiting(rt, Order::Go);
+    assert!(rt; bench.other_seat.claim(0) == Some(TALKER));
+    assert!(rt; bench.other_seat.claim(1) == Some(LISTENER));
     let beside = Beside {
-        popper: bench.queues.pop()?,
+        popper: bench.queues.pop().expect(rt, "two queues"),
         seat: bench.other_seat,
         writes,
     };
-    Some(run_beside(rt, bench.worker, beside))
+    let (worker, seen) = run_beside(rt, bench.worker, beside);
+    let missed = worker.offers.missed;
+    let_worker_go(worker);
+    let mut seen = seen;
+    let after = seen.seat.look(1);
+    ([seen.frames, missed], [seen.waiting, after])
 }
 
 // Of 70 frames the queue takes 63 behind the Hello. The place is the listener's until its Bye is queued.
 #[test]
-fn a_place_is_kept_while_its_bye_waits_at_a_full_queue(rt: HostRuntime) -> Result<(), Fail> {
+fn a_place_is_kept_while_its_bye_waits_at_a_full_queue(rt: HostRuntime) {
     let alloc = rt.alloc();
-    let writes = Arc::new(alloc, AtomicU64::new(0))?;
+    let writes = must(&rt, Arc::new(alloc, AtomicU64::new(0)));
     let book = CountingBook {
-        writes: Arc::try_clone(&writes)?,
+        writes: must(&rt, Arc::try_clone(&writes)),
     };
-    let bench = lay(alloc, 2, book)?;
-    let ended = go_beside(&rt, fill(&rt, bench), writes);
-    let (worker, mut seen) = ended.expect(&rt, "two queues");
-    assert_eq!(rt; (seen.frames, worker.offers.missed), (63, 7));
-    assert_eq!(rt;
-        seen.waiting,
-        Some(1),
-        "it has its place while the Bye waits"
+    let (frames, words) = go_beside(&rt, lay(&rt, alloc, 2, book, false), writes);
+    assert!(rt; frames == [63, 7]);
+    assert!(rt;
+        words == [Some(1), Some(2)],
+        "it has its place while the Bye waits, and then it was given back"
     );
-    assert_eq!(rt; seen.seat.look(1), Some(2), "it was given back");
-    Ok(())
 }

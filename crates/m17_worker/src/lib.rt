@@ -16,6 +16,7 @@ mod echo_tests;
 #[cfg(test)]
 mod full_tests;
 mod gifts;
+pub mod laws;
 #[cfg(test)]
 mod offer_tests;
 mod offers;

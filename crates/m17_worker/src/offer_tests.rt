@@ -1,16 +1,17 @@
 //! What no clause says of offers: that they are taken where there is room, and that an offer that waits goes on once the
 //! consumer has popped half of the queue.
-ghost use Rattle.std.specs.Prelude.{◌≡◌, ◌<◌, ◌≤◌, ◌+◌, ◌^◌, [], ◌∷◌, IfOk};
+ghost use Rattle.std.specs.Prelude.{◌≡◌, ◌<◌, ◌≤◌, ◌+◌, ◌^◌, [], ◌∷◌};
 ghost use Rattle.m17_worker.specs.Offers.{AreQueues};
 
+use crate::bench::must;
 use crate::{LaneOffers, Offered};
 use m17_control::{Control, Item, Said, Why};
 use m17_lane::{Popper, make_one};
 use m17_samples::frame;
 use m17_values::{Member, Peer};
 use std::alloc::Global;
+use std::process::Abort;
 use std::sync::Wait;
-use std::test::Fail;
 use std::thread;
 use std::thread::Threads;
 use std::time::{Clock, Duration};
@@ -43,18 +44,18 @@ fn a_frame() -> Item
 }
 
 // Offers with one queue of 64, and that queue's other end.
-fn one_queue(alloc: Global, patient: bool) -> Result<(LaneOffers, Popper<Item>), Fail>
-    ensures { IfOk result (λ r. AreQueues 1 r.0.queues.items) }
+fn one_queue<R: Abort>(rt: &R, alloc: Global, patient: bool) -> (LaneOffers, Popper<Item>)
+    ensures { AreQueues 1 result.0.queues.items }
 {
-    let (pusher, popper) = make_one(alloc, 64)?;
-    let mut queues = Vec::with_capacity(alloc, 1)?;
+    let (pusher, popper) = must(rt, make_one(alloc, 64));
+    let mut queues = must(rt, Vec::with_capacity(alloc, 1));
     queues.push_reserved(pusher);
     let offers = LaneOffers {
         queues,
         patient,
         missed: 0,
     };
-    Ok((offers, popper))
+    (offers, popper)
 }
 
 // Offers the item, and says what became of it.
@@ -81,17 +82,30 @@ fn offer_frames<R: Wait>(rt: &R, offers: &mut LaneOffers, count: u32) -> u32
     queued
 }
 
+// Offers a frame where there is no room, pops one, and offers a frame again: what became of both and how many were
+// missed then, and whether it was a frame that was popped.
+fn offer_around_a_pop<R: Wait>(
+    rt: &R,
+    offers: &mut LaneOffers,
+    popper: &mut Popper<Item>,
+) -> ([Offered; 2], [u64; 2], bool)
+    requires { AreQueues 1 offers.old.queues.items }
+{
+    let first = offer_one(rt, offers, a_frame());
+    let missed = offers.missed;
+    let popped = popper.try_pop(rt) == Some(a_frame());
+    let second = offer_one(rt, offers, a_frame());
+    ([first, second], [missed, offers.missed], popped)
+}
+
 #[test]
-fn a_full_queue_misses_a_frame_until_one_is_popped(rt: HostRuntime) -> Result<(), Fail> {
-    let (mut offers, mut popper) = one_queue(rt.alloc(), false)?;
-    assert_eq!(rt; offer_frames(&rt, &mut offers, 64), 64);
-    assert_eq!(rt; offers.missed, 0);
-    assert_eq!(rt; offer_one(&rt, &mut offers, a_frame()), Offered::Missed);
-    assert_eq!(rt; offers.missed, 1);
-    assert_eq!(rt; popper.try_pop(&rt), Some(a_frame()));
-    assert_eq!(rt; offer_one(&rt, &mut offers, a_frame()), Offered::Queued);
-    assert_eq!(rt; offers.missed, 1);
-    Ok(())
+fn a_full_queue_misses_a_frame_until_one_is_popped(rt: HostRuntime) {
+    let (mut offers, mut popper) = one_queue(&rt, rt.alloc(), false);
+    let queued = offer_frames(&rt, &mut offers, 64);
+    let missed = offers.missed;
+    let (offered, counts, popped) = offer_around_a_pop(&rt, &mut offers, &mut popper);
+    assert!(rt; queued == 64 && missed == 0);
+    assert!(rt; offered == [Offered::Missed, Offered::Queued] && counts == [1, 1] && popped);
 }
 
 // Rests, and then pops so many items.
@@ -137,39 +151,35 @@ fn offer_by_value<R: Wait>(rt: &R, offers: LaneOffers, item: Item) -> (LaneOffer
     (offers, offered)
 }
 
-// Fills a queue with frames, and offers one item more to a late consumer: what became of it, and how many were missed.
-fn offer_past_frames<R: Threads + Wait + Clock + Sync>(
+// Fills a queue with frames, and offers one item more to a late consumer: how many frames were queued, what became of the
+// item, and how many were missed.
+fn offer_past_frames<R: Threads + Wait + Clock + Abort + Sync>(
     rt: &R,
     alloc: Global,
+    patient: bool,
     body: Said,
-) -> Result<(Offered, u64), Fail> {
-    let (mut offers, popper) = one_queue(alloc, false)?;
-    if offer_frames(rt, &mut offers, 64) < 64 {
-        return Err("there was no room".into());
-    }
+) -> (u32, Offered, u64) {
+    let (mut offers, popper) = one_queue(rt, alloc, patient);
+    let queued = offer_frames(rt, &mut offers, 64);
     let (offers, offered) = offer_to_a_late_consumer(rt, offers, popper, item(body));
-    Ok((offered, offers.missed))
+    (queued, offered, offers.missed)
 }
 
 #[test]
-fn bye_hello_and_reply_wait_where_the_queue_is_full(rt: HostRuntime) -> Result<(), Fail> {
-    let alloc = rt.alloc();
-    let bye = Said::Bye { why: Why::Asked };
-    let hello = Said::Hello { after: 0 };
+fn bye_hello_and_reply_wait_where_the_queue_is_full(rt: HostRuntime) {
     let control = Control::Nack;
-    let reply = Said::Reply { control };
-    let waited = (Offered::Queued, 0);
-    assert_eq!(rt; offer_past_frames(&rt, alloc, bye)?, waited);
-    assert_eq!(rt; offer_past_frames(&rt, alloc, hello)?, waited);
-    assert_eq!(rt; offer_past_frames(&rt, alloc, reply)?, waited);
-    Ok(())
+    for body in [
+        Said::Bye { why: Why::Asked },
+        Said::Hello { after: 0 },
+        Said::Reply { control },
+    ] {
+        let seen = offer_past_frames(&rt, rt.alloc(), false, body);
+        assert!(rt; seen == (64, Offered::Queued, 0));
+    }
 }
 
 #[test]
-fn a_patient_frame_waits_where_the_queue_is_full(rt: HostRuntime) -> Result<(), Fail> {
-    let (mut offers, popper) = one_queue(rt.alloc(), true)?;
-    assert_eq!(rt; offer_frames(&rt, &mut offers, 64), 64);
-    let (offers, offered) = offer_to_a_late_consumer(&rt, offers, popper, a_frame());
-    assert_eq!(rt; (offered, offers.missed), (Offered::Queued, 0));
-    Ok(())
+fn a_patient_frame_waits_where_the_queue_is_full(rt: HostRuntime) {
+    let seen = offer_past_frames(&rt, rt.alloc(), true, a_frame().body);
+    assert!(rt; seen == (64, Offered::Queued, 0));
 }

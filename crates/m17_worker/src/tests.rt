@@ -1,16 +1,16 @@
 //! What no clause says of a worker: that it ends where each link was stopped, that its book, tape and queues hold what
 //! they should for a list of events that was worked out by hand, and what becomes of a book that fails at one write.
 ghost use Rattle.std.specs.Prelude.{◌↔◌, IsTrue, None};
+ghost use Rattle.m17_ports.specs.Told.{StartsEmpty};
 ghost use Rattle.m17_book.specs.Records.{IsLow};
-ghost use Rattle.m17_worker.specs.Ready.{IsReady};
 
-use crate::bench::{Bench, callsign, event, join, lay, leaves, member, run, sends};
+use crate::bench::{Bench, callsign, event, join, lay, leaves, let_go, member, must, run, sends};
 use arrayvec::ArrayVec;
 use m17_book::{Record, write_header, write_record};
 use m17_control::{Body, Event, Item, ModuleLetter, Said, Tag, Why};
 use m17_crew::Order;
 use m17_floor::Verdict;
-use m17_lane::Popper;
+use m17_lane::{Popper, Pusher};
 use m17_port_memory::ListBook;
 use m17_ports::{Book, Shelf};
 use m17_samples::frame;
@@ -18,75 +18,100 @@ use m17_values::{Failed, Member};
 use std::alloc::Global;
 use std::process::Abort;
 use std::sync::Wait;
-use std::test::Fail;
+
+// What happens: a join, a frame with this number, a leave, a tick, or the link's stop.
+enum What {
+    Joins,
+    Sends(u16),
+    Leaves(Why),
+    Ticks,
+    Stops,
+}
+
+// An event: its link, the index of its entry, its moment, the place and the generation of its member, and what happens.
+type EventRow = (u8, u64, u64, (u32, u64), What);
 
 // The events of a worker with one link and two places. Three of them name what isn't there, and one stands behind the
 // last Stop.
-fn events(rt: &impl Abort) -> [Event; 14] {
-    let elsewhere = Event {
-        tag: Tag { link: 1, index: 0 },
-        at: 1_012,
-        body: Body::Stop,
+const EVENTS: [EventRow; 14] = [
+    (0, 0, 1_000, (0, 0), What::Joins),
+    (0, 0, 1_001, (1, 0), What::Joins),
+    (0, 1, 1_010, (0, 0), What::Sends(0)),
+    (0, 2, 1_005, (1, 5), What::Sends(0)),
+    (0, 3, 1_010, (1, 5), What::Leaves(Why::Asked)),
+    (1, 0, 1_012, (0, 0), What::Stops),
+    (0, 7, 1_013, (2, 0), What::Joins),
+    (0, 8, 1_014, (300, 0), What::Leaves(Why::Asked)),
+    (0, 4, 1_015, (0, 0), What::Ticks),
+    (0, 4, 1_020, (0, 1), What::Joins),
+    (0, 3, 1_030, (0, 1), What::Sends(1)),
+    (0, 5, 1_040, (0, 1), What::Leaves(Why::Replaced)),
+    (0, 6, 1_050, (0, 0), What::Stops),
+    (0, 6, 1_060, (0, 0), What::Ticks),
+];
+
+fn event_of(rt: &impl Abort, row: &EventRow) -> Event {
+    let (link, index, at, (place, generation), what) = row;
+    let who = member(*place, *generation);
+    let mut made = match what {
+        What::Joins => join(rt, *index, *at, who),
+        What::Sends(number) => sends(*index, *at, who, *number),
+        What::Leaves(why) => leaves(*index, *at, who, *why),
+        What::Ticks => event(*index, *at, Body::Tick),
+        What::Stops => event(*index, *at, Body::Stop),
     };
-    [
-        join(rt, 0, 1_000, member(0, 0)),
-        join(rt, 0, 1_001, member(1, 0)),
-        sends(1, 1_010, member(0, 0), 0),
-        sends(2, 1_005, member(1, 5), 0),
-        leaves(3, 1_010, member(1, 5), Why::Asked),
-        elsewhere,
-        join(rt, 7, 1_013, member(2, 0)),
-        leaves(8, 1_014, member(300, 0), Why::Asked),
-        event(4, 1_015, Body::Tick),
-        join(rt, 4, 1_020, member(0, 1)),
-        sends(3, 1_030, member(0, 1), 1),
-        leaves(5, 1_040, member(0, 1), Why::Replaced),
-        event(6, 1_050, Body::Stop),
-        event(6, 1_060, Body::Tick),
-    ]
+    made.tag.link = *link;
+    made
 }
 
-fn joined(rt: &impl Abort, index: u64, moment: u64, member: Member) -> Record {
-    Record::Join {
-        tag: Tag { link: 0, index },
-        moment,
-        member,
-        listen: false,
-        callsign: callsign(rt),
+// What a record says: a join, a leave of one that was replaced, or a frame with this number and what became of it.
+enum Line {
+    Joined,
+    Left,
+    Sent(u16, Verdict),
+}
+
+// A record of link 0: the index of its entry, its moment, the place and the generation of its member, and what it says.
+type RecordRow = (u64, u64, (u32, u64), Line);
+
+// What the book has to say of the events.
+const RECORDS: [RecordRow; 8] = [
+    (0, 1_000, (0, 0), Line::Joined),
+    (0, 1_001, (1, 0), Line::Joined),
+    (1, 1_010, (0, 0), Line::Sent(0, Verdict::Opened)),
+    (2, 1_010, (1, 5), Line::Sent(0, Verdict::NotMember)),
+    (4, 1_020, (0, 0), Line::Left),
+    (4, 1_020, (0, 1), Line::Joined),
+    (3, 1_030, (0, 1), Line::Sent(1, Verdict::Opened)),
+    (5, 1_040, (0, 1), Line::Left),
+];
+
+fn record_of(rt: &impl Abort, row: &RecordRow) -> Record {
+    let (index, moment, (place, generation), line) = row;
+    let (tag, moment) = (event(*index, 0, Body::Tick).tag, *moment);
+    let member = member(*place, *generation);
+    match line {
+        Line::Joined => Record::Join {
+            tag,
+            moment,
+            member,
+            listen: false,
+            callsign: callsign(rt),
+        },
+        Line::Left => Record::Leave {
+            tag,
+            moment,
+            member,
+            why: Why::Replaced,
+        },
+        Line::Sent(number, verdict) => Record::Packet {
+            tag,
+            moment,
+            member,
+            verdict: *verdict,
+            packet: frame(7, *number, false),
+        },
     }
-}
-
-fn left(index: u64, moment: u64, member: Member) -> Record {
-    Record::Leave {
-        tag: Tag { link: 0, index },
-        moment,
-        member,
-        why: Why::Replaced,
-    }
-}
-
-fn sent(index: u64, moment: u64, member: Member, verdict: Verdict) -> Record {
-    Record::Packet {
-        tag: Tag { link: 0, index },
-        moment,
-        member,
-        verdict,
-        packet: frame(7, u16::from(index == 3), false),
-    }
-}
-
-// What the book has to say of them.
-fn records(rt: &impl Abort) -> [Record; 8] {
-    [
-        joined(rt, 0, 1_000, member(0, 0)),
-        joined(rt, 0, 1_001, member(1, 0)),
-        sent(1, 1_010, member(0, 0), Verdict::Opened),
-        sent(2, 1_010, member(1, 5), Verdict::NotMember),
-        left(4, 1_020, member(0, 0)),
-        joined(rt, 4, 1_020, member(0, 1)),
-        sent(3, 1_030, member(0, 1), Verdict::Opened),
-        left(5, 1_040, member(0, 1)),
-    ]
 }
 
 fn is_low(tag: Tag, member: Member) -> bool
@@ -111,34 +136,44 @@ fn spell(line: &Record) -> Option<ArrayVec<u8, 97>> {
 }
 
 // The bytes of the first so many writes of the book: its header, and then the records.
-fn written(rt: &impl Abort, alloc: Global, writes: usize) -> Result<Vec<u8>, Fail> {
+fn written<R: Abort>(rt: &R, alloc: Global, writes: usize) -> Vec<u8> {
     let mut bytes = Vec::new(alloc);
     if writes == 0 {
-        return Ok(bytes);
+        return bytes;
     }
     let letter = ModuleLetter::new(b'A').expect(rt, "a letter");
-    bytes.extend_from_slice(&write_header(letter))?;
-    for line in records(rt).iter().take(writes - 1) {
-        let bytes_of = spell(line).expect(rt, "a record of low places");
-        bytes.extend_from_slice(bytes_of.as_slice())?;
+    must(rt, bytes.extend_from_slice(&write_header(letter)));
+    for row in RECORDS.iter().take(writes - 1) {
+        let line = spell(&record_of(rt, row)).expect(rt, "a record of low places");
+        must(rt, bytes.extend_from_slice(line.as_slice()));
     }
-    Ok(bytes)
+    bytes
 }
 
-// Puts the events into the inbox and the order before the worker, claims place 0, and does the job.
+// Whether these are the bytes of the first so many writes of the book.
+fn are_written<R: Abort>(rt: &R, alloc: Global, bytes: &[u8], writes: usize) -> bool {
+    bytes == written(rt, alloc, writes).as_slice()
+}
+
+fn push_events<R: Wait + Abort>(rt: &R, events: &mut Pusher<Event>) {
+    for row in &EVENTS {
+        must(rt, events.try_push(rt, event_of(rt, row)));
+    }
+}
+
+// A worker with this book that has gone over the events by this order; place 0 was claimed before.
 fn go<B: Book + Drop + Send + 'static, R: Wait + Abort>(
     rt: &R,
-    bench: Bench<B>,
+    alloc: Global,
+    book: B,
     order: Order,
 ) -> Bench<B>
-    requires { IsReady (record { written = B.written; faults = B.faults }) bench.worker }
+    requires { StartsEmpty (B.written book) }
 {
-    let mut bench = bench;
-    for event in events(rt) {
-        assert_eq!(rt; bench.events.try_push(rt, event), Ok(()));
-    }
-    assert_eq!(rt; bench.orders.try_push(rt, order), Ok(()));
-    assert_eq!(rt; bench.other_seat.claim(0), Some(member(0, 0)));
+    let mut bench = lay(rt, alloc, 2, book, false);
+    push_events(rt, &mut bench.events);
+    must(rt, bench.orders.try_push(rt, order));
+    assert!(rt; bench.other_seat.claim(0) == Some(member(0, 0)));
     let Bench {
         worker,
         queues,
@@ -155,44 +190,63 @@ fn go<B: Book + Drop + Send + 'static, R: Wait + Abort>(
     }
 }
 
-// What stands in the queue of a place, oldest first.
-fn queued<R: Wait + Abort>(
+// The same with a book in memory, whose write with this number fails, if there is one.
+fn go_with_a_list<R: Wait + Abort>(
     rt: &R,
     alloc: Global,
-    queues: &mut Vec<Popper<Item>>,
-    place: usize,
-) -> Result<Vec<(Member, Said)>, Fail> {
-    let mut all = Vec::new(alloc);
-    assert!(rt; place < queues.len());
-    for _ in 0..64 {
-        if let Some(item) = queues[place].try_pop(rt) {
-            all.push((item.member, item.body))?;
-        }
+    failing: Option<u64>,
+    order: Order,
+) -> Bench<ListBook> {
+    let mut fails = Vec::new(alloc);
+    if let Some(call) = failing {
+        must(rt, fails.push(call));
     }
-    Ok(all)
+    let book = must(rt, ListBook::make(alloc, 2_000, fails));
+    go(rt, alloc, book, order)
 }
 
-// The bench after its worker did its job.
-fn served<R: Wait + Abort>(rt: &R, alloc: Global) -> Result<Bench<ListBook>, Fail> {
-    let bench = lay(alloc, 2, ListBook::make(alloc, 2_000, Vec::new(alloc))?)?;
-    Ok(go(rt, bench, Order::Go))
+// Whether this stands in a queue, oldest first, and no more.
+fn holds<R: Wait>(rt: &R, queue: &mut Popper<Item>, wanted: &[(Member, Said)]) -> bool {
+    for next in wanted {
+        match queue.try_pop(rt) {
+            Some(item) if (item.member, item.body) == *next => {}
+            _ => return false,
+        }
+    }
+    queue.try_pop(rt).is_none()
+}
+
+// The same of the queue of a place.
+fn queue_holds<B, R: Wait + Abort>(
+    rt: &R,
+    bench: &mut Bench<B>,
+    place: usize,
+    wanted: &[(Member, Said)],
+) -> bool {
+    let queue = bench.queues.get_mut(place).expect(rt, "a queue");
+    holds(rt, queue, wanted)
+}
+
+// Whether these are the cells of the tape.
+fn tape_holds<B>(bench: &Bench<B>, cells: &[Option<Verdict>; 4]) -> bool {
+    bench.worker.tape.as_slice() == cells.as_slice()
+}
+
+// Whether the book failed, and how many events were admitted.
+fn counts<B>(bench: &Bench<B>) -> (bool, u64) {
+    (bench.worker.book_failed, bench.worker.module.admitted())
 }
 
 #[test]
-fn book_and_tape_hold_what_was_decided(rt: HostRuntime) -> Result<(), Fail> {
-    let worker = served(&rt, rt.alloc())?.worker;
-    assert_eq!(rt;
-        worker.book.bytes(),
-        written(&rt, rt.alloc(), 9)?.as_slice()
-    );
-    assert_eq!(rt; (worker.book_failed, worker.module.admitted()), (false, 2));
+fn book_and_tape_hold_what_was_decided(rt: HostRuntime) {
+    let bench = go_with_a_list(&rt, rt.alloc(), None, Order::Go);
+    let whole = are_written(&rt, rt.alloc(), bench.worker.book.bytes(), 9);
     let opened = Some(Verdict::Opened);
     let stranger = Some(Verdict::NotMember);
-    assert_eq!(rt;
-        worker.tape.as_slice(),
-        [None, opened, stranger, opened].as_slice()
-    );
-    Ok(())
+    let taped = tape_holds(&bench, &[None, opened, stranger, opened]);
+    let counts = counts(&bench);
+    let_go(bench);
+    assert!(rt; whole && taped && counts == (false, 2));
 }
 
 fn a_frame(position: u64, number: u16) -> Said {
@@ -203,8 +257,8 @@ fn a_frame(position: u64, number: u16) -> Said {
 }
 
 #[test]
-fn queues_hold_what_was_given(rt: HostRuntime) -> Result<(), Fail> {
-    let mut queues = served(&rt, rt.alloc())?.queues;
+fn queues_hold_what_was_given(rt: HostRuntime) {
+    let mut bench = go_with_a_list(&rt, rt.alloc(), None, Order::Go);
     let bye = Said::Bye { why: Why::Replaced };
     let hello = Said::Hello { after: 0 };
     let first = [
@@ -213,35 +267,34 @@ fn queues_hold_what_was_given(rt: HostRuntime) -> Result<(), Fail> {
         (member(0, 1), hello),
         (member(0, 1), bye),
     ];
-    assert_eq!(rt;
-        queued(&rt, rt.alloc(), &mut queues, 0)?.as_slice(),
-        first.as_slice()
-    );
     let second = [
         (member(1, 0), hello),
         (member(1, 0), a_frame(2, 0)),
         (member(1, 0), a_frame(7, 1)),
     ];
-    assert_eq!(rt;
-        queued(&rt, rt.alloc(), &mut queues, 1)?.as_slice(),
-        second.as_slice()
-    );
-    Ok(())
+    let one = queue_holds(&rt, &mut bench, 0, &first);
+    let other = queue_holds(&rt, &mut bench, 1, &second);
+    let_go(bench);
+    assert!(rt; one && other);
+}
+
+// The words of both places at the roll.
+fn words<B>(bench: &mut Bench<B>) -> [Option<u64>; 2] {
+    [bench.other_seat.look(0), bench.other_seat.look(1)]
 }
 
 #[test]
-fn a_place_is_given_back_and_what_is_behind_the_stop_stays(rt: HostRuntime) -> Result<(), Fail> {
-    let mut bench = served(&rt, rt.alloc())?;
-    assert_eq!(rt;
-        bench.other_seat.look(0),
-        Some(2),
-        "it was given back, once"
+fn a_place_is_given_back_and_what_is_behind_the_stop_stays(rt: HostRuntime) {
+    let mut bench = go_with_a_list(&rt, rt.alloc(), None, Order::Go);
+    let words = words(&mut bench);
+    let behind = bench.worker.inbox.try_pop(&rt);
+    let end = bench.worker.inbox.try_pop(&rt);
+    let_go(bench);
+    assert!(rt;
+        words == [Some(2), Some(0)],
+        "one place was given back, once, and the other never claimed"
     );
-    assert_eq!(rt; bench.other_seat.look(1), Some(0), "nothing was claimed");
-    let behind = Some(event(6, 1_060, Body::Tick));
-    assert_eq!(rt; bench.worker.inbox.try_pop(&rt), behind);
-    assert_eq!(rt; bench.worker.inbox.try_pop(&rt), None);
-    Ok(())
+    assert!(rt; behind == Some(event(6, 1_060, Body::Tick)) && end.is_none());
 }
 
 // A book that keeps nothing and says so, and counts its writes.
@@ -275,64 +328,72 @@ impl Book for UnkeptBook {
     }
 }
 
+// How often the book on the shelf was written.
+fn writes(shelf: &Shelf<UnkeptBook>) -> Option<u64> {
+    shelf.inner.as_ref().map(|book| book.writes)
+}
+
 #[test]
-fn a_book_that_keeps_nothing_is_never_written(rt: HostRuntime) -> Result<(), Fail> {
-    let alloc = rt.alloc();
+fn a_book_that_keeps_nothing_is_never_written(rt: HostRuntime) {
     let inner = Some(UnkeptBook { writes: 0 });
-    let worker = go(&rt, lay(alloc, 2, Shelf { inner })?, Order::Go).worker;
-    let book = worker.book.inner.as_ref().ok_or("no book")?;
-    assert_eq!(rt; book.writes, 0);
-    assert_eq!(rt; (worker.book_failed, worker.module.admitted()), (false, 2));
-    Ok(())
+    let bench = go(&rt, rt.alloc(), Shelf { inner }, Order::Go);
+    let seen = (writes(&bench.worker.book), counts(&bench));
+    let_go(bench);
+    assert!(rt; seen == (Some(0), (false, 2)));
 }
 
-#[test]
-fn a_shelf_with_a_book_holds_what_was_decided(rt: HostRuntime) -> Result<(), Fail> {
-    let alloc = rt.alloc();
-    let inner = Some(ListBook::make(alloc, 2_000, Vec::new(alloc))?);
-    let worker = go(&rt, lay(alloc, 2, Shelf { inner })?, Order::Go).worker;
-    let book = worker.book.inner.as_ref().ok_or("no book")?;
-    assert_eq!(rt; book.bytes(), written(&rt, alloc, 9)?.as_slice());
-    Ok(())
-}
-
-#[test]
-fn a_book_that_fails_is_written_no_more(rt: HostRuntime) -> Result<(), Fail> {
-    let alloc = rt.alloc();
-    for failing in 0..10u64 {
-        let mut fails = Vec::new(alloc);
-        fails.push(failing)?;
-        let bench = lay(alloc, 2, ListBook::make(alloc, 2_000, fails)?)?;
-        let bench = go(&rt, bench, Order::Go);
-        let whole = (failing as usize).min(9);
-        assert_eq!(rt;
-            bench.worker.book.bytes(),
-            written(&rt, alloc, whole)?.as_slice(),
-            "{failing}"
-        );
-        assert_eq!(rt; bench.worker.book_failed, failing < 9, "{failing}");
-        assert_eq!(rt;
-            bench.worker.module.admitted(),
-            2,
-            "it goes on without its book"
-        );
+// Whether the book on the shelf holds its first so many writes.
+fn shelf_holds<R: Abort>(rt: &R, alloc: Global, shelf: &Shelf<ListBook>, writes: usize) -> bool {
+    match &shelf.inner {
+        Some(book) => are_written(rt, alloc, book.bytes(), writes),
+        None => false,
     }
-    Ok(())
 }
 
 #[test]
-fn a_worker_that_quits_leaves_all_as_it_was(rt: HostRuntime) -> Result<(), Fail> {
+fn a_shelf_with_a_book_holds_what_was_decided(rt: HostRuntime) {
     let alloc = rt.alloc();
-    let bench = lay(alloc, 2, ListBook::make(alloc, 2_000, Vec::new(alloc))?)?;
-    let mut bench = go(&rt, bench, Order::Quit);
-    assert_eq!(rt; bench.worker.book.bytes().len(), 0);
-    assert_eq!(rt; bench.worker.book_failed, false);
-    assert_eq!(rt; bench.worker.tape.as_slice(), [None; 4].as_slice());
-    assert_eq!(rt; queued(&rt, alloc, &mut bench.queues, 0)?.len(), 0);
-    assert_eq!(rt; bench.other_seat.look(0), Some(1));
-    assert_eq!(rt;
-        bench.worker.inbox.try_pop(&rt),
-        Some(join(&rt, 0, 1_000, member(0, 0)))
-    );
-    Ok(())
+    let inner = Some(must(&rt, ListBook::make(alloc, 2_000, Vec::new(alloc))));
+    let bench = go(&rt, alloc, Shelf { inner }, Order::Go);
+    let whole = shelf_holds(&rt, alloc, &bench.worker.book, 9);
+    let_go(bench);
+    assert!(rt; whole);
+}
+
+// A book whose write with this number fails: whether it holds its first so many writes and no more, whether it failed,
+// and how many events were admitted.
+fn fails_at<R: Wait + Abort>(
+    rt: &R,
+    alloc: Global,
+    failing: u64,
+    holds: usize,
+) -> (bool, (bool, u64)) {
+    let bench = go_with_a_list(rt, alloc, Some(failing), Order::Go);
+    let whole = are_written(rt, alloc, bench.worker.book.bytes(), holds);
+    let counts = counts(&bench);
+    let_go(bench);
+    (whole, counts)
+}
+
+// The worker goes on without its book.
+#[test]
+fn a_book_that_fails_is_written_no_more(rt: HostRuntime) {
+    for failing in 0..10u64 {
+        let seen = fails_at(&rt, rt.alloc(), failing, (failing as usize).min(9));
+        assert!(rt; seen == (true, (failing < 9, 2)), "{failing}");
+    }
+}
+
+#[test]
+fn a_worker_that_quits_leaves_all_as_it_was(rt: HostRuntime) {
+    let mut bench = go_with_a_list(&rt, rt.alloc(), None, Order::Quit);
+    let unwritten = are_written(&rt, rt.alloc(), bench.worker.book.bytes(), 0);
+    let untaped = tape_holds(&bench, &[None; 4]);
+    let empty = queue_holds(&rt, &mut bench, 0, &[]);
+    let words = words(&mut bench);
+    let first = bench.worker.inbox.try_pop(&rt);
+    let failed = bench.worker.book_failed;
+    let_go(bench);
+    assert!(rt; unwritten && untaped && empty && !failed && words == [Some(1), Some(0)]);
+    assert!(rt; first == Some(join(&rt, 0, 1_000, member(0, 0))));
 }

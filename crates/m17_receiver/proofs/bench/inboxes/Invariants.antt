@@ -3,4 +3,4 @@ use Rattle.m17_rows.specs.Rows.{IsNewRow}
 use Rattle.m17_receiver.proofs.bench.inboxes.Given as goal
 
 abbrev pub invariant-inboxes : goal.invariant-inboxes
-invariant-inboxes l = record { count : length l.pushers.items ≡ l._made; unused : IsNewRow l.pushers.items }
+invariant-inboxes g l = record { count : length l.pushers.items ≡ l._made; unused : IsNewRow l.pushers.items }

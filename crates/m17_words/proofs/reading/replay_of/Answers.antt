@@ -1,19 +1,6 @@
-use Rattle.std.proofs.Common.{ℕ, List, Option, sym, subst}
 use Rattle.clap.specs.Words.{found_of, rows_of}
-use Rattle.m17_words.specs.Values.{NamesModules, NamesParrots}
-use Rattle.m17_words.proofs.Parrots.{if_none, same_parrots, not_replay}
+use Rattle.m17_words.proofs.Parrots.{no_replay}
 use Rattle.m17_words.proofs.reading.replay_of.Goals as goal
 
-pub returns-in_err-modules-clause-none : goal.returns-in_err-modules-clause-none
-returns-in_err-modules-clause-none c = if_none c.from_residual-in_err-modules.result _
-    (not_replay (rows_of (found_of c.args.matches.now)) (λ o replay.
-    c.in_err-modules.ensures.none o.modules (subst (λ (t : List ℕ). NamesModules t o.modules) (sym c.text_or-2.ensures) replay.modules_are)))
-
-pub returns-in_err-parrots-clause-none : goal.returns-in_err-parrots-clause-none
-returns-in_err-parrots-clause-none c = if_none c.from_residual-in_err-parrots.result _
-    (not_replay (rows_of (found_of c.args.matches.now)) (λ o replay.
-    c.in_err-parrots.ensures.none o.parrots
-    (subst (λ (t : Option (List ℕ)). NamesParrots t c.in_ok-modules.modules o.parrots) (sym c.text_of.ensures)
-    (same_parrots c.text_or-2.result.now o.modules c.in_ok-modules.modules _ o.parrots
-    (subst (λ (t : List ℕ). NamesModules t o.modules) (sym c.text_or-2.ensures) replay.modules_are)
-    c.in_ok-modules.ensures.some replay.parrots_are))))
+pub returns-in-None-clause-refused : goal.returns-in-None-clause-refused
+returns-in-None-clause-refused c = λ e. no_replay (rows_of (found_of c.args.matches.now)) c.in-None.ensures.none

@@ -1,0 +1,18 @@
+use Rattle.std.proofs.Common.{◌≡◌, ℕ, ◌-◌, List}
+use Rattle.m17_book.specs.Records.{SpellsRecord}
+use Rattle.m17_book.specs.Tried.{HasSeen}
+use Rattle.m17_book.specs.Walk.{spot, IsAt, HasPassed}
+use Rattle.m17_book.specs.declared.record.Record.{Record}
+use Rattle.m17_book.proofs.check_book.follow_records.Given as goal
+
+-- the records so far were passed and seen, and the source has not failed
+abbrev pub invariant-records : goal.invariant-records
+invariant-records g l = record {
+  passed : (ahead : List ℕ) → IsAt (spot l.fn.cursor (g.S.Input.left l.fn.source)) ahead
+      → (records : List Record) × HasSeen l.checker records
+      × HasPassed SpellsRecord l.fn.cursor.place ahead records (spot l.cursor (g.S.Input.left l.source));
+  sound : g.S.Input.faults l.source ≡ g.S.Input.faults l.fn.source;
+}
+
+abbrev pub decreases-records : goal.decreases-records
+decreases-records g l = 67108865 - l.cursor.place

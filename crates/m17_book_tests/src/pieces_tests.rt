@@ -1,0 +1,120 @@
+//! That a trace and a book are the same in whatever pieces their bytes come, and how many bytes a book may have.
+use crate::bench::{BOOK, Pieces, TALK, kept, must, source};
+use m17_book::{FormRefusal, Reader, Record, read_book, read_trace};
+use m17_io::Source;
+use m17_values::Heard;
+use std::alloc::Global;
+use std::process::Abort;
+
+/// Bytes that come in pieces of this size.
+fn in_pieces<R: Abort>(rt: &R, alloc: Global, bytes: &[u8], most: usize) -> Pieces {
+    let bytes = source(rt, alloc, bytes, &[]);
+    Pieces { bytes, most }
+}
+
+/// Whether this is what the talk says was heard, in pieces of this size.
+fn is_heard<R: Abort>(rt: &R, alloc: Global, most: usize, wanted: &[Heard]) -> bool {
+    let mut pieces = in_pieces(rt, alloc, TALK, most);
+    match read_trace(alloc, &mut pieces) {
+        Ok(heard) => heard.as_slice() == wanted,
+        Err(_) => false,
+    }
+}
+
+/// The records of a book.
+fn records<R: Abort>(rt: &R, alloc: Global, bytes: &[u8]) -> Vec<Record> {
+    let mut source = source(rt, alloc, bytes, &[]);
+    must(rt, read_book(alloc, &mut source))
+}
+
+/// Whether these are the records of a book in pieces of this size.
+fn is_book<R: Abort>(rt: &R, alloc: Global, most: usize, wanted: &[Record]) -> bool {
+    let mut pieces = in_pieces(rt, alloc, BOOK, most);
+    match read_book(alloc, &mut pieces) {
+        Ok(records) => records.as_slice() == wanted,
+        Err(_) => false,
+    }
+}
+
+/// Whether a reader gives these records one by one, and then the end.
+fn gives_each<S: Source>(source: &mut S, wanted: &[Record]) -> bool {
+    let mut reader = Reader::new();
+    for record in wanted {
+        if reader.next(source) != Ok(Some(*record)) {
+            return false;
+        }
+    }
+    reader.next(source) == Ok(None)
+}
+
+/// The same of the book in pieces of this size.
+fn is_each_record<R: Abort>(rt: &R, alloc: Global, most: usize, wanted: &[Record]) -> bool {
+    let mut pieces = in_pieces(rt, alloc, BOOK, most);
+    gives_each(&mut pieces, wanted)
+}
+
+// Pieces of each size up to that of the longest record, and a little more: so each field of an entry and of a record is
+// cut somewhere.
+#[test]
+fn pieces_of_each_size_are_the_same_trace_and_book(rt: HostRuntime) {
+    let alloc = rt.alloc();
+    let mut whole = source(&rt, alloc, TALK, &[]);
+    let heard = must(&rt, read_trace(alloc, &mut whole));
+    let kept = records(&rt, alloc, BOOK);
+    assert!(rt; heard.len() == 8 && kept.len() == 4);
+    for most in 1..100 {
+        assert!(rt; is_heard(&rt, alloc, most, &heard), "{most}");
+        assert!(rt; is_book(&rt, alloc, most, &kept), "{most}");
+        assert!(rt; is_each_record(&rt, alloc, most, &kept), "{most}");
+    }
+}
+
+/// The records of that book 40 times, 160 in all, in 10,489 bytes.
+fn long_book<R: Abort>(rt: &R, alloc: Global) -> Vec<u8> {
+    let mut bytes = must(rt, BOOK.as_slice()[..9].to_vec(alloc));
+    for _ in 0..40 {
+        must(rt, bytes.extend_from_slice(&BOOK.as_slice()[9..]));
+    }
+    bytes
+}
+
+/// Whether these records are the four again and again.
+fn repeats(book: &[Record], four: &[Record]) -> bool {
+    book.chunks(4).all(|part| part == four)
+}
+
+// 8,192 bytes are read at a time: the first end in record 125.
+#[test]
+fn a_record_stands_over_the_end_of_a_read(rt: HostRuntime) {
+    let alloc = rt.alloc();
+    let mut bytes = long_book(&rt, alloc);
+    assert!(rt; bytes.len() == 10_489);
+    let short = records(&rt, alloc, BOOK);
+    let book = records(&rt, alloc, &bytes);
+    assert!(rt; book.len() == 160 && repeats(&book, &short));
+    let mut whole = source(&rt, alloc, &bytes, &[]);
+    assert!(rt; gives_each(&mut whole, &book));
+    bytes.truncate(8_192);
+    let cut = FormRefusal::Cut { at: 8_192 };
+    assert!(rt; kept(&rt, alloc, &bytes, &[]) == Err(cut));
+}
+
+/// So many zero bytes.
+fn zeros<R: Abort>(rt: &R, alloc: Global, count: usize) -> Vec<u8> {
+    must(rt, vec![in alloc; 0; count])
+}
+
+// The flaw that stands first, up to the most bytes that a book may have, and then that there are more. A reader that goes
+// record by record knows no such limit.
+#[test]
+fn a_book_of_too_many_bytes_is_large(rt: HostRuntime) {
+    let alloc = rt.alloc();
+    let most = zeros(&rt, alloc, 67_108_864);
+    let more = zeros(&rt, alloc, 67_108_865);
+    let field = FormRefusal::Field { at: 0 };
+    let large = FormRefusal::Large { at: 67_108_864 };
+    let read = [kept(&rt, alloc, &most, &[]), kept(&rt, alloc, &more, &[])];
+    assert!(rt; read == [Err(field), Err(large)]);
+    let mut source = source(&rt, alloc, &more, &[]);
+    assert!(rt; Reader::new().next(&mut source) == Err(field));
+}

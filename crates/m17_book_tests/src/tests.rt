@@ -1,0 +1,262 @@
+//! The bytes of records and entries, and the records that a reader gives, with where and why it refuses others.
+ghost use Rattle.m17_book.specs.Records.{IsWritable, IsLowVerdict};
+
+use crate::bench::{BOOK, changed, must, source};
+use m17_book::{
+    FormRefusal, Reader, Record, write_entry, write_header, write_record, write_trace_header,
+};
+use m17_callsign::{CallAddress, encode};
+use m17_control::{ModuleLetter, Tag, Why};
+use m17_floor::Verdict;
+use m17_memory::BytesSource;
+use m17_stream::StreamPacket;
+use m17_values::{Gram, Heard, Member, Peer};
+use std::alloc::Global;
+use std::process::Abort;
+
+const TAG: Tag = Tag { link: 1, index: 5 };
+
+const MEMBER: Member = Member {
+    place: 2,
+    generation: 1,
+};
+
+const BUSY: Verdict = Verdict::Busy {
+    holder: Member {
+        place: 3,
+        generation: 9,
+    },
+};
+
+const LATE: Verdict = Verdict::Late { last: 513 };
+
+/// Frame 5 of stream 1234 hex, to everyone, from 9FDD51 hex.
+const STREAM: &[u8; 54] = b"M17 \x12\x34\xff\xff\xff\xff\xff\xff\x00\x00\x00\x9f\xdd\x51\x00\x05\
+\x00\x00\x00\x00\x00\x00\x00\x00\x00\x00\x00\x00\x00\x00\x00\x05\
+\x00\x00\x00\x00\x00\x00\x00\x00\x00\x00\x00\x00\x00\x00\x00\x00\x39\xe5";
+
+fn stream(rt: &impl Abort) -> StreamPacket {
+    must(rt, m17_stream::read(STREAM))
+}
+
+fn join(rt: &impl Abort) -> Record
+    ensures { IsWritable result }
+{
+    let address = must(rt, encode("AB1CD"));
+    Record::Join {
+        tag: TAG,
+        moment: 10,
+        member: MEMBER,
+        listen: true,
+        callsign: CallAddress::new(address).expect(rt, "a callsign"),
+    }
+}
+
+fn packet(rt: &impl Abort, verdict: Verdict) -> Record
+    requires { IsLowVerdict verdict }
+    ensures { IsWritable result }
+{
+    Record::Packet {
+        tag: TAG,
+        moment: 10,
+        member: MEMBER,
+        verdict,
+        packet: stream(rt),
+    }
+}
+
+fn leave() -> Record
+    ensures { IsWritable result }
+{
+    Record::Leave {
+        tag: TAG,
+        moment: 10,
+        member: MEMBER,
+        why: Why::Silent,
+    }
+}
+
+/// Whether a record is written as these bytes.
+fn is_written(written: Record, bytes: &[u8]) -> bool
+    requires { IsWritable written }
+{
+    write_record(&written).as_slice() == bytes
+}
+
+#[test]
+fn a_book_is_written_field_by_field(rt: HostRuntime) {
+    let letter = ModuleLetter::new(b'C').expect(&rt, "a module");
+    let book = BOOK.as_slice();
+    assert!(rt; write_header(letter).as_slice() == &book[..9]);
+    assert!(rt; is_written(join(&rt), &book[9..46]));
+    assert!(rt; is_written(packet(&rt, BUSY), &book[46..143]));
+    assert!(rt; is_written(packet(&rt, LATE), &book[143..240]));
+    assert!(rt; is_written(leave(), &book[240..]));
+}
+
+/// What a reader says the next six times.
+fn next_six<R: Abort>(rt: &R, alloc: Global) -> [Result<Option<Record>, FormRefusal>; 6] {
+    let mut source = source(rt, alloc, BOOK, &[]);
+    let mut reader = Reader::new();
+    let mut said = [Ok(None); 6];
+    for i in 0..6 {
+        said[i] = reader.next(&mut source);
+    }
+    said
+}
+
+#[test]
+fn a_reader_gives_each_record_and_then_the_end(rt: HostRuntime) {
+    let wanted = [
+        Ok(Some(join(&rt))),
+        Ok(Some(packet(&rt, BUSY))),
+        Ok(Some(packet(&rt, LATE))),
+        Ok(Some(leave())),
+        Ok(None),
+        Ok(None),
+    ];
+    assert!(rt; next_six(&rt, rt.alloc()) == wanted);
+}
+
+/// How many records a reader gives, and then its refusal, where it does not come to the end.
+fn go_through(reader: &mut Reader, source: &mut BytesSource) -> (usize, Option<FormRefusal>) {
+    for count in 0..usize::MAX {
+        match reader.next(source) {
+            Ok(Some(_)) => {}
+            Ok(None) => return (count, None),
+            Err(refusal) => return (count, Some(refusal)),
+        }
+    }
+    (usize::MAX, None)
+}
+
+/// The same for these bytes, of a source whose calls with these numbers fail. A refusal is told again.
+fn read_all<R: Abort>(
+    rt: &R,
+    alloc: Global,
+    bytes: &[u8],
+    fails: &[u64],
+) -> (usize, Option<FormRefusal>) {
+    let mut source = source(rt, alloc, bytes, fails);
+    let mut reader = Reader::new();
+    let read = go_through(&mut reader, &mut source);
+    if let Some(refusal) = read.1 {
+        assert!(rt; reader.next(&mut source) == Err(refusal), "another refusal");
+    }
+    read
+}
+
+#[test]
+fn each_part_of_a_book_is_a_shorter_book_or_cut(rt: HostRuntime) {
+    let book = BOOK.as_slice();
+    for len in 0..book.len() {
+        let (count, refusal) = read_all(&rt, rt.alloc(), &book[..len], &[]);
+        let cut = Some(FormRefusal::Cut { at: len as u64 });
+        let wanted = match len {
+            9 => (0, None),
+            46 => (1, None),
+            143 => (2, None),
+            240 => (3, None),
+            _ => (count, cut),
+        };
+        assert!(rt; (count, refusal) == wanted, "{len}");
+    }
+}
+
+/// Where a byte of the book is changed, to what, and where its field begins then.
+const BAD_FIELDS: [(usize, u8, u64); 16] = [
+    (0, b'm', 0),
+    (7, b'2', 7),
+    (8, b'c', 8),
+    (10, 4, 10),
+    (29, 1, 27),
+    (39, 2, 39),
+    (40, 255, 40),
+    (76, 0, 76),
+    (76, 9, 76),
+    (76, 1, 77),
+    (79, 1, 77),
+    (89, 0, 89),
+    (142, 0, 89),
+    (182, 1, 174),
+    (184, 128, 174),
+    (270, 6, 270),
+];
+
+/// Why the book is refused where this byte of it is changed to that.
+fn refusal_of<R: Abort>(rt: &R, alloc: Global, at: usize, byte: u8) -> Option<FormRefusal> {
+    let bytes = changed(rt, alloc, BOOK, at, byte);
+    read_all(rt, alloc, &bytes, &[]).1
+}
+
+#[test]
+fn bad_fields_are_refused_at_their_places(rt: HostRuntime) {
+    for (at, byte, field) in BAD_FIELDS {
+        let refusal = refusal_of(&rt, rt.alloc(), at, byte);
+        assert!(rt;
+            refusal == Some(FormRefusal::Field { at: field }),
+            "{byte} at {at}"
+        );
+    }
+    for byte in [0, 4] {
+        let refusal = refusal_of(&rt, rt.alloc(), 9, byte);
+        assert!(rt;
+            refusal == Some(FormRefusal::Kind { at: 9, byte }),
+            "{byte}"
+        );
+    }
+}
+
+#[test]
+fn a_failed_source_is_told_once_and_for_all(rt: HostRuntime) {
+    let read = read_all(&rt, rt.alloc(), BOOK, &[0]);
+    assert!(rt; read == (0, Some(FormRefusal::ReadFault)));
+}
+
+/// Whether an entry is written as these bytes.
+fn is_entry(heard: &Heard, bytes: &[u8]) -> bool {
+    match write_entry(heard) {
+        Some(entry) => entry.as_slice() == bytes,
+        None => false,
+    }
+}
+
+/// How many bytes an entry has, and the byte of its peer's family.
+fn length_and_family(heard: &Heard) -> (usize, u8) {
+    match write_entry(heard) {
+        Some(entry) => (entry.len(), entry.as_slice().get(9).copied().unwrap_or(0)),
+        None => (0, 0),
+    }
+}
+
+/// A datagram that this peer sent.
+fn datagram_from(from: Peer) -> Heard {
+    Heard::Datagram {
+        from,
+        at: 40,
+        bytes: Gram::of(b"ACKN"),
+    }
+}
+
+#[test]
+fn an_entry_is_written_field_by_field(rt: HostRuntime) {
+    let ip = *b"\x7f\x00\x00\x01\x00\x00\x00\x00\x00\x00\x00\x00\x00\x00\x00\x00";
+    let four = Peer {
+        six: false,
+        ip,
+        port: 17_000,
+    };
+    let six = Peer {
+        six: true,
+        ip: [0x20; 16],
+        port: 1,
+    };
+    assert!(rt; write_trace_header() == *b"M17TRACE");
+    let acknowledged = b"\x01\x00\x00\x00\x00\x00\x00\x00\x28\x04\x7f\x00\x00\x01\x42\x68\x04ACKN";
+    assert!(rt; is_entry(&datagram_from(four), acknowledged));
+    assert!(rt; length_and_family(&datagram_from(six)) == (33, 6));
+    let quiet = Heard::Quiet { at: 0x0102 };
+    assert!(rt; is_entry(&quiet, b"\x02\x00\x00\x00\x00\x00\x00\x01\x02"));
+    assert!(rt; is_entry(&Heard::Fault, b"\x03"));
+    assert!(rt; write_entry(&Heard::End).is_none());
+}

@@ -1,0 +1,104 @@
+ghost use Rattle.std.specs.Prelude.{◌≡◌, ◌≤◌, ℕ, List, [], Some, IfErr, MatchResult};
+ghost use Rattle.m17_io.specs.Faults.{HasCauses};
+ghost use Rattle.m17_print.specs.Endings.{failed_device, Comes, Grows};
+ghost use Rattle.m17_print.specs.Line.{room};
+ghost use Rattle.m17_check.specs.Check.{legal_line, SaysCheck, PrintsCheck};
+ghost use Rattle.m17_check.specs.Judged.{reason_of, stopped_by, HasJudged, Prints};
+ghost use Rattle.m17_print.specs.declared.ending.Ending.TheVariants.{Refused};
+
+use crate::CheckReason;
+use m17_book::{Breach, FormRefusal, Report, Rule, check_book_for};
+use m17_io::{Input, Sink};
+use m17_print::{Ending, Line};
+
+/// Checks a book: reads it to its end, and writes the line of a legal one, as `legal 12 records 3 streams 9 admitted`.
+/// Nothing is written before the input was read to its end. The input is refused with the place and reason of the form of
+/// books, `Large` first of all; and a book that isn't legal with the number of its first record that breaks a rule, and
+/// that rule: `Moment`, `Member` or `Verdict`. It takes no memory. This profile.
+pub fn check<S: Input<K>, K: Sink>(input: &mut S, out: &mut K) -> Ending<CheckReason>
+    // A device is told to have failed exactly where its count of faults rose.
+    ensures causes { HasCauses (S.faults input.old, K.faults out.old)
+        (S.faults input.new, K.faults out.new) (failed_device result) }
+    // What the ending says of the input holds, and what it prints stands written.
+    ensures ended { (bytes : List ℕ) → S.left input.old ≡ Some bytes →
+        Comes SaysCheck PrintsCheck result bytes (S.left input.new)
+        (K.written out.old) (K.written out.new) }
+    ensures appended { Grows (K.written out.old) (K.written out.new) }
+{
+    match read_report(input, out) {
+        Ok(report) => print_report(&report, out),
+        Err(ending) => ending,
+    }
+}
+
+// Reads the book once the sink has handed on what it held back: its report, or how the run ended.
+fn read_report<S: Input<K>, K: Sink>(
+    input: &mut S,
+    out: &mut K,
+) -> Result<Report, Ending<CheckReason>>
+    ensures causes { HasCauses (S.faults input.old, K.faults out.old)
+        (S.faults input.new, K.faults out.new) (stopped_by result) }
+    ensures judged { (bytes : List ℕ) → S.left input.old ≡ Some bytes
+        → HasJudged result bytes (S.left input.new) }
+    ensures nothing_written { K.written out.new ≡ K.written out.old }
+{
+    let Ok(()) = out.flush() else {
+        return Err(Ending::WriteFailed);
+    };
+    match check_book_for(input, out) {
+        Ok(Ok(report)) => Ok(report),
+        Ok(Err(breach)) => Err(broken(&breach)),
+        Err(FormRefusal::Cut { at }) => Err(refused(at, CheckReason::Cut)),
+        Err(FormRefusal::Kind { at, byte }) => Err(refused(at, CheckReason::Kind(byte))),
+        Err(FormRefusal::Field { at }) => Err(refused(at, CheckReason::Field)),
+        Err(FormRefusal::Large { at }) => Err(refused(at, CheckReason::Large)),
+        Err(FormRefusal::ReadFault) => Err(Ending::ReadFailed),
+        Err(FormRefusal::NoMemory) => unreachable!(),
+    }
+}
+
+// The ending of a run whose input is refused.
+fn refused(place: u64, reason: CheckReason) -> Ending<CheckReason>
+    ensures { result ≡ Refused place reason }
+{
+    Ending::Refused { place, reason }
+}
+
+// The ending of a run whose book isn't legal.
+fn broken(breach: &Breach) -> Ending<CheckReason>
+    ensures { result ≡ Refused breach.now.position (reason_of breach.now.rule) }
+{
+    let reason = match breach.rule {
+        Rule::Moment => CheckReason::Moment,
+        Rule::Member => CheckReason::Member,
+        Rule::Verdict => CheckReason::Verdict,
+    };
+    refused(breach.position, reason)
+}
+
+// Writes the line of a legal book.
+fn print_report<K: Sink>(report: &Report, out: &mut K) -> Ending<CheckReason>
+    ensures written { Prints result (legal_line report.now)
+        (K.written out.old, K.faults out.old) (K.written out.new, K.faults out.new) }
+{
+    let mut line = Line::new();
+    make_line(report, &mut line);
+    match out.write(line.bytes()) {
+        Ok(()) => Ending::Finished,
+        Err(_) => Ending::WriteFailed,
+    }
+}
+
+// Makes the line of a legal book.
+fn make_line(report: &Report, line: &mut Line)
+    requires { line.old ≡ [] }
+    ensures { line.new ≡ legal_line report.now }
+{
+    line.push_text("legal ");
+    line.push_number(report.records);
+    line.push_text(" records ");
+    line.push_number(report.streams);
+    line.push_text(" streams ");
+    line.push_number(report.admitted);
+    line.push_text(" admitted\n");
+}

@@ -1,0 +1,2 @@
+mod RunBooks
+mod ServeBooks

@@ -1,0 +1,55 @@
+-- The books of a run whose count didn't rise are legal.
+use Rattle.std.proofs.Common.{◌≡◌, ℕ, zero, suc, ◌<◌, ◌≤◌, ◌++◌, Bool, true, false, List, [], ◌∷◌, length, Option, None, Some, sym, refl, ap, ◌∙◌, arith}
+use Rattle.std.proofs.lemmas.Option.{same_Some, none-some}
+use Rattle.m17_io.specs.Faults.{HasRisen}
+use Rattle.m17_ports.specs.Told.{told_then, StartsEmpty}
+use Rattle.m17_floor.specs.Legal.{book_places}
+use Rattle.m17_receiver.specs.Devices.{Tells}
+use Rattle.m17_worker.specs.BookLaws.{BooksAreLegal}
+use Rattle.m17_worker.specs.Written.{HasText}
+use Rattle.m17_reflect.specs.Links.{At, setup_at}
+use Rattle.m17_reflect.specs.Run.{Run}
+use Rattle.m17_reflect.specs.Trails.{events_of}
+use Rattle.m17_reflect.specs.Headline.{Headline}
+use Rattle.m17_legal_books.specs.Laws.{HaveLegalBook}
+use Rattle.std.specs.Prelude.{slice_get}
+
+module _ {A : Type 0} where
+  -- there is an item at each place below the length
+  at_below : (xs : List A) (i : ℕ) → i < length xs → (x : A) × (slice_get xs i ≡ Some x)
+  at_below [] i lt = absurd (omega arith)
+  at_below (x ∷ xs) zero lt = (x, refl)
+  at_below (x ∷ xs) (suc i) lt = at_below xs i (omega arith)
+
+  -- and an item is below the length
+  below_at : (xs : List A) (i : ℕ) (x : A) → slice_get xs i ≡ Some x → i < length xs
+  below_at [] i x e = absurd (none-some x e)
+  below_at (y ∷ xs) zero x e = omega arith
+  below_at (y ∷ xs) (suc i) x e = let less = below_at xs i x e in omega arith
+
+-- what a new book tells is all that was written to it
+told_is : (before after : Option (List ℕ)) (text bytes : List ℕ) → StartsEmpty before → after ≡ told_then before text → after ≡ Some bytes → bytes ≡ text
+told_is None after text bytes new then is = absurd (none-some bytes (sym then ∙ is))
+told_is (Some all) after text bytes new then is =
+    sym (same_Some (all ++ text) bytes (sym then ∙ is)) ∙ ap (λ (l : List ℕ). l ++ text) (new all refl)
+
+-- a book whose count didn't rise has the whole text
+whole_text : (before after : Tells ℕ) (text bytes : List ℕ) (failed : Bool) → HasText before text failed after → StartsEmpty before.0 → after.0 ≡ Some bytes
+    → ¬ HasRisen before.1 after.1 → bytes ≡ text
+whole_text before after text bytes true has new is stands = absurd (stands (has.cut refl).2)
+whole_text before after text bytes false has new is stands = told_is before.0 after.0 text bytes new (has.whole refl).0 is
+
+pub books_of_runs_are_legal : BooksAreLegal → {L : Type 0} (run : Run L) (headline : Headline run) → run.plan.places ≤ book_places → (m : ℕ) (before after : Tells ℕ) (bytes : List ℕ)
+    → At run.before.books m before → At run.after.books m after → StartsEmpty before.0 → after.0 ≡ Some bytes → ¬ HasRisen before.1 after.1 → HaveLegalBook run m bytes
+books_of_runs_are_legal legal run headline few m before after bytes at_b at_a new is stands =
+    let written = headline.carried_out.judged.written in
+    let trails = headline.carried_out.trails in
+    let inside = below_at run.after.books m after at_a in
+    let (trail, at_trail) = at_below run.handed.trails m (omega (arith, written.book_count, trails.count)) in
+    let (failed, has, told) = written.books m trail before after at_trail at_b at_a in
+    record {
+      trail = trail;
+      is_there = at_trail;
+      text = whole_text before after _ bytes failed has new is stands;
+      legal = legal (setup_at run.plan m) (events_of trail) few;
+    }

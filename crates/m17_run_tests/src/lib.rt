@@ -1,0 +1,23 @@
+//! Tests of a run of the reflector over threads, one crate for three below: how a run is wired (`m17_wiring`), how its
+//! jobs come apart and what is left is said (`m17_parting`), and whole runs with devices that wait for one another
+//! (`m17_reflect`). They name public items alone.
+//! It has no items of its own, and promises nothing: it stands apart so that the bodies below are not proved once more
+//! for their tests.
+#![tactic(auto)]
+
+#[cfg(test)]
+mod bench;
+#[cfg(test)]
+mod beside_tests;
+#[cfg(test)]
+mod made_tests;
+#[cfg(test)]
+mod meeting;
+#[cfg(test)]
+mod part_tests;
+#[cfg(test)]
+mod rest_tests;
+#[cfg(test)]
+mod run_tests;
+#[cfg(test)]
+mod wiring_tests;
