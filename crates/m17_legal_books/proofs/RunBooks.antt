@@ -1,6 +1,6 @@
 -- The books of a run whose count didn't rise are legal.
 use Rattle.std.proofs.Common.{◌≡◌, ℕ, zero, suc, ◌<◌, ◌≤◌, ◌++◌, Bool, true, false, List, [], ◌∷◌, length, Option, None, Some, sym, refl, ap, ◌∙◌, arith}
-use Rattle.std.proofs.lemmas.Option.{same_Some, none-some}
+use Rattle.std.proofs.lemmas.Option.{same_Some, none-some, slice_get_within}
 use Rattle.m17_io.specs.Faults.{HasRisen}
 use Rattle.m17_ports.specs.Told.{told_then, StartsEmpty}
 use Rattle.m17_floor.specs.Legal.{book_places}
@@ -21,12 +21,6 @@ module _ {A : Type 0} where
   at_below (x ∷ xs) zero lt = (x, refl)
   at_below (x ∷ xs) (suc i) lt = at_below xs i (omega arith)
 
-  -- and an item is below the length
-  below_at : (xs : List A) (i : ℕ) (x : A) → slice_get xs i ≡ Some x → i < length xs
-  below_at [] i x e = absurd (none-some x e)
-  below_at (y ∷ xs) zero x e = omega arith
-  below_at (y ∷ xs) (suc i) x e = let less = below_at xs i x e in omega arith
-
 -- what a new book tells is all that was written to it
 told_is : (before after : Option (List ℕ)) (text bytes : List ℕ) → StartsEmpty before → after ≡ told_then before text → after ≡ Some bytes → bytes ≡ text
 told_is None after text bytes new then is = absurd (none-some bytes (sym then ∙ is))
@@ -44,7 +38,7 @@ pub books_of_runs_are_legal : BooksAreLegal → {L : Type 0} (run : Run L) (head
 books_of_runs_are_legal legal run headline few m before after bytes at_b at_a new is stands =
     let written = headline.carried_out.judged.written in
     let trails = headline.carried_out.trails in
-    let inside = below_at run.after.books m after at_a in
+    let inside = slice_get_within run.after.books m after at_a in
     let (trail, at_trail) = at_below run.handed.trails m (omega (arith, written.book_count, trails.count)) in
     let (failed, has, told) = written.books m trail before after at_trail at_b at_a in
     record {
