@@ -1,5 +1,5 @@
 -- Jobs of one kind, with the ends of their orders, before they are started and after they are joined.
-use Rattle.std.specs.Prelude.{◌≡◌, ◌+◌, ◌≤◌, ℕ, List, [], ◌++◌, length, reverse, All}
+use Rattle.std.specs.Prelude.{◌≡◌, ◌+◌, ◌≤◌, ℕ, List, [], ◌∷◌, ◌++◌, length, reverse, All}
 use Rattle.std.specs.List.{AllZip}
 use Rattle.m17_lane.specs.Ends.{PushEnd}
 use Rattle.m17_crew.specs.declared.order.Order.{Order}
@@ -34,3 +34,8 @@ module _ {A : Type 0} where
   pub record IsUnderway (jobs left running : List A) (room : ℕ) : Type 0 where
     pub in_order : jobs ≡ left ++ reverse running
     pub enough : length left + length running ≤ room
+
+-- For proofs: an order was told to each of these ends, as the last one.
+abbrev pub AreTold : List (PushEnd Order) → Type 0
+AreTold ends = (order : Order) × (before : List (PushEnd Order))
+    × (ends ≡ push_each (λ _. order ∷ []) 0 before)

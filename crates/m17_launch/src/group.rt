@@ -5,7 +5,7 @@ ghost use Rattle.m17_io.specs.Faults.{HasCause};
 ghost use Rattle.m17_ports.specs.Ports.{next_number};
 ghost use Rattle.m17_crew.specs.Laws.{Ran};
 ghost use Rattle.m17_rows.specs.Rows.{push_each};
-ghost use Rattle.m17_launch.specs.Groups.{CanStart, IsUnderway};
+ghost use Rattle.m17_launch.specs.Groups.{AreTold, CanStart, IsUnderway};
 
 use m17_crew::{Crew, Order, Running, Work, join_all, start_all};
 use m17_lane::Pusher;
@@ -58,10 +58,19 @@ impl<W: Work> Group<W> {
         }
     }
 
-    // Waits for the jobs that run; they come back behind those that were left.
-    pub(crate) fn join<R: Threads + Wait>(&mut self, rt: &R)
-        requires { (jobs : List W) × IsUnderway jobs self.old.jobs.items self.old.running.items
-            (vec_capacity self.old.jobs) }
+    // Waits for the jobs that run; they come back behind those that were left. It is handed the other groups because the
+    // jobs of all three are to be told an order before any is waited for.
+    pub(crate) fn join<V: Work, X: Work, R: Threads + Wait>(
+        &mut self,
+        rt: &R,
+        one: &Group<V>,
+        other: &Group<X>,
+    )
+        requires underway { (jobs : List W) × IsUnderway jobs self.old.jobs.items
+            self.old.running.items (vec_capacity self.old.jobs) }
+        requires told { AreTold self.old.orders.items }
+        requires one_told { AreTold one.now.orders.items }
+        requires other_told { AreTold other.now.orders.items }
         ensures back { (jobs : List W) → jobs ≡ self.old.jobs.items ++ reverse self.old.running.items
             → AllZip (Ran W.does) jobs self.new.jobs.items }
         ensures done { (jobs : List W) → jobs ≡ self.old.jobs.items ++ reverse self.old.running.items
@@ -71,6 +80,8 @@ impl<W: Work> Group<W> {
     {
         m17_crew::laws::jobs_come_back_in_order::<W>();
         m17_crew::laws::all_jobs_come_back_done::<W>();
+        let _ = one;
+        let _ = other;
         join_all(rt, &mut self.running, &mut self.jobs);
     }
 }

@@ -54,16 +54,14 @@ pub fn launch<V: Work, W: Work, S: Work, C: Crew, R: Threads + Wait + Copy + Sen
             first.tell(rt, Order::Go);
             second.tell(rt, Order::Go);
             last.tell(rt, Order::Go);
-            first.join(rt);
-            second.join(rt);
+            first.join(rt, second, last);
+            second.join(rt, first, last);
             stop_last(rt, first, second, last);
-            last.join(rt);
+            last.join(rt, first, second);
             Ok(())
         }
         Err(Failed) => {
-            quit(rt, first);
-            quit(rt, second);
-            quit(rt, last);
+            quit(rt, first, second, last);
             Err(Failed)
         }
     }
@@ -102,16 +100,39 @@ fn start_groups<V: Work, W: Work, S: Work, C: Crew, R: Threads + Wait + Copy + S
     last.start(rt, alloc, crew)
 }
 
-// Tells the jobs of a group to quit, and joins those that run.
-fn quit<W: Work, R: Threads + Wait>(rt: &R, group: &mut Group<W>)
-    requires { (jobs : List W) × IsUnderway jobs group.old.jobs.items group.old.running.items
-        (vec_capacity group.old.jobs) }
-    ensures back { (jobs : List W) → jobs ≡ group.old.jobs.items ++ reverse group.old.running.items
-        → AllZip (Ran W.does) jobs group.new.jobs.items }
-    ensures orders { group.new.orders.items ≡ push_each (λ _. Quit ∷ []) 0 group.old.orders.items }
+// Tells the jobs of all groups to quit, and joins those that run.
+fn quit<V: Work, W: Work, S: Work, R: Threads + Wait>(
+    rt: &R,
+    first: &mut Group<V>,
+    second: &mut Group<W>,
+    last: &mut Group<S>,
+)
+    requires first { (jobs : List V) × IsUnderway jobs first.old.jobs.items first.old.running.items
+        (vec_capacity first.old.jobs) }
+    requires second { (jobs : List W) × IsUnderway jobs second.old.jobs.items
+        second.old.running.items (vec_capacity second.old.jobs) }
+    requires last { (jobs : List S) × IsUnderway jobs last.old.jobs.items last.old.running.items
+        (vec_capacity last.old.jobs) }
+    ensures first { (jobs : List V)
+        → jobs ≡ first.old.jobs.items ++ reverse first.old.running.items
+        → AllZip (Ran V.does) jobs first.new.jobs.items }
+    ensures second { (jobs : List W)
+        → jobs ≡ second.old.jobs.items ++ reverse second.old.running.items
+        → AllZip (Ran W.does) jobs second.new.jobs.items }
+    ensures last { (jobs : List S)
+        → jobs ≡ last.old.jobs.items ++ reverse last.old.running.items
+        → AllZip (Ran S.does) jobs last.new.jobs.items }
+    ensures orders { let quits = push_each (λ _. Quit ∷ []) 0 in
+        (first.new.orders.items ≡ quits first.old.orders.items)
+        × (second.new.orders.items ≡ quits second.old.orders.items)
+        × (last.new.orders.items ≡ quits last.old.orders.items) }
 {
-    group.tell(rt, Order::Quit);
-    group.join(rt);
+    first.tell(rt, Order::Quit);
+    second.tell(rt, Order::Quit);
+    last.tell(rt, Order::Quit);
+    first.join(rt, second, last);
+    second.join(rt, first, last);
+    last.join(rt, first, second);
 }
 
 // Tells the jobs of the last group to stop. It is handed the other groups because they have to be joined first.

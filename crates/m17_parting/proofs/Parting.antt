@@ -16,7 +16,7 @@ or_nothing true = refl
 or_nothing false = refl
 
 module _ {X A : Type 0} where
-  behind : (f : X → A) (before after next : List A) (xs : List X) (x : X) → after ≡ before ++ map f xs → next ≡ after ++ f x ∷ [] → next ≡ before ++ map f (xs ++ x ∷ [])
+  pub behind : (f : X → A) (before after next : List A) (xs : List X) (x : X) → after ≡ before ++ map f xs → next ≡ after ++ f x ∷ [] → next ≡ before ++ map f (xs ++ x ∷ [])
   behind f before after next xs x h e =
       e ∙ ap (λ (l : List A). l ++ f x ∷ []) h ∙ append_assoc before (map f xs) (f x ∷ [])
       ∙ ap (λ (l : List A). before ++ l) (sym (map-append f xs (x ∷ [])))
@@ -57,7 +57,6 @@ module _ {E B : Type 0} where
     doors = sym (append-nil p.doors.items);
     noted = sym (append-nil p.noted.items);
     orders = sym (append-nil p.orders.items);
-    seats = sym (append-nil p.seats.items);
     tapes = sym (append-nil p.tapes.items);
     lost = or_nothing p.lost;
     failed = or_nothing p.failed;
@@ -71,7 +70,6 @@ module _ {E B : Type 0} where
     doors = behind (λ (j : Receiver E B). j.door) p.doors.items q.doors.items r.doors.items xs x h.doors g.doors;
     noted = behind (λ (j : Receiver E B). j.notes) p.noted.items q.noted.items r.noted.items xs x h.noted g.noted;
     orders = behind (λ (j : Receiver E B). j.order) p.orders.items q.orders.items r.orders.items xs x h.orders g.orders;
-    seats = behind (λ (j : Receiver E B). j.seat) p.seats.items q.seats.items r.seats.items xs x h.seats g.seats;
     tapes = behind (λ (j : Receiver E B). j.tape) p.tapes.items q.tapes.items r.tapes.items xs x h.tapes g.tapes;
     lost = any_more (λ (j : Receiver E B). j.lost) p.lost q.lost r.lost xs x h.lost g.lost;
     failed = any_more (λ (j : Receiver E B). j.trace_failed) p.failed q.failed r.failed xs x h.failed g.failed;
@@ -85,7 +83,6 @@ module _ {E B : Type 0} where
     doors = omega (arith, h.doors);
     noted = omega (arith, h.noted);
     orders = omega (arith, h.orders);
-    seats = omega (arith, h.seats);
     tapes = omega (arith, h.tapes);
   }
 
@@ -96,7 +93,6 @@ module _ {B : Type 0} where
     inboxes = sym (append-nil p.inboxes.items);
     queues = sym (append-nil p.queues.items);
     orders = sym (append-nil p.orders.items);
-    seats = sym (append-nil p.seats.items);
     tapes = sym (append-nil p.tapes.items);
     missed = sym (append-nil p.missed.items);
     admitted = sym (append-nil p.admitted.items);
@@ -109,7 +105,6 @@ module _ {B : Type 0} where
     inboxes = behind (λ (j : Worker B). j.inbox) p.inboxes.items q.inboxes.items r.inboxes.items xs x h.inboxes g.inboxes;
     queues = behind (λ (j : Worker B). j.offers.queues) p.queues.items q.queues.items r.queues.items xs x h.queues g.queues;
     orders = behind (λ (j : Worker B). j.order) p.orders.items q.orders.items r.orders.items xs x h.orders g.orders;
-    seats = behind (λ (j : Worker B). j.seat) p.seats.items q.seats.items r.seats.items xs x h.seats g.seats;
     tapes = behind (λ (j : Worker B). j.tape) p.tapes.items q.tapes.items r.tapes.items xs x h.tapes g.tapes;
     missed = behind (λ (j : Worker B). j.offers.missed) p.missed.items q.missed.items r.missed.items xs x h.missed g.missed;
     admitted = behind (λ (j : Worker B). j.module.admitted) p.admitted.items q.admitted.items r.admitted.items xs x h.admitted g.admitted;
@@ -122,7 +117,6 @@ module _ {B : Type 0} where
     inboxes = omega (arith, h.inboxes);
     queues = omega (arith, h.queues);
     orders = omega (arith, h.orders);
-    seats = omega (arith, h.seats);
     tapes = omega (arith, h.tapes);
     missed = omega (arith, h.missed);
     admitted = omega (arith, h.admitted);

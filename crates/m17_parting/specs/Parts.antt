@@ -17,7 +17,6 @@ module _ {E B : Type 0} where
     pub doors : after.doors.items ≡ before.doors.items ++ map (λ j. j.door) js
     pub noted : after.noted.items ≡ before.noted.items ++ map (λ j. j.notes) js
     pub orders : after.orders.items ≡ before.orders.items ++ map (λ j. j.order) js
-    pub seats : after.seats.items ≡ before.seats.items ++ map (λ j. j.seat) js
     pub tapes : after.tapes.items ≡ before.tapes.items ++ map (λ j. j.tape) js
     pub lost : after.lost ≡ (before.lost || list_any (λ j. j.lost) js)
     pub failed : after.failed ≡ (before.failed || list_any (λ j. j.trace_failed) js)
@@ -31,7 +30,6 @@ module _ {E B : Type 0} where
     pub doors : vec_len parts.doors + count ≤ vec_capacity parts.doors
     pub noted : vec_len parts.noted + count ≤ vec_capacity parts.noted
     pub orders : vec_len parts.orders + count ≤ vec_capacity parts.orders
-    pub seats : vec_len parts.seats + count ≤ vec_capacity parts.seats
     pub tapes : vec_len parts.tapes + count ≤ vec_capacity parts.tapes
 
 module _ {B : Type 0} where
@@ -42,7 +40,6 @@ module _ {B : Type 0} where
     pub inboxes : after.inboxes.items ≡ before.inboxes.items ++ map (λ j. j.inbox) js
     pub queues : after.queues.items ≡ before.queues.items ++ map (λ j. j.offers.queues) js
     pub orders : after.orders.items ≡ before.orders.items ++ map (λ j. j.order) js
-    pub seats : after.seats.items ≡ before.seats.items ++ map (λ j. j.seat) js
     pub tapes : after.tapes.items ≡ before.tapes.items ++ map (λ j. j.tape) js
     pub missed : after.missed.items ≡ before.missed.items ++ map (λ j. j.offers.missed) js
     pub admitted : after.admitted.items ≡ before.admitted.items ++ map (λ j. j.module.admitted) js
@@ -55,7 +52,6 @@ module _ {B : Type 0} where
     pub inboxes : vec_len parts.inboxes + count ≤ vec_capacity parts.inboxes
     pub queues : vec_len parts.queues + count ≤ vec_capacity parts.queues
     pub orders : vec_len parts.orders + count ≤ vec_capacity parts.orders
-    pub seats : vec_len parts.seats + count ≤ vec_capacity parts.seats
     pub tapes : vec_len parts.tapes + count ≤ vec_capacity parts.tapes
     pub missed : vec_len parts.missed + count ≤ vec_capacity parts.missed
     pub admitted : vec_len parts.admitted + count ≤ vec_capacity parts.admitted

@@ -1,5 +1,5 @@
 //! What receivers are made of, taken out of them.
-ghost use Rattle.std.specs.Prelude.{◌≡◌, ℕ, ◌+◌, ◌∷◌, [], vec_len, vec_capacity};
+ghost use Rattle.std.specs.Prelude.{◌≡◌, ◌≤◌, ℕ, ◌+◌, ◌++◌, ◌∷◌, [], map, vec_len, vec_capacity};
 ghost use Rattle.m17_parting.specs.Parts.{AreReceiverParts, HasReceiverRoom};
 
 use m17_control::{Direct, Event};
@@ -10,7 +10,8 @@ use m17_receiver::Receiver;
 use m17_roll::RollSeat;
 use m17_values::Member;
 
-/// What came out of receivers, in the order of the links. Before, these are empty vectors with room. This profile.
+/// What came out of receivers but their seats, in the order of the links. Before, these are empty vectors with room. This
+/// profile.
 #[derive(Drop)]
 pub struct ReceiverParts<E, B> {
     /// The receiving half of each link.
@@ -25,8 +26,6 @@ pub struct ReceiverParts<E, B> {
     pub noted: Vec<Popper<Member>>,
     /// The ends of the orders.
     pub orders: Vec<Popper<Order>>,
-    /// The seats at the roll.
-    pub seats: Vec<RollSeat>,
     /// The verdicts of each link's first entries.
     pub tapes: Vec<Vec<Option<LinkVerdict>>>,
     /// Whether some link ended by 16 failures of its socket in a row.
@@ -35,27 +34,34 @@ pub struct ReceiverParts<E, B> {
     pub failed: bool,
 }
 
-/// Takes the receivers apart, from the first to the last: what each is made of goes behind what there is. There has to
-/// be room for it. It allocates nothing. This profile.
-pub fn part_receivers<E, B>(jobs: &mut Vec<Receiver<E, B>>, parts: &mut ReceiverParts<E, B>)
+/// Takes the receivers apart, from the first to the last: what each is made of goes behind what there is, and its seat
+/// behind the seats. There has to be room for it. It allocates nothing. This profile.
+pub fn part_receivers<E, B>(
+    jobs: &mut Vec<Receiver<E, B>>,
+    seats: &mut Vec<RollSeat>,
+    parts: &mut ReceiverParts<E, B>,
+)
     requires room { HasReceiverRoom (vec_len jobs.old) parts.old }
+    requires seat_room { vec_len seats.old + vec_len jobs.old ≤ vec_capacity seats.old }
     ensures parts { AreReceiverParts jobs.old.items parts.old parts.new }
+    ensures seats { seats.new.items ≡ seats.old.items ++ map (λ j. j.seat) jobs.old.items }
+    ensures seat_room { vec_capacity seats.new ≡ vec_capacity seats.old }
     ensures emptied { jobs.new.items ≡ [] }
-    ensures seat_room { vec_capacity parts.new.seats ≡ vec_capacity parts.old.seats }
 {
     jobs.reverse();
     while let Some(job) = jobs.pop() {
-        parts.take(job);
+        let seat = parts.take(job);
+        seats.push_reserved(seat);
     }
 }
 
 impl<E, B> ReceiverParts<E, B> {
-    // Takes one receiver apart.
-    fn take(&mut self, job: Receiver<E, B>)
+    // Takes one receiver apart, and gives its seat.
+    fn take(&mut self, job: Receiver<E, B>) -> RollSeat
         requires room { HasReceiverRoom 1 self.old }
         ensures parts { AreReceiverParts (job ∷ []) self.old self.new }
         ensures room { (n : ℕ) → HasReceiverRoom (n + 1) self.old → HasReceiverRoom n self.new }
-        ensures seat_room { vec_capacity self.new.seats ≡ vec_capacity self.old.seats }
+        ensures seat { result ≡ job.seat }
     {
         let Receiver {
             ear,
@@ -76,9 +82,9 @@ impl<E, B> ReceiverParts<E, B> {
         self.doors.push_reserved(door);
         self.noted.push_reserved(notes);
         self.orders.push_reserved(order);
-        self.seats.push_reserved(seat);
         self.tapes.push_reserved(tape);
         self.lost = self.lost || lost;
         self.failed = self.failed || trace_failed;
+        seat
     }
 }

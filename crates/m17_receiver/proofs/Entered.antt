@@ -22,7 +22,7 @@ use Rattle.m17_receiver.proofs.Positions.{unasked_is}
 use Rattle.m17_receiver.proofs.Posted.{posted_more}
 use Rattle.m17_receiver.proofs.Claimed.{claimed_more}
 use Rattle.m17_receiver.proofs.Greeted.{greeted_notes, greeted_more, gone_noted, gone_left, left_more}
-use Rattle.m17_receiver.proofs.Noted.{noted_stands}
+use Rattle.m17_receiver.proofs.Noted.{noted_left, noted_stands}
 
 -- Notes come.
 count_more : (n n' : ℕ) (notes more : List Member) → n ≡ min (length notes) (2 ^ 64 - 1) → n' ≡ min (length notes + length more) (2 ^ 64 - 1) → n' ≡ min (length (notes ++ more)) (2 ^ 64 - 1)
@@ -38,7 +38,7 @@ so_far_noted plan entries p d notes more n was is noted =
       posted = was.posted;
       claimed = was.claimed;
       greeted = greeted_notes entries p.notes more was.greeted;
-      gone = gone_noted (left_before plan.setup entries (length entries)) p.directory.departing d.departing p.notes more was.gone noted.left;
+      gone = gone_noted (left_before plan.setup entries (length entries)) p.directory.departing d.departing p.notes more was.gone (noted_left more p.directory d p.noted n noted);
       count = count_more p.noted n p.notes more was.count (noted.count (length p.notes) was.count);
     })
 
@@ -56,7 +56,7 @@ asking_noted plan entries notice p d notes more n was is noted =
       claimed = was.claimed;
       greeted = greeted_notes entries p.notes more was.greeted;
       gone = gone_noted (left_before plan.setup entries (length entries) ++ map departed_of (unclaimed_at (past_with plan.setup entries (unclaimed notice))).left)
-          p.directory.departing d.departing p.notes more was.gone noted.left;
+          p.directory.departing d.departing p.notes more was.gone (noted_left more p.directory d p.noted n noted);
       count = count_more p.noted n p.notes more was.count (noted.count (length p.notes) was.count);
     })
 

@@ -1,5 +1,5 @@
 -- For proofs alone: what a receiver stands for between two entries, and in the midst of one.
-use Rattle.std.specs.Prelude.{◌≡◌, ◌⊎◌, ℕ, Bool, true, false, ◌+◌, ◌-◌, ◌<◌, ◌^◌, min, List, [], ◌∷◌, ◌++◌, length, map, Contains, Option, None, Some, IfSome, vec_capacity}
+use Rattle.std.specs.Prelude.{◌≡◌, ◌⊎◌, ℕ, Bool, true, false, ◌+◌, ◌-◌, ◌<◌, ◌^◌, min, List, [], ◌∷◌, ◌++◌, length, map, not, filter, Contains, Option, None, Some, IfSome, vec_capacity}
 use Rattle.std.specs.List.{filter_map, list_any}
 use Rattle.std.specs.Option.{option_to_list}
 use Rattle.m17_values.specs.declared.heard.Heard.{Heard}
@@ -20,7 +20,7 @@ use Rattle.m17_directory.specs.Entries.{Notice, Entry, Setup, SaysEach, ends_at}
 use Rattle.m17_directory.specs.Known.{Past}
 use Rattle.m17_directory.specs.Outcome.{has_place}
 use Rattle.m17_directory.specs.Routed.{past_at, unclaimed_at, others_at, event_for, link_verdict}
-use Rattle.m17_directory.specs.StandsFor.{Kept, StandsFor, must_wait, unclaimed, departed_of}
+use Rattle.m17_directory.specs.StandsFor.{Kept, StandsFor, is_member, must_wait, unclaimed, departed_of}
 use Rattle.m17_directory.specs.Laws.{LaterEntriesChangeNothing, OneEntryMore, EntriesBeforeDecide, ClaimsCompleteAskers, DoorCarriesReplies, EndedWhereItEnds, AskersJoinOrAreFull, PeersComeAndGo, PeersAreToldApart, direct_of, left_before}
 use Rattle.m17_receiver.specs.Posting.{Outlets, letter_at, posted_to, AreSameOutlets}
 use Rattle.m17_receiver.specs.declared.receiver.Receiver.{Receiver}
@@ -49,11 +49,15 @@ posting modules posts before = record {
   door = pushes before.door (filter_map direct_of posts);
 }
 
--- The directory was told of these notes, and they were counted: nobody else's leaving was noted.
+-- the departing but those whose leaving these notes report
+abbrev pub without_noted : List Member → List Departed → List Departed
+without_noted notes departing =
+    filter (λ d. not (list_any (λ m. is_member m d) notes)) departing
+
+-- The directory was told of each of these notes and of nothing else, and they were counted.
 pub record HasNoted (notes : List Member) (before after : Kept × ℕ) : Type 0 where
-  pub same : after.0 ≡ record before.0 { departing = after.0.departing }
-  pub left : (d : Departed) → Contains before.0.departing d →
-      Contains after.0.departing d ⊎ Contains notes d.member
+  pub same : after.0
+      ≡ record before.0 { departing = without_noted notes before.0.departing }
   pub waits : must_wait before.0 ≡ false → must_wait after.0 ≡ false
   pub count : (n : ℕ) → before.1 ≡ min n (2 ^ 64 - 1) →
       after.1 ≡ min (n + length notes) (2 ^ 64 - 1)

@@ -1,6 +1,7 @@
 -- The places of a run: each that a link claimed is free again when the receivers and workers have come back and the roll is closed.
 use Rattle.std.proofs.Common.{◌≡◌, ℕ, List, ◌++◌, map, length, Some}
 use Rattle.std.specs.Prelude.{slice_get, All}
+use Rattle.std.specs.List.{AllByRecursion}
 use Rattle.m17_control.specs.declared.event.Event.{Event}
 use Rattle.m17_lane.specs.Ends.{TrailEnd}
 use Rattle.m17_directory.specs.Laws.{JoinsOfAllModules, EachClaimJoins}
@@ -19,11 +20,14 @@ use Rattle.m17_reflect.specs.Trails.{events_of, AreTrails}
 use Rattle.m17_reflect.specs.Places.{ArePlacesBack}
 use Rattle.m17_wiring.specs.Jobs.{AreReceivers}
 use Rattle.m17_reflect.proofs.Came.{Came}
-use Rattle.m17_reflect.proofs.Gave.{worker_seat, gifts_given, of_link}
+use Rattle.m17_reflect.proofs.Gave.{worker_seat, GaveNone, gifts_given, given_is_gift, of_link}
 use Rattle.m17_reflect.proofs.GivenBack as back
+use Rattle.m17_reflect.proofs.GivenBack.{AreSettled}
 use Rattle.m17_reflect.proofs.Joining.{joins_are_claims}
 use Rattle.m17_reflect.proofs.Modules.{HaveWorked}
 use Rattle.m17_reflect.proofs.Seats.{seat_of, IsRollOf, roll_claims}
+use Rattle.m17_reflect.proofs.Stays as stays
+use Rattle.m17_reflect.proofs.Stays.{nobody_is_replaced}
 use Rattle.m17_reflect.proofs.Together.{AllZip3}
 
 -- The roll is that of these receivers' and workers' seats, and what they gave back and how they claimed is known.
@@ -38,6 +42,7 @@ pub record IsClosed {E B : Type 0} (plan : Plan) (ks : List (Receiver E B)) (vs 
 -- The laws that this rests on.
 pub record Laws : Type 0 where
   pub settled : back.Laws
+  pub stays : stays.Laws
   pub joins : JoinsOfAllModules
   pub each : EachClaimJoins
 
@@ -45,10 +50,10 @@ module _ {E B : Type 0} where
   pub all_places : Laws → (words : devices.Words E B) (own : Words B) (plan : Plan) (js ks : List (Receiver E B)) (ws vs : List (Worker B)) (links : List Link) (trails : List (TrailEnd Event)) (roll : EndView)
       → AreReceivers plan js → AllZip3 (Came words) js ks links → HaveWorked own plan (length links) ws vs
       → ((m : ℕ) (j k : Worker B) (t : TrailEnd Event) → slice_get ws m ≡ Some j → slice_get vs m ≡ Some k → At trails m t → HasServed own (events_of t) j k)
-      → AreTrails plan links trails → IsClosed plan ks vs roll → ArePlacesBack plan.places trails roll
-  all_places laws words own plan js ks ws vs links trails roll receivers came worked did are closed =
+      → AreTrails plan links trails → AllByRecursion GaveNone (map worker_seat ws) → IsClosed plan ks vs roll → ArePlacesBack plan.places trails roll
+  all_places laws words own plan js ks ws vs links trails roll receivers came worked did are new closed =
       let each = of_link words plan js ks links (map worker_seat vs) receivers came closed.rises in
-      back.places_back laws.settled plan links trails roll (record {
+      let h : AreSettled plan links trails roll = record {
         count = closed.places;
         run = closed.run;
         claims = roll_claims words js ks links (map worker_seat vs) roll came closed.of_seats;
@@ -56,4 +61,7 @@ module _ {E B : Type 0} where
         trails_are = are;
         links_are = each;
         gifts_are = gifts_given own plan (length links) ws vs trails (map seat_of ks) roll worked did are.count closed.given;
-      })
+      } in
+      back.places_back laws.settled plan links trails roll h
+      (nobody_is_replaced laws.stays laws.settled plan links trails roll h
+      (given_is_gift words own plan links js ks ws vs trails roll came worked did are.count new closed.given))

@@ -44,7 +44,7 @@ module _ {A B : Type 0} where
   flat_all P f (x ∷ xs) h = append_all P (f x) (flat_map f xs) (h x) (flat_all P f xs h)
 
 -- the items that a module gives are at its places
-given_placed : ItemsAreAtPlaces → (setup : module_items.Setup) (events : List Event) → AllByRecursion (λ (item : Item). item.member.place < setup.places) (items_given setup events)
+pub given_placed : ItemsAreAtPlaces → (setup : module_items.Setup) (events : List Event) → AllByRecursion (λ (item : Item). item.member.place < setup.places) (items_given setup events)
 unfolding items_given
 given_placed law setup events =
     flat_all (λ (item : Item). item.member.place < setup.places) (items_at setup events) (range_with_len 0 (length events))

@@ -1,123 +1,125 @@
--- The jobs of a run as the calls hand them on: wired, launched, told to go, and joined.
-use Rattle.std.proofs.Common.{◌≡◌, List, [], ◌∷◌, map, length, subst}
+-- The jobs of a run as the calls hand them on: wired, launched, told to go, joined, and taken apart.
+use Rattle.std.proofs.Common.{◌≡◌, List, [], ◌∷◌, map, length, sym, subst, ◌∙◌}
 use Rattle.std.specs.List.{AllZip}
+use Rattle.std.proofs.lemmas.List.{length-map}
 use Rattle.m17_crew.specs.declared.order.Order.{Order}
 use Rattle.m17_crew.specs.declared.order.Order.TheVariants.{Go, Stop}
-use Rattle.m17_lane.specs.Ends.{PushEnd, TrailEnd}
-use Rattle.m17_grid.specs.Trails.{AreTrailsOfOnes}
-use Rattle.m17_launch.specs.Groups.{staff, WereTold}
+use Rattle.m17_crew.specs.Laws.{Ran}
+use Rattle.m17_rows.specs.Laws.{RowsPush}
+use Rattle.m17_launch.specs.Groups.{Staff, WereTold}
 use Rattle.m17_receiver.specs.declared.receiver.Receiver.{Receiver}
 use Rattle.m17_receiver.specs.ReceiverDid.{ReceiverDid}
 use Rattle.m17_worker.specs.declared.worker.Worker.{Worker}
 use Rattle.m17_worker.specs.WorkerDid.{WorkerDid}
 use Rattle.m17_sender.specs.declared.sender.Sender.{Sender}
+use Rattle.m17_sender.specs.Places.{cells_of}
 use Rattle.m17_sender.specs.Ready.{IsShaped}
 use Rattle.m17_sender.specs.Sent.{SenderDid}
 use Rattle.m17_wiring.specs.Ends.{IsNewLine}
 use Rattle.m17_wiring.specs.Jobs.{AreJobs}
-use Rattle.m17_parting.specs.Rows.{AreOfOnes}
+use Rattle.m17_wiring.specs.Planned.{module_count}
+use Rattle.m17_wiring.specs.declared.rooms.TrailRooms.{TrailRooms}
 use Rattle.m17_house.specs.declared.plan.Plan.{Plan}
 use Rattle.m17_reflect.specs.Views.{Words}
-use Rattle.m17_reflect.specs.declared.parted.Links.{Links}
-use Rattle.m17_reflect.specs.declared.parted.Modules.{Modules}
-use Rattle.m17_reflect.specs.declared.parted.Voice.{Voice}
-use Rattle.m17_reflect.specs.Parted.{AreOfReceivers, AreOfWorkers, IsOfSender}
+use Rattle.m17_reflect.specs.declared.parted.Parted.{Parted}
+use Rattle.m17_reflect.specs.Parted.{CanPart, IsOfSender, IsParted}
 use Rattle.m17_reflect.proofs.Assembled.{ear_words, book_words}
-use Rattle.m17_reflect.proofs.Gathering.{Apart}
+use Rattle.m17_reflect.proofs.CameBack.{HaveGone}
 use Rattle.m17_reflect.proofs.Gone as gone
-use Rattle.m17_reflect.proofs.Gone.{receiver_order, worker_order, all_worked, zip_from}
-use Rattle.m17_reflect.proofs.Launched.{told_ones, told_came, told_long, went_keeps, one_job}
+use Rattle.m17_reflect.proofs.Gone.{receiver_order, worker_order, all_worked}
+use Rattle.m17_reflect.proofs.Launched.{told_ones, told_came, told_long}
 use Rattle.m17_reflect.proofs.Lines.{sender_order, receiver_keeps, worker_keeps, sender_keeps, sender_went}
+use Rattle.m17_reflect.proofs.Modules.{inbox_of}
 use Rattle.m17_reflect.proofs.Orders.{OrdersCame}
 
--- The jobs before and after, the ends of their orders, and the one sender.
+-- The three groups of jobs before and after, the one sender, and the one that came back.
 pub record Cast (E M B : Type 0) : Type 0 where
-  pub js : List (Receiver E B)
-  pub ks : List (Receiver E B)
-  pub ws : List (Worker B)
-  pub vs : List (Worker B)
-  pub ss : List (Sender M)
-  pub ts : List (Sender M)
+  pub r : Staff (Receiver E B)
+  pub r' : Staff (Receiver E B)
+  pub w : Staff (Worker B)
+  pub w' : Staff (Worker B)
+  pub v : Staff (Sender M)
+  pub v' : Staff (Sender M)
   pub s : Sender M
-  pub lr : List (PushEnd Order)
-  pub lr' : List (PushEnd Order)
-  pub lw : List (PushEnd Order)
-  pub lw' : List (PushEnd Order)
-  pub ls : List (PushEnd Order)
-  pub ls' : List (PushEnd Order)
+  pub t : Sender M
 
--- They were wired by the plan, and went.
-pub record Raw {E M B L : Type 0} (words : Words E M B L) (plan : Plan) (k : Cast E M B) : Type 0 where
-  pub one : k.ss ≡ k.s ∷ []
-  pub jobs : AreJobs plan (length k.js) k.js k.ws k.s
+-- They were wired by the plan and launched: each was told something, and went or only quit.
+pub record Wired {E M B L : Type 0} (words : Words E M B L) (plan : Plan) (k : Cast E M B) : Type 0 where
+  pub one : k.v.jobs ≡ k.s ∷ []
+  pub two : k.v'.jobs ≡ k.t ∷ []
+  pub jobs : AreJobs plan (length k.r.jobs) k.r.jobs k.w.jobs k.s
   pub shaped : IsShaped k.s
-  pub new_r : IsNewLine 2 k.lr (map receiver_order k.js)
-  pub new_w : IsNewLine 2 k.lw (map worker_order k.ws)
-  pub new_s : IsNewLine 2 k.ls (map sender_order k.ss)
-  pub told_r : WereTold (ReceiverDid (ear_words words)) (Go ∷ []) (staff k.js k.lr) (staff k.ks k.lr')
-  pub told_w : WereTold (WorkerDid (book_words words)) (Go ∷ []) (staff k.ws k.lw) (staff k.vs k.lw')
-  pub told_s : WereTold (SenderDid words.told) (Go ∷ Stop ∷ []) (staff k.ss k.ls) (staff k.ts k.ls')
+  pub new_r : IsNewLine 2 k.r.orders (map receiver_order k.r.jobs)
+  pub new_w : IsNewLine 2 k.w.orders (map worker_order k.w.jobs)
+  pub new_s : IsNewLine 2 k.v.orders (map sender_order k.v.jobs)
+  pub ran_r : (told : List Order) × WereTold (Ran (ReceiverDid (ear_words words))) told k.r k.r'
+  pub ran_w : (told : List Order) × WereTold (Ran (WorkerDid (book_words words))) told k.w k.w'
+  pub ran_s : (told : List Order) × WereTold (Ran (SenderDid words.told)) told k.v k.v'
 
--- .. and the lanes of their orders are finished.
-pub record Finished {E M B : Type 0} (k : Cast E M B) : Type 0 where
-  pub r : (trails : List (TrailEnd Order)) × AreTrailsOfOnes k.lr' (map receiver_order k.ks) trails
-  pub w : (trails : List (TrailEnd Order)) × AreTrailsOfOnes k.lw' (map worker_order k.vs) trails
-  pub s : (trails : List (TrailEnd Order)) × AreTrailsOfOnes k.ls' (map sender_order k.ts) trails
+-- They went.
+pub record Went {E M B L : Type 0} (words : Words E M B L) (k : Cast E M B) : Type 0 where
+  pub r : WereTold (ReceiverDid (ear_words words)) (Go ∷ []) k.r k.r'
+  pub w : WereTold (WorkerDid (book_words words)) (Go ∷ []) k.w k.w'
+  pub s : WereTold (SenderDid words.told) (Go ∷ Stop ∷ []) k.v k.v'
+
+module _ {E M B L : Type 0} (words : Words E M B L) (plan : Plan) (k : Cast E M B) (h : Wired words plan k) where
+  -- as many came back
+  pub long_r : length k.r'.jobs ≡ length k.r.jobs
+  long_r = told_long (Ran (ReceiverDid (ear_words words))) h.ran_r.0 k.r k.r' h.ran_r.1
+
+  pub long_w : length k.w'.jobs ≡ module_count plan
+  long_w =
+      told_long (Ran (WorkerDid (book_words words))) h.ran_w.0 k.w k.w' h.ran_w.1
+      ∙ sym (length-map k.w.jobs inbox_of) ∙ h.jobs.laid.inbox_count
+
+  -- they can be taken apart
+  pub can_part : RowsPush Order → CanPart k.r' k.w' k.v'
+  can_part law = record {
+    one = (k.t, h.two);
+    to_receivers = told_ones law receiver_order (Ran (ReceiverDid (ear_words words))) (receiver_keeps (ear_words words)) h.ran_r.0 k.r k.r' h.new_r h.ran_r.1;
+    to_workers = told_ones law worker_order (Ran (WorkerDid (book_words words))) (worker_keeps (book_words words)) h.ran_w.0 k.w k.w' h.new_w h.ran_w.1;
+    to_sender = told_ones law sender_order (Ran (SenderDid words.told)) (sender_keeps words.told) h.ran_s.0 k.v k.v' h.new_s h.ran_s.1;
+  }
+
+-- They went, and were taken apart into this.
+pub record Done {E M B L : Type 0} (words : Words E M B L) (plan : Plan) (k : Cast E M B) (rooms : TrailRooms)
+    (p : Parted E M B) : Type 0 where
+  pub wired : Wired words plan k
+  pub went : Went words k
+  pub parted : IsParted k.r' k.w' k.v' rooms p
+  pub of_sender : IsOfSender k.t p.voice
+  pub to_receivers : OrdersCame receiver_order (Go ∷ []) k.r.jobs k.r'.jobs k.r.orders
+  pub to_workers : OrdersCame worker_order (Go ∷ []) k.w.jobs k.w'.jobs k.w.orders
+  pub to_sender : OrdersCame sender_order (Go ∷ Stop ∷ []) (k.s ∷ []) (k.t ∷ []) k.v.orders
+  pub did : SenderDid words.told k.s k.t
+  pub gone : HaveGone (ear_words words) (book_words words) k.r.jobs k.r'.jobs k.w.jobs k.w'.jobs k.s k.t
+  pub same_cells : map length (cells_of k.t) ≡ map length (cells_of k.s)
 
 module _ {E M B L : Type 0} where
-  pub receiver_ones : gone.Laws → (words : Words E M B L) (plan : Plan) (k : Cast E M B) → Raw words plan k → AreOfOnes k.lr' (map receiver_order k.ks)
-  receiver_ones laws words plan k h =
-      told_ones laws.rows receiver_order (ReceiverDid (ear_words words))
-      (went_keeps receiver_order (ReceiverDid (ear_words words)) (ReceiverDid (ear_words words)) (receiver_keeps (ear_words words)) (λ a b d. d))
-      (Go ∷ []) (staff k.js k.lr) (staff k.ks k.lr') h.new_r h.told_r
-
-  pub worker_ones : gone.Laws → (words : Words E M B L) (plan : Plan) (k : Cast E M B) → Raw words plan k → AreOfOnes k.lw' (map worker_order k.vs)
-  worker_ones laws words plan k h =
-      told_ones laws.rows worker_order (WorkerDid (book_words words))
-      (went_keeps worker_order (WorkerDid (book_words words)) (WorkerDid (book_words words)) (worker_keeps (book_words words)) (λ a b d. d))
-      (Go ∷ []) (staff k.ws k.lw) (staff k.vs k.lw') h.new_w h.told_w
-
-  pub sender_ones : gone.Laws → (words : Words E M B L) (plan : Plan) (k : Cast E M B) → Raw words plan k → AreOfOnes k.ls' (map sender_order k.ts)
-  sender_ones laws words plan k h =
-      told_ones laws.rows sender_order (SenderDid words.told)
-      (went_keeps sender_order (SenderDid words.told) (SenderDid words.told) (sender_keeps words.told) (λ a b d. d))
-      (Go ∷ Stop ∷ []) (staff k.ss k.ls) (staff k.ts k.ls') h.new_s h.told_s
-
-  pub the_one : (words : Words E M B L) (plan : Plan) (k : Cast E M B) → Raw words plan k → (t : Sender M) × (k.ts ≡ t ∷ [])
-  the_one words plan k h = one_job k.ss k.ts k.s h.one (told_long (SenderDid words.told) (Go ∷ Stop ∷ []) (staff k.ss k.ls) (staff k.ts k.ls') h.told_s)
-
--- What came of the orders, with the sender that came back.
-pub record Back {E M B L : Type 0} (words : Words E M B L) (k : Cast E M B) (t : Sender M) : Type 0 where
-  pub to_receivers : OrdersCame receiver_order (Go ∷ []) k.js k.ks k.lr
-  pub to_workers : OrdersCame worker_order (Go ∷ []) k.ws k.vs k.lw
-  pub to_sender : OrdersCame sender_order (Go ∷ Stop ∷ []) (k.s ∷ []) (t ∷ []) k.ls
-  pub did : SenderDid words.told k.s t
-
-module _ {E M B L : Type 0} where
-  pub came_back : (words : Words E M B L) (plan : Plan) (k : Cast E M B) (t : Sender M) → Raw words plan k → k.ts ≡ t ∷ [] → Finished k → Back words k t
-  came_back words plan k t h two f =
-      let came = told_came sender_order (SenderDid words.told) (Go ∷ Stop ∷ []) (staff k.ss k.ls) (staff k.ts k.ls') h.new_s h.told_s f.s in record {
-        to_receivers = told_came receiver_order (ReceiverDid (ear_words words)) (Go ∷ []) (staff k.js k.lr) (staff k.ks k.lr') h.new_r h.told_r f.r;
-        to_workers = told_came worker_order (WorkerDid (book_words words)) (Go ∷ []) (staff k.ws k.lw) (staff k.vs k.lw') h.new_w h.told_w f.w;
-        to_sender = subst (λ ss. OrdersCame sender_order (Go ∷ Stop ∷ []) ss (t ∷ []) k.ls) h.one
-            (subst (λ ts. OrdersCame sender_order (Go ∷ Stop ∷ []) k.ss ts k.ls) two came);
-        did = (subst (λ ss. AllZip (SenderDid words.told) ss (t ∷ [])) h.one
-            (subst (λ ts. AllZip (SenderDid words.told) k.ss ts) two h.told_s.jobs)).0;
-      }
-
-  -- the jobs that went, taken apart
-  pub apart : (laws : gone.Laws) (words : Words E M B L) (plan : Plan) (k : Cast E M B) (t : Sender M) (links : Links E B) (modules : Modules B) (voice : Voice M) → Raw words plan k → Back words k t → AreOfReceivers k.ks links → AreOfWorkers k.vs modules → IsOfSender t voice → Apart (ear_words words) (book_words words) k.js k.ks k.ws k.vs k.s t links modules voice
-  apart laws words plan k t links modules voice h b r w v =
-      let sent = sender_went laws words.told (Stop ∷ []) k.s t k.ls b.to_sender b.did in record {
+  pub done : (laws : gone.Laws) (words : Words E M B L) (plan : Plan) (k : Cast E M B) (rooms : TrailRooms) (p : Parted E M B) → Wired words plan k → Went words k → IsParted k.r' k.w' k.v' rooms p → Done words plan k rooms p
+  done laws words plan k rooms p h g f =
+      let came : OrdersCame sender_order (Go ∷ Stop ∷ []) (k.s ∷ []) (k.t ∷ []) k.v.orders =
+      subst (λ ss. OrdersCame sender_order (Go ∷ Stop ∷ []) ss (k.t ∷ []) k.v.orders) h.one
+      (subst (λ ts. OrdersCame sender_order (Go ∷ Stop ∷ []) k.v.jobs ts k.v.orders) h.two
+      (told_came sender_order (SenderDid words.told) (Go ∷ Stop ∷ []) k.v k.v' p.trails.to_sender.items h.new_s g.s f.to_sender)) in
+      let did : SenderDid words.told k.s k.t =
+      (subst (λ ss. AllZip (SenderDid words.told) ss (k.t ∷ [])) h.one
+      (subst (λ ts. AllZip (SenderDid words.told) k.v.jobs ts) h.two g.s.jobs)).0 in
+      let workers = told_came worker_order (WorkerDid (book_words words)) (Go ∷ []) k.w k.w' p.trails.to_workers.items h.new_w g.w f.to_workers in
+      let sent = sender_went laws words.told (Stop ∷ []) k.s k.t k.v.orders came did in record {
+        wired = h;
+        went = g;
+        parted = f;
+        of_sender = f.voice k.t h.two;
+        to_receivers = told_came receiver_order (ReceiverDid (ear_words words)) (Go ∷ []) k.r k.r' p.trails.to_receivers.items h.new_r g.r f.to_receivers;
+        to_workers = workers;
+        to_sender = came;
+        did = did;
         gone = record {
-          received = h.told_r.jobs;
-          worked = all_worked (book_words words) laws k.ws k.vs k.lw h.told_w.jobs b.to_workers;
+          received = g.r.jobs;
+          worked = all_worked (book_words words) laws k.w.jobs k.w'.jobs k.w.orders g.w.jobs workers;
           acts = sent.acts;
           sent = sent.lanes;
         };
-        shaped = h.shaped;
         same_cells = sent.same_cells;
-        of_receivers = r;
-        of_workers = w;
-        of_sender = v;
       }

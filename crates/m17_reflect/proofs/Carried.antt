@@ -45,11 +45,11 @@ weaker : (P Q : Item → Type 0) → ((item : Item) → P item → Q item) → (
 weaker P Q f [] h = tt
 weaker P Q f (item ∷ items) h = (f item h.0, weaker P Q f items h.1)
 
-each_try : (P : Try → Type 0) (tries : List Try) → ((n : ℕ) (t : Try) → slice_get tries n ≡ Some t → P t) → AllByRecursion P tries
+pub each_try : (P : Try → Type 0) (tries : List Try) → ((n : ℕ) (t : Try) → slice_get tries n ≡ Some t → P t) → AllByRecursion P tries
 each_try P [] h = tt
 each_try P (t ∷ tries) h = (h 0 t refl, each_try P tries (λ n u e. h (suc n) u e))
 
-hello_stays : (body : Said) → may_be_missed body ≡ true → IsHello body → ⊥
+pub hello_stays : (body : Said) → may_be_missed body ≡ true → IsHello body → ⊥
 hello_stays body missed (n, is) = let wrong : false ≡ true = sym (ap may_be_missed is) ∙ missed in cc
 
 -- The laws that this rests on.

@@ -1,6 +1,7 @@
--- What the seats of a run's workers and receivers say of the closed roll: what was given back, and in what order a link claimed.
-use Rattle.std.proofs.Common.{◌≡◌, ℕ, zero, suc, List, [], ◌∷◌, ◌++◌, map, length, Some, sym, subst, ◌∙◌, arith}
-use Rattle.std.specs.Prelude.{slice_get, Contains, All}
+-- What the seats of a run's workers and receivers say of the closed roll: what was given back and by which module, and in
+-- what order a link claimed.
+use Rattle.std.proofs.Common.{◌≡◌, ℕ, zero, suc, List, [], ◌∷◌, ◌++◌, map, length, Some, inl, inr, sym, subst, refl, ap, ◌∙◌, arith}
+use Rattle.std.specs.Prelude.{◌⊎◌, slice_get, Contains, All}
 use Rattle.std.specs.List.{AllByRecursion, AllZip}
 use Rattle.std.proofs.lemmas.Option.{same_Some, none-some}
 use Rattle.std.proofs.lemmas.List.Elements.{recursion_from_All}
@@ -30,7 +31,8 @@ use Rattle.m17_reflect.proofs.Modules.{HaveWorked, worker_count}
 use Rattle.m17_reflect.proofs.Patient.{contains_front, contains_back}
 use Rattle.m17_reflect.proofs.Routes.{at_below, below_at}
 use Rattle.m17_reflect.proofs.Seats.{seat_of}
-use Rattle.m17_reflect.proofs.Together.{AllZip3, zip3_at, zip3_length, mapped_at}
+use Rattle.m17_reflect.proofs.Standing.{IsIn, contained, stands, either_in}
+use Rattle.m17_reflect.proofs.Together.{AllZip3, zip3_at, zip3_length, mapped_at, unmapped}
 
 abbrev pub worker_seat : {B : Type 0} → Worker B → RollView
 worker_seat k = k.seat
@@ -72,6 +74,72 @@ module _ {B : Type 0} where
       subst (λ (ms : List Member). Contains ms who) (sym gave) (contains_back j.seat.given (gifts j.module.setup (events_of t)) who mine) in
       subst (λ (ms : List Member). Contains ms who) (sym given)
       (gift_behind front (map worker_seat ks) who (seat_gift (map worker_seat ks) m k.seat who (mapped_at worker_seat ks m k at_k) here))
+
+-- the seat gave nothing back
+abbrev pub GaveNone : RollView → Type 0
+GaveNone s = s.given ≡ []
+
+-- behind seats that gave nothing back
+none_in_front : (front seats : List RollView) → AllByRecursion GaveNone front → gifts_of (front ++ seats) ≡ gifts_of seats
+none_in_front [] seats h = refl
+none_in_front (x ∷ front) seats h =
+    ap (λ (l : List Member). l ++ gifts_of (front ++ seats)) h.0 ∙ none_in_front front seats h.1
+
+-- the seat that gave the member back
+abbrev IsOfSeat : List RollView → Member → Type 0
+IsOfSeat seats k = (m : ℕ) × (s : RollView) × (slice_get seats m ≡ Some s) × IsIn s.given k
+
+seat_step : (x : RollView) (seats : List RollView) (k : Member) → IsIn x.given k ⊎ IsIn (gifts_of seats) k → (IsIn (gifts_of seats) k → IsOfSeat seats k) → IsOfSeat (x ∷ seats) k
+seat_step x seats k (inl h) later = (0, x, refl, h)
+seat_step x seats k (inr h) later = let (m, s, at, its) = later h in (suc m, s, at, its)
+
+of_seat : (seats : List RollView) (k : Member) → IsIn (gifts_of seats) k → IsOfSeat seats k
+of_seat [] k h = absurd (none-some k h.1)
+of_seat (x ∷ seats) k h = seat_step x seats k (either_in x.given (gifts_of seats) k h.0 h.1) (of_seat seats k)
+
+-- The module whose events give the member back.
+pub record IsGift (plan : Plan) (trails : List (TrailEnd Event)) (k : Member) : Type 0 where
+  pub m : ℕ
+  pub trail : TrailEnd Event
+  pub there : At trails m trail
+  pub its : Contains (gifts (setup_at plan m) (events_of trail)) k
+
+-- a worker that had given nothing back gives back what its module's events do
+worker_gave : {B : Type 0} (own : Words B) (plan : Plan) (m : ℕ) (j k : Worker B) (events : List Event) → j.module.setup ≡ setup_at plan m → HasServed own events j k → j.seat.given ≡ [] → k.seat.given ≡ gifts (setup_at plan m) events
+worker_gave own plan m j k events made did none =
+    did.gave_back.lists.1 ∙ ap (λ (l : List Member). l ++ gifts j.module.setup events) none
+    ∙ ap (λ (v : module_items.Setup). gifts v events) made
+
+module _ {E B : Type 0} where
+  -- receivers give nothing back
+  links_gave_none : (words : devices.Words E B) (js ks : List (Receiver E B)) (links : List Link) → AllZip3 (Came words) js ks links → AllByRecursion GaveNone (map seat_of ks)
+  links_gave_none words [] [] [] h = tt
+  links_gave_none words [] [] (z ∷ zs) h = absurd h
+  links_gave_none words [] (y ∷ ys) zs h = absurd h
+  links_gave_none words (x ∷ xs) [] zs h = absurd h
+  links_gave_none words (x ∷ xs) (y ∷ ys) [] h = absurd h
+  links_gave_none words (x ∷ xs) (y ∷ ys) (z ∷ zs) h = (h.0.claimed.given, links_gave_none words xs ys zs h.1)
+
+  -- Who was given back is given back by the events of some module.
+  pub given_is_gift : (words : devices.Words E B) (own : Words B) (plan : Plan) (links : List Link) (rs cs : List (Receiver E B)) (js ks : List (Worker B)) (trails : List (TrailEnd Event)) (roll : EndView) → AllZip3 (Came words) rs cs links → HaveWorked own plan (length links) js ks
+      → ((m : ℕ) (j k : Worker B) (t : TrailEnd Event) → slice_get js m ≡ Some j → slice_get ks m ≡ Some k → At trails m t → HasServed own (events_of t) j k) → length trails ≡ module_count plan → AllByRecursion GaveNone (map worker_seat js) → roll.given ≡ gifts_of (map seat_of cs ++ map worker_seat ks)
+      → (who : Member) → Contains roll.given who → IsGift plan trails who
+  given_is_gift words own plan links rs cs js ks trails roll came h did count new given who gave =
+      let all : roll.given ≡ gifts_of (map worker_seat ks) =
+      given ∙ none_in_front (map seat_of cs) (map worker_seat ks) (links_gave_none words rs cs links came) in
+      let (m, s, at_s, its) = of_seat (map worker_seat ks) who (stands (gifts_of (map worker_seat ks)) who (subst (λ (ms : List Member). Contains ms who) all gave)) in
+      let (k, at_k, is_s) = unmapped worker_seat ks m s at_s in
+      let inside = below_at ks m k at_k in
+      let many = worker_count own plan (length links) js ks h in
+      let (j, at_j) = at_below js m (omega (arith, many, h.count)) in
+      let (t, at_t) = at_below trails m (omega (arith, many, count)) in
+      let none : j.seat.given ≡ [] = all_at GaveNone (map worker_seat js) new m j.seat (mapped_at worker_seat js m j at_j) in
+      let mine : Contains k.seat.given who = subst (λ (v : RollView). Contains v.given who) (sym is_s) (contained s.given who its) in record {
+        m = m;
+        trail = t;
+        there = at_t;
+        its = subst (λ (ms : List Member). Contains ms who) (worker_gave own plan m j k (events_of t) (h.are m j at_j).setup (did m j k t at_j at_k at_t) none) mine;
+      }
 
 -- What is known of each link.
 pub record OfLink (plan : Plan) (i : ℕ) (link : Link) : Type 0 where

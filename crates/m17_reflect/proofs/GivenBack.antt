@@ -34,7 +34,7 @@ use Rattle.m17_worker.specs.Gifts.{why_left, left_by, is_replaced, leaves_replac
 use Rattle.m17_house.specs.declared.plan.Plan.{Plan}
 use Rattle.m17_reflect.specs.Links.{Link, At, link_setup, letter_of, setup_at, routes, route_of}
 use Rattle.m17_reflect.specs.Trails.{events_of, AreTrails}
-use Rattle.m17_reflect.specs.Places.{AreSame, joiners, ArePlacesBack}
+use Rattle.m17_reflect.specs.Places.{AreSame, joiners, NobodyIsReplaced, ArePlacesBack}
 use Rattle.m17_reflect.proofs.Came.{all_at}
 use Rattle.m17_reflect.proofs.Differ.{pairs_head, pairs_tail, claim_in}
 use Rattle.m17_reflect.proofs.Found.{contains_at, sum_at, sum_two, heavy, flat_at, filter_map_at, range_at, picked_has, picked_order, first}
@@ -112,10 +112,10 @@ joins_from [] k i e = absurd cc
 joins_from (x ∷ events) k zero e = (x, refl, join_body k x.body e)
 joins_from (x ∷ events) k (suc i) e = joins_from events k i e
 
-joins_of : (events : List Event) (k : Member) (i : ℕ) (x : Event) → slice_get events i ≡ Some x → joiner_of x.body ≡ Some k → joins events k i ≡ true
+pub joins_of : (events : List Event) (k : Member) (i : ℕ) (x : Event) → slice_get events i ≡ Some x → joiner_of x.body ≡ Some k → joins events k i ≡ true
 joins_of events k i x at e = ap (is_join_of k) (kind_there events i x at) ∙ body_joins k x.body e
 
-joiner_there : (events : List Event) (k : Member) (i : ℕ) → joiner_at events i ≡ Some k → (x : Event) × (slice_get events i ≡ Some x) × (joiner_of x.body ≡ Some k)
+pub joiner_there : (events : List Event) (k : Member) (i : ℕ) → joiner_at events i ≡ Some k → (x : Event) × (slice_get events i ≡ Some x) × (joiner_of x.body ≡ Some k)
 joiner_there [] k i e = absurd cc
 joiner_there (x ∷ events) k zero e = (x, refl, e)
 joiner_there (x ∷ events) k (suc i) e = joiner_there events k i e
@@ -243,12 +243,12 @@ module _ (laws : Laws) (plan : Plan) (links : List Link) (trails : List (TrailEn
       ]
 
   -- The link of an event, and what it routes to the event's module.
-  record IsRouted (m : ℕ) (trail : TrailEnd Event) (x : Event) : Type 0 where
-    link : Link
-    there : At links x.tag.link link
-    route : routed (link_setup plan x.tag.link) link.entries (letter_of plan m) ≡ picked link_of x.tag.link (events_of trail)
+  pub record IsRouted (m : ℕ) (trail : TrailEnd Event) (x : Event) : Type 0 where
+    pub link : Link
+    pub there : At links x.tag.link link
+    pub route : routed (link_setup plan x.tag.link) link.entries (letter_of plan m) ≡ picked link_of x.tag.link (events_of trail)
 
-  is_routed : (m : ℕ) (trail : TrailEnd Event) (p : ℕ) (x : Event) → At trails m trail → slice_get (events_of trail) p ≡ Some x → IsRouted m trail x
+  pub is_routed : (m : ℕ) (trail : TrailEnd Event) (p : ℕ) (x : Event) → At trails m trail → slice_get (events_of trail) p ≡ Some x → IsRouted m trail x
   is_routed m trail p x there at =
       let letter = letter_of plan m in
       let order = (h.trails_are.each m trail there).order in
@@ -259,7 +259,7 @@ module _ (laws : Laws) (plan : Plan) (links : List Link) (trails : List (TrailEn
       record { link = link; there = is; route = order.parts x.tag.link (routed (link_setup plan x.tag.link) link.entries letter) (routes_at plan links letter x.tag.link link is) }
 
   -- it stands in the route
-  in_route : (m : ℕ) (trail : TrailEnd Event) (p : ℕ) (x : Event) (r : IsRouted m trail x) → slice_get (events_of trail) p ≡ Some x
+  pub in_route : (m : ℕ) (trail : TrailEnd Event) (p : ℕ) (x : Event) (r : IsRouted m trail x) → slice_get (events_of trail) p ≡ Some x
       → (q : ℕ) × (slice_get (routed (link_setup plan x.tag.link) r.link.entries (letter_of plan m)) q ≡ Some x)
   in_route m trail p x r at =
       let (q, there) = picked_has link_of x.tag.link (events_of trail) p x at refl in
@@ -325,12 +325,13 @@ module _ (laws : Laws) (plan : Plan) (links : List Link) (trails : List (TrailEn
       let bye = laws.byes (setup_at plan j.m) events k j.position found.at once (joins_of events k j.position j.event j.at j.its) (omega (arith, within, h.count)) found.behind found.none found.passes in
       by_event k c j.m j.trail found.at (is_replacing (slice_get events found.at)) j.there refl found.passes bye
 
-  -- What became of the places.
-  pub places_back : ArePlacesBack plan.places trails roll
-  places_back = record {
+  -- What became of the places, where nobody was replaced.
+  pub places_back : NobodyIsReplaced plan.places trails → ArePlacesBack plan.places trails roll
+  places_back stays = record {
     count = h.count;
     run = h.run;
     joins = λ test. h.joins test ∙ ap (count_by test) (sym h.claims);
     given = given_back;
     free = laws.free roll.words roll.claimed roll.given h.run given_back;
+    stays = stays;
   }

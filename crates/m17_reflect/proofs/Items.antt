@@ -35,10 +35,10 @@ pub record HasQueue (queues : List (List (TrailEnd Item))) (m q : ℕ) (item : I
   pub queue_there : slice_get row q ≡ Some queue
   pub its : IsIn (items_of queue.order) item
 
-abbrev in_queue : Option (TrailEnd Item) → List Item
+abbrev pub in_queue : Option (TrailEnd Item) → List Item
 in_queue o = option_map_or (λ (queue : TrailEnd Item). items_of queue.order) o []
 
-abbrev row_in : Option (List (TrailEnd Item)) → List (TrailEnd Item)
+abbrev pub row_in : Option (List (TrailEnd Item)) → List (TrailEnd Item)
 row_in o = option_map_or (λ (row : List (TrailEnd Item)). row) o []
 
 by_queue : (queues : List (List (TrailEnd Item))) (m q : ℕ) (item : Item) (row : List (TrailEnd Item)) (o : Option (TrailEnd Item)) → slice_get queues m ≡ Some row → slice_get row q ≡ o → IsIn (in_queue o) item → HasQueue queues m q item
@@ -59,7 +59,7 @@ carried_at queues m q row queue er eq =
     ap (λ (o : Option (List (TrailEnd Item))). in_queue (slice_get (row_in o) q)) er ∙ ap in_queue eq
 
 -- a queue has items of its place alone
-placed : (tries : List Try) (q : ℕ) (item : Item) → IsIn (queued_for tries q) item → item.member.place ≡ q
+pub placed : (tries : List Try) (q : ℕ) (item : Item) → IsIn (queued_for tries q) item → item.member.place ≡ q
 placed tries q item h =
     let test : Try → Bool = λ t. t.queued && (q == t.item.member.place) in
     let (t, at, is) = unmapped (λ (t : Try). t.item) (filter test tries) h.0 item h.1 in

@@ -14,6 +14,7 @@ whole_laws lanes links modules = record {
   };
   places = record {
     settled = record { leaves = links.leaves; follow = links.follow; byes = modules.byes; free = lanes.free };
+    stays = record { share = modules.share; between = modules.between; items = modules.follow };
     joins = links.joins;
     each = links.each;
   };

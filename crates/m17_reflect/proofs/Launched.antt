@@ -1,8 +1,10 @@
 -- What follows of jobs that were launched: their orders can be finished, and what they did is known then.
-use Rattle.std.proofs.Common.{◌≡◌, List, [], ◌∷◌, map, length, sym, subst, refl, ap, inl, inr, arith}
+use Rattle.std.proofs.Common.{◌≡◌, List, [], ◌∷◌, map, length, Result, Ok, Err, sym, subst, refl, ap, inl, inr, arith}
+use Rattle.std.specs.Prelude.{MatchResult}
 use Rattle.std.specs.List.{AllZip}
 use Rattle.std.proofs.lemmas.Slice.Zip.{AllZip-long}
 use Rattle.m17_crew.specs.declared.order.Order.{Order}
+use Rattle.m17_crew.specs.declared.order.Order.TheVariants.{Go, Quit}
 use Rattle.m17_crew.specs.Laws.{Ran}
 use Rattle.m17_lane.specs.Ends.{PushEnd, PopEnd, TrailEnd}
 use Rattle.m17_rows.specs.Rows.{push_each}
@@ -36,29 +38,32 @@ module _ {J : Type 0} where
       (orders_back law order_of P keeps told before.jobs after.jobs before.orders new h.jobs))
 
   -- and when they are, each job got the first order
-  pub told_came : (order_of : J → PopEnd Order) (P : J → J → Type 0) (told : List Order) (before after : Staff J) → IsNewLine 2 before.orders (map order_of before.jobs) → WereTold P told before after → (trails : List (TrailEnd Order)) × AreTrailsOfOnes after.orders (map order_of after.jobs) trails → OrdersCame order_of told before.jobs after.jobs before.orders
-  told_came order_of P told before after new h finished =
-      let (trails, are) = finished in
+  pub told_came : (order_of : J → PopEnd Order) (P : J → J → Type 0) (told : List Order) (before after : Staff J) (trails : List (TrailEnd Order)) → IsNewLine 2 before.orders (map order_of before.jobs) → WereTold P told before after → AreTrailsOfOnes after.orders (map order_of after.jobs) trails → OrdersCame order_of told before.jobs after.jobs before.orders
+  told_came order_of P told before after trails new h are =
       orders_came order_of P told before.jobs after.jobs before.orders trails new h.jobs
       (subst (λ (qs : List (PushEnd Order)). AreTrailsOfOnes qs (map order_of after.jobs) trails) h.orders are)
 
   pub told_long : (P : J → J → Type 0) (told : List Order) (before after : Staff J) → WereTold P told before after → length after.jobs ≡ length before.jobs
   told_long P told before after h = AllZip-long P before.jobs after.jobs h.jobs
 
-  -- a job that went keeps the end of its orders, or one that ran
-  pub went_keeps : (order_of : J → PopEnd Order) (P Q : J → J → Type 0) → KeepsOrder order_of (Ran Q) → ((j k : J) → P j k → Q j k) → KeepsOrder order_of P
-  went_keeps order_of P Q keeps less j k h = keeps j k (inr (less j k h))
+  -- what was told, of jobs of which less is said
+  pub told_less : (P Q : J → J → Type 0) → ((j k : J) → P j k → Q j k) → (told : List Order) (before after : Staff J) → WereTold P told before after → WereTold Q told before after
+  told_less P Q less told before after h = record { jobs = zip_less P Q less before.jobs after.jobs h.jobs; orders = h.orders }
 
   ran_less : (P Q : J → J → Type 0) → ((j k : J) → P j k → Q j k) → (j k : J) → Ran P j k → Ran Q j k
   ran_less P Q less j k (inl same) = inl same
   ran_less P Q less j k (inr did) = inr (less j k did)
 
-  pub ran_keeps : (order_of : J → PopEnd Order) (P Q : J → J → Type 0) → KeepsOrder order_of (Ran Q) → ((j k : J) → P j k → Q j k) → KeepsOrder order_of (Ran P)
-  ran_keeps order_of P Q keeps less j k h = keeps j k (ran_less P Q less j k h)
+  pub told_ran : (P Q : J → J → Type 0) → ((j k : J) → P j k → Q j k) → (told : List Order) (before after : Staff J) → WereTold (Ran P) told before after → WereTold (Ran Q) told before after
+  told_ran P Q less told before after h = told_less (Ran P) (Ran Q) (ran_less P Q less) told before after h
 
-  pub zip_ran : (P Q : J → J → Type 0) → ((j k : J) → P j k → Q j k) → (js ks : List J) → AllZip (Ran P) js ks → AllZip (Ran Q) js ks
-  zip_ran P Q less js ks h = zip_less (Ran P) (Ran Q) (ran_less P Q less) js ks h
+module _ {J U V : Type 0} where
+  -- Jobs that were launched ran, whether all went or all were told to quit.
+  pub launched : (P Q : J → J → Type 0) → ((j k : J) → P j k → Q j k) → (more : List Order) (before after : Staff J) (r : Result U V) → MatchResult r (λ _. WereTold P (Go ∷ more) before after) (λ _. WereTold (Ran P) (Quit ∷ []) before after) → (told : List Order) × WereTold (Ran Q) told before after
+  launched P Q less more before after (Ok _) h = (Go ∷ more, told_less P (Ran Q) (λ j k did. inr (less j k did)) (Go ∷ more) before after h)
+  launched P Q less more before after (Err _) h = (Quit ∷ [], told_ran P Q less (Quit ∷ []) before after h)
 
+module _ {J : Type 0} where
   -- one job is one
   pub one_job : (js ks : List J) (s : J) → js ≡ s ∷ [] → length ks ≡ length js → (t : J) × (ks ≡ t ∷ [])
   one_job js [] s e long = absurd (let one = ap length e in omega (arith, one))

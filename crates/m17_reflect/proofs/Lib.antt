@@ -46,6 +46,7 @@ pub mod Found
 pub mod Patient
 pub mod Gave
 pub mod GivenBack
+pub mod Stays
 pub mod AllPlaces
 pub mod Whole
 pub mod RowsLong
@@ -58,3 +59,5 @@ pub mod Over
 pub mod SameDevices
 pub mod Heads
 pub mod Told
+pub mod TrailTurns
+pub mod RunTrails

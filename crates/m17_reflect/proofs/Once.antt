@@ -45,7 +45,7 @@ weighs k (Reply m control) e = absurd cc
 weighs k Tick e = absurd cc
 weighs k Stop e = absurd cc
 
-join_counts : (k : Member) (events : List Event) (p : ℕ) → joins events k p ≡ true → 1 ≤ sum_by (weight k) events
+pub join_counts : (k : Member) (events : List Event) (p : ℕ) → joins events k p ≡ true → 1 ≤ sum_by (weight k) events
 join_counts k [] p e = absurd cc
 join_counts k (x ∷ events) zero e =
     let s = sum_by-cons (weight k) x events in let one = weighs k x.body e in omega arith
@@ -65,7 +65,7 @@ once_in k (x ∷ events) few (suc i) (suc j) ei ej =
     let s = sum_by-cons (weight k) x events in ap suc (once_in k events (omega arith) i j ei ej)
 
 -- how often the member joins by a trail
-abbrev joined_in : Member → TrailEnd Event → ℕ
+abbrev pub joined_in : Member → TrailEnd Event → ℕ
 joined_in k trail = sum_by (weight k) (events_of trail)
 
 -- The Joins of all trails have the member once at the most.
@@ -74,7 +74,7 @@ pub record JoinsOnceIn (trails : List (TrailEnd Event)) (k : Member) : Type 0 wh
   pub alone : (m n p q : ℕ) (trail other : TrailEnd Event) → At trails m trail → At trails n other →
       joins (events_of trail) k p ≡ true → joins (events_of other) k q ≡ true → m ≡ n
 
-sums_are : (k : Member) (trails : List (TrailEnd Event)) → sum_by (joined_in k) trails ≡ sum_by (λ (trail : TrailEnd Event). count_by (mine k) (joiners (events_of trail))) trails
+pub sums_are : (k : Member) (trails : List (TrailEnd Event)) → sum_by (joined_in k) trails ≡ sum_by (λ (trail : TrailEnd Event). count_by (mine k) (joiners (events_of trail))) trails
 sums_are k [] = refl
 sums_are k (t ∷ trails) =
     let a = sum_by-cons (joined_in k) t trails in

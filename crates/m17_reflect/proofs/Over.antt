@@ -1,5 +1,5 @@
 -- A run whose calls have returned, as its devices and what came back show it.
-use Rattle.std.proofs.Common.{◌≡◌, ℕ, Bool, List, [], ◌∷◌, ◌++◌, map, length, All, Option, sym, subst, refl, ap, ◌∙◌, arith}
+use Rattle.std.proofs.Common.{◌≡◌, ◌<◌, ℕ, Bool, List, [], ◌∷◌, map, length, All, Option, sym, subst, refl, ap, ◌∙◌, arith}
 use Rattle.std.specs.Prelude.{◌||◌}
 use Rattle.std.specs.List.{AllZip}
 use Rattle.std.proofs.lemmas.List.Elements.{recursion_from_All}
@@ -18,43 +18,28 @@ use Rattle.m17_roll.specs.Closing.{EndView, AreAll}
 use Rattle.m17_roll.specs.Seat.{RollView, IsSeatOf}
 use Rattle.m17_receiver.specs.declared.receiver.Receiver.{Receiver}
 use Rattle.m17_worker.specs.declared.worker.Worker.{Worker}
-use Rattle.m17_sender.specs.declared.sender.Sender.{Sender}
 use Rattle.m17_sender.specs.Places.{queues_of, cells_of}
 use Rattle.m17_parting.specs.Rest.{SaysRest}
 use Rattle.m17_parting.specs.Rows.{AreOfOnes, AreRowsOfTrails}
+use Rattle.m17_wiring.specs.declared.rooms.TrailRooms.{TrailRooms}
 use Rattle.m17_house.specs.declared.plan.Plan.{Plan}
 use Rattle.m17_reflect.specs.declared.returned.Returned.{Returned}
-use Rattle.m17_reflect.specs.declared.parted.Links.{Links}
-use Rattle.m17_reflect.specs.declared.parted.Modules.{Modules}
-use Rattle.m17_reflect.specs.declared.parted.Voice.{Voice}
-use Rattle.m17_reflect.specs.Gathered.{IsClosedOf, HasEnded}
+use Rattle.m17_reflect.specs.declared.parted.Parted.{Parted}
+use Rattle.m17_reflect.specs.Gathered.{Gathered, IsClosedOf}
 use Rattle.m17_reflect.specs.Headline.{Headline}
-use Rattle.m17_reflect.specs.Parted.{AreOfReceivers, AreOfWorkers, IsOfSender}
 use Rattle.m17_reflect.specs.Run.{Run, Devices, Handed}
 use Rattle.m17_reflect.specs.Views as views
 use Rattle.m17_reflect.specs.Views.{Words, Kinds}
 use Rattle.m17_reflect.proofs.Assembled.{Course, run_of, shows, hands, ear_words, book_words}
-use Rattle.m17_reflect.proofs.Calls.{Cast, Raw, Back}
+use Rattle.m17_reflect.proofs.Calls.{Cast, Done}
 use Rattle.m17_reflect.proofs.Came.{column_of}
+use Rattle.m17_reflect.proofs.CameBack as back
 use Rattle.m17_reflect.proofs.CameBack.{queues_at, door_of, notes_at}
 use Rattle.m17_reflect.proofs.Ends.{map_twice}
-use Rattle.m17_reflect.proofs.Gave.{worker_seat}
+use Rattle.m17_reflect.proofs.Gathering.{queues_ready, seats_all}
 use Rattle.m17_reflect.proofs.RowsBack.{rows_made, rows_trails}
-use Rattle.m17_reflect.proofs.Seats.{seat_of}
 use Rattle.m17_reflect.proofs.Whole.{Laws, IsOver, whole}
 use Rattle.m17_reflect.proofs.Worked.{Rows}
-
--- What `gather` says.
-pub record Gathered {E M B L : Type 0} (words : Words E M B L) (links : Links E B) (modules : Modules B) (voice : Voice M)
-    (seats : List RollView) (r : Returned E M B) : Type 0 where
-  pub devices : (r.ears ≡ links.ears) × (r.traces ≡ links.traces) × (r.books ≡ modules.books)
-  pub trails : grid.AreTrails (map (λ column. column.items) links.columns.items) modules.inboxes.items r.trails.items
-  pub ended : HasEnded words.told links modules voice (map (λ row. row.items) r.queues.items) r.mouths.items
-  pub roll : IsClosedOf seats r.roll
-  pub places : All (λ s. s.places ≡ length r.roll.words) seats
-  pub counts : (r.missed ≡ modules.missed) × (r.admitted ≡ modules.admitted)
-  pub tapes : (r.link_tapes ≡ links.tapes) × (r.tapes ≡ modules.tapes)
-  pub flags : (r.lost ≡ links.lost) × (r.book_failed ≡ (links.failed || modules.failed))
 
 abbrev devices : {L : Type 0} → List (Option (List Heard) × ℕ) → List (MouthTold L) → List (Option (List ℕ) × ℕ) → List (Option (List ℕ) × ℕ) → Devices L
 devices ears mouths traces books = record { ears = ears; mouths = mouths; traces = traces; books = books }
@@ -95,9 +80,9 @@ both_flags a a' b b' e f = ap (λ (x : Bool). x || b) e ∙ ap (λ (x : Bool). a
 
 -- The jobs' devices are these.
 pub record HaveDevices {E M B : Type 0} (k : Cast E M B) (d : Kinds E M B) : Type 0 where
-  pub ears : map (λ (j : Receiver E B). j.ear) k.js ≡ d.ears
-  pub traces : map (λ (j : Receiver E B). j.trace) k.js ≡ d.traces
-  pub books : map (λ (w : Worker B). w.book) k.ws ≡ d.books
+  pub ears : map (λ (j : Receiver E B). j.ear) k.r.jobs ≡ d.ears
+  pub traces : map (λ (j : Receiver E B). j.trace) k.r.jobs ≡ d.traces
+  pub books : map (λ (w : Worker B). w.book) k.w.jobs ≡ d.books
   pub mouths : k.s.mouths.items ≡ d.mouths
 
 -- The run, by its jobs.
@@ -105,37 +90,10 @@ abbrev pub course : {E M B L : Type 0} → Words E M B L → Plan → Cast E M B
 course words plan k r rows = record {
   words = words;
   plan = plan;
-  before = record { receivers = k.js; workers = k.ws; mouths = k.s.mouths.items };
-  after = record { receivers = k.ks; workers = k.vs; mouths = r.mouths.items };
+  before = record { receivers = k.r.jobs; workers = k.w.jobs; mouths = k.s.mouths.items };
+  after = record { receivers = k.r'.jobs; workers = k.w'.jobs; mouths = r.mouths.items };
   made = record { trails = r.trails.items; rows = rows; roll = r.roll };
 }
-
-module _ {E M B L : Type 0} where
-  -- the run as it shows itself
-  pub shown : (words : Words E M B L) (plan : Plan) (k : Cast E M B) (d : Kinds E M B) (links : Links E B) (modules : Modules B) (voice : Voice M) (seats : List RollView) (r : Returned E M B) (heads : List (List (PopEnd Item))) → HaveDevices k d → AreOfReceivers k.ks links → AreOfWorkers k.vs modules → (g : Gathered words links modules voice seats r) → length g.ended.rows ≡ length heads → run_of (course words plan k r (rows_made heads g.ended.rows)) ≡ views.run_of words plan d r
-  shown words plan k d links modules voice seats r heads of w v g long =
-      let ew = ear_words words in let bw = book_words words in
-      same_run plan (shows words (record { receivers = k.js; workers = k.ws; mouths = k.s.mouths.items })) (views.devices_of words d)
-      (shows words (record { receivers = k.ks; workers = k.vs; mouths = r.mouths.items })) (views.devices_of words (views.kinds_back r))
-      (hands (record { receivers = k.ks; workers = k.vs; mouths = r.mouths.items }) (record { trails = r.trails.items; rows = rows_made heads g.ended.rows; roll = r.roll })) (views.handed_of r)
-      (same_devices _ _ _ _ _ _ _ _
-      (sym (map_twice (λ (j : Receiver E B). j.ear) (λ ear. (words.heard ear, words.ear_faults ear)) k.js) ∙ ap (map (λ ear. (words.heard ear, words.ear_faults ear))) of.ears)
-      (ap (map words.told) of.mouths)
-      (sym (map_twice (λ (j : Receiver E B). j.trace) (λ trace. (words.written trace, words.book_faults trace)) k.js) ∙ ap (map (λ trace. (words.written trace, words.book_faults trace))) of.traces)
-      (sym (map_twice (λ (w : Worker B). w.book) (λ book. (words.written book, words.book_faults book)) k.ws) ∙ ap (map (λ book. (words.written book, words.book_faults book))) of.books))
-      (same_devices _ _ _ _ _ _ _ _
-      (sym (map_twice (λ (j : Receiver E B). j.ear) (λ ear. (words.heard ear, words.ear_faults ear)) k.ks) ∙ ap (map (λ ear. (words.heard ear, words.ear_faults ear))) (sym (ap (λ es. es.items) g.devices.0 ∙ w.ears)))
-      refl
-      (sym (map_twice (λ (j : Receiver E B). j.trace) (λ trace. (words.written trace, words.book_faults trace)) k.ks) ∙ ap (map (λ trace. (words.written trace, words.book_faults trace))) (sym (ap (λ es. es.items) g.devices.1 ∙ w.traces)))
-      (sym (map_twice (λ (w : Worker B). w.book) (λ book. (words.written book, words.book_faults book)) k.vs) ∙ ap (map (λ book. (words.written book, words.book_faults book))) (sym (ap (λ es. es.items) g.devices.2 ∙ v.books))))
-      (same_handed r.trails.items r.roll _ _ _ _ _ _ _ _ _ _ _ _ _ _
-      (rows_trails heads g.ended.rows long ∙ sym g.ended.drained_rows)
-      (sym (ap (λ es. es.items) g.counts.0 ∙ v.missed))
-      (sym (ap (λ es. es.items) g.counts.1 ∙ v.admitted))
-      (sym (map_twice (λ (j : Receiver E B). j.tape) (λ tape. tape.items) k.ks) ∙ ap (map (λ tape. tape.items)) (sym (ap (λ es. es.items) g.tapes.0 ∙ w.tapes)))
-      (sym (map_twice (λ (w : Worker B). w.tape) (λ tape. tape.items) k.vs) ∙ ap (map (λ tape. tape.items)) (sym (ap (λ es. es.items) g.tapes.1 ∙ v.tapes)))
-      (sym (g.flags.0 ∙ w.lost))
-      (sym (g.flags.1 ∙ both_flags links.failed _ modules.failed _ w.failed v.failed)))
 
 -- as many words as each seat's roll has places
 words_long : (roll : TableId) (places n : ℕ) (seats : List RollView) → AreAll roll places seats → All (λ s. s.places ≡ n) seats → n ≡ places
@@ -144,51 +102,79 @@ words_long roll places n (x ∷ seats) all h =
     sym (recursion_from_All (λ (s : RollView). s.places ≡ n) (x ∷ seats) h).0
     ∙ (recursion_from_All (IsSeatOf roll (length (x ∷ seats)) places) (x ∷ seats) all.each).0.2
 
-module _ {E M B L : Type 0} where
+module _ {E M B L : Type 0} (words : Words E M B L) (plan : Plan) (k : Cast E M B) (rooms : TrailRooms) (p : Parted E M B) (d : Done words plan k rooms p) (r : Returned E M B) (g : Gathered words.told p r) where
+  -- the run as it shows itself
+  shown : (kinds : Kinds E M B) → HaveDevices k kinds → length g.ended.rows ≡ length (queues_of k.t) → run_of (course words plan k r (rows_made (queues_of k.t) g.ended.rows)) ≡ views.run_of words plan kinds r
+  shown kinds of long =
+      let ew = ear_words words in let bw = book_words words in let w = d.parted.links in let v = d.parted.modules in
+      let heads = queues_of k.t in
+      same_run plan (shows words (record { receivers = k.r.jobs; workers = k.w.jobs; mouths = k.s.mouths.items })) (views.devices_of words kinds)
+      (shows words (record { receivers = k.r'.jobs; workers = k.w'.jobs; mouths = r.mouths.items })) (views.devices_of words (views.kinds_back r))
+      (hands (record { receivers = k.r'.jobs; workers = k.w'.jobs; mouths = r.mouths.items }) (record { trails = r.trails.items; rows = rows_made heads g.ended.rows; roll = r.roll })) (views.handed_of r)
+      (same_devices _ _ _ _ _ _ _ _
+      (sym (map_twice (λ (j : Receiver E B). j.ear) (λ ear. (words.heard ear, words.ear_faults ear)) k.r.jobs) ∙ ap (map (λ ear. (words.heard ear, words.ear_faults ear))) of.ears)
+      (ap (map words.told) of.mouths)
+      (sym (map_twice (λ (j : Receiver E B). j.trace) (λ trace. (words.written trace, words.book_faults trace)) k.r.jobs) ∙ ap (map (λ trace. (words.written trace, words.book_faults trace))) of.traces)
+      (sym (map_twice (λ (w : Worker B). w.book) (λ book. (words.written book, words.book_faults book)) k.w.jobs) ∙ ap (map (λ book. (words.written book, words.book_faults book))) of.books))
+      (same_devices _ _ _ _ _ _ _ _
+      (sym (map_twice (λ (j : Receiver E B). j.ear) (λ ear. (words.heard ear, words.ear_faults ear)) k.r'.jobs) ∙ ap (map (λ ear. (words.heard ear, words.ear_faults ear))) (sym (ap (λ es. es.items) g.devices.0 ∙ w.ears)))
+      refl
+      (sym (map_twice (λ (j : Receiver E B). j.trace) (λ trace. (words.written trace, words.book_faults trace)) k.r'.jobs) ∙ ap (map (λ trace. (words.written trace, words.book_faults trace))) (sym (ap (λ es. es.items) g.devices.1 ∙ w.traces)))
+      (sym (map_twice (λ (w : Worker B). w.book) (λ book. (words.written book, words.book_faults book)) k.w'.jobs) ∙ ap (map (λ book. (words.written book, words.book_faults book))) (sym (ap (λ es. es.items) g.devices.2 ∙ v.books))))
+      (same_handed r.trails.items r.roll _ _ _ _ _ _ _ _ _ _ _ _ _ _
+      (rows_trails heads g.ended.rows long ∙ sym g.ended.drained_rows)
+      (sym (ap (λ es. es.items) g.counts.0 ∙ v.missed))
+      (sym (ap (λ es. es.items) g.counts.1 ∙ v.admitted))
+      (sym (map_twice (λ (j : Receiver E B). j.tape) (λ tape. tape.items) k.r'.jobs) ∙ ap (map (λ tape. tape.items)) (sym (ap (λ es. es.items) g.tapes.0 ∙ w.tapes)))
+      (sym (map_twice (λ (w : Worker B). w.tape) (λ tape. tape.items) k.w'.jobs) ∙ ap (map (λ tape. tape.items)) (sym (ap (λ es. es.items) g.tapes.1 ∙ v.tapes)))
+      (sym (g.flags.0 ∙ w.lost))
+      (sym (g.flags.1 ∙ both_flags p.links.failed _ p.modules.failed _ w.failed v.failed)))
+
   -- the run is over
-  pub over : (words : Words E M B L) (plan : Plan) (k : Cast E M B) (t : Sender M) (links : Links E B) (modules : Modules B) (voice : Voice M) (seats : List RollView) (r : Returned E M B) (roll : TableId) → Raw words plan k → Back words k t → AreOfReceivers k.ks links → AreOfWorkers k.vs modules → IsOfSender t voice → seats ≡ map seat_of k.ks ++ map worker_seat k.vs → AreAll roll plan.places seats → AllZip AreOfOnes (map (λ row. row.items) modules.queues.items) (map (λ row. row.items) voice.queues.items) → (g : Gathered words links modules voice seats r) → IsOver (course words plan k r (rows_made (queues_of t) g.ended.rows)) k.s t
-  over words plan k t links modules voice seats r roll h b w v o are all rows g =
-      let heads : map (λ row. row.items) voice.queues.items ≡ queues_of t = ap (λ qs. map (λ row. row.items) qs.items) o.queues in
-      let queues : map (λ row. row.items) modules.queues.items ≡ map queues_at k.vs = ap (map (λ row. row.items)) v.queues ∙ map_twice (λ (w : Worker B). w.offers.queues) (λ row. row.items) k.vs in
-      let columns : map (λ column. column.items) links.columns.items ≡ map column_of k.ks = ap (map (λ column. column.items)) w.columns ∙ map_twice (λ (j : Receiver E B). j.inboxes) (λ column. column.items) k.ks in
-      let e = g.ended in record {
-        jobs = h.jobs;
-        received = h.told_r.jobs;
-        worked = h.told_w.jobs;
-        sent = b.did;
-        shaped = h.shaped;
+  over : (roll : TableId) → AreAll roll plan.places p.seats.items → AllZip AreOfOnes (map (λ row. row.items) p.modules.queues.items) (map (λ row. row.items) p.voice.queues.items) → IsOver (course words plan k r (rows_made (queues_of k.t) g.ended.rows)) k.s k.t
+  over roll all rows =
+      let w = d.parted.links in let v = d.parted.modules in let o = d.of_sender in let e = g.ended in
+      let heads : map (λ row. row.items) p.voice.queues.items ≡ queues_of k.t = ap (λ qs. map (λ row. row.items) qs.items) o.queues in
+      let queues : map (λ row. row.items) p.modules.queues.items ≡ map queues_at k.w'.jobs = ap (map (λ row. row.items)) v.queues ∙ map_twice (λ (w : Worker B). w.offers.queues) (λ row. row.items) k.w'.jobs in
+      let columns : map (λ column. column.items) p.links.columns.items ≡ map column_of k.r'.jobs = ap (map (λ column. column.items)) w.columns ∙ map_twice (λ (j : Receiver E B). j.inboxes) (λ column. column.items) k.r'.jobs in record {
+        jobs = d.wired.jobs;
+        received = d.went.r.jobs;
+        worked = d.went.w.jobs;
+        sent = d.did;
+        shaped = d.wired.shaped;
         mouths = refl;
-        receiver_lines = k.lr;
-        to_receivers = b.to_receivers;
-        worker_lines = k.lw;
-        to_workers = b.to_workers;
-        sender_lines = k.ls;
-        to_sender = b.to_sender;
-        trails = subst (λ ps. grid.AreTrails (map column_of k.ks) ps r.trails.items) v.inboxes
-            (subst (λ cs. grid.AreTrails cs modules.inboxes.items r.trails.items) columns g.trails);
-        row_ends = subst (AllZip AreOfOnes (map queues_at k.vs)) heads (subst (λ cs. AllZip AreOfOnes cs (map (λ row. row.items) voice.queues.items)) queues rows);
+        receiver_lines = k.r.orders;
+        to_receivers = d.to_receivers;
+        worker_lines = k.w.orders;
+        to_workers = d.to_workers;
+        sender_lines = k.v.orders;
+        to_sender = d.to_sender;
+        trails = subst (λ ps. grid.AreTrails (map column_of k.r'.jobs) ps r.trails.items) v.inboxes
+            (subst (λ cs. grid.AreTrails cs p.modules.inboxes.items r.trails.items) columns g.trails);
+        row_ends = subst (AllZip AreOfOnes (map queues_at k.w'.jobs)) heads (subst (λ cs. AllZip AreOfOnes cs (map (λ row. row.items) p.voice.queues.items)) queues rows);
         rows = e.rows;
-        row_trails = subst (λ hs. AreRowsOfTrails (map queues_at k.vs) hs e.rows) heads
-            (subst (λ cs. AreRowsOfTrails cs (map (λ row. row.items) voice.queues.items) e.rows) queues e.row_trails);
+        row_trails = subst (λ hs. AreRowsOfTrails (map queues_at k.w'.jobs) hs e.rows) heads
+            (subst (λ cs. AreRowsOfTrails cs (map (λ row. row.items) p.voice.queues.items) e.rows) queues e.row_trails);
         made_rows = refl;
         door = e.door;
-        door_trail = subst (λ (d : PopEnd Direct). IsTrailOf (map door_of k.ks) d e.door) o.door
-            (subst (λ ds. IsTrailOf ds voice.door e.door) w.doors e.door_trail);
+        door_trail = subst (λ (door : PopEnd Direct). IsTrailOf (map door_of k.r'.jobs) door e.door) o.door
+            (subst (λ ds. IsTrailOf ds p.voice.door e.door) w.doors e.door_trail);
         notes = e.notes;
-        note_trails = subst (λ qs. AreTrailsOfOnes qs (map notes_at k.ks) e.notes) (ap (λ qs. qs.items) o.notes)
-            (subst (λ ps. AreTrailsOfOnes voice.notes.items ps e.notes) w.noted e.note_trails);
-        rest = subst (λ name. SaysRest words.told name (record { cells = cells_of t; queues = e.rows; door = e.door }) t.mouths.items r.mouths.items) o.name
-            (subst (λ ms. SaysRest words.told voice.name (record { cells = cells_of t; queues = e.rows; door = e.door }) ms r.mouths.items) (ap (λ ms. ms.items) o.mouths)
-            (subst (λ cs. SaysRest words.told voice.name (record { cells = cs; queues = e.rows; door = e.door }) voice.mouths.items r.mouths.items) (ap (λ cs. map (λ row. row.items) cs.items) o.held) e.rest));
-        roll = subst (λ ss. IsClosedOf ss r.roll) are g.roll;
-        places = words_long roll plan.places (length r.roll.words) seats all g.places;
+        note_trails = subst (λ qs. AreTrailsOfOnes qs (map notes_at k.r'.jobs) e.notes) (ap (λ qs. qs.items) o.notes)
+            (subst (λ ps. AreTrailsOfOnes p.voice.notes.items ps e.notes) w.noted e.note_trails);
+        rest = subst (λ name. SaysRest words.told name (record { cells = cells_of k.t; queues = e.rows; door = e.door }) k.t.mouths.items r.mouths.items) o.name
+            (subst (λ ms. SaysRest words.told p.voice.name (record { cells = cells_of k.t; queues = e.rows; door = e.door }) ms r.mouths.items) (ap (λ ms. ms.items) o.mouths)
+            (subst (λ cs. SaysRest words.told p.voice.name (record { cells = cs; queues = e.rows; door = e.door }) p.voice.mouths.items r.mouths.items) (ap (λ cs. map (λ row. row.items) cs.items) o.held) e.rest));
+        roll = subst (λ ss. IsClosedOf ss r.roll) d.parted.seats g.roll;
+        places = words_long roll plan.places (length r.roll.words) p.seats.items all g.places;
       }
 
   -- The headline, of the run as it shows itself.
-  pub headline_of : (laws : Laws L) (words : Words E M B L) (plan : Plan) (k : Cast E M B) (t : Sender M) (d : Kinds E M B) (links : Links E B) (modules : Modules B) (voice : Voice M) (seats : List RollView) (r : Returned E M B) (roll : TableId) → Raw words plan k → Back words k t → HaveDevices k d → AreOfReceivers k.ks links → AreOfWorkers k.vs modules → IsOfSender t voice → seats ≡ map seat_of k.ks ++ map worker_seat k.vs → AreAll roll plan.places seats → AllZip AreOfOnes (map (λ row. row.items) modules.queues.items) (map (λ row. row.items) voice.queues.items) → Gathered words links modules voice seats r → Headline (views.run_of words plan d r)
-  headline_of laws words plan k t d links modules voice seats r roll h b of w v o are all rows g =
-      let heads : map (λ row. row.items) voice.queues.items ≡ queues_of t = ap (λ qs. map (λ row. row.items) qs.items) o.queues in
-      let long : length g.ended.rows ≡ length (queues_of t) = g.ended.row_trails.count ∙ ap length heads in
-      subst Headline (shown words plan k d links modules voice seats r (queues_of t) of w v g long)
-      (whole laws (course words plan k r (rows_made (queues_of t) g.ended.rows)) k.s t
-      (over words plan k t links modules voice seats r roll h b w v o are all rows g))
+  pub headline_of : Laws L → back.Laws → (kinds : Kinds E M B) → HaveDevices k kinds → 0 < length k.r.jobs → Headline (views.run_of words plan kinds r)
+  headline_of laws ends kinds of some =
+      let (roll, all) = seats_all words plan k rooms p d some in
+      let heads : map (λ row. row.items) p.voice.queues.items ≡ queues_of k.t = ap (λ qs. map (λ row. row.items) qs.items) d.of_sender.queues in
+      let long : length g.ended.rows ≡ length (queues_of k.t) = g.ended.row_trails.count ∙ ap length heads in
+      subst Headline (shown kinds of long)
+      (whole laws (course words plan k r (rows_made (queues_of k.t) g.ended.rows)) k.s k.t
+      (over roll all (queues_ready words plan k rooms p d ends)))

@@ -24,7 +24,7 @@ use Rattle.m17_reflect.proofs.Members.{Laws, AreMembers, has_joined, stands_alon
 use Rattle.m17_reflect.proofs.Memberships.{begun, asker_begins, has_begun}
 use Rattle.m17_reflect.proofs.Standing.{stands}
 
-same_answer : (a b : Bool) → (a ≡ true → b ≡ true) → (b ≡ true → a ≡ true) → a ≡ b
+pub same_answer : (a b : Bool) → (a ≡ true → b ≡ true) → (b ≡ true → a ≡ true) → a ≡ b
 same_answer true true f g = refl
 same_answer true false f g = sym (f refl)
 same_answer false true f g = g refl

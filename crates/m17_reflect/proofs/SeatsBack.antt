@@ -15,7 +15,7 @@ use Rattle.m17_worker.specs.declared.worker.Worker.{Worker}
 use Rattle.m17_worker.specs.Ready.{Words}
 use Rattle.m17_worker.specs.WorkerDid.{HasWorked}
 use Rattle.m17_reflect.proofs.Seats.{seat_of, TookNone}
-use Rattle.m17_reflect.proofs.Gave.{worker_seat}
+use Rattle.m17_reflect.proofs.Gave.{worker_seat, GaveNone}
 use Rattle.m17_reflect.proofs.Ends.{zip_parts}
 
 module _ {A : Type 0} where
@@ -57,6 +57,14 @@ new_took roll seats places (suc n) (a ∷ before) e =
     let rest : before ≡ replicate n (new_seat roll seats places) = cc in
     ((ap (λ (s : RollView). s.claimed) here, ap (λ (s : RollView). s.refused) here), new_took roll seats places n before rest)
 
+new_gave : (roll : TableId) (seats places n : ℕ) (before : List RollView) → before ≡ replicate n (new_seat roll seats places) → AllByRecursion GaveNone before
+new_gave roll seats places n [] e = tt
+new_gave roll seats places zero (a ∷ before) e = absurd cc
+new_gave roll seats places (suc n) (a ∷ before) e =
+    let here : a ≡ new_seat roll seats places = cc in
+    let rest : before ≡ replicate n (new_seat roll seats places) = cc in
+    (ap (λ (s : RollView). s.given) here, new_gave roll seats places n before rest)
+
 behind : (P : RollView → Type 0) (xs ys : List RollView) → AllByRecursion P (xs ++ ys) → AllByRecursion P ys
 behind P [] ys h = h
 behind P (x ∷ xs) ys h = behind P xs ys h.1
@@ -95,3 +103,9 @@ module _ {B : Type 0} where
       let (roll, are) = new in
       same_took bw ws vs worked
       (behind TookNone others (map worker_seat ws) (new_took roll seats places seats (others ++ map worker_seat ws) are))
+
+  -- no worker has given a place back before it has begun
+  pub none_gave : (others : List RollView) (ws : List (Worker B)) (places seats : ℕ) → AreNew places seats (others ++ map worker_seat ws) → AllByRecursion GaveNone (map worker_seat ws)
+  none_gave others ws places seats new =
+      let (roll, are) = new in
+      behind GaveNone others (map worker_seat ws) (new_gave roll seats places seats (others ++ map worker_seat ws) are)

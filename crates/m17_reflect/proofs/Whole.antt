@@ -54,7 +54,7 @@ use Rattle.m17_reflect.proofs.Patient.{who_is_full}
 use Rattle.m17_reflect.proofs.Routes.{at_below, below_at}
 use Rattle.m17_reflect.proofs.RowsBack.{rows_made, rows_count, rows_trails, rows_back}
 use Rattle.m17_reflect.proofs.Seats.{seat_of}
-use Rattle.m17_reflect.proofs.SeatsBack.{none_took}
+use Rattle.m17_reflect.proofs.SeatsBack.{none_took, none_gave}
 use Rattle.m17_reflect.proofs.Together.{AllZip3, zip_at}
 
 -- The laws that all rests on.
@@ -168,6 +168,7 @@ module _ {E M B L : Type 0} where
   its_places laws c s t h heards f links o =
       all_places laws.places (ear_words c.words) (book_words c.words) c.plan c.before.receivers c.after.receivers c.before.workers c.after.workers links c.made.trails c.made.roll
       f.are o.came (subst (λ (n : ℕ). HaveWorked (book_words c.words) c.plan n c.before.workers c.after.workers) (sym o.same_count) f.worked) o.served o.trails
+      (none_gave (map seat_of c.before.receivers) c.before.workers c.plan.places (length c.before.receivers + module_count c.plan) h.jobs.seats)
       (record { of_seats = f.roll; given = h.roll.given; rises = h.roll.rising; run = h.roll.ended.run; places = h.places })
 
   -- what the mouths of the run say

@@ -5,7 +5,7 @@ use Rattle.m17_control.specs.declared.event.Event.{Event}
 use Rattle.m17_control.specs.declared.item.Direct.{Direct}
 use Rattle.m17_control.specs.declared.item.Item.{Item}
 use Rattle.m17_crew.specs.declared.order.Order.{Order}
-use Rattle.m17_module.specs.Laws.{ItemsAreAtPlaces, ItemsFollowTheirJoins, ShareIsALife, WhoIsSettledIsToldABye}
+use Rattle.m17_module.specs.Laws.{InFromJoinToEnd, ItemsAreAtPlaces, ItemsFollowTheirJoins, ShareIsALife, WhoIsSettledIsToldABye}
 use Rattle.m17_directory.specs.Laws.{RouteCarriesLink, RouteEndsInOneStop, RouteIsOfClaimed, WhoJoinsLeaves, LeavesFollowJoins, JoinsOfAllModules, EachClaimJoins, JoinsAreTheClaims, AskersAskForServedModules, DoorCarriesReplies, AllPlacesAreClaimed, AskersJoinOrAreFull}
 use Rattle.m17_rows.specs.Laws.{RowsPush, RowsGrow, FirstOrderDecides}
 use Rattle.m17_grid.specs.Laws.{GridsStand, RowsStand, OrderIsInterleaving}
@@ -47,6 +47,7 @@ pub record OfModules (L : Type 0) : Type 0 where
   pub placed : ItemsAreAtPlaces
   pub follow : ItemsFollowTheirJoins
   pub share : ShareIsALife
+  pub between : InFromJoinToEnd
   pub byes : WhoIsSettledIsToldABye
   pub less : LessOfALifeIsALife
   pub members : TurnsKeepEachMemberInOrder

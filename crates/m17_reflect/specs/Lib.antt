@@ -9,6 +9,7 @@ pub mod Sendings
 pub mod Patience
 pub mod Headline
 pub mod Laws
+pub mod Turns
 pub mod Views
 -- For proofs: jobs that are taken apart.
 pub mod Parted

@@ -1,35 +1,38 @@
 -- For proofs: what jobs are made of, taken out of them.
-use Rattle.std.specs.Prelude.{◌≡◌, ℕ, List, map}
+use Rattle.std.specs.Prelude.{◌≡◌, ℕ, List, [], ◌∷◌, ◌++◌, map, Vec}
 use Rattle.std.specs.List.{list_any}
+use Rattle.m17_launch.specs.Groups.{Staff}
+use Rattle.m17_grid.specs.Trails.{AreTrailsOfOnes}
 use Rattle.m17_receiver.specs.declared.receiver.Receiver.{Receiver}
 use Rattle.m17_worker.specs.declared.worker.Worker.{Worker}
 use Rattle.m17_sender.specs.declared.sender.Sender.{Sender}
-use Rattle.m17_wiring.specs.Rooms.{IsRoom}
-use Rattle.m17_reflect.specs.declared.parted.Links.{Links}
-use Rattle.m17_reflect.specs.declared.parted.LinkRooms.{LinkRooms}
-use Rattle.m17_reflect.specs.declared.parted.ModuleRooms.{ModuleRooms}
-use Rattle.m17_reflect.specs.declared.parted.Modules.{Modules}
+use Rattle.m17_parting.specs.Rows.{AreOfOnes}
+use Rattle.m17_parting.specs.declared.receivers.ReceiverParts.{ReceiverParts}
+use Rattle.m17_parting.specs.declared.workers.WorkerParts.{WorkerParts}
+use Rattle.m17_wiring.specs.declared.rooms.Rooms.{Rooms}
+use Rattle.m17_wiring.specs.declared.rooms.TrailRooms.{TrailRooms}
+use Rattle.m17_wiring.specs.Rooms.{IsRoom, HasRooms}
+use Rattle.m17_reflect.specs.declared.parted.Parted.{Parted}
 use Rattle.m17_reflect.specs.declared.parted.Voice.{Voice}
 
--- there is room for what so many receivers are made of, but for devices and seats
-pub record HasLinkRooms (count : ℕ) (r : LinkRooms) : Type 0 where
-  pub columns : IsRoom count r.columns
-  pub doors : IsRoom count r.doors
-  pub noted : IsRoom count r.noted
-  pub orders : IsRoom count r.orders
-  pub tapes : IsRoom count r.tapes
+-- jobs that can be taken apart: one is the sender, and the ends of their orders stand together
+pub record CanPart {E M B : Type 0} (receivers : Staff (Receiver E B)) (workers : Staff (Worker B))
+    (senders : Staff (Sender M)) : Type 0 where
+  pub one : (s : Sender M) × (senders.jobs ≡ s ∷ [])
+  pub to_receivers : AreOfOnes receivers.orders (map (λ j. j.order) receivers.jobs)
+  pub to_workers : AreOfOnes workers.orders (map (λ w. w.order) workers.jobs)
+  pub to_sender : AreOfOnes senders.orders (map (λ s. s.order) senders.jobs)
 
--- there is room for what so many workers are made of, but for books and seats
-pub record HasModuleRooms (count : ℕ) (r : ModuleRooms) : Type 0 where
-  pub inboxes : IsRoom count r.inboxes
-  pub queues : IsRoom count r.queues
-  pub orders : IsRoom count r.orders
-  pub tapes : IsRoom count r.tapes
-  pub missed : IsRoom count r.missed
-  pub admitted : IsRoom count r.admitted
+-- there is room for what they are made of, and for the trails of their lanes
+pub record HasRoom {E B X Y Z : Type 0} (links modules : ℕ) (rooms : Rooms) (ears : Vec E X)
+    (traces : Vec B Y) (books : Vec B Z) : Type 0 where
+  pub of_ears : IsRoom links ears
+  pub of_traces : IsRoom links traces
+  pub of_books : IsRoom modules books
+  pub of_lanes : (places : ℕ) × HasRooms links modules places rooms
 
 -- these receivers were made of this
-pub record AreOfReceivers {E B : Type 0} (js : List (Receiver E B)) (p : Links E B) : Type 0 where
+pub record AreOfReceivers {E B : Type 0} (js : List (Receiver E B)) (p : ReceiverParts E B) : Type 0 where
   pub ears : p.ears.items ≡ map (λ j. j.ear) js
   pub traces : p.traces.items ≡ map (λ j. j.trace) js
   pub columns : p.columns.items ≡ map (λ j. j.inboxes) js
@@ -40,7 +43,7 @@ pub record AreOfReceivers {E B : Type 0} (js : List (Receiver E B)) (p : Links E
   pub failed : p.failed ≡ list_any (λ j. j.trace_failed) js
 
 -- these workers were made of this
-pub record AreOfWorkers {B : Type 0} (ws : List (Worker B)) (p : Modules B) : Type 0 where
+pub record AreOfWorkers {B : Type 0} (ws : List (Worker B)) (p : WorkerParts B) : Type 0 where
   pub books : p.books.items ≡ map (λ w. w.book) ws
   pub inboxes : p.inboxes.items ≡ map (λ w. w.inbox) ws
   pub queues : p.queues.items ≡ map (λ w. w.offers.queues) ws
@@ -57,3 +60,21 @@ pub record IsOfSender {M : Type 0} (s : Sender M) (p : Voice M) : Type 0 where
   pub door : p.door ≡ s.door
   pub notes : p.notes ≡ s.notes
   pub held : p.held ≡ s.held
+
+-- these jobs were taken apart, and the lanes of their orders finished; the other rooms are as they were
+pub record IsParted {E M B : Type 0} (receivers : Staff (Receiver E B)) (workers : Staff (Worker B))
+    (senders : Staff (Sender M)) (rooms : TrailRooms) (p : Parted E M B) : Type 0 where
+  pub links : AreOfReceivers receivers.jobs p.links
+  pub modules : AreOfWorkers workers.jobs p.modules
+  pub voice : (s : Sender M) → senders.jobs ≡ s ∷ [] → IsOfSender s p.voice
+  pub seats : p.seats.items ≡ map (λ j. j.seat) receivers.jobs ++ map (λ w. w.seat) workers.jobs
+  pub to_receivers : AreTrailsOfOnes receivers.orders (map (λ j. j.order) receivers.jobs)
+      p.trails.to_receivers.items
+  pub to_workers : AreTrailsOfOnes workers.orders (map (λ w. w.order) workers.jobs)
+      p.trails.to_workers.items
+  pub to_sender : AreTrailsOfOnes senders.orders (map (λ s. s.order) senders.jobs)
+      p.trails.to_sender.items
+  pub shells : p.trails.shells ≡ rooms.shells
+  pub inboxes : p.trails.inboxes ≡ rooms.inboxes
+  pub queues : p.trails.queues ≡ rooms.queues
+  pub notes : p.trails.notes ≡ rooms.notes

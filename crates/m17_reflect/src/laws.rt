@@ -1,7 +1,9 @@
-//! What follows from the headline (`headline_tells`: it has no body, its clause is the law), and the laws of the crates
-//! below that a run rests on. This profile.
+//! What follows from the headline (`headline_tells`, `runs_hold_their_trails`) and from trails alone
+//! (`trails_are_told_in_order`): each call does nothing, its clause is the law. And the laws of the crates below that a
+//! run rests on. This profile.
 ghost use Rattle.m17_reflect.specs.Known.{OfLanes, OfLinks, OfModules};
 ghost use Rattle.m17_reflect.specs.Laws.{HeadlineTells};
+ghost use Rattle.m17_reflect.specs.Turns.{TrailsAreToldInOrder, PeersOfTrailsAreToldInOrder, RunsHoldTheirTrails};
 
 use m17_control::{Direct, Event, Item};
 use m17_crew::Order;
@@ -18,6 +20,30 @@ use m17_values::Member;
 pub fn headline_tells<L>()
     ensures { HeadlineTells L }
 {}
+
+/// The law on turns, of trails. The sender's acts are in turn, and with more behind them they say what the queues hold
+/// of the modules' trails, of which frames, echoes and pings alone may be left out; no two Joins of all trails are of
+/// one member. Then memberships on a link, of which each waits for the notes of all before it, are told their items one
+/// after another, each in the order of its queue; and the packets to a peer, where these are all its memberships on the
+/// link, are one order of that and of the replies to it past all modules. This profile.
+pub fn trails_are_told_in_order()
+    ensures members { TrailsAreToldInOrder }
+    ensures peers { PeersOfTrailsAreToldInOrder }
+{
+    module::share_is_the_others_frames();
+    module::items_follow_their_joins();
+    turns::less_of_a_life_is_a_life();
+    turns::turns_keep_each_member_in_order();
+    turns::peers_are_told_in_order();
+}
+
+/// The queues of every run hold what the run's trails give: what that law asks of trails and queues is met by each run.
+/// This profile.
+pub fn runs_hold_their_trails<L>()
+    ensures { RunsHoldTheirTrails L }
+{
+    module::items_are_at_places();
+}
 
 // Of lanes, rows, grids and the roll.
 #[inline]

@@ -9,8 +9,9 @@ ghost use Rattle.m17_reflect.specs.Run.{module_count};
 ghost use Rattle.m17_reflect.specs.Views.{run_of, IsRefusedFor};
 
 use crate::gather::gather;
-use crate::jobs::{Parted, part};
+use crate::jobs::part;
 use crate::laws::{of_lanes, of_links, of_modules};
+use crate::parted::Parted;
 use crate::{HouseRefusal, Refused, Returned};
 use m17_crew::Crew;
 use m17_house::Plan;
@@ -107,22 +108,10 @@ pub fn reflect<
         &mut staffed.workers,
         &mut staffed.senders,
     );
+    let parted = part(staffed, ears, traces, books);
     match started {
-        Ok(()) => {
-            let parted = part(staffed, ears, traces, books);
-            Ok(gather(
-                rt,
-                parted.links,
-                parted.modules,
-                parted.voice,
-                parted.seats,
-                parted.rooms,
-            ))
-        }
-        Err(_) => {
-            let gone = part(staffed, ears, traces, books);
-            Err(hand_back(gone))
-        }
+        Ok(()) => Ok(gather(rt, parted)),
+        Err(_) => Err(hand_back(parted)),
     }
 }
 

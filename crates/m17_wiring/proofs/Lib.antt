@@ -1,5 +1,6 @@
 mod Lists
 mod NewLines
+mod RowMarks
 mod Taken
 mod Same
 mod Stand

@@ -1,8 +1,8 @@
 -- Room for what comes back of a run, made before it starts. This profile.
 use Rattle.std.specs.Prelude.{◌≡◌, ◌+◌, ◌≤◌, ℕ, [], All, Vec, vec_len, vec_capacity}
-use Rattle.m17_wiring.specs.declared.rooms.LaneRooms.{LaneRooms}
-use Rattle.m17_wiring.specs.declared.rooms.OrderRooms.{OrderRooms}
-use Rattle.m17_wiring.specs.declared.rooms.JobRooms.{JobRooms}
+use Rattle.m17_wiring.specs.declared.rooms.LinkRooms.{LinkRooms}
+use Rattle.m17_wiring.specs.declared.rooms.ModuleRooms.{ModuleRooms}
+use Rattle.m17_wiring.specs.declared.rooms.TrailRooms.{TrailRooms}
 use Rattle.m17_wiring.specs.declared.rooms.Rooms.{Rooms}
 
 -- The vector is empty and has room for so many.
@@ -16,39 +16,41 @@ pub record AreRooms {X Y Z : Type 0} (rows count : ℕ) (vs : Vec (Vec X Y) Z) :
   pub number : vec_len vs ≡ rows
   pub each : All (IsRoom count) vs.items
 
--- There is room for the orders of so many jobs.
+-- There is room for what so many receivers are made of, but for their devices and seats.
 -- This profile.
-pub record HasOrderRooms (jobs : ℕ) (r : OrderRooms) : Type 0 where
-  pub poppers : IsRoom jobs r.poppers
-  pub trails : IsRoom jobs r.trails
-
--- There is room for the ends and the trails of the lanes of so many links, modules and places.
--- This profile.
-pub record HasLaneRooms (links modules places : ℕ) (r : LaneRooms) : Type 0 where
-  pub shells : AreRooms modules links r.shells
+pub record HasLinkRooms (links : ℕ) (r : LinkRooms) : Type 0 where
   pub columns : IsRoom links r.columns
-  pub inboxes : IsRoom modules r.inboxes
-  pub trails : IsRoom modules r.trails
-  pub queues : IsRoom modules r.queues
-  pub queue_trails : AreRooms modules places r.queue_trails
   pub doors : IsRoom links r.doors
-  pub notes : IsRoom links r.notes
-  pub note_trails : IsRoom links r.note_trails
-  pub to_receivers : HasOrderRooms links r.to_receivers
-  pub to_workers : HasOrderRooms modules r.to_workers
-  pub to_sender : HasOrderRooms 1 r.to_sender
+  pub noted : IsRoom links r.noted
+  pub orders : IsRoom links r.orders
+  pub tapes : IsRoom links r.tapes
 
--- There is room for what else so many receivers and workers held.
+-- There is room for what so many workers are made of, but for their books and seats.
 -- This profile.
-pub record HasJobRooms (links modules : ℕ) (r : JobRooms) : Type 0 where
-  pub seats : IsRoom (links + modules) r.seats
+pub record HasModuleRooms (modules : ℕ) (r : ModuleRooms) : Type 0 where
+  pub inboxes : IsRoom modules r.inboxes
+  pub queues : IsRoom modules r.queues
+  pub orders : IsRoom modules r.orders
+  pub tapes : IsRoom modules r.tapes
   pub missed : IsRoom modules r.missed
   pub admitted : IsRoom modules r.admitted
-  pub link_tapes : IsRoom links r.link_tapes
-  pub tapes : IsRoom modules r.tapes
+
+-- There is room for the trails of the lanes of so many links, modules and places.
+-- This profile.
+pub record HasTrailRooms (links modules places : ℕ) (r : TrailRooms) : Type 0 where
+  pub shells : AreRooms modules links r.shells
+  pub inboxes : IsRoom modules r.inboxes
+  pub queues : AreRooms modules places r.queues
+  pub notes : IsRoom links r.notes
+  pub to_receivers : IsRoom links r.to_receivers
+  pub to_workers : IsRoom modules r.to_workers
+  pub to_sender : IsRoom 1 r.to_sender
 
 -- There is room for all.
 -- This profile.
 pub record HasRooms (links modules places : ℕ) (r : Rooms) : Type 0 where
-  pub lanes : HasLaneRooms links modules places r.lanes
-  pub jobs : HasJobRooms links modules r.jobs
+  pub of_links : HasLinkRooms links r.links
+  pub of_modules : HasModuleRooms modules r.modules
+  pub of_sender : IsRoom 1 r.of_sender
+  pub seats : IsRoom (links + modules) r.seats
+  pub trails : HasTrailRooms links modules places r.trails

@@ -1,5 +1,5 @@
 -- What is made before a run starts. This profile.
-use Rattle.std.specs.Prelude.{◌≡◌, ◌+◌, ℕ, List, ◌++◌, map, length, Vec}
+use Rattle.std.specs.Prelude.{◌≡◌, ◌+◌, ℕ, List, [], ◌∷◌, ◌++◌, map, length, Vec}
 use Rattle.std.specs.List.{All}
 use Rattle.m17_control.specs.Modules.{letters_of}
 use Rattle.m17_lane.specs.Ends.{PushEnd, PopEnd}
@@ -9,10 +9,11 @@ use Rattle.m17_receiver.specs.declared.receiver.Receiver.{Receiver}
 use Rattle.m17_worker.specs.declared.worker.Worker.{Worker}
 use Rattle.m17_sender.specs.declared.sender.Sender.{Sender}
 use Rattle.m17_house.specs.declared.plan.Plan.{Plan}
-use Rattle.m17_wiring.specs.Bare.{EachFrom, IsNewReceiver, IsNewWorker, IsNewSender}
+use Rattle.m17_wiring.specs.declared.site.Site.{Site}
+use Rattle.m17_wiring.specs.Bare.{bare, bare_worker, EachFrom, IsNewReceiver, IsNewWorker, IsNewSender}
 use Rattle.m17_wiring.specs.Ends.{AreLaid, IsNewLine, ends_of}
 use Rattle.m17_wiring.specs.Planned.{module_count}
-use Rattle.m17_wiring.specs.Rooms.{IsRoom}
+use Rattle.m17_wiring.specs.Rooms.{IsRoom, HasRooms}
 
 -- All jobs are made, but for their devices: the receivers and the workers are these without them.
 -- This profile.
@@ -38,3 +39,19 @@ AreOrdersOf order ends jobs = IsNewLine 2 ends (map order jobs)
 pub record IsVacant {V W Y Z : Type 0} (count : ℕ) (js : Vec V Y) (rs : Vec W Z) : Type 0 where
   pub jobs : IsRoom count js
   pub running : IsRoom count rs
+
+-- All that a run over so many links needs but its devices: its jobs without them, each with a lane of
+-- orders, where the jobs come, and room for what comes back. This profile.
+pub record IsSite {E M B X Y Z : Type 0} (links : ℕ) (site : Site E M B X Y Z) : Type 0 where
+  pub made : AreBare site.plan links (map bare site.receivers.items)
+      (map bare_worker site.workers.items) site.sender
+  pub to_receivers : AreOrdersOf (λ j. j.order) site.staffed.receivers.orders.items
+      (map bare site.receivers.items)
+  pub to_workers : AreOrdersOf (λ w. w.order) site.staffed.workers.orders.items
+      (map bare_worker site.workers.items)
+  pub to_sender : AreOrdersOf (λ s. s.order) site.staffed.senders.orders.items (site.sender ∷ [])
+  pub receivers : IsVacant links site.staffed.receivers.jobs site.staffed.receivers.running
+  pub workers : IsVacant (module_count site.plan)
+      site.staffed.workers.jobs site.staffed.workers.running
+  pub sender : IsVacant 1 site.staffed.senders.jobs site.staffed.senders.running
+  pub rooms : HasRooms links (module_count site.plan) site.plan.places site.staffed.rooms

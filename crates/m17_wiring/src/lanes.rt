@@ -1,20 +1,20 @@
 //! All lanes of a run.
-ghost use Rattle.std.specs.Prelude.{◌≡◌, ◌<◌, ◌∷◌, [], IfOk, map};
+ghost use Rattle.std.specs.Prelude.{◌≡◌, ◌+◌, ◌*◌, ◌^◌, ◌<◌, ◌∷◌, [], IfOk, map};
 ghost use Rattle.m17_lane.specs.Ends.{new_popper, new_pushers};
 ghost use Rattle.m17_wiring.specs.Ends.{AreLaid, AreNewLines, IsNewLine};
 ghost use Rattle.m17_wiring.specs.Lanes.{ends_in, AreOrdered};
-ghost use Rattle.m17_wiring.specs.Rooms.{AreRooms};
 ghost use Rattle.m17_wiring.specs.Taken.{HaveLinks, HaveModules};
 
 use crate::bare_receivers::LinkEnds;
 use crate::bare_sender::SenderEnds;
 use crate::bare_workers::ModuleEnds;
 use crate::lines::{Lines, lay_line, lay_marked_line, lay_marked_lines};
+use crate::marks::MarkedBell;
 use crate::vectors::take_last;
 use m17_control::{Direct, Event, Item};
 use m17_crew::Order;
 use m17_grid::{Laid, lay};
-use m17_lane::{Bell, Popper, Pusher, make_marked};
+use m17_lane::{Popper, Pusher};
 use m17_sender::Hint;
 use m17_values::NoMemory;
 use std::alloc::Global;
@@ -41,8 +41,6 @@ pub(crate) struct Lanes {
     pub(crate) modules: ModuleEnds,
     pub(crate) sender: SenderEnds,
     pub(crate) orders: OrderEnds,
-    /// The empty vectors that the inboxes' pushers came in.
-    pub(crate) shells: Vec<Vec<Pusher<Event>>>,
 }
 
 /// The ends of the jobs' orders.
@@ -72,16 +70,16 @@ pub(crate) fn lay_lanes(
     places: u32,
 ) -> Result<Lanes, NoMemory>
     requires links { 0 < links }
+    requires fits { modules * places + 2 < 2 ^ 32 }
     ensures laid { IfOk result (λ lanes. AreLaid links modules places (ends_in lanes)) }
     ensures orders { IfOk result AreOrdered }
     ensures links { IfOk result (λ lanes. HaveLinks links lanes.links) }
     ensures modules { IfOk result (λ lanes. HaveModules modules lanes.modules) }
-    ensures shells { IfOk result (λ lanes. AreRooms modules links lanes.shells) }
 {
     let Laid {
         columns,
         poppers,
-        shells,
+        shells: _,
     } = lay(alloc, links, modules, INBOX_ROOM)?;
     let to_sender = lay_sender_lanes(alloc, links, modules, places)?;
     let notes = lay_line(alloc, links, NOTES_ROOM)?;
@@ -111,12 +109,11 @@ pub(crate) fn lay_lanes(
             to_workers: to_workers.pushers,
             to_sender: to_sender.orders,
         },
-        shells,
     })
 }
 
 // Makes the lanes that ring the sender's bell. Queue q of module m has the mark m * places + q, and behind these come
-// the marks of the door and of the orders.
+// the marks of the door and of the orders: each lane has one of its own.
 fn lay_sender_lanes(
     alloc: Global,
     links: u32,
@@ -124,6 +121,7 @@ fn lay_sender_lanes(
     places: u32,
 ) -> Result<SenderLanes, NoMemory>
     requires links { 0 < links }
+    requires fits { modules * places + 2 < 2 ^ 32 }
     ensures queues { IfOk result (λ lanes. AreNewLines 64 modules places
         (map (λ row. row.items) lanes.queues.pushers.items)
         (map (λ row. row.items) lanes.queues.poppers.items)) }
@@ -131,13 +129,13 @@ fn lay_sender_lanes(
         × (lanes.doors.items ≡ new_pushers lanes.door links)) }
     ensures orders { IfOk result (λ lanes. IsNewLine 2 lanes.orders.items (lanes.order ∷ [])) }
 {
-    let marks = modules.saturating_mul(places);
-    let bell = Bell::make_marked(alloc, marks.saturating_add(2))?;
-    let queues = lay_marked_lines(alloc, &bell, modules, places, QUEUE_ROOM)?;
-    let (doors, door) = make_marked(alloc, &bell, marks, links, DOOR_ROOM)?;
-    let mut orders = lay_marked_line(alloc, &bell, marks.saturating_add(1), 1, ORDERS_ROOM)?;
+    let marks = modules * places;
+    let mut bell = MarkedBell::make(alloc, marks + 2)?;
+    let queues = lay_marked_lines(alloc, &mut bell, modules, places, QUEUE_ROOM)?;
+    let (doors, door) = bell.lay(alloc, marks, links, DOOR_ROOM)?;
+    let mut orders = lay_marked_line(alloc, &mut bell, marks + 1, 1, ORDERS_ROOM)?;
     let order = take_last(&mut orders.poppers);
-    let hint = Hint::make(alloc, bell, marks)?;
+    let hint = Hint::make(alloc, bell.into_bell(), marks)?;
     Ok(SenderLanes {
         queues,
         doors,

@@ -4,6 +4,7 @@
 //! It promises that the jobs are those of the plan, a receiver for each link and a worker for each module, that
 //! each lane has its two ends at two jobs, or at a job and the orders of its group, that the seats are those of
 //! one new roll, and that each job can be started. Nothing but a start of a job has to be allocated from then on.
+//! Inside the crate each lane that the sender pops has a mark of its own (`MarkedBell`); no contract sees marks.
 //! When the jobs start, and what comes back of them, is left to the crates beside it.
 #![tactic(auto)]
 
@@ -13,11 +14,12 @@ mod bare_workers;
 mod lanes;
 mod letters;
 mod lines;
+mod marks;
 mod rooms;
 mod site;
 mod staffing;
 mod vectors;
 
-pub use rooms::{JobRooms, LaneRooms, OrderRooms, Rooms};
+pub use rooms::{LinkRooms, ModuleRooms, Rooms, TrailRooms};
 pub use site::{Site, Staffed, prepare};
 pub use staffing::staff;

@@ -6,7 +6,7 @@ ghost use Rattle.m17_wiring.specs.Lanes.{ends_in, AreOrdered};
 ghost use Rattle.m17_wiring.specs.Ends.{AreLaid};
 ghost use Rattle.m17_wiring.specs.Planned.{module_count};
 ghost use Rattle.m17_wiring.specs.Rooms.{HasRooms};
-ghost use Rattle.m17_wiring.specs.Site.{AreBare, AreOrdersOf, IsVacant};
+ghost use Rattle.m17_wiring.specs.Site.{AreBare, AreOrdersOf, IsSite, IsVacant};
 ghost use Rattle.m17_wiring.specs.Taken.{HaveLinks, HaveModules};
 
 use crate::bare_receivers::bare_receivers;
@@ -16,10 +16,8 @@ use crate::lanes::{Lanes, OrderEnds, lay_lanes};
 use crate::letters::served_letters;
 use crate::rooms::{Rooms, make_rooms};
 use crate::vectors::room;
-use m17_control::Event;
-use m17_crew::{Order, Work};
+use m17_crew::Work;
 use m17_house::Plan;
-use m17_lane::Pusher;
 use m17_launch::Group;
 use m17_ports::{Book, Ear, Mouth};
 use m17_receiver::Receiver;
@@ -64,14 +62,13 @@ pub struct Staffed<
     pub rooms: Rooms,
 }
 
-// The jobs of a run without their devices, the ends of their orders, and the shells of the inboxes.
+// The jobs of a run without their devices, and the ends of their orders.
 #[derive(Drop)]
 struct Bare {
     receivers: Vec<Receiver<(), ()>>,
     workers: Vec<Worker<()>>,
     sender: Sender<()>,
     orders: OrderEnds,
-    shells: Vec<Vec<Pusher<Event>>>,
 }
 
 /// Makes all that a run of the plan over so many links needs but its devices. `NoMemory` where there is none for it;
@@ -84,59 +81,59 @@ pub fn prepare<
     requires plan { IsPlan plan.now }
     requires links { (0 < links) × (links ≤ 4) }
     ensures plan { IfOk result (λ site. site.plan ≡ plan.now) }
-    ensures bare { IfOk result (λ site. AreBare site.plan links (map bare site.receivers.items)
-        (map bare_worker site.workers.items) site.sender) }
-    ensures to_receivers { IfOk result (λ site. AreOrdersOf (λ j. j.order)
-        site.staffed.receivers.orders.items (map bare site.receivers.items)) }
-    ensures to_workers { IfOk result (λ site. AreOrdersOf (λ w. w.order)
-        site.staffed.workers.orders.items (map bare_worker site.workers.items)) }
-    ensures to_sender { IfOk result (λ site. AreOrdersOf (λ s. s.order)
-        site.staffed.senders.orders.items (site.sender ∷ [])) }
-    ensures receivers { IfOk result (λ site. IsVacant links
-        site.staffed.receivers.jobs site.staffed.receivers.running) }
-    ensures workers { IfOk result (λ site. IsVacant (module_count site.plan)
-        site.staffed.workers.jobs site.staffed.workers.running) }
-    ensures sender { IfOk result (λ site. IsVacant 1
-        site.staffed.senders.jobs site.staffed.senders.running) }
-    ensures rooms { IfOk result (λ site. HasRooms links (module_count site.plan) site.plan.places
-        site.staffed.rooms) }
+    ensures site { IfOk result (IsSite links) }
 {
     let modules = plan.modules.count();
+    let mut staffed = vacant_staff(alloc, links, modules, plan.places)?;
     let lanes = lay_lanes(alloc, links, modules, plan.places)?;
     let bare = make_bare(alloc, plan, links, lanes)?;
-    let orders = bare.orders;
-    let receivers = vacant(alloc, links, orders.to_receivers)?;
-    let workers = vacant(alloc, modules, orders.to_workers)?;
-    let senders = vacant(alloc, 1, orders.to_sender)?;
-    let rooms = make_rooms(alloc, links, modules, plan.places, bare.shells)?;
+    staffed.receivers.orders = bare.orders.to_receivers;
+    staffed.workers.orders = bare.orders.to_workers;
+    staffed.senders.orders = bare.orders.to_sender;
     Ok(Site {
         plan: *plan,
         receivers: bare.receivers,
         workers: bare.workers,
         sender: bare.sender,
-        staffed: Staffed {
-            receivers,
-            workers,
-            senders,
-            rooms,
-        },
+        staffed,
     })
 }
 
-// A group without jobs, with room for so many.
-fn vacant<W: Work>(
-    alloc: Global,
-    count: u32,
-    orders: Vec<Pusher<Order>>,
-) -> Result<Group<W>, NoMemory>
-    ensures room { IfOk result (λ group. IsVacant count group.jobs group.running) }
-    ensures orders { IfOk result (λ group. group.orders ≡ orders) }
+// Groups without jobs and orders, with room for so many, and the rooms. It is made before the lanes and the jobs, so that
+// little is there where memory runs out.
+fn vacant_staff<
+    E: Ear + Drop + Send + 'static,
+    M: Mouth + Drop + Send + 'static,
+    B: Book + Drop + Send + 'static,
+>(alloc: Global, links: u32, modules: u32, places: u32) -> Result<Staffed<E, M, B>, NoMemory>
+    requires links { links ≤ 4 }
+    requires modules { modules ≤ 26 }
+    ensures receivers { IfOk result (λ s. IsVacant links s.receivers.jobs s.receivers.running) }
+    ensures workers { IfOk result (λ s. IsVacant modules s.workers.jobs s.workers.running) }
+    ensures sender { IfOk result (λ s. IsVacant 1 s.senders.jobs s.senders.running) }
+    ensures rooms { IfOk result (λ s. HasRooms links modules places s.rooms) }
+{
+    let rooms = make_rooms(alloc, links, modules, places)?;
+    let receivers = vacant(alloc, links)?;
+    let workers = vacant(alloc, modules)?;
+    let senders = vacant(alloc, 1)?;
+    Ok(Staffed {
+        receivers,
+        workers,
+        senders,
+        rooms,
+    })
+}
+
+// A group without jobs and orders, with room for so many jobs.
+fn vacant<W: Work>(alloc: Global, count: u32) -> Result<Group<W>, NoMemory>
+    ensures { IfOk result (λ group. IsVacant count group.jobs group.running) }
 {
     let jobs = room(alloc, count)?;
     let running = room(alloc, count)?;
     Ok(Group {
         jobs,
-        orders,
+        orders: Vec::new(alloc),
         running,
     })
 }
@@ -157,7 +154,6 @@ fn make_bare(alloc: Global, plan: &Plan, links: u32, lanes: Lanes) -> Result<Bar
         b.orders.to_workers.items (map bare_worker b.workers.items)) }
     ensures to_sender { IfOk result (λ b. AreOrdersOf (λ s. s.order)
         b.orders.to_sender.items (b.sender ∷ [])) }
-    ensures shells { IfOk result (λ b. b.shells ≡ lanes.shells) }
 {
     let letters = served_letters(alloc, plan.modules)?;
     let mut seats = m17_roll::make(alloc, plan.places, links + plan.modules.count())?;
@@ -169,6 +165,5 @@ fn make_bare(alloc: Global, plan: &Plan, links: u32, lanes: Lanes) -> Result<Bar
         workers,
         sender,
         orders: lanes.orders,
-        shells: lanes.shells,
     })
 }

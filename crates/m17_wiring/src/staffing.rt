@@ -11,7 +11,7 @@ ghost use Rattle.m17_wiring.specs.Bare.{bare, bare_worker, IsSameBut};
 ghost use Rattle.m17_wiring.specs.Jobs.{AreJobs};
 ghost use Rattle.m17_wiring.specs.Planned.{module_count};
 ghost use Rattle.m17_wiring.specs.Rooms.{IsRoom};
-ghost use Rattle.m17_wiring.specs.Site.{AreBare, AreOrdersOf, IsVacant};
+ghost use Rattle.m17_wiring.specs.Site.{AreOrdersOf, IsSite};
 
 use crate::site::{Site, Staffed};
 use crate::vectors::take_last;
@@ -42,19 +42,7 @@ pub fn staff<
     requires new_ears { All (λ ear. StartsEmpty (E.heard ear)) ears.old.items }
     requires new_traces { All (λ trace. StartsEmpty (B.written trace)) traces.old.items }
     requires new_books { All (λ book. StartsEmpty (B.written book)) books.old.items }
-    requires bare { AreBare site.plan (vec_len ears.old) (map bare site.receivers.items)
-        (map bare_worker site.workers.items) site.sender }
-    requires to_receivers { AreOrdersOf (λ j. j.order)
-        site.staffed.receivers.orders.items (map bare site.receivers.items) }
-    requires to_workers { AreOrdersOf (λ w. w.order)
-        site.staffed.workers.orders.items (map bare_worker site.workers.items) }
-    requires to_sender { AreOrdersOf (λ s. s.order)
-        site.staffed.senders.orders.items (site.sender ∷ []) }
-    requires receivers { IsVacant (vec_len ears.old)
-        site.staffed.receivers.jobs site.staffed.receivers.running }
-    requires workers { IsVacant (module_count site.plan)
-        site.staffed.workers.jobs site.staffed.workers.running }
-    requires sender { IsVacant 1 site.staffed.senders.jobs site.staffed.senders.running }
+    requires site { IsSite (vec_len ears.old) site }
     ensures jobs { (s : Sender M) × (result.senders.jobs.items ≡ s ∷ []) × (s.mouths ≡ mouths)
         × AreJobs site.plan (vec_len ears.old) result.receivers.jobs.items
         result.workers.jobs.items s }

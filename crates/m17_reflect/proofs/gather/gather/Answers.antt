@@ -4,10 +4,11 @@ use Rattle.m17_reflect.proofs.RowsLong.{rows_long}
 use Rattle.m17_reflect.proofs.gather.gather.Goals as goal
 
 pub say_rest-requires : goal.say_rest-requires
-say_rest-requires g c = record {
-  cells = c.requires.cells
-      ∙ sym (map_twice (λ row. row.items) length c.args.voice.queues.items)
-      ∙ sym (rows_long (map (λ row. row.items) c.args.modules.queues.items) (map (λ row. row.items) c.args.voice.queues.items)
-      (map (λ row. row.items) c.finish_rows.new.trails.items) c.requires.queues c.finish_rows.ensures)
-      ∙ map_twice (λ row. row.items) length c.finish_rows.new.trails.items;
-}
+say_rest-requires g c =
+    let p = c.args.parted in record {
+      cells = c.requires.cells
+          ∙ sym (map_twice (λ row. row.items) length p.voice.queues.items)
+          ∙ sym (rows_long (map (λ row. row.items) p.modules.queues.items) (map (λ row. row.items) p.voice.queues.items)
+          (map (λ row. row.items) c.finish_rows.new.trails.items) c.requires.queues c.finish_rows.ensures)
+          ∙ map_twice (λ row. row.items) length c.finish_rows.new.trails.items;
+    }

@@ -1,4 +1,4 @@
-use Rattle.std.proofs.Common.{length, ap, arith}
+use Rattle.std.proofs.Common.{length, refl, ap, ◌∙◌, arith}
 use Rattle.m17_wiring.proofs.NewLines.{line_none, line_more}
 use Rattle.m17_wiring.proofs.lines.lay_marked_line.Goals as goal
 
@@ -9,6 +9,7 @@ loop-laid-init g c =
       line = line_none c.args.capacity qs.pushers.items ps.poppers.items qs.ensures.0 ps.ensures.0;
       pushers = (omega (arith, no_qs, qs.pushers.ok.0), qs.ensures.1);
       poppers = (omega (arith, no_ps, ps.poppers.ok.0), ps.ensures.1);
+      marks = (omega (arith, c.requires.next), refl);
     }
 
 pub loop-laid-preserved : goal.loop-laid-preserved
@@ -18,4 +19,5 @@ loop-laid-preserved g c =
           now.invariant.line first.ensures.items second.ensures.items made.ensures.popper made.ensures.pusher;
       pushers = (omega (arith, now.invariant.pushers.0, first.ensures.len), omega (arith, now.invariant.pushers.1, first.ensures.capacity));
       poppers = (omega (arith, now.invariant.poppers.0, second.ensures.len), omega (arith, now.invariant.poppers.1, second.ensures.capacity));
+      marks = (omega (arith, now.invariant.marks.0, c.lay_one.ensures.laid), c.lay_one.ensures.lanes ∙ now.invariant.marks.1);
     }

@@ -1,5 +1,6 @@
-use Rattle.std.proofs.Common.{length, map, ap, ◌∙◌, arith}
+use Rattle.std.proofs.Common.{length, map, refl, ap, ◌∙◌, arith}
 use Rattle.m17_wiring.proofs.Lists.{map_snoc}
+use Rattle.m17_wiring.proofs.RowMarks.{rows_more, row_fits}
 use Rattle.m17_wiring.proofs.NewLines.{lines_none, lines_more}
 use Rattle.m17_wiring.proofs.lines.lay_marked_lines.Goals as goal
 
@@ -11,6 +12,7 @@ loop-row-init g c =
           (ap (map (λ row. row.items)) qs.ensures.0) (ap (map (λ row. row.items)) ps.ensures.0);
       pushers = (omega (arith, no_qs, qs.pushers.ok.0), qs.ensures.1);
       poppers = (omega (arith, no_ps, ps.poppers.ok.0), ps.ensures.1);
+      marks = (omega (arith, c.requires.first), refl);
     }
 
 pub loop-row-preserved : goal.loop-row-preserved
@@ -25,4 +27,11 @@ loop-row-preserved g c =
           made.ensures.line made.ensures.count;
       pushers = (omega (arith, now.invariant.pushers.0, first.ensures.len), omega (arith, now.invariant.pushers.1, first.ensures.capacity));
       poppers = (omega (arith, now.invariant.poppers.0, second.ensures.len), omega (arith, now.invariant.poppers.1, second.ensures.capacity));
+      marks = (made.ensures.laid ∙ rows_more now.row c.args.count, made.ensures.lanes ∙ now.invariant.marks.1);
     }
+
+pub overflow_mul-row : goal.overflow_mul-row
+overflow_mul-row g c = omega (arith, row_fits c.loop-row.row c.args.rows c.args.count (omega arith), c.requires.fits)
+
+pub lay_marked_line-requires-clause-fits : goal.lay_marked_line-requires-clause-fits
+lay_marked_line-requires-clause-fits g c = omega (arith, row_fits c.loop-row.row c.args.rows c.args.count (omega arith), c.requires.fits)

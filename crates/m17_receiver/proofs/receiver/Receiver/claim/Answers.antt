@@ -1,6 +1,13 @@
 use Rattle.std.proofs.Common.{rules, ◌≡◌, Bool, true, false, Some, sym, subst}
 use Rattle.m17_receiver.specs.SoFar.{HasTaken}
+use Rattle.m17_receiver.proofs.Noted.{noted_nothing}
 use Rattle.m17_receiver.proofs.receiver.Receiver.claim.Goals as goal
+
+pub returns-then-not-self-clause-noted : goal.returns-then-not-self-clause-noted
+returns-then-not-self-clause-noted g c = noted_nothing c.args.self.now.notes c.args.self.now.directory c.args.noted.now
+
+pub returns-then-known-self-clause-noted : goal.returns-then-known-self-clause-noted
+returns-then-known-self-clause-noted g c = noted_nothing c.args.self.now.notes c.args.self.now.directory c.args.noted.now
 
 pub returns-then-not-self-clause-taken : goal.returns-then-not-self-clause-taken
 returns-then-not-self-clause-taken g c =
