@@ -1,5 +1,5 @@
 -- What contracts see of an ear, a mouth and a book of a real machine, and of its ports. This profile.
-use Rattle.std.specs.Prelude.{◌≡◌, ◌≢◌, ◌⊎◌, ℕ, suc, ◌≤◌, List, [], ◌∷◌, take, Bool, Option, option_map, None, Some}
+use Rattle.std.specs.Prelude.{◌≡◌, ◌≢◌, ◌⊎◌, ℕ, suc, min, ◌-◌, ◌^◌, ◌≤◌, List, [], ◌∷◌, ◌++◌, take, All, Bool, Option, option_map, None, Some}
 use Rattle.std.specs.Net.Addr.{is_ipv6}
 use Rattle.std.specs.Net.Grammar.{IsSocketText}
 use Rattle.std.specs.Net.Socket.{socket_ip}
@@ -10,6 +10,9 @@ use Rattle.m17_values.specs.declared.heard.Heard.TheVariants as heard
 use Rattle.m17_ports.specs.Told.{told_then}
 use Rattle.m17_ports.specs.Mouth.{Datagram}
 use Rattle.m17_ports.specs.Ports.{next_number}
+use Rattle.m17_disk.specs.Queue.{IsNewQueue, QueueKept}
+use Rattle.m17_disk.specs.Writing.{ComesToEnd, IsOfBook, IsReady, Words}
+use Rattle.m17_disk.specs.declared.writer.Writer.{Writer}
 use Rattle.m17_net.specs.Address.{IsPeerAt, IsAddressOf}
 use Rattle.m17_net.specs.Moments.{ReadsMoment}
 use Rattle.m17_net.specs.Wire.{Sent}
@@ -58,12 +61,32 @@ pub record BookKept (F : Type 0) : Type 0 where
 abbrev pub new_book : {F : Type 0} → F → ℕ → BookKept F
 new_book file n = record { file = file; faults = 0; number = n }
 
--- ports: the instant that they read when they were made, if their clock gave one, how many calls there were, and how
--- often they have failed
-pub record PortsKept : Type 0 where
+-- ports: the instant that they read when they were made, if their clock gave one, how many calls there were, how often
+-- they have failed, and the jobs of the threads that they started for books
+pub record PortsKept (J : Type 0) : Type 0 where
   pub start : Option Instant
   pub calls : ℕ
   pub faults : ℕ
+  pub writing : List J
+
+-- One thread more was started for a book: it is that of a new book, it took nothing, and its file has not failed. This
+-- profile.
+pub record IsBegun {F : Type 0} (before after : List (Writer (BookKept F))) : Type 0 where
+  pub job : Writer (BookKept F)
+  pub last : after ≡ before ++ job ∷ []
+  pub book : QueueKept
+  pub new : IsNewQueue 0 book
+  pub of_book : IsOfBook book job
+  pub ready : IsReady job
+  pub no_fault : job.book.faults ≡ 0
+
+-- what is said of a book in a file: its bytes are not told
+abbrev pub file_words : {F : Type 0} → Words (BookKept F)
+file_words = record { written = λ _. None; faults = λ book. min book.faults (2 ^ 64 - 1) }
+
+-- Each of these threads came to its end, and no write of its file failed. This profile.
+abbrev pub AreWritten : {F : Type 0} → List (Writer (BookKept F)) → Type 0
+AreWritten {F} jobs = All (ComesToEnd (file_words {F = F})) jobs
 
 -- An ear that ends at a moment, or never, is over where its last moment is this one. This profile.
 abbrev pub IsOver : Option ℕ → ℕ → Type 0

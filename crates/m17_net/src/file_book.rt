@@ -13,7 +13,7 @@ use std::io::ErrorKind;
 use std::marker::Model;
 
 /// A book in a file. Each write goes to the file at once, so what stands there ends with a whole record, as far as the
-/// system wrote it whole. This profile.
+/// system wrote it whole. A write takes as long as the system takes for it. This profile.
 #[derive(Drop)]
 pub struct FileBook<F: BookFile + Drop = File> {
     file: F,

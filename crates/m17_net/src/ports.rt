@@ -6,49 +6,76 @@ ghost use Rattle.m17_ports.specs.Told.{StartsEmpty};
 ghost use Rattle.m17_ports.specs.Marks.{IsNumbered};
 ghost use Rattle.m17_ports.specs.Mouth.{HasSaidNothing};
 ghost use Rattle.m17_ports.specs.Ports.{IsAsked, next_number};
+ghost use Rattle.m17_disk.specs.Queue.{IsNewQueue};
 ghost use Rattle.m17_net.specs.Devices.{IsNewLink};
 
 use crate::ear::WAIT_MS;
+use crate::late_file::LateFile;
 use crate::{FileBook, UdpEar, UdpMouth};
+use m17_disk::{Hand, QueuedBook};
 use m17_ports::Ports;
 use m17_values::Failed;
+use std::alloc::Global;
 use std::fs::File;
 use std::marker::Model;
 use std::net::{Net, SocketAddr, UdpSocket};
 use std::rt::Files;
+use std::sync::{Arc, OnceLock, Wait};
+use std::thread::Threads;
 use std::time::{Clock, Duration, Instant};
 use std::{fs, io};
 
 /// Links on UDP sockets, and books in files, of the system that `rt` stands for. Each link and each book has the number
-/// of the call that made it. This profile.
+/// of the call that made it. A book's writes are made by a thread of its own, which `staff` starts before the book is asked
+/// for, and `settle` ends. This profile.
 #[derive(Drop)]
 pub struct UdpPorts<R: Drop> {
     rt: R,
     start: Option<Instant>,
     calls: u64,
     faults: u64,
+    spares: Vec<Spare<R>>,
+    hands: Vec<Hand<FileBook<LateFile>>>,
+}
+
+// A book that was not asked for yet, and where its thread looks for the file.
+#[derive(Drop)]
+struct Spare<R: Drop> {
+    book: QueuedBook<R>,
+    file: Arc<OnceLock<File>, Global>,
+    ghost new: { IsNewQueue 0 book },
 }
 
 impl<R: Drop> Model for UdpPorts<R> {
-    ghost use Rattle.m17_net.specs.Devices.{PortsKept};
+    ghost use Rattle.m17_disk.specs.declared.writer.Writer.{Writer};
+    ghost use Rattle.m17_net.specs.declared.late_file.LateFile.{LateFile};
+    ghost use Rattle.m17_net.specs.Devices.{BookKept, PortsKept};
 
-    ghost Value = { PortsKept };
+    ghost Value = { PortsKept (Writer (BookKept LateFile)) };
 
-    ghost view = { λ p. record { start = p.start; calls = p.calls; faults = p.faults } };
+    ghost view = { λ p. record {
+      start = p.start;
+      calls = p.calls;
+      faults = p.faults;
+      writing = p.hands.items;
+    } };
 }
 
-impl<R: Net + Files<File = File> + Clock + Copy + Drop> UdpPorts<R> {
+impl<R: Net + Files<File = File> + Clock + AllocGlobal + Copy + Drop> UdpPorts<R> {
+    ghost use Rattle.std.specs.Prelude.{[]};
     ghost use Rattle.m17_net.specs.Devices.{PortsKept};
 
     /// Ports that were asked for nothing yet. The moments of their ears are counted from now. This profile.
     pub fn new(rt: R) -> UdpPorts<R>
-        ensures { result ≡ record { start = result.start; calls = 0; faults = 0 } }
+        ensures { result ≡ record { start = result.start; calls = 0; faults = 0; writing = [] } }
     {
         UdpPorts {
             rt,
             start: Instant::now(&rt).ok(),
             calls: 0,
             faults: 0,
+            spares: Vec::new(rt.alloc()),
+            hands: Vec::new(rt.alloc()),
         }
     }
 
@@ -70,6 +97,19 @@ impl<R: Net + Files<File = File> + Clock + Copy + Drop> UdpPorts<R> {
         Failed
     }
 
+    // A book with this number in a new file of this name, where a thread is left for it.
+    fn open_book(&mut self, name: &str, number: u64) -> Option<QueuedBook<R>>
+        ensures new { IfSome result (IsNewQueue number) }
+        ensures same { self.new ≡ self.old }
+    {
+        let Spare { book, file } = self.spares.pop()?;
+        let made = fs::create(&self.rt, name).ok()?;
+        match file.try_set(made) {
+            Ok(_) => Some(book.numbered(number)),
+            Err(_) => None,
+        }
+    }
+
     // A link with this number, bound there.
     fn open(&self, bind: &str, until: Option<u64>, number: u64) -> Option<(UdpEar<R>, UdpMouth)>
         ensures { IfSome result (IsNewLink bind.now until self.now.start number) }
@@ -84,8 +124,52 @@ impl<R: Net + Files<File = File> + Clock + Copy + Drop> UdpPorts<R> {
     }
 }
 
+impl<
+    R: Net
+        + Files<File = File>
+        + Clock
+        + AllocGlobal
+        + Threads
+        + Wait
+        + Copy
+        + Drop
+        + Send
+        + 'static,
+> UdpPorts<R> {
+    ghost use Rattle.m17_net.specs.Devices.{AreWritten, IsBegun, PortsKept};
+
+    /// Starts the thread of a book that is still to be asked for. As many books can be asked for as threads were started.
+    /// `Failed` where there is no thread or no memory for it. This profile.
+    pub fn staff(&mut self) -> Result<(), Failed>
+        ensures begun { OnOk result (IsBegun self.old.writing self.new.writing) }
+        ensures same { self.new ≡ record self.old { writing = self.new.writing } }
+    {
+        let alloc = self.rt.alloc();
+        let Ok(late) = LateFile::make(alloc) else {
+            return Err(Failed);
+        };
+        let Ok(file) = late.share() else {
+            return Err(Failed);
+        };
+        let (book, hand) = m17_disk::open(self.rt, alloc, FileBook::new(late, 0), 0)?;
+        if self.hands.push(hand).is_err() || self.spares.push(Spare { book, file }).is_err() {
+            return Err(Failed);
+        }
+        Ok(())
+    }
+
+    /// Brings the threads of the books to their end, when nobody writes to a book any more, and waits for that: for five
+    /// seconds together, or a tenth of a second for each where those before it took them all. `Failed` where one could
+    /// not write all that it took, or did not come to its end; it is left behind then. This profile.
+    pub fn settle(&mut self) -> Result<(), Failed>
+        ensures written { OnOk result (AreWritten self.old.writing) }
+    {
+        m17_disk::settle(&self.rt, &mut self.hands)
+    }
+}
+
 // A socket that is bound there, twice: neither half waits for longer than an ear may.
-fn sockets<R: Net>(rt: &R, address: SocketAddr) -> io::Result<(UdpSocket, UdpSocket)> {
+pub(crate) fn sockets<R: Net>(rt: &R, address: SocketAddr) -> io::Result<(UdpSocket, UdpSocket)> {
     let wait = Some(Duration::from_millis(WAIT_MS));
     let socket = rt.bind_udp(address)?;
     socket.set_read_timeout(wait)?;
@@ -94,14 +178,25 @@ fn sockets<R: Net>(rt: &R, address: SocketAddr) -> io::Result<(UdpSocket, UdpSoc
     Ok((socket, other))
 }
 
-impl<R: Net + Files<File = File> + Clock + Copy + Drop + Send + 'static> Ports for UdpPorts<R> {
+impl<
+    R: Net
+        + Files<File = File>
+        + Clock
+        + AllocGlobal
+        + Threads
+        + Wait
+        + Copy
+        + Drop
+        + Send
+        + 'static,
+> Ports for UdpPorts<R> {
     ghost use Rattle.std.proofs.Math.Nat.{min-le_right};
 
     type Ear = UdpEar<R>;
 
     type Mouth = UdpMouth;
 
-    type Book = FileBook;
+    type Book = QueuedBook<R>;
 
     ghost faults = { λ p. min p.faults (2 ^ 64 - 1) };
 
@@ -128,6 +223,7 @@ impl<R: Net + Files<File = File> + Clock + Copy + Drop + Send + 'static> Ports f
         ensures made { IfOk result
             (IsNewLink bind.now until self.old.start self.old.calls) }
         ensures same_start { self.new.start ≡ self.old.start }
+        ensures same_books { self.new.writing ≡ self.old.writing }
 
         // The call is counted, and so is its failure.
         ensures no_fault { OnOk result (self.new.faults ≡ self.old.faults) }
@@ -140,7 +236,7 @@ impl<R: Net + Files<File = File> + Clock + Copy + Drop + Send + 'static> Ports f
         }
     }
 
-    fn book(&mut self, name: &str) -> Result<FileBook, Failed>
+    fn book(&mut self, name: &str) -> Result<QueuedBook<R>, Failed>
         ensures cause { HasCause (min self.old.faults (2 ^ 64 - 1))
             (min self.new.faults (2 ^ 64 - 1)) result }
         ensures counted { self.new.calls ≡ next_number self.old.calls }
@@ -149,15 +245,16 @@ impl<R: Net + Files<File = File> + Clock + Copy + Drop + Send + 'static> Ports f
             × StartsEmpty {A = ℕ} None) }
         ensures numbered { IfOk result (λ book. IsNumbered (Some book.number) self.old.calls) }
         ensures same_start { self.new.start ≡ self.old.start }
+        ensures same_books { self.new.writing ≡ self.old.writing }
 
         // The call is counted, and so is its failure.
         ensures no_fault { OnOk result (self.new.faults ≡ self.old.faults) }
         ensures failed { OnErr result (self.new.faults ≡ next_number self.old.faults) }
     {
         let number = self.next_call();
-        match fs::create(&self.rt, name) {
-            Ok(file) => Ok(FileBook::new(file, number)),
-            Err(_) => Err(self.fault()),
-        }
+        let Some(book) = self.open_book(name, number) else {
+            return Err(self.fault());
+        };
+        Ok(book)
     }
 }

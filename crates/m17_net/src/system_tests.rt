@@ -1,4 +1,5 @@
 //! The devices of the system: sockets over the loopback, and files.
+use crate::ports::sockets;
 use crate::tests::must;
 use crate::{UdpEar, UdpMouth, UdpPorts, peer_at};
 use m17_ports::{Book, Ear, Mouth, Ports};
@@ -10,15 +11,25 @@ use std::net::{Net, SocketAddr, UdpSocket};
 use std::path::PathBuf;
 use std::process::Abort;
 use std::rt::Files;
+use std::sync::Wait;
+use std::thread::Threads;
 use std::time::{Clock, Duration, Instant};
-use std::{env, fs, process};
+use std::{env, fs, io, process, thread};
 
 // A link that is bound there.
-fn link<R: Net + Files<File = File> + Clock + Copy + Drop + Send + Abort + 'static>(
-    rt: R,
-    bind: &str,
-    until: Option<u64>,
-) -> (UdpEar<R>, UdpMouth) {
+fn link<
+    R: Net
+        + Files<File = File>
+        + Clock
+        + AllocGlobal
+        + Threads
+        + Wait
+        + Copy
+        + Drop
+        + Send
+        + Abort
+        + 'static,
+>(rt: R, bind: &str, until: Option<u64>) -> (UdpEar<R>, UdpMouth) {
     must(&rt, UdpPorts::new(rt).link(bind, until))
 }
 
@@ -71,11 +82,19 @@ fn exchange<R: Abort, C: Clock + Drop>(
 }
 
 // The same of a link that is bound here and a friend who is bound there.
-fn expect_exchange<R: Net + Files<File = File> + Clock + Copy + Drop + Send + Abort + 'static>(
-    rt: R,
-    here: &str,
-    there: &str,
-) {
+fn expect_exchange<
+    R: Net
+        + Files<File = File>
+        + Clock
+        + AllocGlobal
+        + Threads
+        + Wait
+        + Copy
+        + Drop
+        + Send
+        + Abort
+        + 'static,
+>(rt: R, here: &str, there: &str) {
     let (mut ear, mut mouth) = link(rt, here, None);
     let (socket, peer) = friend(&rt, there);
     let came = exchange(&rt, &mut ear, &mut mouth, &socket, &peer);
@@ -242,13 +261,13 @@ fn write_thrice<B: Book>(book: &mut B) -> [Result<(), Failed>; 3] {
     ]
 }
 
-// Has ports make a book there, and writes to it: whether the file holds what was written while the book is not closed.
-fn writes_anew<P: Ports, R: AllocGlobal + Files + Abort>(rt: &R, ports: &mut P, path: &str) -> bool
+// Has ports make a book there, and writes to it: whether that went well.
+fn writes_anew<P: Ports, R: Abort>(rt: &R, ports: &mut P, path: &str) -> bool
 where
     P::Book: Drop,
 {
     let mut book = must(rt, ports.book(path));
-    write_thrice(&mut book) == [Ok(()); 3] && holds(rt, path, b"headerrecord")
+    write_thrice(&mut book) == [Ok(()); 3]
 }
 
 // Whether ports make a book there.
@@ -267,28 +286,69 @@ fn a_book_is_made_anew_and_holds_what_was_written(rt: HostRuntime) {
         fs::write(&rt, path.as_path(), "what stood there before"),
     );
     let mut ports = UdpPorts::new(rt);
-    let anew = writes_anew(&rt, &mut ports, path.as_str());
+    must(&rt, ports.staff());
+    let written = writes_anew(&rt, &mut ports, path.as_str());
+    let settled = ports.settle().is_ok();
+    let anew = written && settled && holds(&rt, path.as_str(), b"headerrecord");
     must(&rt, fs::remove_file(&rt, path.as_path()));
     must(&rt, path.push("below"));
+    for _other in 0..3 {
+        must(&rt, ports.staff());
+    }
     let below = makes_book(&mut ports, path.as_str());
     let other = makes_book(&mut ports, "") || makes_book(&mut ports, "a\0b");
     assert!(rt; anew && !below && !other);
 }
 
-// What becomes of three writes, of which the second has no bytes, to a device that is always full.
-fn write_to_full<P: Ports, R: Abort>(rt: &R, ports: &mut P) -> [Result<(), Failed>; 3]
+// Writes once to a device that is always full, and then until that fails, a second at the most: whether it came to fail.
+fn write_to_full<P: Ports, R: Clock + Abort>(rt: &R, ports: &mut P) -> bool
 where
     P::Book: Drop,
 {
     let mut book = must(rt, ports.book("/dev/full"));
-    write_thrice(&mut book)
+    for _try in 0..1000 {
+        if book.write(b"record").is_err() {
+            return true;
+        }
+        thread::sleep(rt, Duration::from_millis(1));
+    }
+    false
 }
 
-// A device that is always full.
+// The same with one write: whether it was taken.
+fn write_once_to_full<P: Ports, R: Abort>(rt: &R, ports: &mut P) -> bool
+where
+    P::Book: Drop,
+{
+    must(rt, ports.book("/dev/full")).write(b"record").is_ok()
+}
+
+// A device that is always full: a later write fails, and so does the end. For a third book there is no thread.
 #[test]
-fn a_book_on_a_full_device_fails_at_each_write(rt: HostRuntime) {
+fn a_book_on_a_full_device_fails(rt: HostRuntime) {
     if fs::metadata(&rt, "/dev/full").is_ok() {
-        let writes = write_to_full(&rt, &mut UdpPorts::new(rt));
-        assert!(rt; writes == [Err(Failed), Ok(()), Err(Failed)]);
+        let mut ports = UdpPorts::new(rt);
+        must(&rt, ports.staff());
+        must(&rt, ports.staff());
+        let failed = write_to_full(&rt, &mut ports);
+        let taken = write_once_to_full(&rt, &mut ports);
+        let more = makes_book(&mut ports, "/dev/full");
+        assert!(rt; failed && taken && !more && ports.settle() == Err(Failed));
+    }
+}
+
+// Whether there is a limit to how long a call waits: the 20 ms of an ear, or what the system makes of them.
+fn is_short(limit: io::Result<Option<Duration>>) -> bool {
+    matches!(limit, Ok(Some(limit)) if limit <= Duration::from_millis(40))
+}
+
+// Over the loopback no send buffer is ever full, so what is seen here is the limit itself.
+#[test]
+fn a_mouth_waits_at_a_full_buffer_no_longer_than_an_ear(rt: HostRuntime) {
+    let at = must(&rt, "127.0.0.1:0".parse::<SocketAddr>());
+    let (ear, mouth) = must(&rt, sockets(&rt, at));
+    let both = [&ear, &mouth];
+    for half in both {
+        assert!(rt; is_short(half.read_timeout()) && is_short(half.write_timeout()));
     }
 }

@@ -1,0 +1,10 @@
+use Rattle.std.proofs.Common.{◌≡◌, false}
+use Rattle.m17_disk.specs.Writing.{WriterDid}
+use Rattle.m17_disk.proofs.writer.Writer.work.Given as goal
+
+-- all that it took is written so far
+abbrev pub invariant-loop : goal.invariant-loop
+invariant-loop g l = record {
+  did : WriterDid (record { written = g.B.Book.written; faults = g.B.Book.faults }) l.fn.self l.self;
+  sound : l.self.failed ≡ false;
+}

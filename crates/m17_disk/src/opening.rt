@@ -1,0 +1,142 @@
+//! How a book and its thread are made.
+ghost use Rattle.std.specs.Prelude.{◌≡◌, IfOk};
+ghost use Rattle.m17_disk.specs.Queue.{IsNewQueue};
+ghost use Rattle.m17_disk.specs.Writing.{IsOfBook, IsReady};
+
+use crate::queued_book::{QueuedBook, RESTS};
+use crate::writer::Writer;
+use m17_crew::{Crew, Order, Running, StdCrew};
+use m17_lane::{Bell, Pusher, make_one_with};
+use m17_ports::Book;
+use m17_values::{Failed, NoMemory};
+use std::alloc::Global;
+use std::marker::Model;
+use std::sync::atomic::AtomicBool;
+use std::sync::{Arc, Wait};
+use std::thread::Threads;
+
+/// How many writes wait for the thread at the most. The room for them takes 256 KiB.
+const SLIPS: u32 = 2048;
+
+/// The thread of a book, for `settle`. Contracts see its job as it was when it was started. One that is dropped leaves the
+/// thread asleep. This profile.
+#[derive(Drop)]
+pub struct Hand<B: Book + Drop + Send + 'static> {
+    pub(crate) running: Running<Writer<B>>,
+    pub(crate) orders: Pusher<Order>,
+    pub(crate) ended: Arc<AtomicBool, Global>,
+}
+
+impl<B: Book + Drop + Send + 'static> Model for Hand<B> {
+    ghost use Rattle.m17_disk.specs.declared.writer.Writer.{Writer};
+
+    ghost Value = { Writer B };
+
+    ghost view = { λ h. h.running };
+}
+
+// A flag, for the thread, the book and the hand.
+type Flags = (
+    Arc<AtomicBool, Global>,
+    Arc<AtomicBool, Global>,
+    Arc<AtomicBool, Global>,
+);
+
+// A book, the job of its thread, the end by which that is told to stop, and the flag by which it is known to have ended.
+#[derive(Drop)]
+struct Made<B, R: Drop> {
+    book: QueuedBook<R>,
+    writer: Writer<B>,
+    orders: Pusher<Order>,
+    ended: Arc<AtomicBool, Global>,
+}
+
+/// A book with this number whose writes a new thread makes to `inner`, and that thread. `Failed` where there is no thread
+/// or no memory for it. This profile.
+pub fn open<B: Book + Drop + Send + 'static, R: Threads + Wait + Copy + Drop + Send + 'static>(
+    rt: R,
+    alloc: Global,
+    inner: B,
+    number: u64,
+) -> Result<(QueuedBook<R>, Hand<B>), Failed>
+    ensures new { IfOk result (λ r. IsNewQueue number r.0) }
+    ensures inner { IfOk result (λ r. r.1.book ≡ inner) }
+    ensures ready { IfOk result (λ r. IsReady r.1) }
+    ensures one_lane { IfOk result (λ r. IsOfBook r.0 r.1) }
+{
+    let Ok(made) = make(rt, alloc, inner, number) else {
+        return Err(Failed);
+    };
+    let Made {
+        book,
+        writer,
+        orders,
+        ended,
+    } = made;
+    match StdCrew::new().start(&rt, alloc, writer) {
+        Ok(running) => Ok((
+            book,
+            Hand {
+                running,
+                orders,
+                ended,
+            },
+        )),
+        Err(_back) => Err(Failed),
+    }
+}
+
+// The book and the job, new, and of one lane.
+fn make<B: Drop, R: Drop>(
+    rt: R,
+    alloc: Global,
+    inner: B,
+    number: u64,
+) -> Result<Made<B, R>, NoMemory>
+    ensures new { IfOk result (λ made. IsNewQueue number made.book) }
+    ensures inner { IfOk result (λ made. made.writer.book ≡ inner) }
+    ensures ready { IfOk result (λ made. IsReady made.writer) }
+    ensures one_lane { IfOk result (λ made. IsOfBook made.book made.writer) }
+{
+    let bell = Bell::make(alloc)?;
+    let (to_thread, slips) = make_one_with(alloc, &bell, SLIPS)?;
+    let (orders, order) = make_one_with(alloc, &bell, 1)?;
+    let (ended, seen, kept) = make_flags(alloc)?;
+    let book = QueuedBook {
+        rt,
+        slips: to_thread,
+        ended: seen,
+        rests: RESTS,
+        gave_up: false,
+        faults: 0,
+        number,
+    };
+    let writer = Writer {
+        slips,
+        book: inner,
+        failed: false,
+        order,
+        bell,
+        ended,
+    };
+    Ok(Made {
+        book,
+        writer,
+        orders,
+        ended: kept,
+    })
+}
+
+// A flag that isn't set.
+fn make_flags(alloc: Global) -> Result<Flags, NoMemory> {
+    let Ok(first) = Arc::new(alloc, AtomicBool::new(false)) else {
+        return Err(NoMemory);
+    };
+    let Ok(second) = Arc::try_clone(&first) else {
+        return Err(NoMemory);
+    };
+    let Ok(third) = Arc::try_clone(&first) else {
+        return Err(NoMemory);
+    };
+    Ok((first, second, third))
+}
