@@ -7,7 +7,8 @@ use Rattle.std.proofs.lemmas.Bool.Decides.{nat_tests}
 use Rattle.m17_make.specs.Made.{IsSound}
 use Rattle.m17_make.specs.Moments.{hotspots}
 use Rattle.m17_make.specs.Talk.{IsSteady, silent}
-use Rattle.m17_make.specs.Make.{Evening, is_pong, turn_at, made_at, after, before}
+use Rattle.m17_make.specs.Make.{is_pong}
+use Rattle.m17_make.specs.Maker.{Evening, taken_at, made_at, after, kept_before}
 use Rattle.m17_make.proofs.Choices.{by_test}
 use Rattle.m17_make.proofs.Steady.{steady_silent, turn_good, IsGoodTurn}
 
@@ -17,7 +18,7 @@ pub record IsCalm (j : ℕ) (e : Evening) : Type 0 where
   pub three : length e.talks ≡ 3
   pub steady : All IsSteady e.talks
 
-good_turn : (j : ℕ) (e : Evening) (u : ℕ) → IsCalm j e → IsGoodTurn (turn_at u e)
+good_turn : (j : ℕ) (e : Evening) (u : ℕ) → IsCalm j e → IsGoodTurn (taken_at u e)
 good_turn j e u calm = turn_good (u % 3) e.x _ (omega arith) (calm.steady (u % 3) silent (omega arith))
 
 pub calm_after : (j : ℕ) (e : Evening) → IsCalm j e → IsCalm (j + 1) (after e)
@@ -32,14 +33,14 @@ calm_after j e calm = by_test (IsCalm (j + 1)) (nat_lt e.entry hotspots) _ _
       steady = All-set IsSteady e.talks ((e.entry - hotspots) % 3) _ (good_turn j e (e.entry - hotspots) calm).steady calm.steady;
     }))
 
-pub calm_before : (seed j : ℕ) → IsCalm j (before seed j)
-unfolding before
+pub calm_before : (seed j : ℕ) → IsCalm j (kept_before seed j)
+unfolding kept_before
 calm_before seed zero = record {
   entry_is = refl;
   three = refl;
   steady = All-cons IsSteady silent (silent ∷ silent ∷ []) steady_silent (All-cons IsSteady silent (silent ∷ []) steady_silent (All-cons IsSteady silent [] steady_silent (All-nil IsSteady)));
 }
-calm_before seed (suc j) = subst (λ (n : ℕ). IsCalm n (after (before seed j))) (add-one j) (calm_after j (before seed j) (calm_before seed j))
+calm_before seed (suc j) = subst (λ (n : ℕ). IsCalm n (after (kept_before seed j))) (add-one j) (calm_after j (kept_before seed j) (calm_before seed j))
 
 pub made_fits : (j : ℕ) (e : Evening) → IsCalm j e → IsSound (made_at e)
 unfolding made_at

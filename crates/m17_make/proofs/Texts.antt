@@ -1,5 +1,5 @@
 -- The text of an evening: entry by entry, its parts, its length, and that it is a trace.
-use Rattle.std.proofs.Common.{◌≡◌, ℕ, zero, suc, ◌+◌, ◌-◌, ◌*◌, ◌^◌, ◌<◌, ◌≤◌, List, [], ◌∷◌, ◌++◌, length, map, take, min, nat_lt, refl, sym, ap, ap₂, ◌∙◌, arith, subst, append_assoc, append-nil, add-zero, add-one, length-append, Option, Some}
+use Rattle.std.proofs.Common.{◌≡◌, ℕ, zero, suc, ◌+◌, ◌-◌, ◌*◌, ◌^◌, ◌<◌, ◌≤◌, List, [], ◌∷◌, ◌++◌, length, map, take, min, nat_lt, refl, sym, ap, ap₂, ◌∙◌, arith, subst, append_assoc, append-nil, add-zero, length-append, Option, Some}
 use Rattle.std.specs.List.{flat_map, range_with_len, sum_by}
 use Rattle.std.proofs.Math.Seq.{take-append-add}
 use Rattle.std.proofs.lemmas.List.{take_min, take-append-le}
@@ -12,11 +12,12 @@ use Rattle.m17_book.specs.Limits.{SpellsEach}
 use Rattle.m17_book.specs.Entries.{SpellsEntry, entry_bytes}
 use Rattle.m17_book.specs.Book.{trace_magic}
 use Rattle.m17_make.specs.Moments.{hotspots, moment_of}
-use Rattle.m17_make.specs.Made.{heard_as, entry_length}
-use Rattle.m17_make.specs.Make.{Evening, begun_with, before, after, made_at, entry_made, entry_heard, entries_of, make_text}
+use Rattle.m17_make.specs.Made.{entry_length}
+use Rattle.m17_make.specs.Make.{entry_made, entry_heard, entries_of, make_text}
+use Rattle.m17_make.specs.Maker.{Evening, IsDrawnFrom}
 use Rattle.m17_make.specs.Laws.{MakesATrace, LengthIsByKinds}
 use Rattle.m17_make.proofs.Choices.{by_test}
-use Rattle.m17_make.proofs.Evenings.{calm_before, made_fits}
+use Rattle.m17_make.proofs.Followed.{entry_fits}
 use Rattle.m17_make.proofs.Fits.{fits_entry, length_entry, short_entry}
 
 -- ---- entry by entry
@@ -97,47 +98,38 @@ entry_written seed j first now after has ok before told =
     ok (before ++ make_text seed j) (has before told) ∙ ap Some (append_assoc before (make_text seed j) (entry_bytes (entry_heard seed j))
     ∙ ap (λ (bytes : List ℕ). before ++ bytes) (sym (make_text_more seed j)))
 
--- j entries are made: the next one is entry j, they stand written, and the sink has not failed
+-- j entries are made of the evening of this seed, they stand written, and the sink has not failed
 pub record IsMaking (seed j : ℕ) (maker : Evening) (first now : Option (List ℕ)) (faults faults' : ℕ) : Type 0 where
-  pub maker_is : maker ≡ before seed j
+  pub entry_is : maker.entry ≡ j
+  pub drawn : IsDrawnFrom seed maker
   pub written : HasWritten seed j first now
   pub no_fault : faults' ≡ faults
 
--- what is heard of the next entry of an evening, and that this is entry j
-abbrev pub next_heard : Evening → Heard
-next_heard e = heard_as (moment_of e.entry) (made_at e)
-
-pub next_is : (seed j : ℕ) (maker : Evening) → maker ≡ before seed j → next_heard maker ≡ entry_heard seed j
-next_is seed j maker e = ap next_heard e ∙ ap (λ (n : ℕ). heard_as (moment_of n) (entry_made seed j)) (calm_before seed j).entry_is
-
-pub entry_index : (seed j : ℕ) (maker : Evening) → maker ≡ before seed j → maker.entry ≡ j
-entry_index seed j maker e = ap (λ (e : Evening). e.entry) e ∙ (calm_before seed j).entry_is
-
-pub making_first : (seed : ℕ) (first now : Option (List ℕ)) (faults faults' : ℕ)
-    → ((before : List ℕ) → first ≡ Some before → now ≡ Some (before ++ trace_magic)) → faults' ≡ faults → IsMaking seed 0 (begun_with seed) first now faults faults'
-unfolding before
-making_first seed first now faults faults' ok same = record {
-  maker_is = refl;
+pub making_first : (seed : ℕ) (maker : Evening) (first now : Option (List ℕ)) (faults faults' : ℕ) → IsDrawnFrom seed maker → maker.entry ≡ 0
+    → ((before : List ℕ) → first ≡ Some before → now ≡ Some (before ++ trace_magic)) → faults' ≡ faults → IsMaking seed 0 maker first now faults faults'
+making_first seed maker first now faults faults' drawn at ok same = record {
+  entry_is = at;
+  drawn = drawn;
   written = λ bytes told. ok bytes told ∙ ap (λ (text : List ℕ). Some (bytes ++ text)) (sym (make_text_none seed));
   no_fault = same;
 }
 
-pub making_more : (seed j : ℕ) (maker maker' : Evening) (first now after_it : Option (List ℕ)) (faults faults' faults'' : ℕ) → IsMaking seed j maker first now faults faults'
-    → maker' ≡ after maker → ((before : List ℕ) → now ≡ Some before → after_it ≡ Some (before ++ entry_bytes (next_heard maker))) → faults'' ≡ faults'
-    → IsMaking seed (j + 1) maker' first after_it faults faults''
-unfolding before
-making_more seed j maker maker' first now after_it faults faults' faults'' making e ok same = record {
-  maker_is = e ∙ ap after making.maker_is ∙ ap (before seed) (sym (add-one j));
+pub making_more : (seed j : ℕ) (maker maker' : Evening) (heard : Heard) (first now after_it : Option (List ℕ)) (faults faults' faults'' : ℕ)
+    → IsMaking seed j maker first now faults faults' → maker'.entry ≡ maker.entry + 1 → IsDrawnFrom seed maker' → heard ≡ entry_heard seed maker.entry
+    → ((before : List ℕ) → now ≡ Some before → after_it ≡ Some (before ++ entry_bytes heard)) → faults'' ≡ faults' → IsMaking seed (j + 1) maker' first after_it faults faults''
+making_more seed j maker maker' heard first now after_it faults faults' faults'' making at drawn heard_is ok same = record {
+  entry_is = at ∙ ap (λ (n : ℕ). n + 1) making.entry_is;
+  drawn = drawn;
   written = entry_written seed j first now after_it making.written
-      (λ bytes told. ok bytes told ∙ ap (λ (heard : Heard). Some (bytes ++ entry_bytes heard)) (next_is seed j maker making.maker_is));
+      (λ bytes told. ok bytes told ∙ ap (λ (h : Heard). Some (bytes ++ entry_bytes h)) (heard_is ∙ ap (entry_heard seed) making.entry_is));
   no_fault = same ∙ making.no_fault;
 }
 
-pub making_failed : (seed j count : ℕ) (maker : Evening) (first now after_it : Option (List ℕ)) (faults faults' : ℕ) → j < count → IsMaking seed j maker first now faults faults'
-    → Fails (entry_bytes (next_heard maker)) now after_it → Fails (make_text seed count) first after_it
-making_failed seed j count maker first now after_it faults faults' h making fails =
+pub making_failed : (seed j count : ℕ) (maker : Evening) (heard : Heard) (first now after_it : Option (List ℕ)) (faults faults' : ℕ) → j < count
+    → IsMaking seed j maker first now faults faults' → heard ≡ entry_heard seed maker.entry → Fails (entry_bytes heard) now after_it → Fails (make_text seed count) first after_it
+making_failed seed j count maker heard first now after_it faults faults' h making heard_is fails =
     entry_failed seed j count first now after_it h making.written
-    (subst (λ (heard : Heard). Fails (entry_bytes heard) now after_it) (next_is seed j maker making.maker_is) fails)
+    (subst (λ (h : Heard). Fails (entry_bytes h) now after_it) (heard_is ∙ ap (entry_heard seed) making.entry_is) fails)
 
 -- ---- the length
 
@@ -169,7 +161,7 @@ spells_from seed a zero h = refl
 spells_from seed a (suc n) h = (
   entry_bytes (entry_heard seed a),
   flat_map entry_bytes (map (entry_heard seed) (range_with_len (a + 1) n)),
-  (fits_entry (moment_of a) (entry_made seed a) (moment_fits a (omega arith)) (made_fits a (before seed a) (calm_before seed a)), refl),
+  (fits_entry (moment_of a) (entry_made seed a) (moment_fits a (omega arith)) (entry_fits seed a), refl),
   spells_from seed (a + 1) n (omega arith),
   refl,
 )

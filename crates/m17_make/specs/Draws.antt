@@ -1,11 +1,19 @@
--- The numbers that an evening is drawn with: 64 bits, each from the one before it. This profile.
-use Rattle.std.specs.Prelude.{ℕ, ◌+◌, ◌*◌, ◌/◌, ◌%◌, ◌^◌}
+-- The numbers that an evening is drawn from: 64 bits, the seed first and then each from the one before it. This profile.
+use Rattle.std.specs.Prelude.{ℕ, zero, suc, ◌+◌, ◌*◌, ◌/◌, ◌%◌, ◌^◌}
 
--- the number of 64 bits that comes after this one
+-- the number that comes after this one
 unfoldable pub next_number : ℕ → ℕ
 next_number x = (6364136223846793005 * x + 1442695040888963407) % 2 ^ 64
 
--- The draw of one of k after the number x: the high 31 bits of the number that comes after it, counted round k. This
--- profile.
-unfoldable pub draw : ℕ → ℕ → ℕ
-draw k x = next_number x / 2 ^ 33 % k
+-- the number after n draws, each of which goes on by one number
+unfoldable pub number_after : ℕ → ℕ → ℕ
+number_after seed zero = seed
+number_after seed (suc n) = next_number (number_after seed n)
+
+-- What is drawn of 0 to k - 1 after this number: the high 31 bits of the next one, counted round k. This profile.
+unfoldable pub drawn_after : ℕ → ℕ → ℕ
+drawn_after k x = next_number x / 2 ^ 33 % k
+
+-- Draw n of an evening, counted from 0, of one of k. This profile.
+abbrev pub draw : ℕ → ℕ → ℕ → ℕ
+draw seed n k = drawn_after k (number_after seed n)

@@ -3,6 +3,9 @@ pub mod Draws
 pub mod Hotspots
 pub mod Moments
 pub mod Made
-pub mod Talk
+pub mod Streams
 pub mod Make
 pub mod Laws
+-- what the code keeps
+pub mod Talk
+pub mod Maker

@@ -1,5 +1,5 @@
--- The trace of an evening: twelve hotspots on three modules. This profile.
-use Rattle.std.specs.Prelude.{ℕ, zero, suc, Bool, ◌+◌, ◌-◌, ◌%◌, List, [], ◌∷◌, ◌++◌, nat_lt, map, slice_set, slice_index_or, if◌then◌else◌}
+-- The trace of an evening: twelve hotspots on the modules A, B and C, which are 0, 1 and 2 here. This profile.
+use Rattle.std.specs.Prelude.{ℕ, zero, suc, Bool, ◌==◌, ◌+◌, ◌-◌, ◌%◌, List, [], ◌∷◌, ◌++◌, nat_lt, map, if◌then◌else◌}
 use Rattle.std.specs.List.{flat_map, range_with_len}
 use Rattle.m17_values.specs.declared.heard.Heard.{Heard}
 use Rattle.m17_values.specs.declared.heard.Heard.TheVariants.{End}
@@ -9,51 +9,41 @@ use Rattle.m17_make.specs.declared.made.Made.{Made}
 use Rattle.m17_make.specs.declared.made.Made.TheVariants.{Conn, Pong}
 use Rattle.m17_make.specs.Moments.{hotspots, moment_of}
 use Rattle.m17_make.specs.Made.{heard_as}
-use Rattle.m17_make.specs.declared.talk.Talk.{Talk}
-use Rattle.m17_make.specs.Talk.{Turn, silent, turn}
+use Rattle.m17_make.specs.Streams.{Stand, Turn, turn}
 
--- An evening before an entry: the entry's index, the last number drawn with, and what each of the modules A, B and C
--- has.
-pub record Evening : Type 0 where
-  pub entry : ℕ
-  pub x : ℕ
-  pub talks : List Talk
+-- What an entry finds: how many numbers were drawn for those before it, and how each module stands.
+pub record Found : Type 0 where
+  pub drawn : ℕ
+  pub stands : ℕ → Stand
 
-abbrev pub begun_with : ℕ → Evening
-begun_with seed = record { entry = 0; x = seed; talks = silent ∷ silent ∷ silent ∷ [] }
-
--- entry j + 12 is a PONG: the first twelve of each 300 are, one of each hotspot
+-- entry u + 12 is a PONG: the first twelve of each 300 are, one of each hotspot
 abbrev pub is_pong : ℕ → Bool
 is_pong u = nat_lt (u % 300) hotspots
 
--- the turn of entry u + 12: the modules take turns
-abbrev pub turn_at : ℕ → Evening → Turn
-turn_at u e = turn (u % 3) e.x (slice_index_or e.talks (u % 3) silent)
+-- What comes at entry j, which is one of module j mod 3: a CONN of each hotspot in order, then PONGs and turns.
+unfoldable pub comes_at : ℕ → ℕ → Found → Turn
+comes_at seed j found =
+    if nat_lt j hotspots
+    then record { made = Conn j; draws = 0; stand = found.stands (j % 3) } else
+    (if is_pong (j - hotspots)
+    then record { made = Pong ((j - hotspots) % 300); draws = 0; stand = found.stands (j % 3) }
+    else turn seed (j % 3) found.drawn (found.stands (j % 3)))
 
--- what the next entry is: a CONN of each hotspot in order, then PONGs and turns
-unfoldable pub made_at : Evening → Made
-made_at e = if nat_lt e.entry hotspots then Conn e.entry else
-    (if is_pong (e.entry - hotspots) then Pong ((e.entry - hotspots) % 300) else
-    (turn_at (e.entry - hotspots) e).made)
+-- what the entry after one of module m finds
+abbrev pub found_after : ℕ → Turn → Found → Found
+found_after m t found = record {
+  drawn = found.drawn + t.draws;
+  stands = λ k. if k == m then t.stand else found.stands k;
+}
 
--- the evening after a turn, whose module keeps what it has then
-abbrev pub after_turn : ℕ → Turn → Evening → Evening
-after_turn m t e = record { entry = e.entry + 1; x = t.x; talks = slice_set e.talks m t.talk }
+-- what entry j finds; the first one, that nothing is drawn, and that a stream begins at each module's first turn
+unfoldable pub found_at : ℕ → ℕ → Found
+found_at seed zero = record { drawn = 0; stands = λ k. Stand.Rests 0 }
+found_at seed (suc j) = found_after (j % 3) (comes_at seed j (found_at seed j)) (found_at seed j)
 
--- the evening after the next entry: only a turn changes anything
-unfoldable pub after : Evening → Evening
-after e = if nat_lt e.entry hotspots then record e { entry = e.entry + 1 } else
-    (if is_pong (e.entry - hotspots) then record e { entry = e.entry + 1 } else
-    after_turn ((e.entry - hotspots) % 3) (turn_at (e.entry - hotspots) e) e)
-
--- the evening before entry j
-unfoldable pub before : ℕ → ℕ → Evening
-before seed zero = begun_with seed
-before seed (suc j) = after (before seed j)
-
--- what entry j is, and what is heard of it
+-- What entry j is, and what is heard of it. This profile.
 abbrev pub entry_made : ℕ → ℕ → Made
-entry_made seed j = made_at (before seed j)
+entry_made seed j = (comes_at seed j (found_at seed j)).made
 
 abbrev pub entry_heard : ℕ → ℕ → Heard
 entry_heard seed j = heard_as (moment_of j) (entry_made seed j)

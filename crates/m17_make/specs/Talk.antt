@@ -1,17 +1,17 @@
--- The turns of a module: a stream of a hotspot, frame by frame, with repeats, frames out of order and interruptions.
--- This profile.
+-- What the code keeps of a module between its turns, and what a turn makes of it. For the code's own functions alone:
+-- the rule is in Streams.antt, and the proofs compare the two.
 use Rattle.std.specs.Prelude.{ℕ, Bool, false, ◌==◌, ◌&&◌, nat_lt, nat_le, ◌+◌, ◌-◌, ◌*◌, ◌/◌, ◌%◌, Option, None, Some, ◌≡◌, ◌<◌, ◌≤◌, ◌^◌, bit_xor, if◌then◌else◌}
 use Rattle.m17_make.specs.declared.talk.Talk.{Talk}
 use Rattle.m17_make.specs.declared.made.Made.{Made}
 use Rattle.m17_make.specs.declared.made.Made.TheVariants.{Frame, Quiet}
-use Rattle.m17_make.specs.Draws.{next_number, draw}
+use Rattle.m17_make.specs.Draws.{next_number, drawn_after}
 
 -- a module before its first turn
 abbrev pub silent : Talk
 silent = record { left = 0; rest = 0; number = 0; who = 0; sid = 0; held = None }
 
 -- a turn: the entry that it makes, and then what the module has, and the last number drawn with
-pub record Turn : Type 0 where
+pub record Taken : Type 0 where
   pub made : Made
   pub talk : Talk
   pub x : ℕ
@@ -24,16 +24,14 @@ own_frame t number last = Frame t.who t.sid number last
 abbrev pub other_of : ℕ → ℕ → ℕ
 other_of m who = m + 3 * (((who - m) / 3 + 1) % 4)
 
--- The entry by the draw d of 20, the first line that fits: 0 repeats the last frame, 1 interrupts with another stream
--- id, 2 sends the frame after the next one first, and else comes the next frame, the last one with the end bit.
+-- the entry by the draw d of 20
 unfoldable pub made_by : ℕ → ℕ → Talk → Made
 made_by m d t = if d == 0 && nat_lt 0 t.number then own_frame t (t.number - 1) false else
     (if d == 1 then Frame (other_of m t.who) (bit_xor t.sid 1) 0 false else
     (if d == 2 && nat_le 3 t.left then own_frame t (t.number + 1) false else
     own_frame t t.number (t.left == 1)))
 
--- What the module has then, by the same lines: nothing changes, twice; a frame is held back; after the last frame it
--- rests for five turns.
+-- what the module has then
 unfoldable pub talk_by : ℕ → Talk → Talk
 talk_by d t = if d == 0 && nat_lt 0 t.number then t else
     (if d == 1 then t else
@@ -46,29 +44,32 @@ talk_by d t = if d == 0 && nat_lt 0 t.number then t else
     }))
 
 -- a turn of a module with a stream: one draw
-abbrev pub spoken : ℕ → ℕ → Talk → Turn
-spoken m x t =
-    record { made = made_by m (draw 20 x) t; talk = talk_by (draw 20 x) t; x = next_number x }
+abbrev pub spoken : ℕ → ℕ → Talk → Taken
+spoken m x t = record {
+  made = made_by m (drawn_after 20 x) t;
+  talk = talk_by (drawn_after 20 x) t;
+  x = next_number x;
+}
 
--- a new stream: three draws, for who of the module's four talks, the stream id, and how many frames it has
+-- a new stream: three draws
 abbrev pub begun : ℕ → ℕ → Talk → Talk
 begun m x t = record t {
-  who = m + 3 * draw 4 x;
-  sid = draw 65536 (next_number x);
-  left = 25 + draw 100 (next_number (next_number x));
+  who = m + 3 * drawn_after 4 x;
+  sid = drawn_after 65536 (next_number x);
+  left = 25 + drawn_after 100 (next_number (next_number x));
   number = 0;
 }
 
 -- a turn of a module that doesn't rest: the frame that is held back, or the stream goes on, or a new one begins
-abbrev pub awake : ℕ → ℕ → Talk → Option ℕ → Turn
+abbrev pub awake : ℕ → ℕ → Talk → Option ℕ → Taken
 awake m x t (Some number) =
     record { made = own_frame t number false; talk = record t { held = None }; x = x }
 awake m x t None = if t.left == 0 then
     spoken m (next_number (next_number (next_number x))) (begun m x t) else spoken m x t
 
--- The turn of module m (0 to 2) after the number x was drawn with. This profile.
-unfoldable pub turn : ℕ → ℕ → Talk → Turn
-turn m x t = if nat_lt 0 t.rest then
+-- the turn of module m (0 to 2) after the number x was drawn with
+unfoldable pub taken : ℕ → ℕ → Talk → Taken
+taken m x t = if nat_lt 0 t.rest then
     record { made = Quiet; talk = record t { rest = t.rest - 1 }; x = x } else awake m x t t.held
 
 -- What holds of a module at all times: who is a hotspot, a stream has at most 124 frames, and ids have 16 bits.
@@ -79,5 +80,5 @@ pub record IsSteady (t : Talk) : Type 0 where
   pub sid : t.sid < 2 ^ 16
 
 -- a turn came out so
-abbrev pub Turned : Made → Talk → ℕ → Turn → Type 0
+abbrev pub Turned : Made → Talk → ℕ → Taken → Type 0
 Turned made talk x t = (made ≡ t.made) × (talk ≡ t.talk) × (x ≡ t.x)

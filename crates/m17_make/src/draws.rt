@@ -1,5 +1,5 @@
 ghost use Rattle.std.specs.Prelude.{◌≡◌, ◌<◌};
-ghost use Rattle.m17_make.specs.Draws.{next_number, draw};
+ghost use Rattle.m17_make.specs.Draws.{next_number, drawn_after};
 
 /// What a number is multiplied by, and what is added, to come to the next one.
 const MULTIPLIER: u64 = 6_364_136_223_846_793_005;
@@ -19,10 +19,10 @@ pub(crate) struct Draws {
 impl Draws {
     // Draws one of 0 to `below` - 1.
     #[inline]
-    #[tactic(auto, unfolding(crate::specs::Draws::draw))]
+    #[tactic(auto, unfolding(crate::specs::Draws::drawn_after))]
     pub(crate) fn draw(&mut self, below: u32) -> u32
         requires { 0 < below }
-        ensures drawn { result ≡ draw below self.old.x }
+        ensures drawn { result ≡ drawn_after below self.old.x }
         ensures next { self.new.x ≡ next_number self.old.x }
         ensures within { result < below }
     {

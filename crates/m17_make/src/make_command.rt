@@ -1,15 +1,14 @@
-ghost use Rattle.std.specs.Prelude.{◌≡◌, ◌<◌, ◌≤◌, ℕ, List, ◌++◌, Some, OnOk, OnErr};
+ghost use Rattle.std.specs.Prelude.{◌≡◌, ◌≢◌, ◌≤◌, ℕ, List, ◌++◌, Some, OnOk, OnErr};
 ghost use Rattle.m17_io.specs.Faults.{HasCause};
 ghost use Rattle.m17_io.specs.Sink.{AppendsPrefix};
+ghost use Rattle.m17_values.specs.declared.heard.Heard.TheVariants.{End};
 ghost use Rattle.m17_book.specs.Entries.{entry_bytes};
-ghost use Rattle.m17_make.specs.Moments.{moment_of};
-ghost use Rattle.m17_make.specs.Made.{heard_as};
-ghost use Rattle.m17_make.specs.Make.{made_at, after, make_text};
+ghost use Rattle.m17_make.specs.Make.{make_text};
 
 use crate::Maker;
 use m17_book::{write_entry, write_trace_header};
 use m17_io::Sink;
-use m17_values::Failed;
+use m17_values::{Failed, Heard};
 
 /// How many entries may be made at the most.
 pub const ENTRIES_MAX: u32 = 100_000;
@@ -31,7 +30,7 @@ pub fn make<K: Sink>(seed: u64, count: u32, out: &mut K) -> Result<(), Failed>
     }
     let mut maker = Maker::new(seed);
     for _entry in 0..count {
-        match write_next(&mut maker, out) {
+        match write_heard(maker.next(), out) {
             Ok(()) => {}
             Err(failed) => return Err(failed),
         }
@@ -39,19 +38,14 @@ pub fn make<K: Sink>(seed: u64, count: u32, out: &mut K) -> Result<(), Failed>
     Ok(())
 }
 
-// Writes the next entry.
-fn write_next<K: Sink>(maker: &mut Maker, out: &mut K) -> Result<(), Failed>
-    requires { maker.old.entry < 100000 }
-    ensures after { maker.new ≡ after maker.old }
+// Writes the entry of what was heard.
+fn write_heard<K: Sink>(heard: Heard, out: &mut K) -> Result<(), Failed>
+    requires { heard ≢ End }
     ensures cause { HasCause (K.faults out.old) (K.faults out.new) result }
     ensures ok { OnOk result ((before : List ℕ) → K.written out.old ≡ Some before
-        → K.written out.new ≡ Some (before
-        ++ entry_bytes (heard_as (moment_of maker.old.entry) (made_at maker.old)))) }
+        → K.written out.new ≡ Some (before ++ entry_bytes heard)) }
     ensures err { OnErr result ((before : List ℕ) → K.written out.old ≡ Some before
-        → AppendsPrefix before
-        (entry_bytes (heard_as (moment_of maker.old.entry) (made_at maker.old)))
-        (K.written out.new)) }
+        → AppendsPrefix before (entry_bytes heard) (K.written out.new)) }
 {
-    let heard = maker.next();
     out.write(write_entry(&heard).unwrap().as_slice())
 }

@@ -1,4 +1,4 @@
-ghost use Rattle.std.specs.Prelude.{◌≡◌, ◌≢◌, ◌<◌};
+ghost use Rattle.std.specs.Prelude.{◌≡◌, ◌≢◌, ◌<◌, ◌+◌, ℕ};
 ghost use Rattle.m17_values.specs.declared.heard.Heard.TheVariants.{End};
 ghost use Rattle.m17_make.specs.Moments.{moment_of};
 
@@ -31,7 +31,7 @@ pub struct Maker {
 impl Model for Maker {
     ghost use Rattle.std.specs.Prelude.{All};
     ghost use Rattle.m17_make.specs.Talk.{IsSteady};
-    ghost use Rattle.m17_make.specs.Make.{Evening};
+    ghost use Rattle.m17_make.specs.Maker.{Evening};
 
     ghost Value = { Evening };
 
@@ -47,12 +47,15 @@ impl Model for Maker {
 }
 
 impl Maker {
-    ghost use Rattle.m17_make.specs.Made.{heard_as, IsSound};
-    ghost use Rattle.m17_make.specs.Make.{begun_with, made_at, after};
+    ghost use Rattle.m17_make.specs.Made.{IsSound};
+    ghost use Rattle.m17_make.specs.Make.{entry_heard};
+    ghost use Rattle.m17_make.specs.Maker.{made_at, after, IsDrawnFrom};
 
     /// An evening that is drawn from this seed, before its first entry. This profile.
+    #[tactic(auto, unfolding(crate::specs::Maker::kept_before))]
     pub fn new(seed: u64) -> Maker
-        ensures { result ≡ begun_with seed }
+        ensures drawn { IsDrawnFrom seed result }
+        ensures first { result.entry ≡ 0 }
     {
         Maker {
             entry: 0,
@@ -68,19 +71,22 @@ impl Maker {
         self.entry
     }
 
-    /// What is heard at the next entry, of 100,000: a datagram, or quiet. This profile.
+    /// What is heard at the next entry, of 100,000: a datagram, or quiet, as the rule has it for the seed that the
+    /// evening was begun with. This profile.
     pub fn next(&mut self) -> Heard
         requires { self.old.entry < 100000 }
-        ensures heard { result ≡ heard_as (moment_of self.old.entry) (made_at self.old) }
+        ensures heard { (seed : ℕ) → IsDrawnFrom seed self.old
+            → result ≡ entry_heard seed self.old.entry }
+        ensures drawn { (seed : ℕ) → IsDrawnFrom seed self.old → IsDrawnFrom seed self.new }
+        ensures entry { self.new.entry ≡ self.old.entry + 1 }
         ensures not_end { result ≢ End }
-        ensures after { self.new ≡ after self.old }
     {
         let at = moment(self.entry);
         heard(at, &self.make())
     }
 
     // What the next entry is.
-    #[tactic(auto, unfolding(crate::specs::Make::made_at, crate::specs::Make::after))]
+    #[tactic(auto, unfolding(crate::specs::Maker::made_at, crate::specs::Maker::after))]
     fn make(&mut self) -> Made
         requires { self.old.entry < 100000 }
         ensures made { result ≡ made_at self.old }

@@ -40,7 +40,7 @@ pub(crate) struct Talk {
 
 impl Talk {
     ghost use Rattle.m17_make.specs.declared.made.Made.TheVariants.{Frame};
-    ghost use Rattle.m17_make.specs.Talk.{IsSteady, Turned, silent, turn, spoken, begun, own_frame, other_of, made_by, talk_by, awake};
+    ghost use Rattle.m17_make.specs.Talk.{IsSteady, Turned, silent, taken, spoken, begun, own_frame, other_of, made_by, talk_by, awake};
 
     // A module before its first turn.
     pub(crate) fn silent() -> Talk
@@ -57,11 +57,11 @@ impl Talk {
     }
 
     // The turn of the module with this number, 0 to 2.
-    #[tactic(auto, unfolding(crate::specs::Talk::turn))]
+    #[tactic(auto, unfolding(crate::specs::Talk::taken))]
     pub(crate) fn turn(&mut self, of: u8, draws: &mut Draws) -> Made
         requires within { of < 3 }
         requires steady { IsSteady self.old }
-        ensures { Turned result self.new draws.new.x (turn of draws.old.x self.old) }
+        ensures { Turned result self.new draws.new.x (taken of draws.old.x self.old) }
     {
         if self.rest > 0 {
             self.rest -= 1;
