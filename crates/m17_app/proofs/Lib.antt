@@ -1,14 +1,13 @@
 mod Keeping
 pub mod Statuses
 pub mod LastLines
-pub mod Concluded
-pub mod JudgeRuns
-pub mod ShowRuns
-pub mod CheckRuns
+pub mod Causes
+pub mod Ended
+pub mod Written
+pub mod TextRuns
 pub mod MakeRuns
 pub mod ReplayRuns
-pub mod Runnable
-pub mod WordsRefused
-pub mod Codes
 pub mod TalkRuns
 pub mod ServeRuns
+pub mod Runnable
+pub mod Codes

@@ -1,65 +1,43 @@
 -- A run of `talk`, from its ending to what it promises.
-use Rattle.std.proofs.Common.{rules, ◌≡◌, ◌≢◌, ◌⊎◌, ℕ, ◌+◌, ◌<◌, List, [], ◌++◌, length, take, Option, None, Some, Bool, true, false, refl, sym, ap, subst, ◌∙◌, arith, append_assoc, inl, inr}
+use Rattle.std.proofs.Common.{rules, ◌≡◌, ◌≢◌, ◌⊎◌, ℕ, ◌<◌, List, [], ◌++◌, take, Option, None, Some, Bool, true, false, refl, sym, ap, subst, ◌∙◌, arith, inl, inr}
 use Rattle.std.specs.Prelude.{IsTrue, if◌then◌else◌}
-use Rattle.std.proofs.lemmas.List.{append-nil, take-append-le, take_all}
-use Rattle.std.proofs.Math.Seq.{take-append-add}
-use Rattle.std.proofs.lemmas.Bool.{cases_lt}
 use Rattle.m17_io.specs.Faults.{HasRisen, HasCauses}
 use Rattle.m17_io.specs.Sink.{AppendsPrefix}
+use Rattle.m17_print.specs.declared.ending.Ending.{Ending}
+use Rattle.m17_print.specs.declared.ending.Ending.TheVariants as ways
 use Rattle.m17_client.specs.declared.talking.TalkEnd.{TalkEnd}
 use Rattle.m17_words.specs.declared.order.TalkOrder.{TalkOrder}
 use Rattle.m17_talk.specs.declared.ending.TalkEnding.{TalkEnding}
 use Rattle.m17_talk.specs.declared.ending.TalkEnding.TheVariants as endings
-use Rattle.m17_talk.specs.Devices.{BookTold, DevicesTold, IsNewBook, shelf_tells}
+use Rattle.m17_talk.specs.Devices.{BookTold, DevicesTold, IsNewBook, PortsTold, shelf_tells}
+use Rattle.m17_talk.specs.declared.reason.ScriptReason.{ScriptReason}
+use Rattle.m17_talk.specs.Endings.{talk_ending}
 use Rattle.m17_talk.specs.Laws.{ScriptsAreExact}
 use Rattle.m17_talk.specs.Script.{Due, IsScript}
-use Rattle.m17_talk.specs.Talked.{ending_of, talk_line, failed_device, AsksNothing, ComesToTalk, EndsTalk, Handed, HasRun, Talks}
+use Rattle.m17_talk.specs.Talked.{ending_of, talk_line, failed_device, AsksNothing, ComesToTalk, EndsTalk, Handed, HasRun, Streams, Talks}
 use Rattle.m17_app.specs.declared.status.Status.{Status}
-use Rattle.m17_app.specs.declared.status.Status.TheVariants.{Finished, ReadFailed, WriteFailed, PortFailed, LinkLost, BookFailed, NoMemory}
-use Rattle.m17_app.specs.Status.{Outside, HasCause, WritesLast}
-use Rattle.m17_app.specs.Talk.{talk_last_line, talk_status, streams, Adds, AddsPart, CutsTalk, IsTalkStatus, RanTalk, RunsTalk, TellsTalk}
+use Rattle.m17_app.specs.declared.status.Status.TheVariants.{InputRefused, WriteFailed, PortFailed, CrewRefused, LinkLost, BookFailed, NoMemory}
+use Rattle.m17_app.specs.Status.{Beside, HasCause, Outside, RoseBy, WritesLast, beside, count_from}
+use Rattle.m17_app.specs.Talk.{talk_last_line, talk_status, talk_terms, streams, CutsTalk, IsUntroubled, RanTalk, TellsTalk}
+use Rattle.m17_app.specs.Terms.{RunsCommand}
 use Rattle.m17_app.proofs.Statuses.{Told, is_write_failed, own_status}
-use Rattle.m17_app.proofs.Concluded.{counts, cause_from, sound_from}
+use Rattle.m17_app.proofs.Causes.{cause_from, counts, memory_cause, runs_by, sound_from, stays}
+use Rattle.m17_app.proofs.Written.{adds_after, adds_part_after, part_longer, same_written}
 
 -- what an ending tells of the streams
 told : (ending : TalkEnding) → Told (talk_status ending) (failed_device ending)
-told endings.Finished = record { read_told = λ e. cc; read_failed = λ e. cc; write_told = λ e. cc; write_failed = λ e. cc; no_memory = λ e. cc; no_words = λ e. cc }
-told endings.LinkLost = record { read_told = λ e. cc; read_failed = λ e. cc; write_told = λ e. cc; write_failed = λ e. cc; no_memory = λ e. cc; no_words = λ e. cc }
-told endings.BookFailed = record { read_told = λ e. cc; read_failed = λ e. cc; write_told = λ e. cc; write_failed = λ e. cc; no_memory = λ e. cc; no_words = λ e. cc }
-told (endings.Refused place reason) = record { read_told = λ e. cc; read_failed = λ e. cc; write_told = λ e. cc; write_failed = λ e. cc; no_memory = λ e. cc; no_words = λ e. cc }
-told endings.ReadFailed = record { read_told = λ _. refl; read_failed = λ _. refl; write_told = λ e. cc; write_failed = λ e. cc; no_memory = λ e. cc; no_words = λ e. cc }
-told endings.WriteFailed = record { read_told = λ e. cc; read_failed = λ e. cc; write_told = λ _. refl; write_failed = λ _. refl; no_memory = λ e. cc; no_words = λ e. cc }
-told endings.PortFailed = record { read_told = λ e. cc; read_failed = λ e. cc; write_told = λ e. cc; write_failed = λ e. cc; no_memory = λ e. cc; no_words = λ e. cc }
+told endings.Finished = record { read_told = λ e. cc; read_failed = λ e. cc; write_told = λ e. cc; write_failed = λ e. cc; no_memory = λ e. cc }
+told endings.LinkLost = record { read_told = λ e. cc; read_failed = λ e. cc; write_told = λ e. cc; write_failed = λ e. cc; no_memory = λ e. cc }
+told endings.BookFailed = record { read_told = λ e. cc; read_failed = λ e. cc; write_told = λ e. cc; write_failed = λ e. cc; no_memory = λ e. cc }
+told (endings.Refused place reason) = record { read_told = λ e. cc; read_failed = λ e. cc; write_told = λ e. cc; write_failed = λ e. cc; no_memory = λ e. cc }
+told endings.ReadFailed = record { read_told = λ _. refl; read_failed = λ _. refl; write_told = λ e. cc; write_failed = λ e. cc; no_memory = λ e. cc }
+told endings.WriteFailed = record { read_told = λ e. cc; read_failed = λ e. cc; write_told = λ _. refl; write_failed = λ _. refl; no_memory = λ e. cc }
+told endings.PortFailed = record { read_told = λ e. cc; read_failed = λ e. cc; write_told = λ e. cc; write_failed = λ e. cc; no_memory = λ e. cc }
 
 -- what was read and done stays, where the last line leaves the input alone
 ran_later : (order : TalkOrder) (end : TalkEnd) (run : Handed) (before mid after : Outside) → after.left ≡ mid.left → HasRun order end run (streams before mid) → HasRun order end run (streams before after)
 ran_later order end run before mid after left (script, read, talks) =
     (script, (read.0, (λ input is. let both = read.1 input is in (both.0, left ∙ both.1))), talks)
-
--- text that was written, and then a line, or a first part of it
-pub adds_after : (a b : List ℕ) (before mid after : Outside) → ((first : List ℕ) → before.written ≡ Some first → mid.written ≡ Some (first ++ a))
-    → ((xs : List ℕ) → mid.written ≡ Some xs → after.written ≡ Some (xs ++ b)) → Adds (a ++ b) before after
-adds_after a b before mid after text line = λ first is. line (first ++ a) (text first is) ∙ ap Some (append_assoc first a b)
-
--- a first part of what stands behind a text is a first part of both
-part_after : (first a b : List ℕ) (written : Option (List ℕ)) → AppendsPrefix (first ++ a) b written → AppendsPrefix first (a ++ b) written
-part_after first a b written (n, is) =
-    (length a + n, is ∙ ap Some (append_assoc first a (take n b)) ∙ ap (λ (xs : List ℕ). Some (first ++ xs)) (sym (take-append-add a b n)))
-
-pub adds_part_after : (a b : List ℕ) (before mid after : Outside) → ((first : List ℕ) → before.written ≡ Some first → mid.written ≡ Some (first ++ a))
-    → ((xs : List ℕ) → mid.written ≡ Some xs → AppendsPrefix xs b after.written) → AddsPart (a ++ b) before after
-adds_part_after a b before mid after text part = λ first is. part_after first a b after.written (part (first ++ a) (text first is))
-
--- nothing more was written behind a first part
-pub part_longer : (first a b : List ℕ) (written : Option (List ℕ)) → AppendsPrefix first a written → AppendsPrefix first (a ++ b) written
-part_longer first a b written (n, is) = elim (cases_lt n (length a)) [
-  | inl short ↦ (n, is ∙ ap (λ (xs : List ℕ). Some (first ++ xs)) (sym (take-append-le n a b (omega arith))))
-  | inr long ↦
-      (length a, is ∙ ap (λ (xs : List ℕ). Some (first ++ xs)) (take_all n a long ∙ sym (take-append-le (length a) a b (omega arith) ∙ take_all (length a) a (omega arith))))
-]
-
-pub same_written : (mid after : Outside) → ((xs : List ℕ) → mid.written ≡ Some xs → AppendsPrefix xs [] after.written) → (xs : List ℕ) → mid.written ≡ Some xs → after.written ≡ Some xs
-same_written mid after part xs is = let p = part xs is in p.1 ∙ ap (λ (ys : List ℕ). Some (xs ++ ys)) (take_all p.0 [] (omega arith)) ∙ ap Some (append-nil xs)
 
 -- the flags of an end, by its status
 lost_flag : (lost failed : Bool) → talk_status (if lost then endings.LinkLost else (if failed then endings.BookFailed else endings.Finished)) ≡ LinkLost → IsTrue lost
@@ -117,7 +95,7 @@ ran_tells order ending before mid after run left line (end, ran, is, printed) = 
 
 -- the last line was written
 own_tells : (order : TalkOrder) (ending : TalkEnding) (before mid after : Outside) (run : Handed) → talk_status ending ≢ WriteFailed → after.left ≡ mid.left
-    → AddsLine ending mid after → ComesToTalk order ending run (streams before mid) → TellsTalk order (talk_status ending) before after run
+    → AddsLine ending mid after → ComesToTalk order ending run (streams before mid) → TellsTalk order run (talk_status ending) before after
 own_tells order endings.Finished before mid after run other left line came = ran_tells order endings.Finished before mid after run left line came
 own_tells order endings.LinkLost before mid after run other left line came = ran_tells order endings.LinkLost before mid after run left line came
 own_tells order endings.BookFailed before mid after run other left line came = ran_tells order endings.BookFailed before mid after run left line came
@@ -157,48 +135,88 @@ cut_tells order endings.WriteFailed before mid after run left sound part (inr (e
 ))
 cut_tells order endings.PortFailed before mid after run left sound part came = inr (inl (came.0, (λ first is. part first (came.1 ∙ is))))
 
--- nothing stood against it
-complete_as : (order : TalkOrder) (ending : TalkEnding) (status : Status) (before mid after : Outside) (run : Handed) (input : List ℕ) (script : List Due)
-    → ScriptsAreExact → (status ≡ talk_status ending) ⊎ (status ≡ WriteFailed) → HasCause status before after → ComesToTalk order ending run (streams before mid)
-    → before.left ≡ Some input → IsScript input script → ¬ HasRisen before.reads after.reads → ¬ HasRisen before.writes after.writes
-    → ¬ HasRisen run.before.faults run.after.faults → IsTalkStatus status
-complete_as order ending status before mid after run input script exact (inr h) cause came is_input is no_read no_write no_port = absurd (no_write (cause.write_failed h))
-complete_as order endings.Finished status before mid after run input script exact (inl h) cause came is_input is no_read no_write no_port = inl h
-complete_as order endings.LinkLost status before mid after run input script exact (inl h) cause came is_input is no_read no_write no_port = inr (inl h)
-complete_as order endings.BookFailed status before mid after run input script exact (inl h) cause came is_input is no_read no_write no_port = inr (inr (inl h))
-complete_as order (endings.Refused place reason) status before mid after run input script exact (inl h) cause came is_input is no_read no_write no_port =
-    absurd (exact.not_both input script place reason is (came.2 input is_input))
-complete_as order endings.ReadFailed status before mid after run input script exact (inl h) cause came is_input is no_read no_write no_port = absurd (no_read (cause.read_failed h))
-complete_as order endings.WriteFailed status before mid after run input script exact (inl h) cause came is_input is no_read no_write no_port = absurd (no_write (cause.write_failed h))
-complete_as order endings.PortFailed status before mid after run input script exact (inl h) cause came is_input is no_read no_write no_port = absurd (no_port came.0.risen)
+-- the ports failed exactly where it is told
+ports_rose : (order : TalkOrder) (ending : TalkEnding) (run : Handed) (s : Streams) → ComesToTalk order ending run s → RoseBy PortFailed (talk_status ending) run.before.faults run.after.faults
+ports_rose order endings.Finished run s (end, ran, is, printed) = stays PortFailed (talk_status endings.Finished) _ _ (λ e. cc) ran.2.no_fault
+ports_rose order endings.LinkLost run s (end, ran, is, printed) = stays PortFailed (talk_status endings.LinkLost) _ _ (λ e. cc) ran.2.no_fault
+ports_rose order endings.BookFailed run s (end, ran, is, printed) = stays PortFailed (talk_status endings.BookFailed) _ _ (λ e. cc) ran.2.no_fault
+ports_rose order (endings.Refused place reason) run s (nothing, same, refuses) =
+    stays PortFailed (talk_status (endings.Refused place reason)) _ _ (λ e. cc) (ap (λ (p : PortsTold). p.faults) nothing.0)
+ports_rose order endings.ReadFailed run s (nothing, same) = stays PortFailed (talk_status endings.ReadFailed) _ _ (λ e. cc) (ap (λ (p : PortsTold). p.faults) nothing.0)
+ports_rose order endings.WriteFailed run s (inl (nothing, same)) = stays PortFailed (talk_status endings.WriteFailed) _ _ (λ e. cc) (ap (λ (p : PortsTold). p.faults) nothing.0)
+ports_rose order endings.WriteFailed run s (inr (end, ran, printed)) = stays PortFailed (talk_status endings.WriteFailed) _ _ (λ e. cc) ran.2.no_fault
+ports_rose order endings.PortFailed run s (fails, same, read) = record { rose = λ _. fails.risen; stands = λ other _. absurd (other refl) }
+
+-- no crew is asked
+no_crew : (ending : TalkEnding) → talk_status ending ≢ CrewRefused
+no_crew endings.Finished e = cc
+no_crew endings.LinkLost e = cc
+no_crew endings.BookFailed e = cc
+no_crew (endings.Refused place reason) e = cc
+no_crew endings.ReadFailed e = cc
+no_crew endings.WriteFailed e = cc
+no_crew endings.PortFailed e = cc
+
+-- there was memory
+some_way : (ending : TalkEnding) → talk_ending ending ≢ ways.NoMemory
+some_way endings.Finished e = cc
+some_way endings.LinkLost e = cc
+some_way endings.BookFailed e = cc
+some_way (endings.Refused place reason) e = cc
+some_way endings.ReadFailed e = cc
+some_way endings.WriteFailed e = cc
+some_way endings.PortFailed e = cc
+
+pub has_memory : (ending : TalkEnding) (way : Ending ScriptReason) → way ≡ talk_ending ending → way ≢ ways.NoMemory
+has_memory ending way is e = some_way ending (sym is ∙ e)
+
+-- a script isn't refused
+refuses_none : ScriptsAreExact → (order : TalkOrder) (run : Handed) (before after : Outside) → TellsTalk order run InputRefused before after
+    → (input : List ℕ) × (before.left ≡ Some input) × ((script : List Due) × IsScript input script) → ⊥
+refuses_none exact order run before after (nothing, (place, reason, none, line)) (input, is, (script, is_script)) =
+    exact.not_both input script place reason is_script (none input is)
+
+-- a talk against which nothing stood
+abbrev IsSmooth : TalkOrder → Handed → Type 0
+IsSmooth order run = (script : List Due) (end : TalkEnd) (talks : Talks order script end run) → IsUntroubled order script end run talks
+
+loses_none : (order : TalkOrder) (run : Handed) (before after : Outside) → TellsTalk order run LinkLost before after → IsSmooth order run → ⊥
+loses_none order run before after ran smooth =
+    let talks = ran.ran.2 in
+    (smooth ran.ran.0 ran.end talks).no_link_lost (talks.talked.is_end.lost.0 (lost_flag ran.end.lost ran.end.book_failed (sym ran.status_is)))
+
+fails_none : (order : TalkOrder) (run : Handed) (before after : Outside) → TellsTalk order run BookFailed before after → IsSmooth order run → ⊥
+fails_none order run before after ran smooth =
+    let talks = ran.ran.2 in
+    (smooth ran.ran.0 ran.end talks).no_book_failed (talks.talked.failed (failed_flag ran.end.lost ran.end.book_failed (sym ran.status_is)))
 
 -- the whole run
-pub ran : (order : TalkOrder) (ending : TalkEnding) (status : Status) (before mid after : Outside) (run : Handed) → ScriptsAreExact → ComesToTalk order ending run (streams before mid)
-    → HasCauses (counts before) (counts mid) (failed_device ending) → WritesLast (talk_last_line ending) (talk_status ending) status mid after
-    → RunsTalk order status before after run
-ran order ending status before mid after run exact came causes last =
-    let cause = cause_from (talk_status ending) (failed_device ending) (talk_last_line ending) status before mid after (told ending) causes last in
+pub ran : (order : TalkOrder) (ending : TalkEnding) (status : Status) (before mid after : Outside) (run : Handed) (crew : ℕ) → ScriptsAreExact
+    → ComesToTalk order ending run (streams before mid) → HasCauses (counts before) (counts mid) (failed_device ending)
+    → WritesLast (talk_last_line ending) (talk_status ending) status mid after
+    → RunsCommand (talk_terms order run) status before after (beside (count_from run.before.faults run.after.faults) (count_from crew crew))
+ran order ending status before mid after run crew exact came causes last =
+    let own : Status = talk_status ending in
+    let others : Beside = beside (count_from run.before.faults run.after.faults) (count_from crew crew) in
+    let cause : HasCause status before after others = cause_from own (failed_device ending) (talk_last_line ending) status before mid after others (told ending) causes last
+    (ports_rose order ending run (streams before mid) came) (stays CrewRefused own crew crew (no_crew ending) refl) in
     let left : after.left ≡ mid.left = last.input_untouched.0 in
-    record {
-      cause = λ _. cause;
-      tells = elim (is_write_failed status) [
-        | inl four ↦
-            let sound = λ (e : ending ≡ endings.ReadFailed). sound_from (talk_status ending) (failed_device ending) (talk_last_line ending) status before mid after causes last (ap failed_device e) in
-            subst (λ (s : Status). TellsTalk order s before after run) (sym four) (cut_tells order ending before mid after run left sound last.part came)
-        | inr other ↦
-            let own : status ≡ talk_status ending = own_status (talk_status ending) status last.answer other in
-            subst (λ (s : Status). TellsTalk order s before after run) (sym own)
-            (own_tells order ending before mid after run (λ e. other (own ∙ e)) left (last.whole other) came)
-      ];
-      complete = λ input script is_input is no_read no_write no_port.
-          complete_as order ending status before mid after run input script exact last.answer cause came is_input is no_read no_write no_port;
-    }
+    let tells : TellsTalk order run status before after = elim (is_write_failed status) [
+      | inl four ↦
+          let sound = λ (e : ending ≡ endings.ReadFailed). sound_from own (failed_device ending) (talk_last_line ending) status before mid after causes last (ap failed_device e) in
+          subst (λ (s : Status). TellsTalk order run s before after) (sym four) (cut_tells order ending before mid after run left sound last.part came)
+      | inr other ↦
+          let its : status ≡ own = own_status own status last.answer other in
+          subst (λ (s : Status). TellsTalk order run s before after) (sym its)
+          (own_tells order ending before mid after run (λ e. other (its ∙ e)) left (last.whole other) came)
+    ] in
+    runs_by (talk_terms order run) status before after others cause tells (refuses_none exact order run before after) (λ t. t)
+    (loses_none order run before after) (fails_none order run before after)
 
 -- there was no memory
-pub no_run : (order : TalkOrder) (before after : Outside) (run : Handed) → AsksNothing run → after.written ≡ before.written → after.reads ≡ before.reads → after.writes ≡ before.writes
-    → RunsTalk order NoMemory before after run
-no_run order before after run nothing written reads writes = record {
-  cause = λ other. absurd (other refl);
-  tells = (nothing, written, reads, writes);
-  complete = λ input script is_input is no_read no_write no_port. inr (inr (inr refl));
-}
+pub no_run : (order : TalkOrder) (before after : Outside) (run : Handed) (crew : ℕ) → ScriptsAreExact → AsksNothing run → after.written ≡ before.written → after.reads ≡ before.reads
+    → after.writes ≡ before.writes → RunsCommand (talk_terms order run) NoMemory before after (beside (count_from run.before.faults run.after.faults) (count_from crew crew))
+no_run order before after run crew exact nothing written reads writes =
+    let others : Beside = beside (count_from run.before.faults run.after.faults) (count_from crew crew) in
+    runs_by (talk_terms order run) NoMemory before after others (memory_cause before after others reads writes (ap (λ (p : PortsTold). p.faults) nothing.0) refl)
+    (nothing, written, reads, writes) (refuses_none exact order run before after) (λ t. t) (loses_none order run before after) (fails_none order run before after)

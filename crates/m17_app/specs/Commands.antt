@@ -8,14 +8,15 @@ use Rattle.m17_words.specs.declared.command.Command.TheVariants.{Judge, Show, Re
 use Rattle.m17_words.specs.Words.{Names}
 use Rattle.m17_app.specs.declared.status.Status.{Status}
 use Rattle.m17_app.specs.declared.status.Status.TheVariants.{NoMemory}
-use Rattle.m17_app.specs.Status.{Outside}
-use Rattle.m17_app.specs.Run.{AreRefused, RunsJudge, RunsShow, RefusesWords}
-use Rattle.m17_app.specs.Make.{RunsMake}
-use Rattle.m17_app.specs.Check.{RunsCheck}
-use Rattle.m17_app.specs.Replayed.{RunsReplay}
-use Rattle.m17_app.specs.Talk.{RunsTalk}
-use Rattle.m17_app.specs.Doing.{Doing, AsksForNothing, DoesNothing, ServesNothing, crew_side, talk_side}
-use Rattle.m17_app.specs.Serve.{RunsServe}
+use Rattle.m17_app.specs.Doing.{Doing, AsksForNothing, DoesNothing, ServesNothing, beside_of, talk_side}
+use Rattle.m17_app.specs.Make.{make_terms}
+use Rattle.m17_app.specs.Replayed.{replay_terms}
+use Rattle.m17_app.specs.Run.{AreRefused, refused_terms}
+use Rattle.m17_app.specs.Serve.{serve_terms}
+use Rattle.m17_app.specs.Status.{Outside, count_from}
+use Rattle.m17_app.specs.Talk.{talk_terms}
+use Rattle.m17_app.specs.Terms.{RunsCommand, Terms}
+use Rattle.m17_app.specs.Text.{check_command, judge_command, show_command, text_terms}
 use Rattle.m17_serve.specs.Served.{IsServable}
 
 -- the plan of a replay: patient, and with no tapes
@@ -29,36 +30,58 @@ plan_of call modules parrots places = record {
   entries = 0;
 }
 
--- What the run of a command promises. Only `talk` and `serve` ask the ports for anything, and hand back devices; only
--- `replay` and `serve` have the crew start threads. This profile.
-abbrev pub Runs : {L : Type 0} → Command → Status → Outside → Outside → Doing L → Type 0
-Runs Judge status before after run = RunsJudge status before after × DoesNothing run
-Runs Show status before after run = RunsShow status before after × DoesNothing run
-Runs (Make seed count) status before after run =
-    RunsMake seed count status before after × DoesNothing run
-Runs Check status before after run = RunsCheck status before after × DoesNothing run
-Runs (Replay call modules parrots places summary) status before after run =
-    RunsReplay (plan_of call modules parrots places) summary status before after (crew_side run)
-    × AsksForNothing run
-Runs (Talk order) status before after run =
-    RunsTalk order status before after (talk_side run) × ServesNothing run
-Runs (Serve order) status before after run =
-    RunsServe order status before after run × (run.talk ≡ None)
+module _ {L : Type 0} where
+  -- The terms of each command, and what it leaves alone. Only `talk` and `serve` ask the ports for anything, and hand back
+  -- devices; only `replay` and `serve` have the crew start threads. This profile.
+  abbrev pub terms_of : Command → Doing L → Terms
+  terms_of Judge run = text_terms judge_command
+  terms_of Show run = text_terms show_command
+  terms_of (Make seed count) run = make_terms seed count
+  terms_of Check run = text_terms check_command
+  terms_of (Replay call modules parrots places summary) run =
+      replay_terms (plan_of call modules parrots places) summary
+      (count_from run.crew_before run.crew_after)
+  terms_of (Talk order) run = talk_terms order (talk_side run)
+  terms_of (Serve order) run = serve_terms order run
 
--- What a run promises: that of the command which its words name, or that they are refused where they name none; or
--- there was no memory for reading them, and no device was touched. This profile.
-abbrev pub RunsWords : {L : Type 0} → List (List ℕ) → Status → Outside → Outside → Doing L
-    → Type 0
-RunsWords words status before after run =
-    ((command : Command) × Names words command × Runs command status before after run)
-    ⊎ (AreRefused words × RefusesWords status before after × DoesNothing run)
-    ⊎ ((status ≡ NoMemory) × (after ≡ before) × DoesNothing run)
+  abbrev pub LeavesAlone : Command → Doing L → Type 0
+  LeavesAlone Judge run = DoesNothing run
+  LeavesAlone Show run = DoesNothing run
+  LeavesAlone (Make seed count) run = DoesNothing run
+  LeavesAlone Check run = DoesNothing run
+  LeavesAlone (Replay call modules parrots places summary) run = AsksForNothing run
+  LeavesAlone (Talk order) run = ServesNothing run
+  LeavesAlone (Serve order) run = run.talk ≡ None
 
--- What a run promises whose words name no command: that they are refused, or there was no memory for reading them and
--- no device was touched. This profile.
-abbrev pub EndsRefused : {L : Type 0} → Status → Outside → Outside → Doing L → Type 0
-EndsRefused status before after run = (RefusesWords status before after × DoesNothing run)
-    ⊎ ((status ≡ NoMemory) × (after ≡ before) × DoesNothing run)
+  -- What the run of a command promises. This profile.
+  abbrev pub Runs : Command → Status → Outside → Outside → Doing L → Type 0
+  Runs command status before after run =
+      RunsCommand (terms_of command run) status before after (beside_of run)
+      × LeavesAlone command run
+
+  -- What a run promises whose words are refused: that a line says so, and that nothing was asked for. This profile.
+  abbrev pub RefusesWords : Status → Outside → Outside → Doing L → Type 0
+  RefusesWords status before after run =
+      RunsCommand refused_terms status before after (beside_of run) × DoesNothing run
+
+  -- There was no memory for reading the words, and no device was touched.
+  abbrev pub WantsMemory : Status → Outside → Outside → Doing L → Type 0
+  WantsMemory status before after run =
+      (status ≡ NoMemory) × (after ≡ before) × DoesNothing run
+
+  -- What a run promises: that of the command which its words name, or that they are refused where they name none; or
+  -- there was no memory for reading them, and no device was touched. This profile.
+  abbrev pub RunsWords : List (List ℕ) → Status → Outside → Outside → Doing L → Type 0
+  RunsWords words status before after run =
+      ((command : Command) × Names words command × Runs command status before after run)
+      ⊎ (AreRefused words × RefusesWords status before after run)
+      ⊎ WantsMemory status before after run
+
+  -- What a run promises whose words name no command: that they are refused, or there was no memory for reading them and
+  -- no device was touched. This profile.
+  abbrev pub EndsRefused : Status → Outside → Outside → Doing L → Type 0
+  EndsRefused status before after run =
+      RefusesWords status before after run ⊎ WantsMemory status before after run
 
 -- The values of a command are within the bounds that its run needs, as those of a command that words name are. This
 -- profile.

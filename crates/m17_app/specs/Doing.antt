@@ -6,7 +6,7 @@ use Rattle.m17_serve.specs.Devices.{HouseTold}
 use Rattle.m17_serve.specs.Served.{Around, around}
 use Rattle.m17_talk.specs.Devices.{DevicesTold, PortsTold}
 use Rattle.m17_talk.specs.Talked.{Handed, handed}
-use Rattle.m17_app.specs.Status.{Starts, starts}
+use Rattle.m17_app.specs.Status.{Beside, beside, count_from}
 
 -- What the ports told before the run and after it, how many starts the crew had refused then, and what the run hands
 -- back: the devices of a talk that ran, those of a reflector that ran with what went through its threads, or those of one
@@ -40,9 +40,10 @@ module _ {L : Type 0} where
   abbrev pub serve_side : Doing L → Around L
   serve_side run = around run.before run.after run.house run.refused
 
-  -- how many starts the crew had refused
-  abbrev pub crew_side : Doing L → Starts
-  crew_side run = starts run.crew_before run.crew_after
+  -- what it counts beside the streams
+  abbrev pub beside_of : Doing L → Beside
+  beside_of run = beside (count_from run.before.faults run.after.faults)
+      (count_from run.crew_before run.crew_after)
 
   -- the ports were asked for nothing, and no devices are handed back
   pub record AsksForNothing (run : Doing L) : Type 0 where

@@ -1,9 +1,12 @@
 pub mod Status
+pub mod Written
+pub mod Terms
 pub mod Run
+pub mod Text
 pub mod Make
-pub mod Check
 pub mod Replayed
 pub mod Talk
 pub mod Doing
 pub mod Serve
 pub mod Commands
+pub mod Started

@@ -32,15 +32,16 @@ IsStatus code = (status : Status) × (code ≡ code_of status)
 abbrev pub status_of : {R : Type 0} → Ending R → Status
 status_of endings.Finished = Finished
 status_of (endings.Refused place reason) = InputRefused
+status_of endings.WordsRefused = WordsRefused
 status_of endings.ReadFailed = ReadFailed
 status_of endings.WriteFailed = WriteFailed
+status_of endings.PortFailed = PortFailed
+status_of endings.CrewRefused = CrewRefused
+status_of endings.LinkLost = LinkLost
+status_of endings.BookFailed = BookFailed
+status_of endings.NoMemory = NoMemory
 
--- One of the statuses of a command that reads, prints, and asks for nothing more.
-abbrev pub IsOfStreams : Status → Type 0
-IsOfStreams status = (status ≡ Finished) ⊎ (status ≡ InputRefused) ⊎ (status ≡ ReadFailed)
-    ⊎ (status ≡ WriteFailed) ⊎ (status ≡ NoMemory)
-
--- What the devices tell at a moment: what is left of the input, how often the source has failed,
+-- What the streams tell at a moment: what is left of the input, how often the source has failed,
 -- what was written, how often the sink has failed, and how many bytes it holds back.
 pub record Outside : Type 0 where
   pub left : Option (List ℕ)
@@ -53,39 +54,40 @@ abbrev pub outside : Option (List ℕ) → ℕ → Option (List ℕ) → ℕ →
 outside left reads written writes held_back =
     record { left = left; reads = reads; written = written; writes = writes; held_back = held_back }
 
--- How often the crew has refused a start, before a run and after it.
-pub record Starts : Type 0 where
+-- A count of failures, before a run and after it.
+pub record Count : Type 0 where
   pub before : ℕ
   pub after : ℕ
 
-abbrev pub starts : ℕ → ℕ → Starts
-starts before after = record { before = before; after = after }
+abbrev pub count_from : ℕ → ℕ → Count
+count_from before after = record { before = before; after = after }
 
--- A run over devices that tell: the input that was left before it and what stood written then, and what the devices
--- tell before it and after it.
-pub record Watched : Type 0 where
-  pub input : List ℕ
-  pub first : List ℕ
-  pub before : Outside
-  pub after : Outside
+-- What is counted beside the streams: how often the ports have failed, and how many starts the crew has refused.
+pub record Beside : Type 0 where
+  pub ports : Count
+  pub crew : Count
 
-abbrev pub watched : List ℕ → List ℕ → Outside → Outside → Watched
-watched input first before after =
-    record { input = input; first = first; before = before; after = after }
+abbrev pub beside : Count → Count → Beside
+beside ports crew = record { ports = ports; crew = crew }
 
--- The source failed exactly where the status says so, and the sink where it says so; but the sink's
--- failure is told in place of the source's. No count falls. This profile.
-pub record HasCause (status : Status) (before after : Outside) : Type 0 where
+-- The count rose where the run ended with the status of its own, and stands where it ended with another; but the sink's
+-- failure is told in place of all others. This profile.
+pub record RoseBy (own status : Status) (before after : ℕ) : Type 0 where
+  pub rose : status ≡ own → HasRisen before after
+  pub stands : status ≢ own → status ≢ WriteFailed → after ≡ before
+
+-- What caused the status of a run: the source failed exactly where it is 3, the ports where it is 5, and the crew refused
+-- a start where it is 6, but that 4 comes in place of all; and the sink failed exactly where it is 4. No count of the
+-- streams falls. This profile.
+pub record HasCause (status : Status) (before after : Outside) (others : Beside) : Type 0 where
+  pub source : RoseBy ReadFailed status before.reads after.reads
+  pub sink : RoseBy WriteFailed status before.writes after.writes
+  pub ports : RoseBy PortFailed status others.ports.before others.ports.after
+  pub crew : RoseBy CrewRefused status others.crew.before others.crew.after
   pub reads_counted : before.reads ≤ after.reads
   pub writes_counted : before.writes ≤ after.writes
-  pub read_failed : status ≡ ReadFailed → HasRisen before.reads after.reads
-  pub write_failed : status ≡ WriteFailed → HasRisen before.writes after.writes
-  pub no_read_fault : status ≢ ReadFailed → status ≢ WriteFailed → after.reads ≡ before.reads
-  pub no_write_fault : status ≢ WriteFailed → after.writes ≡ before.writes
   -- where the sink did not fail, it holds nothing back of what was written
   pub handed_on : status ≢ WriteFailed → status ≢ NoMemory → after.held_back ≡ 0
-  -- want of memory comes before the devices are touched
-  pub untouched : status ≡ NoMemory → after ≡ before
 
 -- A last line was written, which may be empty, and all was handed on, or the sink failed. `own` is
 -- the status where it did not.

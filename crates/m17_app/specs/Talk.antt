@@ -1,48 +1,29 @@
 -- What a run of `talk` promises. This profile.
-use Rattle.std.specs.Prelude.{◌≡◌, ◌≢◌, ◌⊎◌, ℕ, ◌<◌, List, [], ◌∷◌, ◌++◌, codes, Some}
+use Rattle.std.specs.Prelude.{◌≡◌, ◌⊎◌, ℕ, ◌<◌, List, [], ◌++◌, Some}
 use Rattle.m17_io.specs.Faults.{HasRisen}
-use Rattle.m17_io.specs.Sink.{AppendsPrefix}
-use Rattle.m17_print.specs.Endings.{input_refused_line, read_failed_line}
+use Rattle.m17_print.specs.Endings.{input_refused_line, last_line, port_failed_line, read_failed_line}
 use Rattle.m17_client.specs.declared.talking.TalkEnd.{TalkEnd}
+use Rattle.m17_client.specs.Talk.{IsLost}
 use Rattle.m17_words.specs.declared.order.TalkOrder.{TalkOrder}
 use Rattle.m17_talk.specs.declared.ending.TalkEnding.{TalkEnding}
-use Rattle.m17_talk.specs.declared.ending.TalkEnding.TheVariants as endings
 use Rattle.m17_talk.specs.declared.reason.ScriptReason.{ScriptReason}
 use Rattle.m17_talk.specs.Devices.{DevicesTold, shelf_tells}
+use Rattle.m17_talk.specs.Endings.{talk_ending}
 use Rattle.m17_talk.specs.Reasons.{script_reason_words}
 use Rattle.m17_talk.specs.Script.{Due, IsScript, RefusesScript}
-use Rattle.m17_talk.specs.Talked.{ending_of, talk_line, AsksNothing, FailsAtPort, Handed, HasRead, HasRun, Streams}
+use Rattle.m17_talk.specs.Talked.{ending_of, talk_line, AsksNothing, FailsAtPort, Handed, HasRead, HasRun, Streams, Talks}
 use Rattle.m17_app.specs.declared.status.Status.{Status}
-use Rattle.m17_app.specs.declared.status.Status.TheVariants.{Finished, InputRefused, WordsRefused, ReadFailed, WriteFailed, PortFailed, CrewRefused, LinkLost, BookFailed, NoMemory}
-use Rattle.m17_app.specs.Replayed.{link_lost_line}
-use Rattle.m17_app.specs.Status.{Outside, HasCause}
-
--- the last line of a run whose ports failed, and of one whose book did
-abbrev pub port_failed_line : List ℕ
-port_failed_line = codes "port failed" ++ 10 ∷ []
-
-abbrev pub book_failed_line : List ℕ
-book_failed_line = codes "book failed" ++ 10 ∷ []
+use Rattle.m17_app.specs.declared.status.Status.TheVariants.{Finished, InputRefused, ReadFailed, WriteFailed, PortFailed, LinkLost, BookFailed, NoMemory}
+use Rattle.m17_app.specs.Status.{Outside, status_of}
+use Rattle.m17_app.specs.Terms.{Terms}
+use Rattle.m17_app.specs.Written.{Adds, AddsPart}
 
 -- the last line of a run that ended so, if it has one, and its status where that line could be written
 abbrev pub talk_last_line : TalkEnding → List ℕ
-talk_last_line endings.Finished = []
-talk_last_line endings.LinkLost = link_lost_line
-talk_last_line endings.BookFailed = book_failed_line
-talk_last_line (endings.Refused place reason) =
-    input_refused_line place (script_reason_words reason)
-talk_last_line endings.ReadFailed = read_failed_line
-talk_last_line endings.WriteFailed = []
-talk_last_line endings.PortFailed = port_failed_line
+talk_last_line ending = last_line script_reason_words (talk_ending ending)
 
 abbrev pub talk_status : TalkEnding → Status
-talk_status endings.Finished = Finished
-talk_status endings.LinkLost = LinkLost
-talk_status endings.BookFailed = BookFailed
-talk_status (endings.Refused place reason) = InputRefused
-talk_status endings.ReadFailed = ReadFailed
-talk_status endings.WriteFailed = WriteFailed
-talk_status endings.PortFailed = PortFailed
+talk_status ending = status_of (talk_ending ending)
 
 -- what the streams tell before a run and after it
 abbrev pub streams : Outside → Outside → Streams
@@ -52,15 +33,6 @@ streams before after = record {
   first = before.written;
   written = after.written;
 }
-
--- the text was appended to what stood there, or a first part of it
-abbrev pub Adds : List ℕ → Outside → Outside → Type 0
-Adds text before after =
-    (first : List ℕ) → before.written ≡ Some first → after.written ≡ Some (first ++ text)
-
-abbrev pub AddsPart : List ℕ → Outside → Outside → Type 0
-AddsPart text before after =
-    (first : List ℕ) → before.written ≡ Some first → AppendsPrefix first text after.written
 
 -- the text of a talk that came to this end: its line, and then the last line of its status
 abbrev pub talk_text : TalkEnd → List ℕ
@@ -105,34 +77,32 @@ CutsTalk order before after run = (AsksNothing run
     × AddsPart (talk_text end) before after)
 
 -- What each status says of a run of `talk`. This profile.
-abbrev pub TellsTalk : TalkOrder → Status → Outside → Outside → Handed → Type 0
-TellsTalk order Finished before after run = RanTalk order Finished before after run
-TellsTalk order InputRefused before after run = AsksNothing run × RefusedTalk before after
-TellsTalk order WordsRefused before after run = ⊥
-TellsTalk order ReadFailed before after run = AsksNothing run × Adds read_failed_line before after
-TellsTalk order WriteFailed before after run = CutsTalk order before after run
-TellsTalk order PortFailed before after run = FailsAtPort order run
+abbrev pub TellsTalk : TalkOrder → Handed → Status → Outside → Outside → Type 0
+TellsTalk order run Finished before after = RanTalk order Finished before after run
+TellsTalk order run LinkLost before after = RanTalk order LinkLost before after run
+TellsTalk order run BookFailed before after = RanTalk order BookFailed before after run
+TellsTalk order run InputRefused before after = AsksNothing run × RefusedTalk before after
+TellsTalk order run ReadFailed before after = AsksNothing run × Adds read_failed_line before after
+TellsTalk order run WriteFailed before after = CutsTalk order before after run
+TellsTalk order run PortFailed before after = FailsAtPort order run
     × ((script : List Due) × HasRead script (streams before after))
     × Adds port_failed_line before after
-TellsTalk order CrewRefused before after run = ⊥
-TellsTalk order LinkLost before after run = RanTalk order LinkLost before after run
-TellsTalk order BookFailed before after run = RanTalk order BookFailed before after run
 -- before the ports are asked and anything is written, and no device has failed then
-TellsTalk order NoMemory before after run = AsksNothing run × (after.written ≡ before.written)
+TellsTalk order run NoMemory before after = AsksNothing run × (after.written ≡ before.written)
     × (after.reads ≡ before.reads) × (after.writes ≡ before.writes)
+TellsTalk order run _ before after = ⊥
 
--- the talk ran, or there was no memory for its script
-abbrev pub IsTalkStatus : Status → Type 0
-IsTalkStatus status = (status ≡ Finished) ⊎ (status ≡ LinkLost) ⊎ (status ≡ BookFailed)
-    ⊎ (status ≡ NoMemory)
+-- Nothing stood against the talks that ran: the ear's list didn't end in 16 Faults, and no count of the book rose.
+pub record IsUntroubled (order : TalkOrder) (script : List Due) (end : TalkEnd) (run : Handed)
+    (talks : Talks order script end run) : Type 0 where
+  pub no_link_lost : ¬ IsLost talks.talked.turns
+  pub no_book_failed : ¬ HasRisen (shelf_tells talks.new.book).1 (shelf_tells talks.devices.book).1
 
--- What a run of `talk` promises.
-pub record RunsTalk (order : TalkOrder) (status : Status) (before after : Outside) (run : Handed)
-    : Type 0 where
-  pub cause : status ≢ NoMemory → HasCause status before after
-  pub tells : TellsTalk order status before after run
-  -- a script, and ports and streams that do not fail: whether the link was lost or the book failed, 7 and 8 tell
-  pub complete : (input : List ℕ) (script : List Due) → before.left ≡ Some input
-      → IsScript input script → ¬ HasRisen before.reads after.reads
-      → ¬ HasRisen before.writes after.writes → ¬ HasRisen run.before.faults run.after.faults
-      → IsTalkStatus status
+abbrev pub talk_terms : TalkOrder → Handed → Terms
+talk_terms order run = record {
+  tells = TellsTalk order run;
+  takes = λ left. (input : List ℕ) × (left ≡ Some input)
+      × ((script : List Due) × IsScript input script);
+  untroubled = λ left. (script : List Due) (end : TalkEnd) (talks : Talks order script end run)
+      → IsUntroubled order script end run talks;
+}

@@ -1,17 +1,11 @@
 ghost use Rattle.std.specs.Prelude.{◌≡◌, ◌≢◌, ℕ, Option, List};
 ghost use Rattle.m17_print.specs.Endings.{last_line, words_refused_line};
 ghost use Rattle.m17_app.specs.Status.{status_of, outside, WritesLast};
-ghost use Rattle.m17_app.specs.Replayed.{replay_last_line, replay_status};
-ghost use Rattle.m17_app.specs.Serve.{serve_last_line, serve_status};
-ghost use Rattle.m17_app.specs.Talk.{talk_last_line, talk_status};
 ghost use Rattle.m17_app.specs.declared.status.Status.TheVariants.{WordsRefused};
 
 use crate::status::Status;
 use m17_io::Sink;
-use m17_print::{Ending, Line, Reason};
-use m17_replay::ReplayEnding;
-use m17_serve::ServeEnding;
-use m17_talk::TalkEnding;
+use m17_print::{Ending, Line, NoReason, Reason};
 
 // Writes a last line, which may be empty, hands on all that was written, and answers the status, or that the sink
 // failed.
@@ -29,6 +23,28 @@ pub fn end_with<K: Sink>(out: &mut K, line: &[u8], status: Status) -> Status
     }
 }
 
+// Ends a run that ended so: writes its last line, and hands on all that was written. Where there was no memory, nothing is
+// written or handed on.
+pub fn conclude<K: Sink, R: Reason>(out: &mut K, ending: &Ending<R>) -> Status
+    ensures memory { ending.now ≡ Ending.NoMemory
+        → (result ≡ Status.NoMemory) × (out.new ≡ out.old) }
+    ensures concluded { ending.now ≢ Ending.NoMemory
+        → (left : Option (List ℕ)) (reads : ℕ) →
+        WritesLast (last_line R.words ending.now) (status_of ending.now) result
+        (outside left reads (K.written out.old) (K.faults out.old) (K.held_back out.old))
+        (outside left reads (K.written out.new) (K.faults out.new) (K.held_back out.new)) }
+{
+    let status = status_of(ending);
+    match status {
+        Status::NoMemory => status,
+        _ => {
+            let mut line = Line::new();
+            line.make_last(ending);
+            end_with(out, line.bytes(), status)
+        }
+    }
+}
+
 // Ends a run whose words are refused.
 pub fn refuse_words<K: Sink>(out: &mut K) -> Status
     ensures { (left : Option (List ℕ)) (reads : ℕ)
@@ -36,118 +52,24 @@ pub fn refuse_words<K: Sink>(out: &mut K) -> Status
         (outside left reads (K.written out.old) (K.faults out.old) (K.held_back out.old))
         (outside left reads (K.written out.new) (K.faults out.new) (K.held_back out.new)) }
 {
-    end_with(out, b"words refused\n", Status::WordsRefused)
-}
-
-// Ends a run of a command that ended so.
-pub fn conclude<K: Sink, R: Reason>(out: &mut K, ending: &Ending<R>) -> Status
-    ensures { (left : Option (List ℕ)) (reads : ℕ) →
-        WritesLast (last_line R.words ending.now) (status_of ending.now) result
-        (outside left reads (K.written out.old) (K.faults out.old) (K.held_back out.old))
-        (outside left reads (K.written out.new) (K.faults out.new) (K.held_back out.new)) }
-{
-    let mut line = Line::new();
-    line.make_last(ending);
-    end_with(out, line.bytes(), status(ending))
-}
-
-// Ends a run of `replay` that ended so.
-pub fn conclude_replay<K: Sink>(out: &mut K, ending: &ReplayEnding) -> Status
-    ensures { (left : Option (List ℕ)) (reads : ℕ) →
-        WritesLast (replay_last_line ending.now) (replay_status ending.now) result
-        (outside left reads (K.written out.old) (K.faults out.old) (K.held_back out.old))
-        (outside left reads (K.written out.new) (K.faults out.new) (K.held_back out.new)) }
-{
-    let ending = match ending {
-        ReplayEnding::LinkLost => return end_with(out, b"link lost\n", Status::LinkLost),
-        ReplayEnding::CrewRefused => {
-            return end_with(out, b"crew refused\n", Status::CrewRefused);
-        }
-        ReplayEnding::Finished => Ending::Finished,
-        ReplayEnding::Refused { place, reason } => Ending::Refused {
-            place: *place,
-            reason: *reason,
-        },
-        ReplayEnding::ReadFailed => Ending::ReadFailed,
-        ReplayEnding::WriteFailed => Ending::WriteFailed,
-    };
+    let ending: Ending<NoReason> = Ending::WordsRefused;
     conclude(out, &ending)
-}
-
-// Ends a run of `talk` that ended so.
-pub fn conclude_talk<K: Sink>(out: &mut K, ending: &TalkEnding) -> Status
-    ensures { (left : Option (List ℕ)) (reads : ℕ) →
-        WritesLast (talk_last_line ending.now) (talk_status ending.now) result
-        (outside left reads (K.written out.old) (K.faults out.old) (K.held_back out.old))
-        (outside left reads (K.written out.new) (K.faults out.new) (K.held_back out.new)) }
-{
-    let ending = match ending {
-        TalkEnding::LinkLost => return end_with(out, b"link lost\n", Status::LinkLost),
-        TalkEnding::BookFailed => return end_with(out, b"book failed\n", Status::BookFailed),
-        TalkEnding::PortFailed => return end_with(out, b"port failed\n", Status::PortFailed),
-        TalkEnding::Finished => Ending::Finished,
-        TalkEnding::Refused { place, reason } => Ending::Refused {
-            place: *place,
-            reason: *reason,
-        },
-        TalkEnding::ReadFailed => Ending::ReadFailed,
-        TalkEnding::WriteFailed => Ending::WriteFailed,
-    };
-    conclude(out, &ending)
-}
-
-// Ends a run of `serve` that ended so. Nothing is written where there was no memory.
-pub fn conclude_serve<K: Sink>(out: &mut K, ending: &ServeEnding) -> Status
-    ensures memory { ending.now ≡ ServeEnding.NoMemory
-        → (result ≡ Status.NoMemory) × (out.new ≡ out.old) }
-    ensures concluded { ending.now ≢ ServeEnding.NoMemory
-        → (left : Option (List ℕ)) (reads : ℕ) →
-        WritesLast (serve_last_line ending.now) (serve_status ending.now) result
-        (outside left reads (K.written out.old) (K.faults out.old) (K.held_back out.old))
-        (outside left reads (K.written out.new) (K.faults out.new) (K.held_back out.new)) }
-{
-    if *ending == ServeEnding::NoMemory {
-        return Status::NoMemory;
-    }
-    end_with(out, serve_line(ending), serve_status(ending))
-}
-
-// The last line of a run of `serve` that ended so, if it has one.
-fn serve_line(ending: &ServeEnding) -> &'static [u8]
-    ensures { result.now ≡ serve_last_line ending.now }
-{
-    match ending {
-        ServeEnding::LinkLost => b"link lost\n",
-        ServeEnding::BookFailed => b"book failed\n",
-        ServeEnding::PortFailed => b"port failed\n",
-        ServeEnding::CrewRefused => b"crew refused\n",
-        ServeEnding::Finished | ServeEnding::WriteFailed | ServeEnding::NoMemory => b"",
-    }
-}
-
-// The status of a run of `serve` that ended so.
-fn serve_status(ending: &ServeEnding) -> Status
-    ensures { result ≡ serve_status ending.now }
-{
-    match ending {
-        ServeEnding::Finished => Status::Finished,
-        ServeEnding::LinkLost => Status::LinkLost,
-        ServeEnding::BookFailed => Status::BookFailed,
-        ServeEnding::WriteFailed => Status::WriteFailed,
-        ServeEnding::PortFailed => Status::PortFailed,
-        ServeEnding::CrewRefused => Status::CrewRefused,
-        ServeEnding::NoMemory => Status::NoMemory,
-    }
 }
 
 // The status of a run that ended so.
-fn status<R: Reason>(ending: &Ending<R>) -> Status
+fn status_of<R: Reason>(ending: &Ending<R>) -> Status
     ensures { result ≡ status_of ending.now }
 {
     match ending {
         Ending::Finished => Status::Finished,
         Ending::Refused { .. } => Status::InputRefused,
+        Ending::WordsRefused => Status::WordsRefused,
         Ending::ReadFailed => Status::ReadFailed,
         Ending::WriteFailed => Status::WriteFailed,
+        Ending::PortFailed => Status::PortFailed,
+        Ending::CrewRefused => Status::CrewRefused,
+        Ending::LinkLost => Status::LinkLost,
+        Ending::BookFailed => Status::BookFailed,
+        Ending::NoMemory => Status::NoMemory,
     }
 }

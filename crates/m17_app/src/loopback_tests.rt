@@ -22,7 +22,17 @@ type Ran = (u8, Vec<u8>);
 
 // Runs the program over sockets.
 fn ran_on_sockets<
-    R: Threads + Wait + Net + Files<File = File> + Clock + Abort + Copy + Drop + Send + 'static,
+    R: Threads
+        + Wait
+        + Net
+        + Files<File = File>
+        + Clock
+        + AllocGlobal
+        + Abort
+        + Copy
+        + Drop
+        + Send
+        + 'static,
 >(rt: &R, alloc: Global, given: &[&str], input: Vec<u8>) -> Ran {
     let (mut ports, mut crew) = (UdpPorts::new(*rt), StdCrew::new());
     let mut source = BytesSource::new(input, Vec::new(alloc));
@@ -41,7 +51,17 @@ fn ran_on_sockets<
 
 // A reflector at this address.
 fn served<
-    R: Threads + Wait + Net + Files<File = File> + Clock + Abort + Copy + Drop + Send + 'static,
+    R: Threads
+        + Wait
+        + Net
+        + Files<File = File>
+        + Clock
+        + AllocGlobal
+        + Abort
+        + Copy
+        + Drop
+        + Send
+        + 'static,
 >(rt: &R, alloc: Global, at: &str) -> Ran {
     let given = ["serve", "--call", "M17-TST", "--for", "3", at];
     ran_on_sockets(rt, alloc, &given, Vec::new(alloc))
@@ -49,7 +69,17 @@ fn served<
 
 // A talk to the reflector at this address, which began at `start` or later, and whether it was over well before that was.
 fn talked<
-    R: Threads + Wait + Net + Files<File = File> + Clock + Abort + Copy + Drop + Send + 'static,
+    R: Threads
+        + Wait
+        + Net
+        + Files<File = File>
+        + Clock
+        + AllocGlobal
+        + Abort
+        + Copy
+        + Drop
+        + Send
+        + 'static,
 >(rt: &R, alloc: Global, at: &str, script: Vec<u8>, start: Instant) -> (Ran, bool) {
     let given = [
         "talk",

@@ -1,11 +1,12 @@
 //! The program. `run` reads the words, runs their command over any source and sink, writes the last line and answers
 //! the status; it promises what was written for the bytes that came in, the cause of each status, and that the sink
 //! holds nothing back at the end. `main` hands it the standard streams, the ports of the machine (`m17_net`) and the
-//! system's threads (`m17_crew`), and ends with its answer. `StdIn` and `StdOut` are the trusted edge: one call of the
-//! system each, counted faults, and no content told. What lies between them and `run` is left to `m17_buffers`,
-//! sockets and files to `m17_net`, and what the commands print to their own crates.
+//! system's threads (`m17_crew`), closes the books of the ports, and ends with its answer. `StdIn` and `StdOut` are the
+//! trusted edge: one call of the system each, counted faults, and no content told. What lies between them and `run` is left
+//! to `m17_buffers`, sockets and files to `m17_net`, and what the commands print to their own crates.
 #![tactic(auto)]
 
+mod closing;
 mod conclude;
 mod done;
 mod interruption;
@@ -21,54 +22,61 @@ mod std_out;
 mod streams;
 mod words;
 
+ghost use Rattle.std.specs.Prelude.{ℕ};
 ghost use Rattle.std.specs.Process.{exit_status};
+ghost use Rattle.m17_app.specs.Started.{EndsAsRun, IsClosed};
 ghost use Rattle.m17_app.specs.Status.{IsStatus};
 
+use closing::{close_books, staff_books};
 use m17_devices::StdCrew;
 use m17_net::UdpPorts;
-use status::Status;
 use std::env;
-use std::io::ErrorKind;
+use std::fs::File;
+use std::net::Net;
 use std::process::ExitCode;
+use std::rt::Files;
 use std::sync::Wait;
 use std::thread::Threads;
-use streams::run_on;
-use words::words_after_name;
+use std::time::Clock;
+use words::{run_words, words_of};
 
 fn main(rt: HostRuntime) -> ExitCode {
     start(rt, &rt)
 }
 
-// Runs the program on the standard streams, over sockets, files and the system's threads. It starts these and waits by
-// `waits`, which is the runtime too.
-fn start<W: Threads + Wait + Copy + Send + 'static>(rt: HostRuntime, waits: &W) -> ExitCode
-    ensures { IsStatus (exit_status result) }
+// Runs the program on the standard streams, over sockets, files and the system's threads, and closes its books. It starts
+// threads and waits by `waits`, which is the runtime too.
+fn start<
+    W: Threads
+        + Wait
+        + Net
+        + Files<File = File>
+        + Clock
+        + AllocGlobal
+        + Copy
+        + Drop
+        + Send
+        + 'static,
+>(rt: HostRuntime, waits: &W) -> ExitCode
+    ensures status { IsStatus (exit_status result) }
+    // The process ends with the status of a run of the program; but 0 may become 8, or 4, when its books are closed.
+    ensures ran { (ended : ℕ) × EndsAsRun (Unit {0}) ended × IsClosed ended (exit_status result) }
 {
-    let mut ports = UdpPorts::new(rt);
+    let mut ports = UdpPorts::new(*waits);
     let mut crew = StdCrew::new();
-    let status = match words_of(rt) {
-        Some(words) => run_on(
-            waits,
-            rt.alloc(),
-            &words,
-            &mut ports,
-            &mut crew,
-            rt.stdin(),
-            &rt,
-        ),
-        None => Status::NoMemory.code(),
-    };
-    ExitCode::from(status)
-}
-
-// The words after the program's name. Words that are no text name no command, as no words do; none where there is no
-// memory for them.
-fn words_of(rt: HostRuntime) -> Option<Vec<String>> {
-    match env::args(&rt) {
-        Ok(all) => words_after_name(rt.alloc(), all),
-        Err(e) if e.kind() == ErrorKind::InvalidData => Some(Vec::new(rt.alloc())),
-        Err(_) => None,
-    }
+    let words = words_of(rt.alloc(), env::args(&rt));
+    staff_books(&mut ports, rt.alloc(), &words);
+    let status = run_words(
+        waits,
+        rt.alloc(),
+        words,
+        &mut ports,
+        &mut crew,
+        rt.stdin(),
+        &rt,
+    );
+    let closed = close_books(&mut ports, rt.alloc(), status, &rt);
+    ExitCode::from(closed)
 }
 
 #[cfg(test)]

@@ -1,11 +1,13 @@
-ghost use Rattle.std.specs.Prelude.{◌≡◌, map, string_bytes, option_map};
-ghost use Rattle.m17_talk.specs.Devices.{ports_told, ear_told, mouth_told, book_told, devices_told};
+ghost use Rattle.std.specs.Prelude.{◌≡◌, ℕ, map, string_bytes, option_map};
+ghost use Rattle.m17_talk.specs.Devices.{ports_told, ear_told, mouth_told, book_told, devices_told, FailsLast};
 ghost use Rattle.m17_sender.specs.Sent.{told_by};
 ghost use Rattle.m17_serve.specs.Devices.{eyes_by, house_back, refused_back};
 ghost use Rattle.m17_app.specs.Doing.{doing};
-ghost use Rattle.m17_app.specs.Status.{Tells, IsStatus, outside};
-ghost use Rattle.m17_app.specs.Run.{AreRefused, RunsJudge, RunsShow, RefusesWords};
+ghost use Rattle.m17_app.specs.Status.{Tells, IsStatus, beside, count_from, outside};
+ghost use Rattle.m17_app.specs.Run.{AreRefused, refused_terms};
 ghost use Rattle.m17_app.specs.Commands.{Runs, RunsWords, EndsRefused, IsRunnable};
+ghost use Rattle.m17_app.specs.Terms.{RunsCommand};
+ghost use Rattle.m17_app.specs.Text.{judge_command, show_command, text_terms};
 
 use crate::conclude::{conclude, refuse_words};
 use crate::done::{Done, Ended, alone, answer_of};
@@ -25,37 +27,40 @@ use std::thread::Threads;
 
 // Runs `judge` to its last line.
 fn run_judge<S: Input<K>, K: Sink>(alloc: Global, input: &mut S, out: &mut K) -> Status
-    ensures { RunsJudge result
+    ensures { (ports crew : ℕ) → RunsCommand (text_terms judge_command) result
         (outside (S.left input.old) (S.faults input.old)
         (K.written out.old) (K.faults out.old) (K.held_back out.old))
         (outside (S.left input.new) (S.faults input.new)
-        (K.written out.new) (K.faults out.new) (K.held_back out.new)) }
+        (K.written out.new) (K.faults out.new) (K.held_back out.new))
+        (beside (count_from ports ports) (count_from crew crew)) }
 {
     match m17_judge::judge(alloc, input, out) {
-        Ok(ending) => conclude(out, &ending),
+        Ok(ending) => conclude(out, &ending.into_ending()),
         Err(_) => Status::NoMemory,
     }
 }
 
 // Runs `show` to its last line.
 fn run_show<S: Input<K>, K: Sink>(input: &mut S, out: &mut K) -> Status
-    ensures { RunsShow result
+    ensures { (ports crew : ℕ) → RunsCommand (text_terms show_command) result
         (outside (S.left input.old) (S.faults input.old)
         (K.written out.old) (K.faults out.old) (K.held_back out.old))
         (outside (S.left input.new) (S.faults input.new)
-        (K.written out.new) (K.faults out.new) (K.held_back out.new)) }
+        (K.written out.new) (K.faults out.new) (K.held_back out.new))
+        (beside (count_from ports ports) (count_from crew crew)) }
 {
     let ending = m17_show::show(input, out);
-    conclude(out, &ending)
+    conclude(out, &ending.into_ending())
 }
 
 // Ends a run whose words are refused.
 fn run_nothing<S: Input<K>, K: Sink>(input: &S, out: &mut K) -> Status
-    ensures { RefusesWords result
+    ensures { (ports crew : ℕ) → RunsCommand refused_terms result
         (outside (S.left input.now) (S.faults input.now)
         (K.written out.old) (K.faults out.old) (K.held_back out.old))
         (outside (S.left input.now) (S.faults input.now)
-        (K.written out.new) (K.faults out.new) (K.held_back out.new)) }
+        (K.written out.new) (K.faults out.new) (K.held_back out.new))
+        (beside (count_from ports ports) (count_from crew crew)) }
 {
     refuse_words(out)
 }
@@ -92,6 +97,8 @@ fn run_command<R: Threads + Wait + Copy + Send + 'static, P: Ports, C: Crew, S: 
         (refused_back (eyes_by P.Ear.heard P.Ear.faults P.Ear.mark
         (told_by P.Mouth.said P.Mouth.tallies P.Mouth.faults P.Mouth.mark P.Mouth.label)
         P.Book.written P.Book.faults P.Book.mark) result.refused)) }
+    ensures fails_last { FailsLast (λ p. ports_told (P.asked p) (P.calls p) (P.faults p))
+        ports.old ports.new }
     ensures unasked { result.status ≡ Status.NoMemory → crew.new ≡ crew.old }
 {
     match command {
@@ -140,6 +147,9 @@ pub fn run<R: Threads + Wait + Copy + Send + 'static, P: Ports, C: Crew, S: Inpu
     ensures status { IsStatus result.status }
     // 2 comes where the words name no command, and nowhere else.
     ensures taken { result.status ≡ 2 → AreRefused (map string_bytes words.now) }
+    // Where the ports fail, that was the last question: until then their count of faults stands.
+    ensures fails_last { FailsLast (λ p. ports_told (P.asked p) (P.calls p) (P.faults p))
+        ports.old ports.new }
     // Want of memory comes before the crew is asked for anything.
     ensures unasked { result.status ≡ 70 → crew.new ≡ crew.old }
     // The run is that of a command which the words name, or says that they name none.

@@ -1,7 +1,9 @@
 ghost use Rattle.std.specs.Prelude.{◌≡◌, ◌⊎◌, map, string_bytes};
 ghost use Rattle.m17_io.specs.Faults.{HasRisen};
-ghost use Rattle.m17_app.specs.Status.{IsStatus};
+ghost use Rattle.m17_talk.specs.Devices.{ports_told};
+ghost use Rattle.m17_app.specs.Status.{IsStatus, Tells, count_from};
 ghost use Rattle.m17_app.specs.Run.{AreRefused};
+ghost use Rattle.m17_app.specs.Started.{HasRun};
 
 use crate::run::run;
 use crate::status::Status;
@@ -32,6 +34,12 @@ pub fn run_on<
     ensures port_failed { result ≡ 5 → HasRisen (Q.faults ports.old) (Q.faults ports.new) }
     ensures crew_refused { result ≡ 6 → HasRisen (C.refusals crew.old) (C.refusals crew.new) }
     ensures unasked { result ≡ 70 → crew.new ≡ crew.old }
+    // It is the status of a run of these words over these ports and this crew.
+    ensures ran { Tells result (λ status.
+        HasRun Q.Mouth.Label (map string_bytes words.now) status
+        (ports_told (Q.asked ports.old) (Q.calls ports.old) (Q.faults ports.old))
+        (ports_told (Q.asked ports.new) (Q.calls ports.new) (Q.faults ports.new))
+        (count_from (C.refusals crew.old) (C.refusals crew.new))) }
 {
     let Ok(mut input) = BufferedSource::make(alloc, StdIn::new(reader)) else {
         return Status::NoMemory.code();

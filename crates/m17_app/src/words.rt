@@ -1,11 +1,71 @@
-ghost use Rattle.std.specs.Prelude.{◌≡◌, drop, IfSome};
+ghost use Rattle.std.specs.Prelude.{◌≡◌, ◌≢◌, [], drop, map, option_map, string_bytes, IfErr, IfOk, IfSome, MatchOption, None};
 ghost use Rattle.std.specs.Vec.Iter.{into_iter_items};
+ghost use Rattle.std.specs.IoError.{error_kind};
+ghost use Rattle.m17_talk.specs.Devices.{ports_told};
+ghost use Rattle.m17_app.specs.Started.{HasRunIfAny};
+ghost use Rattle.m17_app.specs.Status.{Tells, count_from};
 
+use crate::status::Status;
+use crate::streams::run_on;
+use m17_devices::{Crew, Ports};
 use std::alloc::Global;
 use std::env::Args;
+use std::io::{self, ErrorKind, Read};
+use std::sync::Wait;
+use std::thread::Threads;
 
-/// The words after the program's name, of all words that the runtime gave. `None` where there was no memory for them.
-pub fn words_after_name(alloc: Global, all: Args) -> Option<Vec<String>>
+/// Runs the program by these words on a reader and on what prints. `NoMemory` where there was none for the words.
+pub fn run_words<
+    H: Threads + Wait + Copy + Send + 'static,
+    Q: Ports,
+    C: Crew,
+    R: Read + Drop,
+    P: Print,
+>(
+    rt: &H,
+    alloc: Global,
+    words: Option<Vec<String>>,
+    ports: &mut Q,
+    crew: &mut C,
+    reader: R,
+    to: &P,
+) -> u8
+    ensures { Tells result (λ status. HasRunIfAny Q.Mouth.Label
+        (option_map (λ words. map string_bytes words.items) words) status
+        (ports_told (Q.asked ports.old) (Q.calls ports.old) (Q.faults ports.old))
+        (ports_told (Q.asked ports.new) (Q.calls ports.new) (Q.faults ports.new))
+        (count_from (C.refusals crew.old) (C.refusals crew.new))) }
+{
+    match words {
+        Some(words) => run_on(rt, alloc, &words, ports, crew, reader, to),
+        None => Status::NoMemory.code(),
+    }
+}
+
+/// The words after the program's name, of what the runtime gave. Words that are no text name no command, as no words do;
+/// `None` where there was no memory for them.
+pub fn words_of(alloc: Global, given: io::Result<Args>) -> Option<Vec<String>>
+    ensures taken { IfOk given (λ all. IfSome result (λ words.
+        words.items ≡ drop 1 (into_iter_items all))) }
+    ensures no_text { IfErr given (λ error. error_kind error ≡ ErrorKind.InvalidData
+        → MatchOption result ⊥ (λ words. words.items ≡ [])) }
+    ensures no_memory { IfErr given (λ error. error_kind error ≢ ErrorKind.InvalidData
+        → result ≡ None) }
+{
+    match given {
+        Ok(all) => words_after_name(alloc, all),
+        Err(error) => {
+            if error.kind() == ErrorKind::InvalidData {
+                Some(Vec::new(alloc))
+            } else {
+                None
+            }
+        }
+    }
+}
+
+// The words after the first one. `None` where there was no memory for them.
+fn words_after_name(alloc: Global, all: Args) -> Option<Vec<String>>
     ensures { IfSome result (λ words. words.items ≡ drop 1 (into_iter_items all)) }
 {
     let mut rest = all;

@@ -8,8 +8,8 @@ use Rattle.m17_book.specs.declared.record.Record.{Record}
 use Rattle.m17_book.specs.declared.refusal.FormRefusal.{FormRefusal}
 use Rattle.m17_book.specs.declared.report.Report.{Report}
 use Rattle.m17_print.specs.Endings.{Comes, Grows}
-use Rattle.m17_print.specs.declared.ending.Ending.{Ending}
-use Rattle.m17_print.specs.declared.ending.Ending.TheVariants.{Finished, Refused, ReadFailed, WriteFailed}
+use Rattle.m17_print.specs.declared.ending.TextEnding.{TextEnding}
+use Rattle.m17_print.specs.declared.ending.TextEnding.TheVariants.{Finished, Refused, ReadFailed, WriteFailed}
 use Rattle.m17_check.specs.Check.{legal_line, SaysCheck, PrintsCheck}
 use Rattle.m17_check.specs.Judged.{HasJudged, Prints}
 use Rattle.m17_check.specs.declared.reason.CheckReason.{CheckReason}
@@ -25,7 +25,7 @@ refused_is bytes refusal found is bytes_tell told =
     inside bytes found bytes_tell (subst P is told)
 
 -- a legal book whose line was written, or a first part of it
-pub printed : (result : Ending CheckReason) (report : Report) (bytes : List ℕ) (left first middle written : Option (List ℕ)) (f g : ℕ) → middle ≡ first → HasJudged (Ok report) bytes left → Prints result (legal_line report) (middle, f) (written, g) → Comes SaysCheck PrintsCheck result bytes left first written
+pub printed : (result : TextEnding CheckReason) (report : Report) (bytes : List ℕ) (left first middle written : Option (List ℕ)) (f g : ℕ) → middle ≡ first → HasJudged (Ok report) bytes left → Prints result (legal_line report) (middle, f) (written, g) → Comes SaysCheck PrintsCheck result bytes left first written
 printed Finished report bytes left first middle written f g same judged prints =
     let book = judged.0 in
     record {
@@ -46,7 +46,7 @@ printed WriteFailed report bytes left first middle written f g same judged print
           );
     }
 
-pub grown : (result : Ending CheckReason) (line : List ℕ) (first middle written : Option (List ℕ)) (f g : ℕ) → middle ≡ first → Prints result line (middle, f) (written, g) → Grows first written
+pub grown : (result : TextEnding CheckReason) (line : List ℕ) (first middle written : Option (List ℕ)) (f g : ℕ) → middle ≡ first → Prints result line (middle, f) (written, g) → Grows first written
 grown Finished line first middle written f g same prints = λ before e. (line, prints.1 before (same ∙ e))
 grown (Refused place reason) line first middle written f g same prints = absurd prints
 grown ReadFailed line first middle written f g same prints = absurd prints
@@ -56,7 +56,7 @@ grown WriteFailed line first middle written f g same prints = λ before e. let p
 unwritten : (first written : Option (List ℕ)) (before : List ℕ) → written ≡ first → first ≡ Some before → written ≡ Some (before ++ [])
 unwritten first written before same e = same ∙ e ∙ ap Some (sym (append-nil before))
 
-pub ended : (result : Ending CheckReason) (bytes : List ℕ) (left first written : Option (List ℕ)) → written ≡ first → HasJudged (Err result) bytes left → Comes SaysCheck PrintsCheck result bytes left first written
+pub ended : (result : TextEnding CheckReason) (bytes : List ℕ) (left first written : Option (List ℕ)) → written ≡ first → HasJudged (Err result) bytes left → Comes SaysCheck PrintsCheck result bytes left first written
 ended Finished bytes left first written same judged = absurd judged
 ended (Refused place reason) bytes left first written same judged = record { said = judged; printed = λ before e. ([], unwritten first written before same e, refl) }
 ended ReadFailed bytes left first written same judged = record { said = tt; printed = λ before e. ([], unwritten first written before same e, refl) }

@@ -9,8 +9,8 @@ use Rattle.m17_book.specs.declared.record.Record.{Record}
 use Rattle.m17_book.specs.declared.refusal.FormRefusal.TheVariants as form
 use Rattle.m17_book.specs.declared.report.Report.{Report}
 use Rattle.m17_print.specs.Endings.{input_refused_line}
-use Rattle.m17_print.specs.declared.ending.Ending.{Ending}
-use Rattle.m17_print.specs.declared.ending.Ending.TheVariants.{Finished, Refused, ReadFailed, WriteFailed}
+use Rattle.m17_print.specs.declared.ending.TextEnding.{TextEnding}
+use Rattle.m17_print.specs.declared.ending.TextEnding.TheVariants.{Finished, Refused, ReadFailed, WriteFailed}
 use Rattle.m17_check.specs.Reasons.{check_reason_words}
 use Rattle.m17_check.specs.declared.reason.CheckReason.{CheckReason}
 use Rattle.m17_check.specs.declared.reason.CheckReason.TheVariants.{Cut, Kind, Field, Large, Moment, Member, Verdict}
@@ -50,7 +50,7 @@ IsCheckText input text = ((records : List Record) × IsLegalInput input records
     × (text ≡ input_refused_line place (check_reason_words reason)))
 
 -- What an ending of `check` says of the input, and of what is left of it.
-abbrev pub SaysCheck : Ending CheckReason → List ℕ → Option (List ℕ) → Type 0
+abbrev pub SaysCheck : TextEnding CheckReason → List ℕ → Option (List ℕ) → Type 0
 SaysCheck Finished input left =
     ((records : List Record) × IsLegalInput input records) × (left ≡ Some [])
 SaysCheck (Refused place reason) input left = RefusesInput input place reason
@@ -59,7 +59,7 @@ SaysCheck WriteFailed input left = Unit {0}
 
 -- What stands written when `check` ends in each way: the line of a legal book; nothing where the input is refused or the
 -- source failed; and where the sink failed nothing, or a first part of that line. This profile.
-abbrev pub PrintsCheck : Ending CheckReason → List ℕ → Option (List ℕ) → List ℕ → Type 0
+abbrev pub PrintsCheck : TextEnding CheckReason → List ℕ → Option (List ℕ) → List ℕ → Type 0
 PrintsCheck Finished input left text = (records : List Record) × IsLegalInput input records
     × (text ≡ legal_line (report_of records))
 PrintsCheck (Refused place reason) input left text = text ≡ []

@@ -10,18 +10,18 @@ use Rattle.m17_floor.specs.declared.rule.Rule.{Rule}
 use Rattle.m17_floor.specs.declared.rule.Rule.TheVariants as rules
 use Rattle.m17_check.specs.declared.reason.CheckReason.TheVariants as reasons
 use Rattle.m17_print.specs.Endings.{failed_device}
-use Rattle.m17_print.specs.declared.ending.Ending.{Ending}
-use Rattle.m17_print.specs.declared.ending.Ending.TheVariants.{Finished, Refused, ReadFailed, WriteFailed}
+use Rattle.m17_print.specs.declared.ending.TextEnding.{TextEnding}
+use Rattle.m17_print.specs.declared.ending.TextEnding.TheVariants.{Finished, Refused, ReadFailed, WriteFailed}
 use Rattle.m17_check.specs.Check.{IsLegalInput, RefusesInput}
 use Rattle.m17_check.specs.declared.reason.CheckReason.{CheckReason}
 
 -- the device that failed, if one did
-abbrev pub stopped_by : {T : Type 0} → Result T (Ending CheckReason) → Option Fault
+abbrev pub stopped_by : {T : Type 0} → Result T (TextEnding CheckReason) → Option Fault
 stopped_by (Ok value) = None
 stopped_by (Err ending) = failed_device ending
 
 -- The input was read to its end, and is a legal book with this report; or the run ended without a line.
-abbrev pub HasJudged : Result Report (Ending CheckReason) → List ℕ → Option (List ℕ) → Type 0
+abbrev pub HasJudged : Result Report (TextEnding CheckReason) → List ℕ → Option (List ℕ) → Type 0
 HasJudged (Ok report) input left = ((records : List Record) × IsLegalInput input records
     × (report ≡ report_of records)) × (left ≡ Some [])
 HasJudged (Err Finished) input left = ⊥
@@ -40,7 +40,7 @@ abbrev pub Sunk : Type 0
 Sunk = Option (List ℕ) × ℕ
 
 -- The line was written, or the sink failed and a first part of it stands written.
-abbrev pub Prints : Ending CheckReason → List ℕ → Sunk → Sunk → Type 0
+abbrev pub Prints : TextEnding CheckReason → List ℕ → Sunk → Sunk → Type 0
 Prints Finished line old new = (new.1 ≡ old.1)
     × ((before : List ℕ) → old.0 ≡ Some before → new.0 ≡ Some (before ++ line))
 Prints (Refused place reason) line old new = ⊥

@@ -4,18 +4,18 @@ ghost use Rattle.m17_print.specs.Endings.{failed_device, Comes, Grows};
 ghost use Rattle.m17_print.specs.Line.{room};
 ghost use Rattle.m17_check.specs.Check.{legal_line, SaysCheck, PrintsCheck};
 ghost use Rattle.m17_check.specs.Judged.{reason_of, stopped_by, HasJudged, Prints};
-ghost use Rattle.m17_print.specs.declared.ending.Ending.TheVariants.{Refused};
+ghost use Rattle.m17_print.specs.declared.ending.TextEnding.TheVariants.{Refused};
 
 use crate::CheckReason;
 use m17_book::{Breach, FormRefusal, Report, Rule, check_book_for};
 use m17_io::{Input, Sink};
-use m17_print::{Ending, Line};
+use m17_print::{Line, TextEnding};
 
 /// Checks a book: reads it to its end, and writes the line of a legal one, as `legal 12 records 3 streams 9 admitted`.
 /// Nothing is written before the input was read to its end. The input is refused with the place and reason of the form of
 /// books, `Large` first of all; and a book that isn't legal with the number of its first record that breaks a rule, and
 /// that rule: `Moment`, `Member` or `Verdict`. It takes no memory. This profile.
-pub fn check<S: Input<K>, K: Sink>(input: &mut S, out: &mut K) -> Ending<CheckReason>
+pub fn check<S: Input<K>, K: Sink>(input: &mut S, out: &mut K) -> TextEnding<CheckReason>
     // A device is told to have failed exactly where its count of faults rose.
     ensures causes { HasCauses (S.faults input.old, K.faults out.old)
         (S.faults input.new, K.faults out.new) (failed_device result) }
@@ -35,7 +35,7 @@ pub fn check<S: Input<K>, K: Sink>(input: &mut S, out: &mut K) -> Ending<CheckRe
 fn read_report<S: Input<K>, K: Sink>(
     input: &mut S,
     out: &mut K,
-) -> Result<Report, Ending<CheckReason>>
+) -> Result<Report, TextEnding<CheckReason>>
     ensures causes { HasCauses (S.faults input.old, K.faults out.old)
         (S.faults input.new, K.faults out.new) (stopped_by result) }
     ensures judged { (bytes : List ℕ) → S.left input.old ≡ Some bytes
@@ -43,7 +43,7 @@ fn read_report<S: Input<K>, K: Sink>(
     ensures nothing_written { K.written out.new ≡ K.written out.old }
 {
     let Ok(()) = out.flush() else {
-        return Err(Ending::WriteFailed);
+        return Err(TextEnding::WriteFailed);
     };
     match check_book_for(input, out) {
         Ok(Ok(report)) => Ok(report),
@@ -52,20 +52,20 @@ fn read_report<S: Input<K>, K: Sink>(
         Err(FormRefusal::Kind { at, byte }) => Err(refused(at, CheckReason::Kind(byte))),
         Err(FormRefusal::Field { at }) => Err(refused(at, CheckReason::Field)),
         Err(FormRefusal::Large { at }) => Err(refused(at, CheckReason::Large)),
-        Err(FormRefusal::ReadFault) => Err(Ending::ReadFailed),
+        Err(FormRefusal::ReadFault) => Err(TextEnding::ReadFailed),
         Err(FormRefusal::NoMemory) => unreachable!(),
     }
 }
 
 // The ending of a run whose input is refused.
-fn refused(place: u64, reason: CheckReason) -> Ending<CheckReason>
+fn refused(place: u64, reason: CheckReason) -> TextEnding<CheckReason>
     ensures { result ≡ Refused place reason }
 {
-    Ending::Refused { place, reason }
+    TextEnding::Refused { place, reason }
 }
 
 // The ending of a run whose book isn't legal.
-fn broken(breach: &Breach) -> Ending<CheckReason>
+fn broken(breach: &Breach) -> TextEnding<CheckReason>
     ensures { result ≡ Refused breach.now.position (reason_of breach.now.rule) }
 {
     let reason = match breach.rule {
@@ -77,15 +77,15 @@ fn broken(breach: &Breach) -> Ending<CheckReason>
 }
 
 // Writes the line of a legal book.
-fn print_report<K: Sink>(report: &Report, out: &mut K) -> Ending<CheckReason>
+fn print_report<K: Sink>(report: &Report, out: &mut K) -> TextEnding<CheckReason>
     ensures written { Prints result (legal_line report.now)
         (K.written out.old, K.faults out.old) (K.written out.new, K.faults out.new) }
 {
     let mut line = Line::new();
     make_line(report, &mut line);
     match out.write(line.bytes()) {
-        Ok(()) => Ending::Finished,
-        Err(_) => Ending::WriteFailed,
+        Ok(()) => TextEnding::Finished,
+        Err(_) => TextEnding::WriteFailed,
     }
 }
 

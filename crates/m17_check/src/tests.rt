@@ -1,6 +1,6 @@
 use crate::{CheckReason, check};
 use m17_memory::{BytesSink, BytesSource};
-use m17_print::Ending;
+use m17_print::TextEnding;
 use std::alloc::Global;
 use std::process::Abort;
 
@@ -11,7 +11,7 @@ fn ends<R: Abort>(
     input: &[u8],
     fails: (&[u64], &[u64]),
     text: &[u8],
-) -> (Ending<CheckReason>, bool) {
+) -> (TextEnding<CheckReason>, bool) {
     let bytes = input.to_vec(alloc).ok().expect(rt, "the input");
     let reads = fails.0.to_vec(alloc).ok().expect(rt, "failing reads");
     let writes = fails.1.to_vec(alloc).ok().expect(rt, "failing writes");
@@ -23,8 +23,8 @@ fn ends<R: Abort>(
     (ending, sink.bytes() == text)
 }
 
-fn refused(place: u64, reason: CheckReason) -> (Ending<CheckReason>, bool) {
-    (Ending::Refused { place, reason }, true)
+fn refused(place: u64, reason: CheckReason) -> (TextEnding<CheckReason>, bool) {
+    (TextEnding::Refused { place, reason }, true)
 }
 
 /// Two join, and each opens a stream of its own at moment 0.
@@ -80,9 +80,9 @@ fn a_book_is_legal_or_the_first_record_that_is_not_is_named(rt: HostRuntime) {
     let no_fails: (&[u64], &[u64]) = (&[], &[]);
     let empty = b"M17BOOK1A";
     let legal = b"legal 0 records 0 streams 0 admitted\n";
-    assert!(rt; ends(&rt, rt.alloc(), empty, no_fails, legal) == (Ending::Finished, true));
+    assert!(rt; ends(&rt, rt.alloc(), empty, no_fails, legal) == (TextEnding::Finished, true));
     let busy = b"legal 5 records 1 streams 2 admitted\n";
-    assert!(rt; ends(&rt, rt.alloc(), BUSY, no_fails, busy) == (Ending::Finished, true));
+    assert!(rt; ends(&rt, rt.alloc(), BUSY, no_fails, busy) == (TextEnding::Finished, true));
     let cases: [(&[u8], u64, CheckReason); 8] = [
         (b"M17BOOK1", 8, CheckReason::Cut),
         (b"M17BOOK1A\x09", 9, CheckReason::Kind(9)),
@@ -102,9 +102,9 @@ fn a_book_is_legal_or_the_first_record_that_is_not_is_named(rt: HostRuntime) {
 fn a_failed_device_is_told(rt: HostRuntime) {
     let legal = b"M17BOOK1A";
     let read: (&[u64], &[u64]) = (&[0], &[]);
-    assert!(rt; ends(&rt, rt.alloc(), legal, read, b"") == (Ending::ReadFailed, true));
+    assert!(rt; ends(&rt, rt.alloc(), legal, read, b"") == (TextEnding::ReadFailed, true));
     let flushed: (&[u64], &[u64]) = (&[], &[0]);
-    assert!(rt; ends(&rt, rt.alloc(), legal, flushed, b"") == (Ending::WriteFailed, true));
+    assert!(rt; ends(&rt, rt.alloc(), legal, flushed, b"") == (TextEnding::WriteFailed, true));
     let written: (&[u64], &[u64]) = (&[], &[1]);
-    assert!(rt; ends(&rt, rt.alloc(), legal, written, b"") == (Ending::WriteFailed, true));
+    assert!(rt; ends(&rt, rt.alloc(), legal, written, b"") == (TextEnding::WriteFailed, true));
 }

@@ -2,8 +2,8 @@
 use Rattle.std.proofs.Common.{◌≡◌, ℕ, ◌*◌, ◌<◌, ◌≤◌, List, [], length, drop, Option, Some, refl, sym, ap, ◌∙◌, arith}
 use Rattle.std.proofs.lemmas.List.{append-nil, length-drop, nil_from_length}
 use Rattle.m17_print.specs.Endings.{Comes}
-use Rattle.m17_print.specs.declared.ending.Ending.{Ending}
-use Rattle.m17_print.specs.declared.ending.Ending.TheVariants.{Finished, Refused, ReadFailed, WriteFailed}
+use Rattle.m17_print.specs.declared.ending.TextEnding.{TextEnding}
+use Rattle.m17_print.specs.declared.ending.TextEnding.TheVariants.{Finished, Refused, ReadFailed, WriteFailed}
 use Rattle.m17_judge.specs.declared.reason.JudgeReason.{JudgeReason}
 use Rattle.m17_judge.specs.declared.reason.JudgeReason.TheVariants.{Cut, Large}
 use Rattle.m17_fill.specs.Fill.{IsFilled, IsCutShort}
@@ -35,7 +35,7 @@ too_large : (bytes : List ℕ) (place : ℕ) → place ≡ 64 * most_records →
 too_large bytes place at more = (refl, omega (arith, length-drop (64 * most_records) bytes), at)
 
 -- the ending after as many records as may come
-pub past : (ending : Ending JudgeReason) (bytes : List ℕ) (left rest first written written' : Option (List ℕ)) → written' ≡ written
+pub past : (ending : TextEnding JudgeReason) (bytes : List ℕ) (left rest first written written' : Option (List ℕ)) → written' ≡ written
     → AreJudged bytes most_records left first written → LooksPast ending (drop (64 * most_records) bytes) rest → Comes SaysJudge PrintsJudge ending bytes rest first written'
 past Finished bytes left rest first written written' same so_far looks =
     let records = all_there bytes so_far.within looks.0 in

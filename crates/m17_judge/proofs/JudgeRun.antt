@@ -7,7 +7,7 @@ use Rattle.m17_floor.specs.declared.act.Act.{Act}
 use Rattle.m17_floor.specs.Laws.{LaterActsChangeNoVerdict}
 use Rattle.m17_print.specs.Endings.{Comes}
 use Rattle.m17_print.specs.Texts.{IsTextOf}
-use Rattle.m17_print.specs.declared.ending.Ending.TheVariants.{Finished, Refused, ReadFailed, WriteFailed}
+use Rattle.m17_print.specs.declared.ending.TextEnding.TheVariants.{Finished, Refused, ReadFailed, WriteFailed}
 use Rattle.m17_print.proofs.TextsOfLines.{slice_get_longer, no_lines, same_lines, one_more_line, cut_line}
 use Rattle.m17_judge.specs.declared.reason.JudgeReason.TheVariants.{Cut}
 use Rattle.m17_fill.specs.Fill.{IsFilled, IsCutShort}

@@ -13,8 +13,8 @@ use Rattle.m17_print.specs.Endings.{input_refused_line}
 use Rattle.m17_print.specs.Refused.{stream_refusal_text}
 use Rattle.m17_print.specs.Texts.{IsTextOf}
 use Rattle.m17_print.specs.Verdicts.{verdict_text}
-use Rattle.m17_print.specs.declared.ending.Ending.{Ending}
-use Rattle.m17_print.specs.declared.ending.Ending.TheVariants.{Finished, Refused, ReadFailed, WriteFailed}
+use Rattle.m17_print.specs.declared.ending.TextEnding.{TextEnding}
+use Rattle.m17_print.specs.declared.ending.TextEnding.TheVariants.{Finished, Refused, ReadFailed, WriteFailed}
 use Rattle.m17_judge.specs.declared.reason.JudgeReason.{JudgeReason}
 use Rattle.m17_judge.specs.Reasons.{judge_reason_words}
 use Rattle.m17_judge.specs.Records.{most_records, record_at, moment_of, talker_of, packet_of, AreRecords, RefusesRecords}
@@ -92,14 +92,14 @@ IsJudgeText input text = ((count : ℕ) × AreRecords input count × IsTextOfRec
     × (text ≡ before ++ input_refused_line place (judge_reason_words reason)))
 
 -- What an ending of `judge` says of the input, and of what is left of it.
-abbrev pub SaysJudge : Ending JudgeReason → List ℕ → Option (List ℕ) → Type 0
+abbrev pub SaysJudge : TextEnding JudgeReason → List ℕ → Option (List ℕ) → Type 0
 SaysJudge Finished input left = ((count : ℕ) × AreRecords input count) × (left ≡ Some [])
 SaysJudge (Refused place reason) input left = (count : ℕ) × RefusesRecords input count place reason
 SaysJudge ReadFailed input left = Unit {0}
 SaysJudge WriteFailed input left = Unit {0}
 
 -- What stands written when `judge` ends in each way. `left` is what is left of the input.
-abbrev pub PrintsJudge : Ending JudgeReason → List ℕ → Option (List ℕ) → List ℕ → Type 0
+abbrev pub PrintsJudge : TextEnding JudgeReason → List ℕ → Option (List ℕ) → List ℕ → Type 0
 PrintsJudge Finished input left text = (count : ℕ) × AreRecords input count
     × IsTextOfRecords input count text
 PrintsJudge (Refused place reason) input left text =

@@ -1,7 +1,7 @@
 -- Where a run of `judge` stands between two records. No public clause cites this module.
 use Rattle.std.specs.Prelude.{◌≡◌, ℕ, ◌*◌, ◌<◌, ◌≤◌, List, [], ◌++◌, length, drop, Option, Some}
-use Rattle.m17_print.specs.declared.ending.Ending.{Ending}
-use Rattle.m17_print.specs.declared.ending.Ending.TheVariants.{Finished, Refused, ReadFailed, WriteFailed}
+use Rattle.m17_print.specs.declared.ending.TextEnding.{TextEnding}
+use Rattle.m17_print.specs.declared.ending.TextEnding.TheVariants.{Finished, Refused, ReadFailed, WriteFailed}
 use Rattle.m17_judge.specs.declared.reason.JudgeReason.{JudgeReason}
 use Rattle.m17_judge.specs.declared.reason.JudgeReason.TheVariants.{Cut, Large}
 use Rattle.m17_judge.specs.Judge.{IsTextOfRecords}
@@ -18,7 +18,7 @@ pub record AreJudged (input : List ℕ) (count : ℕ) (left first written : Opti
 
 -- After as many records as may come: how the look for one more byte ends, with what was left of the
 -- input and what is.
-abbrev pub LooksPast : Ending JudgeReason → List ℕ → Option (List ℕ) → Type 0
+abbrev pub LooksPast : TextEnding JudgeReason → List ℕ → Option (List ℕ) → Type 0
 LooksPast Finished left rest = (left ≡ []) × (rest ≡ Some [])
 LooksPast (Refused place Large) left rest = (place ≡ 64 * most_records) × (0 < length left)
 LooksPast (Refused place Cut) left rest = ⊥

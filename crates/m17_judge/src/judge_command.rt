@@ -12,7 +12,7 @@ use crate::table::Table;
 use m17_fill::fill;
 use m17_floor::laws;
 use m17_io::{Fault, Input, Sink};
-use m17_print::{Ending, Line};
+use m17_print::{Line, TextEnding};
 use m17_values::NoMemory;
 use std::alloc::Global;
 
@@ -24,7 +24,7 @@ fn judge_records<S: Input<K>, K: Sink>(
     table: &mut Table,
     input: &mut S,
     out: &mut K,
-) -> Option<Ending<JudgeReason>>
+) -> Option<TextEnding<JudgeReason>>
     requires { TableStandsFor (joins talkers) table.old }
     ensures causes { HasCauses (S.faults input.old, K.faults out.old)
         (S.faults input.new, K.faults out.new) (option_and_then failed_device result) }
@@ -42,27 +42,27 @@ fn judge_records<S: Input<K>, K: Sink>(
     for index in 0..RECORDS_MAX {
         match fill(input, out, &mut record) {
             Ok(RECORD_BYTES) => {}
-            Ok(0) => return Some(Ending::Finished),
+            Ok(0) => return Some(TextEnding::Finished),
             Ok(n) => {
-                return Some(Ending::Refused {
+                return Some(TextEnding::Refused {
                     place: 64 * index + n as u64,
                     reason: JudgeReason::Cut,
                 });
             }
-            Err(Fault::Read) => return Some(Ending::ReadFailed),
-            Err(Fault::Write) => return Some(Ending::WriteFailed),
+            Err(Fault::Read) => return Some(TextEnding::ReadFailed),
+            Err(Fault::Write) => return Some(TextEnding::WriteFailed),
         }
         judge_record(table, index, &record, &mut line);
         match out.write(line.bytes()) {
             Ok(()) => {}
-            Err(_) => return Some(Ending::WriteFailed),
+            Err(_) => return Some(TextEnding::WriteFailed),
         }
     }
     None
 }
 
 // Looks whether there is a byte past the last record that may come.
-fn look_past<S: Input<K>, K: Sink>(input: &mut S, out: &mut K) -> Ending<JudgeReason>
+fn look_past<S: Input<K>, K: Sink>(input: &mut S, out: &mut K) -> TextEnding<JudgeReason>
     ensures causes { HasCauses (S.faults input.old, K.faults out.old)
         (S.faults input.new, K.faults out.new) (failed_device result) }
     ensures looks { (left : List ℕ) → S.left input.old ≡ Some left
@@ -71,13 +71,13 @@ fn look_past<S: Input<K>, K: Sink>(input: &mut S, out: &mut K) -> Ending<JudgeRe
 {
     let mut next = [0u8; 1];
     match fill(input, out, &mut next) {
-        Ok(0) => Ending::Finished,
-        Ok(_) => Ending::Refused {
+        Ok(0) => TextEnding::Finished,
+        Ok(_) => TextEnding::Refused {
             place: 64 * RECORDS_MAX,
             reason: JudgeReason::Large,
         },
-        Err(Fault::Read) => Ending::ReadFailed,
-        Err(Fault::Write) => Ending::WriteFailed,
+        Err(Fault::Read) => TextEnding::ReadFailed,
+        Err(Fault::Write) => TextEnding::WriteFailed,
     }
 }
 
@@ -90,7 +90,7 @@ pub fn judge<S: Input<K>, K: Sink>(
     alloc: Global,
     input: &mut S,
     out: &mut K,
-) -> Result<Ending<JudgeReason>, NoMemory>
+) -> Result<TextEnding<JudgeReason>, NoMemory>
     // A device is told to have failed exactly where its count of faults rose.
     ensures causes { IfOk result (λ ending. HasCauses (S.faults input.old, K.faults out.old)
         (S.faults input.new, K.faults out.new) (failed_device ending)) }

@@ -1,6 +1,7 @@
 pub mod Line
 pub mod Refused
 pub mod Packets
+pub mod Kinds
 pub mod Verdicts
 pub mod Endings
 pub mod Texts

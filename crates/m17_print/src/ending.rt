@@ -17,9 +17,47 @@ pub trait Reason {
         ensures longer { length line.new ≤ length line.old + reason_room };
 }
 
-/// How a command came to its end. This profile.
+/// No reason: of a run whose input is refused for none. This profile.
+#[derive(Clone, Copy, Debug, PartialEq, Eq)]
+pub struct NoReason;
+
+impl Reason for NoReason {
+    ghost use Rattle.std.specs.Prelude.{[]};
+
+    ghost words = { λ _. [] };
+
+    fn push_to(&self, _line: &mut Line) {}
+}
+
+/// How a run of the program came to its end: all the ways that there are. Each command answers a type of its own, which
+/// has those that it can come to, and is made one of these. This profile.
 #[derive(Clone, Copy, Debug, PartialEq, Eq)]
 pub enum Ending<R> {
+    /// The command went to its end.
+    Finished,
+    /// The input was refused at this place, for this reason.
+    Refused { place: u64, reason: R },
+    /// The words name no command.
+    WordsRefused,
+    /// The source failed.
+    ReadFailed,
+    /// The sink failed.
+    WriteFailed,
+    /// The ports failed.
+    PortFailed,
+    /// The crew refused to start a thread.
+    CrewRefused,
+    /// A link was lost by its faults.
+    LinkLost,
+    /// A trace or a book failed, and no link was lost.
+    BookFailed,
+    /// There was no memory.
+    NoMemory,
+}
+
+/// How a command came to its end that reads its input, prints, and asks for nothing more. This profile.
+#[derive(Clone, Copy, Debug, PartialEq, Eq)]
+pub enum TextEnding<R> {
     /// The input was read to its end, and every line of the answer was written.
     Finished,
     /// The input was refused at this place, for this reason. The lines before it were written.
@@ -30,19 +68,39 @@ pub enum Ending<R> {
     WriteFailed,
 }
 
+impl<R: Copy> TextEnding<R> {
+    ghost use Rattle.m17_print.specs.Endings.{text_ending};
+
+    /// The same among all the ways that there are.
+    pub fn into_ending(self) -> Ending<R>
+        ensures { result ≡ text_ending self }
+    {
+        match self {
+            TextEnding::Finished => Ending::Finished,
+            TextEnding::Refused { place, reason } => Ending::Refused { place, reason },
+            TextEnding::ReadFailed => Ending::ReadFailed,
+            TextEnding::WriteFailed => Ending::WriteFailed,
+        }
+    }
+}
+
 impl Line {
     ghost use Rattle.m17_print.specs.Endings.{last_line, input_refused_line};
 
-    /// Makes the last line of a run that ended so, which is empty but where the input was refused or the source failed.
-    /// This profile.
+    /// Makes the last line of a run that ended so, which is empty where it has none. This profile.
     pub fn make_last<R: Reason>(&mut self, ending: &Ending<R>)
         ensures { self.new ≡ last_line R.words ending.now }
     {
         self.clear();
         match ending {
             Ending::Refused { place, reason } => self.push_input_refused(*place, reason),
+            Ending::WordsRefused => self.push_text("words refused\n"),
             Ending::ReadFailed => self.push_text("read failed\n"),
-            Ending::Finished | Ending::WriteFailed => {}
+            Ending::PortFailed => self.push_text("port failed\n"),
+            Ending::CrewRefused => self.push_text("crew refused\n"),
+            Ending::LinkLost => self.push_text("link lost\n"),
+            Ending::BookFailed => self.push_text("book failed\n"),
+            Ending::Finished | Ending::WriteFailed | Ending::NoMemory => {}
         }
     }
 

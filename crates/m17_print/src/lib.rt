@@ -7,12 +7,14 @@
 mod address;
 mod control;
 mod ending;
+mod kind;
 mod line;
 mod packet;
 mod refused;
 mod verdict;
 
-pub use ending::{Ending, Reason};
+pub use ending::{Ending, NoReason, Reason, TextEnding};
+pub use kind::{KIND_COUNT, Kind};
 pub use line::Line;
 pub use verdict::verdict_word;
 

@@ -141,7 +141,7 @@ impl Reason for Because {
 }
 
 #[test]
-fn a_last_line_says_where_and_why_or_that_the_source_failed(rt: HostRuntime) {
+fn a_last_line_says_what_ended_a_run(rt: HostRuntime) {
     let texts = [
         (Ending::Finished, ""),
         (
@@ -151,8 +151,14 @@ fn a_last_line_says_where_and_why_or_that_the_source_failed(rt: HostRuntime) {
             },
             "input refused at 18446744073709551615: because\n",
         ),
+        (Ending::WordsRefused, "words refused\n"),
         (Ending::ReadFailed, "read failed\n"),
         (Ending::WriteFailed, ""),
+        (Ending::PortFailed, "port failed\n"),
+        (Ending::CrewRefused, "crew refused\n"),
+        (Ending::LinkLost, "link lost\n"),
+        (Ending::BookFailed, "book failed\n"),
+        (Ending::NoMemory, ""),
     ];
     let mut line = Line::new();
     for (ending, text) in texts {

@@ -1,24 +1,16 @@
-ghost use Rattle.std.specs.Prelude.{◌≡◌, ◌++◌};
+ghost use Rattle.std.specs.Prelude.{◌≡◌, ◌++◌, ◌≤◌, length};
 ghost use Rattle.m17_print.specs.Line.{IsBegun, CanEnd};
 ghost use Rattle.m17_print.specs.Verdicts.{verdict_word, verdict_text};
 
-use crate::Line;
+use crate::{Kind, Line};
 use m17_floor::Verdict;
 
 /// The word of a verdict, as in `after-end`. This profile.
 pub fn verdict_word(verdict: Verdict) -> &'static str
-    ensures { result.now ≡ verdict_word verdict }
+    ensures value { result.now ≡ verdict_word verdict }
+    ensures short { length result.now ≤ 13 }
 {
-    match verdict {
-        Verdict::Opened => "opened",
-        Verdict::Continued => "continued",
-        Verdict::Busy { .. } => "busy",
-        Verdict::Repeat => "repeat",
-        Verdict::Late { .. } => "late",
-        Verdict::AfterEnd => "after-end",
-        Verdict::NotMember => "not-member",
-        Verdict::ListenOnly => "listen-only",
-    }
+    Kind::of_verdict(verdict).word()
 }
 
 impl Line {
@@ -30,21 +22,17 @@ impl Line {
         ensures appended { self.new ≡ self.old ++ verdict_text verdict }
         ensures ends { CanEnd self.new }
     {
+        self.push_text(verdict_word(verdict));
         match verdict {
             Verdict::Busy { holder } => {
-                self.push_text("busy ");
+                self.push_text(" ");
                 self.push_number(u64::from(holder.place));
             }
             Verdict::Late { last } => {
-                self.push_text("late ");
+                self.push_text(" ");
                 self.push_number(u64::from(last));
             }
-            Verdict::Opened => self.push_text("opened"),
-            Verdict::Continued => self.push_text("continued"),
-            Verdict::Repeat => self.push_text("repeat"),
-            Verdict::AfterEnd => self.push_text("after-end"),
-            Verdict::NotMember => self.push_text("not-member"),
-            Verdict::ListenOnly => self.push_text("listen-only"),
+            _ => {}
         }
     }
 }

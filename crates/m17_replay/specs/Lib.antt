@@ -2,5 +2,6 @@
 -- the code.
 pub mod Reasons
 pub mod Replay
+pub mod Endings
 pub mod Laws
 pub mod Run

@@ -1,4 +1,5 @@
 use crate::TraceReason;
+use m17_print::Ending;
 
 /// How `replay` came to its end. This profile.
 #[derive(Clone, Copy, Debug, PartialEq, Eq)]
@@ -15,4 +16,23 @@ pub enum ReplayEnding {
     ReadFailed,
     /// The sink failed.
     WriteFailed,
+}
+
+impl ReplayEnding {
+    ghost use Rattle.std.specs.Prelude.{◌≡◌};
+    ghost use Rattle.m17_replay.specs.Endings.{replay_ending};
+
+    /// The same among all the ways that a run may end. This profile.
+    pub fn into_ending(self) -> Ending<TraceReason>
+        ensures { result ≡ replay_ending self }
+    {
+        match self {
+            ReplayEnding::Finished => Ending::Finished,
+            ReplayEnding::LinkLost => Ending::LinkLost,
+            ReplayEnding::Refused { place, reason } => Ending::Refused { place, reason },
+            ReplayEnding::CrewRefused => Ending::CrewRefused,
+            ReplayEnding::ReadFailed => Ending::ReadFailed,
+            ReplayEnding::WriteFailed => Ending::WriteFailed,
+        }
+    }
 }

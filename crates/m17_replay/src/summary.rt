@@ -15,33 +15,9 @@ use crate::lines::write_line;
 use m17_io::Sink;
 use m17_patient::Outcomes;
 use m17_port_memory::TallyMouth;
-use m17_print::Line;
-use m17_report::{Counts, Kind, make_entries_line, make_kind_line, make_peer_line};
+use m17_print::{Kind, Line};
+use m17_report::{Counts, make_entries_line, make_kind_line, make_peer_line};
 use m17_values::{Failed, Peer};
-
-// The kinds of entries, in the order of the summary.
-const KINDS: [Kind; 20] = [
-    Kind::Join,
-    Kind::Again,
-    Kind::Leave,
-    Kind::Pong,
-    Kind::Alive,
-    Kind::Opened,
-    Kind::Continued,
-    Kind::Busy,
-    Kind::Repeat,
-    Kind::Late,
-    Kind::AfterEnd,
-    Kind::NotMember,
-    Kind::ListenOnly,
-    Kind::Refused,
-    Kind::NotConnected,
-    Kind::NotServed,
-    Kind::Full,
-    Kind::Stray,
-    Kind::Quiet,
-    Kind::Fault,
-];
 
 // Counts the first `count` entries by their kinds.
 fn count_entries(outcomes: &Outcomes, count: usize) -> Counts
@@ -111,7 +87,7 @@ pub(crate) fn print_counts<K: Sink>(
     let mut line = Line::new();
     make_entries_line(&mut line, count as u64);
     match write_line(&line, out) {
-        Ok(()) => print_kinds(&mut line, &KINDS, &counts, out),
+        Ok(()) => print_kinds(&mut line, &Kind::all(), &counts, out),
         Err(failed) => Err(failed),
     }
 }

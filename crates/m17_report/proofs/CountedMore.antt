@@ -4,8 +4,9 @@ use Rattle.std.proofs.lemmas.Bool.{eq-eqb, ne_eqb}
 use Rattle.std.proofs.lemmas.Bool.Decides.{eqb_tells}
 use Rattle.std.proofs.lemmas.List.Sums.{sum_by-append, count_by-le-length}
 use Rattle.std.proofs.lemmas.List.{get_or-set_same, get_or-set_other}
-use Rattle.m17_report.specs.declared.kind.Kind.{Kind}
-use Rattle.m17_report.specs.Summary.{Outcome, kind_of, kind_place, is_kind_at, count_at}
+use Rattle.m17_print.specs.declared.kind.Kind.{Kind}
+use Rattle.m17_print.specs.Kinds.{kind_count, kind_place}
+use Rattle.m17_report.specs.Summary.{Outcome, kind_of, is_kind_at, count_at}
 use Rattle.m17_report.specs.Counted.{CountsAre}
 
 -- the number of a kind with one entry more
@@ -34,7 +35,7 @@ count_other q place before o kind is at other =
 
 -- the numbers with one entry more of a kind
 pub some_counted : (counts : List ℕ) (before : List Outcome) (o : Outcome) (kind : Kind) (place n : ℕ)
-    → kind_of o.0 o.1 ≡ Some kind → place ≡ kind_place kind → place < 20
+    → kind_of o.0 o.1 ≡ Some kind → place ≡ kind_place kind → place < kind_count
     → n ≡ min (get_or counts place 0 + 1) (2 ^ 64 - 1) → length before < 2 ^ 64 - 1
     → CountsAre counts before → CountsAre (set counts place n) (before ++ o ∷ [])
 some_counted counts before o kind place n is at below n-is short h = record {

@@ -4,7 +4,9 @@ use Rattle.m17_floor.specs.declared.verdict.Verdict.{Verdict}
 use Rattle.m17_floor.specs.declared.verdict.Verdict.TheVariants.{Busy}
 use Rattle.m17_print.specs.Line.{CanEnd}
 use Rattle.m17_print.specs.Packets.{refusal_text}
-use Rattle.m17_print.specs.Verdicts.{verdict_text}
+use Rattle.m17_print.specs.declared.kind.Kind.TheVariants as kinds
+use Rattle.m17_print.specs.Kinds.{kind_word}
+use Rattle.m17_print.specs.Verdicts.{verdict_word, verdict_text}
 use Rattle.m17_directory.specs.declared.verdict.Act.{Act}
 use Rattle.m17_directory.specs.declared.verdict.Act.TheVariants as act
 use Rattle.m17_directory.specs.declared.verdict.LinkVerdict.{LinkVerdict}
@@ -12,10 +14,10 @@ use Rattle.m17_directory.specs.declared.verdict.LinkVerdict.TheVariants.{Routed,
 
 -- what was routed to a module, where it is no packet
 abbrev pub act_word : Act → List ℕ
-act_word act.Join = codes "join"
-act_word act.Again = codes "again"
-act_word act.Leave = codes "leave"
-act_word act.Pong = codes "pong"
+act_word act.Join = kind_word kinds.Join
+act_word act.Again = kind_word kinds.Again
+act_word act.Leave = kind_word kinds.Leave
+act_word act.Pong = kind_word kinds.Pong
 act_word act.Packet = []
 
 -- the letter of a module, a space, and what it is about
@@ -25,7 +27,7 @@ of_module letter text = letter ∷ codes " " ++ text
 -- The verdict on a packet: its word, and after `late` the last number, as in `late 5`; who holds the floor is not told.
 -- This profile.
 abbrev pub packet_text : Verdict → List ℕ
-packet_text (Busy holder) = codes "busy"
+packet_text (Busy holder) = verdict_word (Busy holder)
 packet_text verdict = verdict_text verdict
 
 -- What was routed: its module, and for a packet the verdict of the floor rule; nothing of a packet without one. This
@@ -39,15 +41,16 @@ routed_text letter what verdict = Some (of_module letter (act_word what))
 -- faults is a fault as the others. This profile.
 abbrev pub link_text : LinkVerdict → Option Verdict → Option (List ℕ)
 link_text (Routed letter what) verdict = routed_text letter what verdict
-link_text (Alive letter) verdict = Some (of_module letter (codes "alive"))
+link_text (Alive letter) verdict = Some (of_module letter (kind_word kinds.Alive))
 link_text (Refused refusal) verdict = Some (refusal_text refusal)
-link_text NotConnected verdict = Some (codes "not-connected")
-link_text Full verdict = Some (codes "full")
-link_text Stray verdict = Some (codes "stray")
-link_text (NotServed letter) verdict = Some (codes "not-served " ++ letter ∷ [])
-link_text Timed verdict = Some (codes "quiet")
-link_text Faulted verdict = Some (codes "fault")
-link_text Ended verdict = Some (codes "fault")
+link_text NotConnected verdict = Some (kind_word kinds.NotConnected)
+link_text Full verdict = Some (kind_word kinds.Full)
+link_text Stray verdict = Some (kind_word kinds.Stray)
+link_text (NotServed letter) verdict =
+    Some (kind_word kinds.NotServed ++ codes " " ++ letter ∷ [])
+link_text Timed verdict = Some (kind_word kinds.Quiet)
+link_text Faulted verdict = Some (kind_word kinds.Fault)
+link_text Ended verdict = Some (kind_word kinds.Fault)
 link_text Asks verdict = None
 
 -- The line of an entry: its index, a space, what it came to, and a line feed; empty where there is nothing to say. This

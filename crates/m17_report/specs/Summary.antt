@@ -3,79 +3,17 @@ use Rattle.std.specs.Prelude.{◌==◌, ℕ, Bool, false, List, [], ◌∷◌, �
 use Rattle.std.specs.List.{flat_map}
 use Rattle.m17_values.specs.declared.peer.Peer.{Peer}
 use Rattle.m17_floor.specs.declared.verdict.Verdict.{Verdict}
-use Rattle.m17_floor.specs.declared.verdict.Verdict.TheVariants as verdict
 use Rattle.m17_peer.specs.Text.{text_of}
 use Rattle.m17_ports.specs.declared.tally.Tally.{Tally}
 use Rattle.m17_directory.specs.declared.verdict.Act.{Act}
 use Rattle.m17_directory.specs.declared.verdict.Act.TheVariants as act
 use Rattle.m17_directory.specs.declared.verdict.LinkVerdict.{LinkVerdict}
 use Rattle.m17_directory.specs.declared.verdict.LinkVerdict.TheVariants as link
-use Rattle.m17_report.specs.declared.kind.Kind.{Kind}
-use Rattle.m17_report.specs.declared.kind.Kind.TheVariants.{Join, Again, Leave, Pong, Alive, Opened, Continued, Busy, Repeat, Late, AfterEnd, NotMember, ListenOnly, Refused, NotConnected, NotServed, Full, Stray, Quiet, Fault}
+use Rattle.m17_print.specs.declared.kind.Kind.{Kind}
+use Rattle.m17_print.specs.declared.kind.Kind.TheVariants.{Join, Again, Leave, Pong, Alive, Refused, NotConnected, NotServed, Full, Stray, Quiet, Fault}
+use Rattle.m17_print.specs.Kinds.{kinds, kind_word, kind_place, verdict_kind}
 
--- the kinds of entries, in the order of the summary
-abbrev pub kinds : List Kind
-kinds = Join ∷ Again ∷ Leave ∷ Pong ∷ Alive ∷ Opened ∷ Continued ∷ Busy ∷ Repeat ∷ Late
-    ∷ AfterEnd ∷ NotMember ∷ ListenOnly ∷ Refused ∷ NotConnected ∷ NotServed ∷ Full ∷ Stray
-    ∷ Quiet ∷ Fault ∷ []
-
--- the word of each
-abbrev pub kind_word : Kind → List ℕ
-kind_word Join = codes "join"
-kind_word Again = codes "again"
-kind_word Leave = codes "leave"
-kind_word Pong = codes "pong"
-kind_word Alive = codes "alive"
-kind_word Opened = codes "opened"
-kind_word Continued = codes "continued"
-kind_word Busy = codes "busy"
-kind_word Repeat = codes "repeat"
-kind_word Late = codes "late"
-kind_word AfterEnd = codes "after-end"
-kind_word NotMember = codes "not-member"
-kind_word ListenOnly = codes "listen-only"
-kind_word Refused = codes "refused"
-kind_word NotConnected = codes "not-connected"
-kind_word NotServed = codes "not-served"
-kind_word Full = codes "full"
-kind_word Stray = codes "stray"
-kind_word Quiet = codes "quiet"
-kind_word Fault = codes "fault"
-
--- the place of each in that order
-abbrev pub kind_place : Kind → ℕ
-kind_place Join = 0
-kind_place Again = 1
-kind_place Leave = 2
-kind_place Pong = 3
-kind_place Alive = 4
-kind_place Opened = 5
-kind_place Continued = 6
-kind_place Busy = 7
-kind_place Repeat = 8
-kind_place Late = 9
-kind_place AfterEnd = 10
-kind_place NotMember = 11
-kind_place ListenOnly = 12
-kind_place Refused = 13
-kind_place NotConnected = 14
-kind_place NotServed = 15
-kind_place Full = 16
-kind_place Stray = 17
-kind_place Quiet = 18
-kind_place Fault = 19
-
--- the kind of a packet that was routed to a module, by the floor rule's verdict
-abbrev pub verdict_kind : Verdict → Kind
-verdict_kind verdict.Opened = Opened
-verdict_kind verdict.Continued = Continued
-verdict_kind (verdict.Busy holder) = Busy
-verdict_kind verdict.Repeat = Repeat
-verdict_kind (verdict.Late last) = Late
-verdict_kind verdict.AfterEnd = AfterEnd
-verdict_kind verdict.NotMember = NotMember
-verdict_kind verdict.ListenOnly = ListenOnly
-
+-- the kind of an entry that was routed to a module, by the floor rule's verdict on its packet
 abbrev pub routed_kind : Act → Option Verdict → Option Kind
 routed_kind act.Join v = Some Join
 routed_kind act.Again v = Some Again

@@ -1,19 +1,18 @@
 ghost use Rattle.std.specs.Prelude.{◌≡◌, ◌<◌, ◌^◌, ◌-◌, ℕ, [], ◌∷◌, ◌++◌, List, length, slice_index};
 ghost use Rattle.m17_floor.specs.declared.verdict.Verdict.{Verdict};
-ghost use Rattle.m17_report.specs.Summary.{count_at, Outcome, kind_place};
+ghost use Rattle.m17_print.specs.Kinds.{kind_place};
+ghost use Rattle.m17_report.specs.Summary.{count_at, Outcome};
 ghost use Rattle.m17_report.specs.Counted.{CountsAre};
 
-use crate::kind::{Kind, kind_of};
+use crate::kind::kind_of;
 use m17_directory::LinkVerdict;
 use m17_floor::Verdict;
+use m17_print::{KIND_COUNT, Kind};
 use std::marker::Model;
-
-/// How many kinds of entries there are.
-const KINDS: usize = 20;
 
 /// How many entries were of each kind. Contracts see the numbers, in the order of the summary. This profile.
 #[derive(Clone, Copy, Debug)]
-pub struct Counts([u64; KINDS]);
+pub struct Counts([u64; KIND_COUNT]);
 
 impl Model for Counts {
     ghost use Rattle.std.specs.Prelude.{List, ℕ};
@@ -30,7 +29,7 @@ impl Counts {
     pub fn new() -> Counts
         ensures { CountsAre result [] }
     {
-        Counts([0; KINDS])
+        Counts([0; KIND_COUNT])
     }
 
     /// One entry more, by what it came to and the verdict on its packet. A number that has come to 2^64 - 1 stays there.

@@ -9,7 +9,7 @@ mod summary;
 mod verdict_line;
 
 pub use counts::Counts;
-pub use kind::{Kind, kind_of};
+pub use kind::kind_of;
 pub use summary::{make_entries_line, make_kind_line, make_peer_line};
 pub use verdict_line::make_verdict_line;
 

@@ -1,12 +1,12 @@
 ghost use Rattle.std.specs.Prelude.{◌≡◌, ◌+◌, ◌≤◌, ◌++◌, length, codes};
 ghost use Rattle.m17_print.specs.Line.{room, CanEnd};
 ghost use Rattle.m17_peer.specs.Text.{text_of};
-ghost use Rattle.m17_report.specs.Summary.{count_line, peer_line, kind_word, numbered, tally_text};
+ghost use Rattle.m17_print.specs.Kinds.{kind_word};
+ghost use Rattle.m17_report.specs.Summary.{count_line, peer_line, numbered, tally_text};
 
-use crate::kind::Kind;
 use m17_peer::text;
 use m17_ports::Tally;
-use m17_print::Line;
+use m17_print::{Kind, Line};
 use m17_values::Peer;
 
 /// Makes the line that says how many entries a link heard before its end. This profile.

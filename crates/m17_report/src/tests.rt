@@ -1,9 +1,9 @@
-use crate::{Counts, Kind, make_entries_line, make_kind_line, make_peer_line, make_verdict_line};
+use crate::{Counts, make_entries_line, make_kind_line, make_peer_line, make_verdict_line};
 use m17_control::{ModuleLetter, Refusal};
 use m17_directory::{Act, LinkVerdict};
 use m17_floor::Verdict;
 use m17_ports::Tally;
-use m17_print::Line;
+use m17_print::{Kind, Line};
 use m17_values::{Member, Peer};
 use std::process::Abort;
 use std::test::Fail;

@@ -1,11 +1,13 @@
 ghost use Rattle.std.specs.Prelude.{◌≡◌, ◌++◌, ◌≤◌, [], ◌∷◌, length, decimal, codes};
+ghost use Rattle.m17_print.specs.declared.kind.Kind.TheVariants.{NotServed};
+ghost use Rattle.m17_print.specs.Kinds.{kind_word};
 ghost use Rattle.m17_print.specs.Line.{IsBegun, CanEnd};
 ghost use Rattle.m17_report.specs.Lines.{verdict_line, of_module, link_text, packet_text, routed_text, OfText};
 
 use m17_control::ModuleLetter;
 use m17_directory::{Act, LinkVerdict};
 use m17_floor::Verdict;
-use m17_print::Line;
+use m17_print::{Kind, Line, verdict_word};
 
 /// Makes the line of an entry: its index, what it came to (`l`), and where its packet was routed to a module the floor
 /// rule's verdict on that (`v`). The line of an entry that ends the link is that of a fault; that of one that still
@@ -38,16 +40,16 @@ fn push_outcome(line: &mut Line, l: &LinkVerdict, v: &Option<Verdict>) -> bool
 {
     match l {
         LinkVerdict::Routed { module, act } => return push_routed(line, *module, *act, v),
-        LinkVerdict::Alive { module } => push_about(line, *module, "alive"),
+        LinkVerdict::Alive { module } => push_about(line, *module, Kind::Alive.word()),
         LinkVerdict::Refused(refusal) => line.push_refusal(refusal),
         LinkVerdict::NotServed { module } => push_unserved(line, *module),
         LinkVerdict::Asks => return false,
-        LinkVerdict::NotConnected => line.push_text("not-connected"),
-        LinkVerdict::Full => line.push_text("full"),
-        LinkVerdict::Stray => line.push_text("stray"),
-        LinkVerdict::Timed => line.push_text("quiet"),
-        LinkVerdict::Faulted => line.push_text("fault"),
-        LinkVerdict::Ended => line.push_text("fault"),
+        LinkVerdict::NotConnected => line.push_text(Kind::NotConnected.word()),
+        LinkVerdict::Full => line.push_text(Kind::Full.word()),
+        LinkVerdict::Stray => line.push_text(Kind::Stray.word()),
+        LinkVerdict::Timed => line.push_text(Kind::Quiet.word()),
+        LinkVerdict::Faulted => line.push_text(Kind::Fault.word()),
+        LinkVerdict::Ended => line.push_text(Kind::Fault.word()),
     }
     true
 }
@@ -59,10 +61,10 @@ fn push_routed(line: &mut Line, letter: ModuleLetter, act: Act, v: &Option<Verdi
         line.old line.new }
 {
     match act {
-        Act::Join => push_about(line, letter, "join"),
-        Act::Again => push_about(line, letter, "again"),
-        Act::Leave => push_about(line, letter, "leave"),
-        Act::Pong => push_about(line, letter, "pong"),
+        Act::Join => push_about(line, letter, Kind::Join.word()),
+        Act::Again => push_about(line, letter, Kind::Again.word()),
+        Act::Leave => push_about(line, letter, Kind::Leave.word()),
+        Act::Pong => push_about(line, letter, Kind::Pong.word()),
         Act::Packet => match v {
             None => return false,
             Some(verdict) => {
@@ -81,7 +83,7 @@ fn push_verdict(line: &mut Line, verdict: &Verdict)
     ensures ends { CanEnd line.new }
 {
     match verdict {
-        Verdict::Busy { .. } => line.push_text("busy"),
+        Verdict::Busy { .. } => line.push_text(verdict_word(*verdict)),
         _ => line.push_verdict(*verdict),
     }
 }
@@ -89,10 +91,10 @@ fn push_verdict(line: &mut Line, verdict: &Verdict)
 // Appends the letter of a module, a space, and a word about it, if there is one.
 fn push_about(line: &mut Line, letter: ModuleLetter, word: &str)
     requires begun { length line.old ≤ 21 }
-    requires short { length word.now ≤ 5 }
+    requires short { length word.now ≤ 13 }
     ensures appended { line.new ≡ line.old ++ of_module letter word.now }
     ensures begins { word.now ≡ [] → length line.new ≤ 23 }
-    ensures fits { length line.new ≤ 28 }
+    ensures fits { length line.new ≤ 36 }
 {
     line.push_byte(letter.byte());
     line.push_text(" ");
@@ -102,9 +104,10 @@ fn push_about(line: &mut Line, letter: ModuleLetter, word: &str)
 // Appends that a module isn't served.
 fn push_unserved(line: &mut Line, letter: ModuleLetter)
     requires { length line.old ≤ 21 }
-    ensures appended { line.new ≡ line.old ++ (codes "not-served " ++ letter ∷ []) }
+    ensures appended { line.new ≡ line.old ++ (kind_word NotServed ++ codes " " ++ letter ∷ []) }
     ensures ends { CanEnd line.new }
 {
-    line.push_text("not-served ");
+    line.push_text(Kind::NotServed.word());
+    line.push_text(" ");
     line.push_byte(letter.byte());
 }

@@ -1,11 +1,11 @@
 -- Questions that are asked one after another, and the ports failing at one of them.
-use Rattle.std.proofs.Common.{◌≡◌, ℕ, zero, suc, ◌+◌, ◌<◌, ◌≤◌, List, [], ◌∷◌, ◌++◌, map, length, take, get_or, Option, None, Some, Result, Ok, Err, refl, sym, ap, subst, ◌∙◌, arith, append_assoc, append-nil, add-zero}
+use Rattle.std.proofs.Common.{◌≡◌, ℕ, zero, suc, ◌+◌, ◌<◌, ◌≤◌, List, [], ◌∷◌, ◌++◌, map, length, take, get_or, Option, None, Some, Result, Ok, Err, refl, sym, ap, subst, ◌∙◌, arith, append_assoc, append-nil, add-zero, inl, inr}
 use Rattle.std.proofs.lemmas.List.{length-append, length-map, length-take-le, map-append, take-append-le, take-map, take_more}
 use Rattle.m17_io.specs.Faults.{HasRisen}
 use Rattle.m17_ports.specs.Told.{told_then}
 use Rattle.m17_ports.specs.Ports.{IsAsked, next_number}
 use Rattle.m17_ports.specs.declared.question.Question.{Question}
-use Rattle.m17_talk.specs.Devices.{PortsTold}
+use Rattle.m17_talk.specs.Devices.{FailsLast, PortsTold}
 use Rattle.m17_serve.specs.Asked.{AreAsked, FailsAmong, call_after}
 use Rattle.m17_serve.specs.Steps.{Asks}
 
@@ -105,3 +105,8 @@ asks_then (Err v) a b p q r asked same then = record { asked = tt; no_fault = tt
 
 pub asks_first : {T E : Type 0} (why : E) (a b : List Question) (p q : PortsTold) → FailsAmong a p q → Asks {T = T} {E = E} (Err why) (a ++ b) p q
 asks_first why a b p q fails = record { asked = tt; no_fault = tt; failed = fails_first a b p q fails }
+
+-- where the ports fail last behind questions that they answered, they fail last
+pub fails_behind : {P : Type 0} (told : P → PortsTold) (before mid after : P) → (told mid).faults ≡ (told before).faults → FailsLast told mid after → FailsLast told before after
+fails_behind told before mid after same (inl stands) = inl (stands ∙ same)
+fails_behind told before mid after same (inr (between, question, stood, asks)) = inr (between, question, stood ∙ same, asks)

@@ -19,7 +19,7 @@ use Rattle.m17_reflect.specs.declared.returned.Returned.{Returned}
 use Rattle.m17_reflect.specs.Headline.{Headline}
 use Rattle.m17_reflect.specs.Run.{Devices, Handed, Run}
 use Rattle.m17_reflect.specs.Views.{Kinds, Words, devices_of, handed_of, kinds_back, run_of}
-use Rattle.m17_serve.specs.Devices.{AreNew, AreNewOnes, AreNumbered, AreOfQuestions, Eyes, IsNewEar, IsNewShelf, eyes_by, house_told, number_of_ear, number_of_mouth, refused_back, shelf_told, tells_of}
+use Rattle.m17_serve.specs.Devices.{AreNew, AreNewOnes, AreNumbered, AreOfQuestions, Eyes, HaveSameMarks, IsNewEar, IsNewShelf, eyes_by, house_told, number_of_ear, number_of_mouth, refused_back, shelf_told, tells_of}
 use Rattle.m17_serve.specs.Served.{plan_of, run_told}
 use Rattle.m17_serve.proofs.Lists.{all_images, map_same, map_twice}
 
@@ -183,4 +183,26 @@ module _ {E M B L X : Type 0} where
     books = numbered_same (shelf_told (eyes_of k)) shelf_mark (λ s. of_inner k.book_mark None s.inner) (λ n. n) (λ s. inner_mark k s.inner) _ d.books r.books books new.books.numbered;
     traces_there = there_same (eyes_of k).book label (IsSome (option_map string_bytes order.book)) d.traces r.traces there new.traces_there;
     books_there = there_same (eyes_of k).book label (IsSome (option_map string_bytes order.book)) d.books r.books there_books new.books_there;
+  }
+
+module _ {A T K : Type 0} where
+  -- marks that are told
+  told_marks : (f : A → T) (mark : T → K) (kept : A → K) → ((x : A) → mark (f x) ≡ kept x) → (xs : List A) → map mark (map f xs) ≡ map kept xs
+  told_marks f mark kept same xs = map_twice mark f xs ∙ map_same _ _ same xs
+
+  marks_stay : (f : A → T) (mark : T → K) (kept : A → K) → ((x : A) → mark (f x) ≡ kept x) → (xs ys : List A) → map kept ys ≡ map kept xs → map mark (map f ys) ≡ map mark (map f xs)
+  marks_stay f mark kept same xs ys e = told_marks f mark kept same ys ∙ e ∙ sym (told_marks f mark kept same xs)
+
+module _ {E M B L : Type 0} where
+  -- the devices that came back have the marks that they had
+  pub have_same_marks : (k : Looks E M B L) (d r : Kinds E M (Shelf B)) → map k.ear_mark r.ears ≡ map k.ear_mark d.ears
+      → map (λ m. (k.mouth m).mark) r.mouths ≡ map (λ m. (k.mouth m).mark) d.mouths
+      → map (λ s. of_inner k.book_mark None s.inner) r.traces ≡ map (λ s. of_inner k.book_mark None s.inner) d.traces
+      → map (λ s. of_inner k.book_mark None s.inner) r.books ≡ map (λ s. of_inner k.book_mark None s.inner) d.books
+      → HaveSameMarks (house_told (eyes_of k) d) (house_told (eyes_of k) r)
+  have_same_marks k d r ears mouths traces books = record {
+    ears = marks_stay (eyes_of k).ear (λ ear. ear.mark) k.ear_mark (λ e. refl) d.ears r.ears ears;
+    mouths = marks_stay k.mouth (λ mouth. mouth.mark) (λ m. (k.mouth m).mark) (λ m. refl) d.mouths r.mouths mouths;
+    traces = marks_stay (shelf_told (eyes_of k)) shelf_mark (λ s. of_inner k.book_mark None s.inner) (λ s. inner_mark k s.inner) d.traces r.traces traces;
+    books = marks_stay (shelf_told (eyes_of k)) shelf_mark (λ s. of_inner k.book_mark None s.inner) (λ s. inner_mark k s.inner) d.books r.books books;
   }

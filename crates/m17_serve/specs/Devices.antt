@@ -131,3 +131,10 @@ pub record AreNew {L : Type 0} (order : ServeOrder) (first : ℕ) (d : HouseTold
       (length (letters_of order.modules)) d.books
   pub traces_there : AreThere (option_map string_bytes order.book) d.traces
   pub books_there : AreThere (option_map string_bytes order.book) d.books
+
+-- They are the same devices: each has the mark that it had. This profile.
+pub record HaveSameMarks {L : Type 0} (before after : HouseTold L) : Type 0 where
+  pub ears : map (λ ear. ear.mark) after.ears ≡ map (λ ear. ear.mark) before.ears
+  pub mouths : map (λ mouth. mouth.mark) after.mouths ≡ map (λ mouth. mouth.mark) before.mouths
+  pub traces : map shelf_mark after.traces ≡ map shelf_mark before.traces
+  pub books : map shelf_mark after.books ≡ map shelf_mark before.books

@@ -3,5 +3,6 @@ pub mod Asked
 pub mod Devices
 pub mod Lines
 pub mod Served
+pub mod Endings
 -- For proofs: one step of the opening and of the printing.
 pub mod Steps

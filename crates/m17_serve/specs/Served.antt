@@ -15,7 +15,7 @@ use Rattle.m17_reflect.specs.Run.{Run, Handed}
 use Rattle.m17_serve.specs.declared.served.ServeEnding.{ServeEnding}
 use Rattle.m17_serve.specs.declared.served.ServeEnding.TheVariants.{Finished, LinkLost, BookFailed, WriteFailed, PortFailed, CrewRefused, NoMemory}
 use Rattle.m17_serve.specs.Asked.{AreAsked, FailsAmong, questions_of}
-use Rattle.m17_serve.specs.Devices.{AreNew, AreOfQuestions, HouseTold, tells_of}
+use Rattle.m17_serve.specs.Devices.{AreNew, AreOfQuestions, HaveSameMarks, HouseTold, tells_of}
 use Rattle.m17_serve.specs.Lines.{module_lines}
 
 -- the plan of the words: nothing waits for room, and no tapes are kept
@@ -83,6 +83,7 @@ pub record Serves {L : Type 0} (order : ServeOrder) (run : Around L) (devices : 
   pub are_new : AreNew order run.before.calls new
   pub headline : Headline (run_told order new devices handed)
   pub same_devices : AreOfQuestions order run.before.calls devices
+  pub same_marks : HaveSameMarks new devices
   pub handed_back : run.house ≡ Some (devices, handed)
   pub none : run.refused ≡ None
 

@@ -3,7 +3,7 @@ ghost use Rattle.std.specs.Prelude.{◌≡◌, ◌↔◌, ◌≤◌, [], All, If
 ghost use Rattle.m17_control.specs.Modules.{letters_of};
 ghost use Rattle.m17_ports.specs.declared.question.Question.TheVariants as questions;
 ghost use Rattle.m17_sender.specs.Sent.{told_by};
-ghost use Rattle.m17_talk.specs.Devices.{ports_told, ear_told, book_told, shelf_mark};
+ghost use Rattle.m17_talk.specs.Devices.{ports_told, ear_told, book_told, shelf_mark, FailsLast};
 ghost use Rattle.m17_serve.specs.Asked.{call_after, link_questions, questions_of, shelf_questions, until_of};
 ghost use Rattle.m17_serve.specs.Devices.{AreNew, AreNewOnes, eyes_by, house_told, IsNewEar, IsNewMouth, IsNewShelf, number_of_ear, number_of_mouth};
 ghost use Rattle.m17_serve.specs.Steps.{AreNames, Asks, HasRooms, kinds_opened};
@@ -64,6 +64,8 @@ pub(crate) fn open_links<P: Ports>(
     ensures mouths { OnOk result (AreNewOnes IsNewMouth number_of_mouth (P.calls ports.old)
         (length binds.now) (map (told_by P.Mouth.said P.Mouth.tallies P.Mouth.faults P.Mouth.mark
         P.Mouth.label) mouths.new.items)) }
+    ensures fails_last { FailsLast (λ p. ports_told (P.asked p) (P.calls p) (P.faults p))
+        ports.old ports.new }
 {
     for bind in binds {
         let (ear, mouth) = match ports.link(bind.as_str(), until) {
@@ -91,6 +93,8 @@ pub(crate) fn open_books<P: Ports>(
         (length names.now) (map (λ shelf. option_map (λ b. book_told (P.Book.written b)
         (P.Book.faults b) (P.Book.mark b)) shelf.inner) shelves.new.items)) }
     ensures there { OnOk result (All (λ shelf. IsSome shelf.inner) shelves.new.items) }
+    ensures fails_last { FailsLast (λ p. ports_told (P.asked p) (P.calls p) (P.faults p))
+        ports.old ports.new }
 {
     for name in names {
         let book = match ports.book(name.as_str()) {
@@ -131,6 +135,8 @@ fn open_shelves<P: Ports>(
         IsSome shelf.inner ↔ IsSome order.now.book) traces.new.items) }
     ensures books_there { OnOk result (All (λ shelf.
         IsSome shelf.inner ↔ IsSome order.now.book) books.new.items) }
+    ensures fails_last { FailsLast (λ p. ports_told (P.asked p) (P.calls p) (P.faults p))
+        ports.old ports.new }
 {
     match &order.book {
         Some(_) => match open_books(names.traces.as_slice(), ports, traces) {
@@ -164,6 +170,8 @@ pub(crate) fn open<P: Ports>(
         (house_told (eyes_by P.Ear.heard P.Ear.faults P.Ear.mark
         (told_by P.Mouth.said P.Mouth.tallies P.Mouth.faults P.Mouth.mark P.Mouth.label)
         P.Book.written P.Book.faults P.Book.mark) (kinds_opened opened))) }
+    ensures fails_last { FailsLast (λ p. ports_told (P.asked p) (P.calls p) (P.faults p))
+        ports.old ports.new }
 {
     let mut rooms = rooms;
     let until = until_of(order.seconds);

@@ -3,7 +3,7 @@ ghost use Rattle.m17_control.specs.Modules.{letters_of};
 ghost use Rattle.m17_print.specs.Endings.{Grows};
 ghost use Rattle.m17_reflect.specs.declared.returned.HouseRefusal.TheVariants as refusals;
 ghost use Rattle.m17_sender.specs.Sent.{told_by};
-ghost use Rattle.m17_talk.specs.Devices.{ports_told};
+ghost use Rattle.m17_talk.specs.Devices.{ports_told, FailsLast};
 ghost use Rattle.m17_serve.specs.Devices.{eyes_by, house_back, refused_back};
 ghost use Rattle.m17_serve.specs.Served.{around, counts, ending_by, plan_of, ComesToServe, HasCauses, IsServable, NeverAsked, NeverRan};
 ghost use Rattle.m17_serve.specs.Steps.{AreNames, HasRooms};
@@ -62,6 +62,9 @@ pub fn serve<R: Threads + Wait + Copy + Send + 'static, P: Ports, C: Crew, K: Si
         P.Book.written P.Book.faults P.Book.mark) result.refused))
         (K.written out.old) (K.written out.new) }
     ensures appended { Grows (K.written out.old) (K.written out.new) }
+    // Where the ports fail, that was the last question: until then their count of faults stands.
+    ensures fails_last { FailsLast (λ p. ports_told (P.asked p) (P.calls p) (P.faults p))
+        ports.old ports.new }
     // Where the reflector never ran, the sink is as it was; and before the threads are started, so is the crew.
     ensures untouched { NeverRan result.ending → out.new ≡ out.old }
     ensures unasked { NeverAsked result.ending → crew.new ≡ crew.old }

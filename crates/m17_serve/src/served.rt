@@ -1,4 +1,5 @@
 use m17_ports::Shelf;
+use m17_print::{Ending, NoReason};
 use m17_reflect::{Refused, Returned};
 
 /// How `serve` came to its end. This profile.
@@ -18,6 +19,26 @@ pub enum ServeEnding {
     CrewRefused,
     /// There was no memory. Nothing was heard or written.
     NoMemory,
+}
+
+impl ServeEnding {
+    ghost use Rattle.std.specs.Prelude.{◌≡◌};
+    ghost use Rattle.m17_serve.specs.Endings.{serve_ending};
+
+    /// The same among all the ways that a run may end. This profile.
+    pub fn into_ending(self) -> Ending<NoReason>
+        ensures { result ≡ serve_ending self }
+    {
+        match self {
+            ServeEnding::Finished => Ending::Finished,
+            ServeEnding::LinkLost => Ending::LinkLost,
+            ServeEnding::BookFailed => Ending::BookFailed,
+            ServeEnding::WriteFailed => Ending::WriteFailed,
+            ServeEnding::PortFailed => Ending::PortFailed,
+            ServeEnding::CrewRefused => Ending::CrewRefused,
+            ServeEnding::NoMemory => Ending::NoMemory,
+        }
+    }
 }
 
 /// What `serve` came to: its ending, and the devices, with what went through the threads where the reflector ran, and with

@@ -173,24 +173,24 @@ type Row = (
     Back,
 );
 
-// Runs the reflector by a row and this crew, and demands what comes of it.
-fn expect_by<C: Crew, R: Threads + Wait + Abort + Copy + Send + 'static>(
+// Whether what a row wants comes of it with this crew.
+fn comes_of<C: Crew, R: Threads + Wait + Abort + Copy + Send + 'static>(
     rt: &R,
     alloc: Global,
     row: &Row,
     crew: &mut C,
-) {
+) -> bool {
     let (book, hears, fails, ending, text, back) = *row;
     let (mut done, printed) = run(rt, alloc, book, hears, fails, crew, text);
     let as_wanted = done.ending == ending && has_back(&mut done, back);
     let_go(done);
-    assert!(rt; printed && as_wanted);
+    printed && as_wanted
 }
 
-// Runs the reflector by each of these rows.
+// Runs the reflector by each of these rows, and demands what comes of it.
 fn expect<R: Threads + Wait + Abort + Copy + Send + 'static>(rt: &R, alloc: Global, rows: &[Row]) {
-    for row in rows {
-        expect_by(rt, alloc, row, &mut StdCrew::new());
+    for (i, row) in rows.iter().enumerate() {
+        assert!(rt; comes_of(rt, alloc, row, &mut StdCrew::new()), "row {i}");
     }
 }
 
@@ -276,7 +276,8 @@ fn a_crew_that_refuses_a_start_hands_all_back(rt: HostRuntime) {
     );
     for start in [0, 1, 2] {
         let refuses = must(&rt, Vec::from_array(rt.alloc(), [start]));
-        expect_by(&rt, rt.alloc(), &ROW, &mut RefusingCrew::new(refuses));
+        let mut crew = RefusingCrew::new(refuses);
+        assert!(rt; comes_of(&rt, rt.alloc(), &ROW, &mut crew), "start {start}");
     }
 }
 

@@ -4,8 +4,8 @@ use Rattle.std.specs.Prelude.{IfSome}
 use Rattle.std.proofs.lemmas.List.{append-nil, take_at, drop_at}
 use Rattle.m17_io.specs.Faults.{HasCauses}
 use Rattle.m17_print.specs.Endings.{failed_device, Comes}
-use Rattle.m17_print.specs.declared.ending.Ending.{Ending}
-use Rattle.m17_print.specs.declared.ending.Ending.TheVariants.{Finished, Refused, ReadFailed, WriteFailed}
+use Rattle.m17_print.specs.declared.ending.TextEnding.{TextEnding}
+use Rattle.m17_print.specs.declared.ending.TextEnding.TheVariants.{Finished, Refused, ReadFailed, WriteFailed}
 use Rattle.m17_print.proofs.TextsOfLines.{no_lines, one_more_line, whole_part, cut_line}
 use Rattle.m17_show.specs.declared.reason.ShowReason.{ShowReason}
 use Rattle.m17_show.specs.declared.reason.ShowReason.TheVariants.{Large, Long, Odd, Digit}
@@ -221,7 +221,7 @@ failed_at number (not_shown.Refused reason) before after causes = causes
 failed_at number not_shown.WriteFailed before after causes = causes
 
 -- the ending with which the next line comes, if it does
-pub goes_to_end : (outcome : Option (Ending ShowReason)) (number : ℕ) (held held' : List ℕ) (left left' written written' : Option (List ℕ))
+pub goes_to_end : (outcome : Option (TextEnding ShowReason)) (number : ℕ) (held held' : List ℕ) (left left' written written' : Option (List ℕ))
     → ((bytes : List ℕ) (first : Option (List ℕ)) → AreShown bytes 0 held left first written → GoesOn bytes number first outcome held' left' written')
     → IfSome outcome (λ ending. (bytes : List ℕ) (first : Option (List ℕ)) → AreShown bytes 0 held left first written → Comes SaysShow PrintsShow ending bytes left' first written')
 goes_to_end None number held held' left left' written written' goes = tt

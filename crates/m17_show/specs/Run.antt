@@ -5,8 +5,8 @@ use Rattle.m17_io.specs.Sink.{AppendsPrefix}
 use Rattle.m17_io.specs.declared.fault.Fault.{Fault}
 use Rattle.m17_io.specs.declared.fault.Fault.TheVariants.{Write}
 use Rattle.m17_print.specs.Endings.{Comes}
-use Rattle.m17_print.specs.declared.ending.Ending.{Ending}
-use Rattle.m17_print.specs.declared.ending.Ending.TheVariants.{Refused, WriteFailed}
+use Rattle.m17_print.specs.declared.ending.TextEnding.{TextEnding}
+use Rattle.m17_print.specs.declared.ending.TextEnding.TheVariants.{Refused, WriteFailed}
 use Rattle.m17_show.specs.declared.reason.ShowReason.{ShowReason}
 use Rattle.m17_show.specs.declared.reason.ShowReason.TheVariants.{Large, Long, Odd, Digit}
 use Rattle.m17_show.specs.declared.not_shown.NotShown.{NotShown}
@@ -39,7 +39,7 @@ failed_at_line (Err (not_shown.Refused reason)) = None
 failed_at_line (Err not_shown.WriteFailed) = Some Write
 
 -- the ending of a run in which a line of this number was not shown
-abbrev pub ending_at : ℕ → NotShown → Ending ShowReason
+abbrev pub ending_at : ℕ → NotShown → TextEnding ShowReason
 ending_at number (not_shown.Refused reason) = Refused number reason
 ending_at number not_shown.WriteFailed = WriteFailed
 
@@ -64,7 +64,7 @@ pub record AreShown (input : List ℕ) (count : ℕ) (held : List ℕ) (left fir
   pub printed : (before : List ℕ) → first ≡ Some before → written ≡ Some (before ++ text)
 
 -- one more line was shown, or the run came to its end with it
-abbrev pub GoesOn : List ℕ → ℕ → Option (List ℕ) → Option (Ending ShowReason) → List ℕ
+abbrev pub GoesOn : List ℕ → ℕ → Option (List ℕ) → Option (TextEnding ShowReason) → List ℕ
     → Option (List ℕ) → Option (List ℕ) → Type 0
 GoesOn input count first None held left written = AreShown input (count + 1) held left first written
 GoesOn input count first (Some ending) held left written = Comes SaysShow PrintsShow ending input

@@ -7,8 +7,8 @@ use Rattle.m17_control.specs.Forms.{Spells, Refuses}
 use Rattle.m17_print.specs.Endings.{input_refused_line}
 use Rattle.m17_print.specs.Packets.{packet_text, refusal_text}
 use Rattle.m17_print.specs.Texts.{IsTextOf, BeginsTextOf}
-use Rattle.m17_print.specs.declared.ending.Ending.{Ending}
-use Rattle.m17_print.specs.declared.ending.Ending.TheVariants.{Finished, Refused, ReadFailed, WriteFailed}
+use Rattle.m17_print.specs.declared.ending.TextEnding.{TextEnding}
+use Rattle.m17_print.specs.declared.ending.TextEnding.TheVariants.{Finished, Refused, ReadFailed, WriteFailed}
 use Rattle.m17_show.specs.declared.reason.ShowReason.{ShowReason}
 use Rattle.m17_show.specs.Reasons.{show_reason_words}
 use Rattle.m17_show.specs.Lines.{most_lines, longest_line, lines_of, AreEnded, content_of, AreLineCount, RefusesLine}
@@ -46,7 +46,7 @@ IsShowText input text = ((count : ℕ) × AreLineCount input count × IsTextOfFi
     × (text ≡ before ++ input_refused_line place (show_reason_words reason)))
 
 -- What an ending of `show` says of the input, and of what is left of it.
-abbrev pub SaysShow : Ending ShowReason → List ℕ → Option (List ℕ) → Type 0
+abbrev pub SaysShow : TextEnding ShowReason → List ℕ → Option (List ℕ) → Type 0
 SaysShow Finished input left =
     ((count : ℕ) × AreLineCount input count × ((text : List ℕ) × IsTextOfFirst input count text))
     × (left ≡ Some [])
@@ -57,7 +57,7 @@ SaysShow WriteFailed input left = Unit {0}
 
 -- What stands written when `show` ends in each way, of 1,000,000 lines at the most. `left` is what
 -- is left of the input.
-abbrev pub PrintsShow : Ending ShowReason → List ℕ → Option (List ℕ) → List ℕ → Type 0
+abbrev pub PrintsShow : TextEnding ShowReason → List ℕ → Option (List ℕ) → List ℕ → Type 0
 PrintsShow Finished input left text = (count : ℕ) × AreLineCount input count
     × IsTextOfFirst input count text
 PrintsShow (Refused place reason) input left text = RefusesLine input place reason

@@ -1,5 +1,5 @@
 use crate::ShowReason;
-use m17_print::Ending;
+use m17_print::TextEnding;
 
 /// Why a line was not shown.
 #[derive(Clone, Copy, Debug, PartialEq, Eq)]
@@ -16,15 +16,15 @@ impl NotShown {
 
     /// The ending of a run in which the line of this number was not shown.
     #[inline]
-    pub(crate) fn ending_at(self, number: u64) -> Ending<ShowReason>
+    pub(crate) fn ending_at(self, number: u64) -> TextEnding<ShowReason>
         ensures { result ≡ ending_at number self }
     {
         match self {
-            NotShown::Refused(reason) => Ending::Refused {
+            NotShown::Refused(reason) => TextEnding::Refused {
                 place: number,
                 reason,
             },
-            NotShown::WriteFailed => Ending::WriteFailed,
+            NotShown::WriteFailed => TextEnding::WriteFailed,
         }
     }
 }

@@ -11,7 +11,7 @@ use crate::ShowReason;
 use crate::line_reader::{LineReader, Next};
 use crate::show_line::show_line;
 use m17_io::{Fault, Input, Sink};
-use m17_print::{Ending, Line};
+use m17_print::{Line, TextEnding};
 
 /// How many lines `show` takes.
 pub const LINES_MAX: u64 = 1_000_000;
@@ -24,7 +24,7 @@ pub const LINES_MAX: u64 = 1_000_000;
 /// `Large` (line 1,000,000), `Long` (more than 256 bytes), `Odd` (an odd number of bytes) or that has a byte that is no
 /// hex `Digit`, in this order; `ReadFailed` or `WriteFailed` where a device failed. The lines before stand written.
 /// This profile.
-pub fn show<S: Input<K>, K: Sink>(input: &mut S, out: &mut K) -> Ending<ShowReason>
+pub fn show<S: Input<K>, K: Sink>(input: &mut S, out: &mut K) -> TextEnding<ShowReason>
     // A device is told to have failed exactly where its count of faults rose.
     ensures causes { HasCauses (S.faults input.old, K.faults out.old)
         (S.faults input.new, K.faults out.new) (failed_device result) }
@@ -46,7 +46,7 @@ fn show_lines<S: Input<K>, K: Sink>(
     reader: &mut LineReader,
     input: &mut S,
     out: &mut K,
-) -> Option<Ending<ShowReason>>
+) -> Option<TextEnding<ShowReason>>
     ensures causes { HasCauses (S.faults input.old, K.faults out.old)
         (S.faults input.new, K.faults out.new) (option_and_then failed_device result) }
     ensures shows { IfSome result (λ ending. (bytes : List ℕ) (first : Option (List ℕ))
@@ -75,7 +75,7 @@ fn show_next<S: Input<K>, K: Sink>(
     printed: &mut Line,
     input: &mut S,
     out: &mut K,
-) -> Option<Ending<ShowReason>>
+) -> Option<TextEnding<ShowReason>>
     requires { number < most_lines }
     ensures causes { HasCauses (S.faults input.old, K.faults out.old)
         (S.faults input.new, K.faults out.new) (option_and_then failed_device result) }
@@ -93,13 +93,13 @@ fn show_next<S: Input<K>, K: Sink>(
             }
             Err(not_shown) => Some(not_shown.ending_at(number)),
         },
-        Ok(Next::Long) => Some(Ending::Refused {
+        Ok(Next::Long) => Some(TextEnding::Refused {
             place: number,
             reason: ShowReason::Long,
         }),
         Ok(Next::Last) => Some(show_last(reader.pending(), number, printed, out)),
-        Err(Fault::Read) => Some(Ending::ReadFailed),
-        Err(Fault::Write) => Some(Ending::WriteFailed),
+        Err(Fault::Read) => Some(TextEnding::ReadFailed),
+        Err(Fault::Write) => Some(TextEnding::WriteFailed),
     }
 }
 
@@ -109,7 +109,7 @@ fn show_last<K: Sink>(
     number: u64,
     printed: &mut Line,
     out: &mut K,
-) -> Ending<ShowReason>
+) -> TextEnding<ShowReason>
     requires few { number < most_lines }
     requires no_feed { HasNoFeed rest.now }
     ensures causes { (reads : ℕ) → HasCauses (reads, K.faults out.old)
@@ -120,10 +120,10 @@ fn show_last<K: Sink>(
     ensures appended { Grows (K.written out.old) (K.written out.new) }
 {
     if rest.is_empty() {
-        return Ending::Finished;
+        return TextEnding::Finished;
     }
     match show_line(rest, printed, out) {
-        Ok(()) => Ending::Finished,
+        Ok(()) => TextEnding::Finished,
         Err(not_shown) => not_shown.ending_at(number),
     }
 }
@@ -133,7 +133,7 @@ fn end_at_limit<S: Input<K>, K: Sink>(
     reader: &mut LineReader,
     input: &mut S,
     out: &mut K,
-) -> Ending<ShowReason>
+) -> TextEnding<ShowReason>
     ensures causes { HasCauses (S.faults input.old, K.faults out.old)
         (S.faults input.new, K.faults out.new) (failed_device result) }
     ensures shows { (bytes : List ℕ) (first : Option (List ℕ))
@@ -142,7 +142,7 @@ fn end_at_limit<S: Input<K>, K: Sink>(
         → Comes SaysShow PrintsShow result bytes (S.left input.new) first (K.written out.new) }
     ensures nothing_written { K.written out.new ≡ K.written out.old }
 {
-    let large = Ending::Refused {
+    let large = TextEnding::Refused {
         place: LINES_MAX,
         reason: ShowReason::Large,
     };
@@ -150,10 +150,10 @@ fn end_at_limit<S: Input<K>, K: Sink>(
         return large;
     }
     match reader.read_more(input, out) {
-        Ok(0) => Ending::Finished,
+        Ok(0) => TextEnding::Finished,
         Ok(_) => large,
-        Err(Fault::Read) => Ending::ReadFailed,
-        Err(Fault::Write) => Ending::WriteFailed,
+        Err(Fault::Read) => TextEnding::ReadFailed,
+        Err(Fault::Write) => TextEnding::WriteFailed,
     }
 }
 

@@ -4,7 +4,7 @@ use Rattle.std.specs.List.{slice_get}
 use Rattle.std.proofs.lemmas.Option.{slice_get-get_or}
 use Rattle.std.proofs.lemmas.List.{length-drop}
 use Rattle.std.proofs.lemmas.Bool.{cases_lt}
-use Rattle.m17_stream.specs.Laws.{OneSpelling}
+use Rattle.m17_stream.specs.Laws.{OneSpelling, ReadingIsExact}
 use Rattle.m17_stream.specs.Stream.{SpellsStream}
 use Rattle.m17_stream.specs.declared.packet.StreamPacket.{StreamPacket}
 use Rattle.m17_talk.specs.declared.reason.ScriptReason.{ScriptReason}
@@ -12,6 +12,7 @@ use Rattle.m17_talk.specs.declared.reason.ScriptReason.TheVariants.{Cut, Field, 
 use Rattle.m17_talk.specs.Laws.{ScriptsAreExact}
 use Rattle.m17_talk.specs.Script.{Due, most_records, from_record, record_at, last_moment, packet_of, BeginsWith, IsScript, RefusesMore, RefusesNext, RefusesScript, SpellsDue}
 use Rattle.m17_talk.proofs.Records.{last_at, moment_front, packet_front}
+use Rattle.m17_talk.proofs.Readable.{read_or_refused}
 
 same_pair : (m n : ℕ) (p q : StreamPacket) → m ≡ n → p ≡ q → (x : Due) → x ≡ (m, p) → (y : Due) → y ≡ (n, q) → x ≡ y
 same_pair m n p q e f x is y is' = cc
@@ -148,5 +149,10 @@ one_refusal law input place place' reason reason' r r' = elim (cases_lt (length 
   ]
 ]
 
-pub exact : OneSpelling → ScriptsAreExact
-exact law = record { one_script = one_script law; one_refusal = one_refusal law; not_both = not_both law }
+pub exact : OneSpelling → ReadingIsExact → ScriptsAreExact
+exact law reading = record {
+  read_or_refused = read_or_refused reading;
+  not_both = not_both law;
+  one_script = one_script law;
+  one_refusal = one_refusal law;
+}

@@ -1,5 +1,6 @@
 pub mod Records
 pub mod Stops
+pub mod Readable
 pub mod Exact
 pub mod Questions
 pub mod Told

@@ -1,5 +1,5 @@
 -- The questions of a talk, asked one after another.
-use Rattle.std.proofs.Common.{◌≡◌, ℕ, List, [], ◌∷◌, length, take, Option, None, Some, refl, sym, ap, subst, ◌∙◌, arith, append_assoc}
+use Rattle.std.proofs.Common.{◌≡◌, ℕ, List, [], ◌∷◌, length, take, Option, None, Some, refl, sym, ap, subst, ◌∙◌, arith, append_assoc, inl, inr}
 use Rattle.std.specs.Prelude.{string_bytes}
 use Rattle.std.specs.Option.{option_map}
 use Rattle.std.proofs.lemmas.List.{take_all}
@@ -10,7 +10,7 @@ use Rattle.m17_ports.specs.declared.question.Question.{Question}
 use Rattle.m17_ports.specs.declared.question.Question.TheVariants.{Link, Book}
 use Rattle.m17_words.specs.declared.order.TalkOrder.{TalkOrder}
 use Rattle.m17_talk.specs.Asking.{AsksBook}
-use Rattle.m17_talk.specs.Devices.{PortsTold, HasAsked}
+use Rattle.m17_talk.specs.Devices.{FailsLast, HasAsked, PortsTold}
 use Rattle.m17_talk.specs.Talked.{book_questions, questions_of, handed, FailsAtPort}
 
 -- two questions, one after the other
@@ -46,3 +46,8 @@ failed_at_last order before mid after link calls same book risen =
       risen = subst (λ (n : ℕ). HasRisen n after.faults) same risen;
       none = refl;
     }
+
+-- where the ports fail last behind a first question that they answered, they fail last
+pub fails_behind : {P : Type 0} (told : P → PortsTold) (before mid after : P) → (told mid).faults ≡ (told before).faults → FailsLast told mid after → FailsLast told before after
+fails_behind told before mid after same (inl stands) = inl (stands ∙ same)
+fails_behind told before mid after same (inr (between, question, stood, asks)) = inr (between, question, stood ∙ same, asks)

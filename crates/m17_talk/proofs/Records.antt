@@ -81,6 +81,25 @@ pub packet_front : (rest : List ℕ) → packet_of (take 62 rest) ≡ packet_of 
 packet_front rest = ap (take 54) (drop-take 8 54 rest) ∙ take-take 54 54 (drop 8 rest) (omega arith)
 
 -- one more record
+pub begins_more : (bytes : List ℕ) (script : List Due) (due : Due) → length script < most_records → 62 ≤ length (from_record bytes (length script))
+    → BeginsWith bytes script → SpellsDue due (record_at bytes (length script)) → last_moment script ≤ due.0 → BeginsWith bytes (script ++ due ∷ [])
+begins_more bytes script due few room begins spells later =
+    let longer : length (script ++ due ∷ []) ≡ length script + 1 = length_push script due in
+    let size : length (from_record bytes (length script)) ≡ length bytes - 62 * length script = length-drop (62 * length script) bytes in
+    record {
+      not_large = omega arith;
+      within = omega (arith, begins.within);
+      each = λ k d at. elim (cases_lt k (length script)) [
+        | inl below ↦ begins.each k d (stood_before script due d k below at)
+        | inr past ↦
+            let inside = slice_get_within (script ++ due ∷ []) k d at in
+            let same : length script ≡ k = omega arith in
+            let it : due ≡ d = is_last script due d k (sym same) at in
+            subst (λ (x : Due). SpellsDue x (record_at bytes k)) it (subst (λ (j : ℕ). SpellsDue due (record_at bytes j)) same spells)
+      ];
+      in_order = in_order_more script due begins.in_order later;
+    }
+
 pub one_more : (bytes : List ℕ) (script : List Due) (due : Due) (buffer filled : List ℕ) (n : ℕ) (left left' : Option (List ℕ))
     → n ≤ 62 → length script < most_records → IsAfter bytes script left → IsFilled (from_record bytes (length script)) n buffer filled left'
     → SpellsDue due (take n filled) → last_moment script ≤ due.0 → IsAfter bytes (script ++ due ∷ []) left'
@@ -91,22 +110,9 @@ one_more bytes script due buffer filled n left left' within few after is spells 
     let whole : n ≡ 62 = omega (arith, ap length part, spells.size) in
     let here : SpellsDue due (take 62 rest) = subst (λ (k : ℕ). SpellsDue due (take k rest)) whole (subst (λ (xs : List ℕ). SpellsDue due xs) part spells) in
     let longer : length (script ++ due ∷ []) ≡ length script + 1 = length_push script due in
-    let room : n ≤ length bytes - 62 * length script = rw (← length-drop (62 * length script) bytes) is.no_more in
     let next : 62 * length script + n ≡ 62 * length (script ++ due ∷ []) = omega arith in
     record {
-      begins = record {
-        not_large = omega arith;
-        within = omega (arith, after.begins.within);
-        each = λ k d at. elim (cases_lt k (length script)) [
-          | inl below ↦ after.begins.each k d (stood_before script due d k below at)
-          | inr past ↦
-              let inside = slice_get_within (script ++ due ∷ []) k d at in
-              let same : length script ≡ k = omega arith in
-              let it : due ≡ d = is_last script due d k (sym same) at in
-              subst (λ (x : Due). SpellsDue x (record_at bytes k)) it (subst (λ (j : ℕ). SpellsDue due (record_at bytes j)) same here)
-        ];
-        in_order = in_order_more script due after.begins.in_order later;
-      };
+      begins = begins_more bytes script due few (omega (arith, is.no_more)) after.begins here later;
       rest_left = is.rest_left ∙ ap Some (drop-drop n (62 * length script) bytes) ∙ ap (λ k. Some (drop k bytes)) next;
     }
 

@@ -1,5 +1,5 @@
 -- Where no further record begins: the input is refused.
-use Rattle.std.proofs.Common.{◌≡◌, ℕ, ◌+◌, ◌-◌, ◌*◌, ◌<◌, ◌≤◌, List, [], length, take, drop, Option, Some, Result, Ok, Err, IfOk, IfErr, sym, ap, subst, ◌∙◌, arith, inl, inr}
+use Rattle.std.proofs.Common.{◌≡◌, ℕ, ◌+◌, ◌*◌, ◌<◌, ◌≤◌, List, [], length, take, drop, Option, Some, Result, Ok, Err, IfOk, IfErr, sym, ap, subst, ◌∙◌, arith, inl, inr}
 use Rattle.std.proofs.lemmas.List.{length-take-le, nil_from_length, take_all}
 use Rattle.std.proofs.lemmas.Bool.{cases_lt}
 use Rattle.m17_fill.specs.Fill.{IsFilled}

@@ -1,11 +1,11 @@
 -- What is told of ports, and of the ear, the mouth and the book that they hand out. This profile.
-use Rattle.std.specs.Prelude.{◌≡◌, ℕ, ◌+◌, ◌-◌, ◌^◌, min, List, length, Option, None, Some}
+use Rattle.std.specs.Prelude.{◌≡◌, ◌⊎◌, ℕ, ◌+◌, ◌-◌, ◌^◌, min, List, length, Option, None, Some}
 use Rattle.m17_values.specs.declared.peer.Peer.{Peer}
 use Rattle.m17_values.specs.declared.heard.Heard.{Heard}
 use Rattle.m17_ports.specs.Told.{told_then, StartsEmpty}
 use Rattle.m17_ports.specs.Marks.{EarMark, MouthMark, IsNumbered, ear_number, mouth_number}
 use Rattle.m17_ports.specs.Mouth.{Datagram, HasSaidNothing}
-use Rattle.m17_ports.specs.Ports.{next_number}
+use Rattle.m17_ports.specs.Ports.{IsAsked, next_number}
 use Rattle.m17_ports.specs.declared.question.Question.{Question}
 use Rattle.m17_ports.specs.declared.tally.Tally.{Tally}
 use Rattle.m17_client.specs.TalkDevices.{EarTells, MouthTells, BookTells}
@@ -66,6 +66,18 @@ pub record HasAsked (questions : List Question) (before after : PortsTold) : Typ
   pub told : (all : List Question) → after.asked ≡ Some all
       → told_then before.asked questions ≡ Some all
   pub counted : after.calls ≡ min (before.calls + length questions) (2 ^ 64 - 1)
+
+-- One question more was asked: it was appended, as far as the ports tell it, and is a call. This profile.
+abbrev pub AsksOne : Question → PortsTold → PortsTold → Type 0
+AsksOne question before after = IsAsked before.asked question after.asked
+    × (after.calls ≡ next_number before.calls)
+
+-- The ports fail at their last question: their count of faults stands, or it stood until that question. `told` says what
+-- they tell at a moment, and `between` is the moment before the last question. This profile.
+abbrev pub FailsLast : {P : Type 0} → (P → PortsTold) → P → P → Type 0
+FailsLast {P} told before after = ((told after).faults ≡ (told before).faults)
+    ⊎ ((between : P) × (question : Question) × ((told between).faults ≡ (told before).faults)
+    × AsksOne question (told between) (told after))
 
 -- A new book: nothing is written, it has not failed, and it has this number. This profile.
 abbrev pub IsNewBook : ℕ → Option BookTold → Type 0

@@ -4,6 +4,7 @@ pub mod Reading
 pub mod Laws
 pub mod Devices
 pub mod Talked
+pub mod Endings
 -- for proofs alone
 pub mod Walk
 pub mod Asking

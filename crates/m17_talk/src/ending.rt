@@ -1,5 +1,6 @@
 use crate::ScriptReason;
 use m17_ports::Shelf;
+use m17_print::Ending;
 
 /// How `talk` came to its end. This profile.
 #[derive(Clone, Copy, Debug, PartialEq, Eq)]
@@ -18,6 +19,26 @@ pub enum TalkEnding {
     WriteFailed,
     /// The ports failed. Nothing was written.
     PortFailed,
+}
+
+impl TalkEnding {
+    ghost use Rattle.std.specs.Prelude.{◌≡◌};
+    ghost use Rattle.m17_talk.specs.Endings.{talk_ending};
+
+    /// The same among all the ways that a run may end. This profile.
+    pub fn into_ending(self) -> Ending<ScriptReason>
+        ensures { result ≡ talk_ending self }
+    {
+        match self {
+            TalkEnding::Finished => Ending::Finished,
+            TalkEnding::LinkLost => Ending::LinkLost,
+            TalkEnding::BookFailed => Ending::BookFailed,
+            TalkEnding::Refused { place, reason } => Ending::Refused { place, reason },
+            TalkEnding::ReadFailed => Ending::ReadFailed,
+            TalkEnding::WriteFailed => Ending::WriteFailed,
+            TalkEnding::PortFailed => Ending::PortFailed,
+        }
+    }
 }
 
 /// What `talk` came to: its ending, and its devices, where it ran. This profile.

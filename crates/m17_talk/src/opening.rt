@@ -2,7 +2,7 @@ ghost use Rattle.std.specs.Prelude.{◌≡◌, ◌↔◌, ℕ, None, IsSome, IfO
 ghost use Rattle.m17_io.specs.Faults.{HasCause};
 ghost use Rattle.m17_ports.specs.Ports.{next_number};
 ghost use Rattle.m17_talk.specs.Asking.{AsksBook};
-ghost use Rattle.m17_talk.specs.Devices.{ports_told, ear_told, mouth_told, book_told, devices_told, AreNew, HasAsked, IsNewBook};
+ghost use Rattle.m17_talk.specs.Devices.{ports_told, ear_told, mouth_told, book_told, devices_told, AreNew, FailsLast, HasAsked, IsNewBook};
 ghost use Rattle.m17_talk.specs.Talked.{questions_of, handed, FailsAtPort};
 
 use m17_ports::{Ports, Shelf};
@@ -19,6 +19,8 @@ fn open_book<P: Ports>(name: &Option<String>, ports: &mut P) -> Result<Shelf<P::
         (λ b. book_told (P.Book.written b) (P.Book.faults b) (P.Book.mark b)) shelf.inner)) }
     ensures there { IfOk result (λ shelf. IsSome shelf.inner ↔ IsSome name.now) }
     ensures named { OnErr result (IsSome name.now) }
+    ensures fails_last { FailsLast (λ p. ports_told (P.asked p) (P.calls p) (P.faults p))
+        ports.old ports.new }
 {
     match name {
         Some(name) => match ports.book(name.as_str()) {
@@ -48,6 +50,8 @@ pub(crate) fn open<P: Ports>(
     ensures failed { OnErr result (FailsAtPort order.now (handed
         (ports_told (P.asked ports.old) (P.calls ports.old) (P.faults ports.old))
         (ports_told (P.asked ports.new) (P.calls ports.new) (P.faults ports.new)) None)) }
+    ensures fails_last { FailsLast (λ p. ports_told (P.asked p) (P.calls p) (P.faults p))
+        ports.old ports.new }
 {
     let (ear, mouth) = match ports.link(order.bind.as_str(), None) {
         Ok(link) => link,

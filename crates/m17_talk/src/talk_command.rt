@@ -2,7 +2,7 @@ ghost use Rattle.std.specs.Prelude.{◌≡◌, ◌↔◌, ℕ, None, IsSome, IfO
 ghost use Rattle.m17_io.specs.Faults.{HasCause, HasCauses};
 ghost use Rattle.m17_print.specs.Endings.{Grows};
 ghost use Rattle.m17_client.specs.Talk.{IsInOrder};
-ghost use Rattle.m17_talk.specs.Devices.{ports_told, ear_told, mouth_told, book_told, devices_told};
+ghost use Rattle.m17_talk.specs.Devices.{ports_told, ear_told, mouth_told, book_told, devices_told, FailsLast};
 ghost use Rattle.m17_talk.specs.Talked.{failed_device, handed, plan_of, ending_of, ComesToTalk, HasPrinted, HasPrintedPart, HasTalked, Streams};
 ghost use Rattle.m17_talk.specs.Walk.{Prints};
 
@@ -52,6 +52,9 @@ pub fn talk<R: Wait, P: Ports, S: Input<K>, K: Sink>(
           written = K.written out.new;
         })) }
     ensures appended { Grows (K.written out.old) (K.written out.new) }
+    // Where the ports fail, that was the last question: until then their count of faults stands.
+    ensures fails_last { FailsLast (λ p. ports_told (P.asked p) (P.calls p) (P.faults p))
+        ports.old ports.new }
     // Want of memory comes before the ports are asked and before anything is written, and no device has failed then.
     ensures untouched { OnErr result ((ports.new ≡ ports.old)
         × (K.written out.new ≡ K.written out.old)) }

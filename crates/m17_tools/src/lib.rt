@@ -7,6 +7,6 @@
 pub use m17_check::{CheckReason, check};
 pub use m17_judge::{JudgeReason, judge};
 pub use m17_make::make;
-pub use m17_print::{Ending, Reason};
+pub use m17_print::{Ending, Reason, TextEnding};
 pub use m17_replay::{ReplayEnding, TraceReason, replay};
 pub use m17_show::{ShowReason, show};

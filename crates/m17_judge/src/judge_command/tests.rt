@@ -11,7 +11,7 @@ fn expect_failing(
     alloc: Global,
     read_fails: &[u64],
     write_fails: &[u64],
-    ending: Ending<JudgeReason>,
+    ending: TextEnding<JudgeReason>,
     text: &str,
 ) -> Result<(), Fail> {
     let mut source = WaitingSource::new([0u8; 128].to_vec(alloc)?, read_fails.to_vec(alloc)?);
@@ -29,15 +29,15 @@ const TWO: &str = "0 refused magic 00000000\n1 refused magic 00000000\n";
 #[test]
 fn lines_are_handed_on_before_more_input_is_waited_for(rt: HostRuntime) -> Result<(), Fail> {
     for (call, text) in [(0, ""), (1, ""), (2, ONE), (3, ONE), (4, TWO)] {
-        expect_failing(&rt, rt.alloc(), &[], &[call], Ending::WriteFailed, text)?;
+        expect_failing(&rt, rt.alloc(), &[], &[call], TextEnding::WriteFailed, text)?;
     }
-    expect_failing(&rt, rt.alloc(), &[], &[5], Ending::Finished, TWO)
+    expect_failing(&rt, rt.alloc(), &[], &[5], TextEnding::Finished, TWO)
 }
 
 #[test]
 fn a_source_that_fails_ends_the_run_after_the_lines_before(rt: HostRuntime) -> Result<(), Fail> {
     for (call, text) in [(0, ""), (1, ONE), (2, TWO)] {
-        expect_failing(&rt, rt.alloc(), &[call], &[], Ending::ReadFailed, text)?;
+        expect_failing(&rt, rt.alloc(), &[call], &[], TextEnding::ReadFailed, text)?;
     }
     Ok(())
 }
@@ -57,7 +57,7 @@ fn want_of_memory_comes_before_a_byte_is_read_or_written(rt: HostRuntime) -> Res
     let mut sink = BytesSink::make(alloc, 100, Vec::new(alloc))?;
     match judge(alloc, &mut source, &mut sink) {
         Ok(ending) => {
-            let cut = Ending::Refused {
+            let cut = TextEnding::Refused {
                 place: 129,
                 reason: JudgeReason::Cut,
             };
@@ -76,14 +76,14 @@ fn want_of_memory_comes_before_a_byte_is_read_or_written(rt: HostRuntime) -> Res
 
 #[test]
 fn endings_that_differ_are_unequal(rt: HostRuntime) {
-    let refused = |place, reason| Ending::Refused { place, reason };
+    let refused = |place, reason| TextEnding::Refused { place, reason };
     let endings = [
-        Ending::Finished,
+        TextEnding::Finished,
         refused(0, JudgeReason::Cut),
         refused(1, JudgeReason::Cut),
         refused(0, JudgeReason::Large),
-        Ending::ReadFailed,
-        Ending::WriteFailed,
+        TextEnding::ReadFailed,
+        TextEnding::WriteFailed,
     ];
     for (i, one) in endings.iter().enumerate() {
         for (j, other) in endings.iter().enumerate() {

@@ -11,7 +11,7 @@ fn expect_failing(
     input: &[u8],
     read_fails: &[u64],
     write_fails: &[u64],
-    ending: Ending<ShowReason>,
+    ending: TextEnding<ShowReason>,
     text: &str,
 ) -> Result<(), Fail> {
     let mut source = BytesSource::new(input.to_vec(alloc)?, read_fails.to_vec(alloc)?);
@@ -25,14 +25,14 @@ fn expect(
     rt: &impl Abort,
     alloc: Global,
     input: &[u8],
-    ending: Ending<ShowReason>,
+    ending: TextEnding<ShowReason>,
     text: &str,
 ) -> Result<(), Fail> {
     expect_failing(rt, alloc, input, &[], &[], ending, text)
 }
 
-fn refused(place: u64, reason: ShowReason) -> Ending<ShowReason> {
-    Ending::Refused { place, reason }
+fn refused(place: u64, reason: ShowReason) -> TextEnding<ShowReason> {
+    TextEnding::Refused { place, reason }
 }
 
 #[test]
@@ -57,7 +57,13 @@ fn a_line_is_the_packet_that_it_spells_or_why_it_spells_none(rt: HostRuntime) ->
         ("", ""),
     ];
     for (input, text) in lines {
-        expect(&rt, rt.alloc(), input.as_bytes(), Ending::Finished, text)?;
+        expect(
+            &rt,
+            rt.alloc(),
+            input.as_bytes(),
+            TextEnding::Finished,
+            text,
+        )?;
     }
     Ok(())
 }
@@ -65,11 +71,11 @@ fn a_line_is_the_packet_that_it_spells_or_why_it_spells_none(rt: HostRuntime) ->
 #[test]
 fn a_line_has_at_most_256_bytes(rt: HostRuntime) -> Result<(), Fail> {
     let lines = [
-        (106, "\n", Ending::Finished, "refused length 53\n"),
-        (128, "", Ending::Finished, "refused length 64\n"),
-        (256, "\n", Ending::Finished, "refused length 128\n"),
-        (256, "\r\n", Ending::Finished, "refused length 128\n"),
-        (256, "\r", Ending::Finished, "refused length 128\n"),
+        (106, "\n", TextEnding::Finished, "refused length 53\n"),
+        (128, "", TextEnding::Finished, "refused length 64\n"),
+        (256, "\n", TextEnding::Finished, "refused length 128\n"),
+        (256, "\r\n", TextEnding::Finished, "refused length 128\n"),
+        (256, "\r", TextEnding::Finished, "refused length 128\n"),
         (256, "\r\r\n", refused(0, ShowReason::Long), ""),
         (257, "\n", refused(0, ShowReason::Long), ""),
         (257, "", refused(0, ShowReason::Long), ""),
@@ -106,18 +112,26 @@ fn a_refusal_names_the_line_and_the_first_reason(rt: HostRuntime) -> Result<(), 
 fn a_device_that_fails_ends_the_run(rt: HostRuntime) -> Result<(), Fail> {
     let input = b"41434B4E\n4E41434B\n4449";
     let alloc = rt.alloc();
-    expect_failing(&rt, alloc, input, &[0], &[], Ending::ReadFailed, "")?;
+    expect_failing(&rt, alloc, input, &[0], &[], TextEnding::ReadFailed, "")?;
     expect_failing(
         &rt,
         alloc,
         input,
         &[1],
         &[],
-        Ending::ReadFailed,
+        TextEnding::ReadFailed,
         "ackn\nnack\n",
     )?;
-    expect_failing(&rt, alloc, input, &[], &[0], Ending::WriteFailed, "")?;
-    expect_failing(&rt, alloc, input, &[], &[1], Ending::WriteFailed, "ackn\n")?;
+    expect_failing(&rt, alloc, input, &[], &[0], TextEnding::WriteFailed, "")?;
+    expect_failing(
+        &rt,
+        alloc,
+        input,
+        &[],
+        &[1],
+        TextEnding::WriteFailed,
+        "ackn\n",
+    )?;
     Ok(())
 }
 
@@ -131,7 +145,7 @@ fn lines_are_handed_on_before_more_input_is_waited_for(rt: HostRuntime) -> Resul
             Vec::new(alloc),
         );
         let mut sink = BytesSink::make(alloc, 100, [call].to_vec(alloc)?)?;
-        assert_eq!(rt; show(&mut source, &mut sink), Ending::WriteFailed);
+        assert_eq!(rt; show(&mut source, &mut sink), TextEnding::WriteFailed);
         assert_eq!(rt; sink.bytes(), text.as_bytes());
     }
     Ok(())
@@ -150,14 +164,14 @@ fn lines_are_shown_over_the_end_of_a_buffer(rt: HostRuntime) -> Result<(), Fail>
             whole.push_str("ackn\n")?;
         }
     }
-    expect(&rt, rt.alloc(), &input, Ending::Finished, text.as_str())?;
+    expect(&rt, rt.alloc(), &input, TextEnding::Finished, text.as_str())?;
     expect_failing(
         &rt,
         rt.alloc(),
         &input,
         &[1],
         &[],
-        Ending::ReadFailed,
+        TextEnding::ReadFailed,
         whole.as_str(),
     )
 }

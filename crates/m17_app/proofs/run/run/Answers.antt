@@ -1,5 +1,6 @@
-use Rattle.std.proofs.Common.{rules, inl, sym, ◌∙◌}
+use Rattle.std.proofs.Common.{rules, Err, inl, inr, refl, sym, ap, ◌∙◌}
 use Rattle.m17_app.specs.Commands.{IsRunnable}
+use Rattle.m17_app.specs.Status.{code_of}
 use Rattle.m17_app.proofs.Codes.{is_no_memory}
 use Rattle.m17_app.proofs.Runnable.{names_runnable}
 use Rattle.m17_app.proofs.run.run.Goals as goal
@@ -15,3 +16,28 @@ returns-in-Ok-clause-runs g c =
 
 pub returns-in-Ok-clause-unasked : goal.returns-in-Ok-clause-unasked
 returns-in-Ok-clause-unasked g c seventy = c.run_command.ensures.unasked (is_no_memory c.run_command.result.status (sym c.answer_of.ensures.code ∙ seventy))
+
+pub returns-in-Err-Refused-clause-runs : goal.returns-in-Err-Refused-clause-runs
+returns-in-Err-Refused-clause-runs g c =
+    rw (c.answer_of-in-Err-Refused.ensures.talk, c.answer_of-in-Err-Refused.ensures.house, c.answer_of-in-Err-Refused.ensures.refused, c.alone.ensures.none, c.alone.ensures.no_house, c.alone.ensures.no_refusal) (
+      c.run_nothing.result,
+      c.answer_of-in-Err-Refused.ensures.code ∙ ap code_of c.alone.ensures.status,
+      inr (inl (
+        c.in-Err-Refused.ensures.refused (ap Err c.in-Err-Refused.field-0-is),
+        (
+          c.run_nothing.ensures (g.P.Ports.faults c.args.ports.now) (g.C.Crew.refusals c.args.crew.now),
+          record { ports = refl; talk = refl; serve = record { crew = refl; house = refl; refused = refl } },
+        ),
+      )),
+    )
+
+pub returns-in-Err-Refused-clause-refused : goal.returns-in-Err-Refused-clause-refused
+returns-in-Err-Refused-clause-refused g c = λ are.
+    rw (c.answer_of-in-Err-Refused.ensures.talk, c.answer_of-in-Err-Refused.ensures.house, c.answer_of-in-Err-Refused.ensures.refused, c.alone.ensures.none, c.alone.ensures.no_house, c.alone.ensures.no_refusal) (
+      c.run_nothing.result,
+      c.answer_of-in-Err-Refused.ensures.code ∙ ap code_of c.alone.ensures.status,
+      inl (
+        c.run_nothing.ensures (g.P.Ports.faults c.args.ports.now) (g.C.Crew.refusals c.args.crew.now),
+        record { ports = refl; talk = refl; serve = record { crew = refl; house = refl; refused = refl } },
+      ),
+    )

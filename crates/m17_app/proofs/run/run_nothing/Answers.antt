@@ -1,5 +1,6 @@
-use Rattle.m17_app.proofs.WordsRefused.{refused}
+use Rattle.m17_app.proofs.MakeRuns.{refused}
 use Rattle.m17_app.proofs.run.run_nothing.Goals as goal
 
 pub returns : goal.returns
-returns g c = refused c.refuse_words.result _ _ (c.refuse_words.ensures (g.S.Input.left c.args.input.now) (g.S.Input.faults c.args.input.now))
+returns g c = λ ports crew.
+    refused c.refuse_words.result _ _ ports crew (c.refuse_words.ensures (g.S.Input.left c.args.input.now) (g.S.Input.faults c.args.input.now))

@@ -1,18 +1,23 @@
-use Rattle.m17_app.specs.Status.{Outside, outside, starts}
-use Rattle.m17_app.proofs.ReplayRuns.{ran, no_run, some_memory}
+use Rattle.m17_app.specs.Status.{Outside, count_from, outside}
+use Rattle.m17_app.proofs.ReplayRuns.{has_memory, no_run, ran, some_memory}
 use Rattle.m17_app.proofs.run_replay.run_replay.Goals as goal
 
 pub returns-in-Ok-clause-runs : goal.returns-in-Ok-clause-runs
-returns-in-Ok-clause-runs g c =
+returns-in-Ok-clause-runs g c = λ ports.
     let mid : Outside = outside (g.S.Input.left c.replay.new.input) (g.S.Input.faults c.replay.new.input)
     (g.K.Sink.written c.replay.new.out) (g.K.Sink.faults c.replay.new.out) (g.K.Sink.held_back c.replay.new.out) in
-    ran c.args.plan.now c.args.summary c.in-Ok.ending c.conclude_replay.result _ mid _ (starts _ _) c.traces_are_exact.ensures c.in-Ok.ensures.crew c.in-Ok.ensures.ended c.in-Ok.ensures.causes c.replay.ensures.appended c.in-Ok.ensures.unwritten (c.conclude_replay.ensures mid.left mid.reads)
+    ran c.args.plan.now c.args.summary c.in-Ok.ending c.conclude.result _ mid _ ports (count_from _ _) c.traces_are_exact.ensures c.lost_by_sixteen_faults.ensures
+    c.in-Ok.ensures.crew c.in-Ok.ensures.ended c.in-Ok.ensures.causes c.replay.ensures.appended c.in-Ok.ensures.unwritten
+    (rw c.into_ending.ensures at (c.conclude.ensures.concluded (has_memory c.in-Ok.ending _ c.into_ending.ensures) mid.left mid.reads))
 
 pub returns-in-Ok-clause-unasked : goal.returns-in-Ok-clause-unasked
 returns-in-Ok-clause-unasked g c is =
     let mid : Outside = outside (g.S.Input.left c.replay.new.input) (g.S.Input.faults c.replay.new.input)
     (g.K.Sink.written c.replay.new.out) (g.K.Sink.faults c.replay.new.out) (g.K.Sink.held_back c.replay.new.out) in
-    absurd (some_memory c.in-Ok.ending c.conclude_replay.result mid _ (c.conclude_replay.ensures mid.left mid.reads) is)
+    absurd (some_memory c.in-Ok.ending c.conclude.result mid _
+    (rw c.into_ending.ensures at (c.conclude.ensures.concluded (has_memory c.in-Ok.ending _ c.into_ending.ensures) mid.left mid.reads)) is)
 
 pub returns-in-Err-clause-runs : goal.returns-in-Err-clause-runs
-returns-in-Err-clause-runs g c = no_run c.args.plan.now c.args.summary _ _ (starts _ _) c.in-Err.ensures.untouched c.in-Err.ensures.no_fault.0 c.in-Err.ensures.no_fault.1 c.in-Err.ensures.crew
+returns-in-Err-clause-runs g c = λ ports.
+    no_run c.args.plan.now c.args.summary _ _ ports (count_from _ _) c.traces_are_exact.ensures c.lost_by_sixteen_faults.ensures c.in-Err.ensures.untouched
+    c.in-Err.ensures.no_fault.0 c.in-Err.ensures.no_fault.1 c.in-Err.ensures.crew

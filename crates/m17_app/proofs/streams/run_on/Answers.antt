@@ -1,3 +1,6 @@
+use Rattle.std.proofs.Common.{None, refl, inr}
+use Rattle.m17_app.specs.declared.status.Status.TheVariants.{NoMemory}
+use Rattle.m17_app.specs.Status.{outside}
 use Rattle.m17_app.proofs.Codes.{crew_failed, ports_failed, refused_code}
 use Rattle.m17_app.proofs.streams.run_on.Goals as goal
 
@@ -11,3 +14,36 @@ returns-clause-port_failed g c five = ports_failed _ c.run.result.status _ _ _ c
 
 pub returns-clause-crew_refused : goal.returns-clause-crew_refused
 returns-clause-crew_refused g c six = crew_failed _ c.run.result.status _ _ _ c.run.ensures.runs six
+
+pub returns-clause-ran : goal.returns-clause-ran
+returns-clause-ran g c =
+    let told = c.run.ensures.runs in
+    (told.0, told.1, record { before = _; after = _; talk = _; house = _; refused = _; ran = told.2 })
+
+pub returns-in_default-clause-ran : goal.returns-in_default-clause-ran
+returns-in_default-clause-ran g c = (
+  NoMemory,
+  c.code.ensures,
+  record {
+    before = outside None 0 None 0 0;
+    after = outside None 0 None 0 0;
+    talk = None;
+    house = None;
+    refused = None;
+    ran = inr (inr (refl, refl, record { ports = refl; talk = refl; serve = record { crew = refl; house = refl; refused = refl } }));
+  },
+)
+
+pub returns-in_default-make-clause-ran : goal.returns-in_default-make-clause-ran
+returns-in_default-make-clause-ran g c = (
+  NoMemory,
+  c.code-in_default-make.ensures,
+  record {
+    before = outside None 0 None 0 0;
+    after = outside None 0 None 0 0;
+    talk = None;
+    house = None;
+    refused = None;
+    ran = inr (inr (refl, refl, record { ports = refl; talk = refl; serve = record { crew = refl; house = refl; refused = refl } }));
+  },
+)

@@ -1,6 +1,6 @@
 use Rattle.std.proofs.Common.{refl, ◌∙◌, ap, arith}
 use Rattle.std.proofs.lemmas.List.{take_all}
-use Rattle.m17_report.specs.declared.kind.Kind.TheVariants.{Join}
+use Rattle.m17_print.specs.declared.kind.Kind.TheVariants.{Join}
 use Rattle.m17_replay.specs.Run.{kind_line, kinds_text}
 use Rattle.m17_replay.proofs.Steps.{item_written, item_failed}
 use Rattle.m17_replay.proofs.Writing.{writes_nothing, writes_same}

@@ -1,4 +1,4 @@
-use Rattle.std.proofs.Common.{◌≡◌, ℕ, ◌+◌, ◌*◌, List, map, length, string_bytes, ap, ◌∙◌, arith}
+use Rattle.std.proofs.Common.{◌≡◌, ℕ, ◌+◌, ◌*◌, List, map, length, string_bytes, ap, ◌∙◌, arith, inl}
 use Rattle.std.specs.Prelude.{vec_len}
 use Rattle.std.specs.Option.{option_map}
 use Rattle.std.proofs.lemmas.List.{length-map}
@@ -7,7 +7,7 @@ use Rattle.m17_ports.specs.declared.question.Question.TheVariants.{Link}
 use Rattle.m17_talk.specs.Devices.{PortsTold, ports_told}
 use Rattle.m17_serve.specs.Asked.{AreAsked, call_after, link_questions, shelf_questions, until_of}
 use Rattle.m17_serve.specs.Devices.{first_book}
-use Rattle.m17_serve.proofs.Asking.{asked_then, calls_on, fails_later}
+use Rattle.m17_serve.proofs.Asking.{asked_then, calls_on, fails_behind, fails_later}
 use Rattle.m17_serve.proofs.NewOnes.{there_told}
 use Rattle.m17_serve.proofs.opening.open.Goals as goal
 
@@ -64,3 +64,11 @@ returns-in-Ok-open_shelves-clause-new g c =
       traces_there = there_told _ string_bytes _ _ c.in-Ok-open_shelves.ensures.traces_there;
       books_there = there_told _ string_bytes _ _ c.in-Ok-open_shelves.ensures.books_there;
     }
+
+pub returns-in-Err-open_shelves-clause-fails_last : goal.returns-in-Err-open_shelves-clause-fails_last
+returns-in-Err-open_shelves-clause-fails_last g c =
+    fails_behind (λ p. ports_told (g.P.Ports.asked p) (g.P.Ports.calls p) (g.P.Ports.faults p)) c.args.ports.now c.open_links.new.ports c.open_shelves.new.ports
+    c.in-Ok.ensures.asks.no_fault c.open_shelves.ensures.fails_last
+
+pub returns-in-Ok-open_shelves-clause-fails_last : goal.returns-in-Ok-open_shelves-clause-fails_last
+returns-in-Ok-open_shelves-clause-fails_last g c = inl (c.in-Ok-open_shelves.ensures.asks.no_fault ∙ c.in-Ok.ensures.asks.no_fault)

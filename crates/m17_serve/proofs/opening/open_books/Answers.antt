@@ -1,4 +1,4 @@
-use Rattle.std.proofs.Common.{ℕ, List, [], ◌∷◌, map, string_bytes, sym, ap, subst, ◌∙◌, arith}
+use Rattle.std.proofs.Common.{ℕ, List, [], ◌∷◌, map, string_bytes, sym, ap, subst, ◌∙◌, arith, inl, inr}
 use Rattle.std.proofs.lemmas.List.{take_all}
 use Rattle.m17_ports.specs.Marks.{IsNumbered}
 use Rattle.m17_ports.specs.declared.question.Question.{Question}
@@ -52,3 +52,10 @@ returns-clause-asks g c =
       no_fault = c.loop-name.invariant.same;
       failed = tt;
     }
+
+pub returns-in-Err-clause-fails_last : goal.returns-in-Err-clause-fails_last
+returns-in-Err-clause-fails_last g c =
+    inr (c.loop-name.ports, Book c.as_str.result.now, c.loop-name.invariant.same, (c.book.ensures.asked, c.book.ensures.counted))
+
+pub returns-clause-fails_last : goal.returns-clause-fails_last
+returns-clause-fails_last g c = inl c.loop-name.invariant.same

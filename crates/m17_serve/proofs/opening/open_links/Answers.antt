@@ -1,4 +1,4 @@
-use Rattle.std.proofs.Common.{ℕ, List, [], ◌∷◌, Option, map, string_bytes, sym, ap, subst, ◌∙◌, arith}
+use Rattle.std.proofs.Common.{ℕ, List, [], ◌∷◌, Option, map, string_bytes, sym, ap, subst, ◌∙◌, arith, inl, inr}
 use Rattle.std.proofs.lemmas.List.{take_all}
 use Rattle.m17_ports.specs.Marks.{IsNumbered, ear_number, mouth_number}
 use Rattle.m17_ports.specs.declared.question.Question.{Question}
@@ -57,3 +57,10 @@ returns-clause-asks g c =
       no_fault = c.loop-bind.invariant.same;
       failed = tt;
     }
+
+pub returns-in-Err-clause-fails_last : goal.returns-in-Err-clause-fails_last
+returns-in-Err-clause-fails_last g c =
+    inr (c.loop-bind.ports, Link c.as_str.result.now c.args.until, c.loop-bind.invariant.same, (c.link.ensures.asked, c.link.ensures.counted))
+
+pub returns-clause-fails_last : goal.returns-clause-fails_last
+returns-clause-fails_last g c = inl c.loop-bind.invariant.same

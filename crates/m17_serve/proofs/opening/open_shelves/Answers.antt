@@ -3,7 +3,7 @@ use Rattle.m17_ports.specs.declared.question.Question.{Question}
 use Rattle.m17_ports.specs.declared.question.Question.TheVariants.{Book}
 use Rattle.m17_talk.specs.Devices.{PortsTold, ports_told}
 use Rattle.m17_serve.specs.Steps.{Asks}
-use Rattle.m17_serve.proofs.Asking.{asks_then}
+use Rattle.m17_serve.proofs.Asking.{asks_then, fails_behind}
 use Rattle.m17_serve.proofs.NewOnes.{empty_new}
 use Rattle.m17_serve.proofs.opening.open_shelves.Goals as goal
 
@@ -27,3 +27,8 @@ pub returns-in-None-clause-books : goal.returns-in-None-clause-books
 returns-in-None-clause-books g c =
     let shelves = c.leave_empty-in-None.new.shelves in
     empty_new _ _ _ shelves.items (omega (arith, c.leave_empty-in-None.ensures.count, shelves.ok.0)) c.leave_empty-in-None.ensures.empty
+
+pub returns-in-Ok-clause-fails_last : goal.returns-in-Ok-clause-fails_last
+returns-in-Ok-clause-fails_last g c =
+    fails_behind (λ p. ports_told (g.P.Ports.asked p) (g.P.Ports.calls p) (g.P.Ports.faults p)) c.args.ports.now c.open_books.new.ports c.open_books-in-Ok.new.ports
+    c.in-Ok.ensures.asks.no_fault c.open_books-in-Ok.ensures.fails_last

@@ -8,7 +8,7 @@ use Rattle.m17_serve.specs.Devices.{house_told}
 use Rattle.m17_serve.specs.Steps.{kinds_opened}
 use Rattle.m17_serve.proofs.Endings.{asked_nothing, caused_port, caused_refusal, caused_run, comes_refusal, comes_run, has_run, never_ran}
 use Rattle.m17_serve.proofs.Printing.{printed_grows}
-use Rattle.m17_serve.proofs.Told.{eyes_of, headline_told, looks, new_ears, new_shelves, of_questions, ones_count, refused_same}
+use Rattle.m17_serve.proofs.Told.{eyes_of, have_same_marks, headline_told, looks, new_ears, new_shelves, of_questions, ones_count, refused_same}
 use Rattle.m17_serve.proofs.serve_command.serve.Goals as goal
 
 pub returns-in_default-open-clause-causes : goal.returns-in_default-open-clause-causes
@@ -66,6 +66,8 @@ returns-in-Ok-ran-clause-ended g c =
       headline = headline_told k order c.plan_of-plan.result c.plan_of-plan.ensures new house c.in-Ok-ran.ensures.headline;
       same_devices = of_questions k g.P.Book.Book.label order _ new (kinds_back house) c.in-Ok-open.ensures.new c.in-Ok-ran.ensures.same_ears.0 c.in-Ok-ran.ensures.same_mouths.0
           c.in-Ok-ran.ensures.same_traces.0 c.in-Ok-ran.ensures.same_traces.1 c.in-Ok-ran.ensures.same_books.0 c.in-Ok-ran.ensures.same_books.1;
+      same_marks = have_same_marks k new (kinds_back house) c.in-Ok-ran.ensures.same_ears.0 c.in-Ok-ran.ensures.same_mouths.0 c.in-Ok-ran.ensures.same_traces.0
+          c.in-Ok-ran.ensures.same_books.0;
       handed_back = refl;
       none = refl;
     })

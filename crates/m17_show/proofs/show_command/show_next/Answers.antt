@@ -1,7 +1,7 @@
 use Rattle.std.proofs.Common.{ℕ, List, [], take, Option, Some, Ok, Err, sym, ap, subst, arith}
 use Rattle.m17_io.specs.Faults.{HasCauses}
 use Rattle.m17_print.specs.Endings.{failed_device, Comes}
-use Rattle.m17_print.specs.declared.ending.Ending.{Ending}
+use Rattle.m17_print.specs.declared.ending.TextEnding.{TextEnding}
 use Rattle.m17_show.specs.declared.reason.ShowReason.{ShowReason}
 use Rattle.m17_show.specs.Run.{ComesOfLine, AreShown}
 use Rattle.m17_show.specs.Show.{SaysShow, PrintsShow}
@@ -23,13 +23,13 @@ pub returns-in-Err-clause-causes : goal.returns-in-Err-clause-causes
 returns-in-Err-clause-causes g c =
     let reads = g.S.Input.faults c.next.new.input in
     after_none _ _ _ _ c.in-Ok-Line.ensures.causes
-    (subst (λ (ending : Ending ShowReason). HasCauses (reads, g.K.Sink.faults c.next.new.out) (reads, g.K.Sink.faults c.show_line.new.out) (failed_device ending))
+    (subst (λ (ending : TextEnding ShowReason). HasCauses (reads, g.K.Sink.faults c.next.new.out) (reads, g.K.Sink.faults c.show_line.new.out) (failed_device ending))
     (sym c.ending_at.ensures) (failed_at c.args.number c.in-Err.not_shown _ _ (c.in-Err.ensures.causes reads)))
 
 pub returns-in-Err-clause-goes_on : goal.returns-in-Err-clause-goes_on
 returns-in-Err-clause-goes_on g c = λ bytes first so_far.
     let found = rw c.in-Ok-Line.field-0-is at c.in-Ok-Line.ensures.found in
-    subst (λ (ending : Ending ShowReason). Comes SaysShow PrintsShow ending bytes (g.S.Input.left c.next.new.input) first (g.K.Sink.written c.show_line.new.out)) (sym c.ending_at.ensures)
+    subst (λ (ending : TextEnding ShowReason). Comes SaysShow PrintsShow ending bytes (g.S.Input.left c.next.new.input) first (g.K.Sink.written c.show_line.new.out)) (sym c.ending_at.ensures)
     (line_not_shown bytes _ c.args.number c.in-Ok-Line.size c.in-Err.not_shown _ first _ _ c.requires (kept bytes _ _ c.args.number _ _ first _ _ so_far c.in-Ok-Line.ensures.kept c.in-Ok-Line.ensures.nothing_written)
     found (subst (λ (xs : List ℕ). ComesOfLine (take c.in-Ok-Line.size xs) (g.K.Sink.written c.next.new.out) (g.K.Sink.written c.show_line.new.out) (Err c.in-Err.not_shown)) c.pending.ensures c.in-Err.ensures.comes))
 
