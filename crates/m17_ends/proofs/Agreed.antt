@@ -1,34 +1,46 @@
 -- Both ends agree.
-use Rattle.std.proofs.Common.{◌≡◌, ℕ, List, sym, ap, ◌∙◌, subst, Some, Contains}
-use Rattle.std.specs.Prelude.{slice_get}
+use Rattle.std.proofs.Common.{◌≡◌, ℕ, suc, Bool, List, refl, sym, ap, ◌∙◌, subst, Some, Contains}
+use Rattle.std.specs.Prelude.{◌==◌, slice_get}
+use Rattle.std.specs.List.{flat_map}
+use Rattle.std.proofs.lemmas.Bool.{eqb-true}
 use Rattle.m17_values.specs.declared.heard.Heard.{Heard}
 use Rattle.m17_values.specs.declared.heard.Heard.TheVariants as heard
+use Rattle.m17_values.specs.declared.peer.Peer.{Peer}
 use Rattle.m17_stream.specs.Laws.{OneSpelling}
 use Rattle.m17_stream.specs.declared.packet.StreamPacket.{StreamPacket}
 use Rattle.m17_control.specs.Forms.{Spells, SpellsControl}
 use Rattle.m17_control.specs.Laws.{DecodingIsExact}
+use Rattle.m17_control.specs.declared.event.Body.TheVariants.{Join}
+use Rattle.m17_control.specs.declared.event.Event.{Event}
+use Rattle.m17_control.specs.declared.item.Item.{Item}
 use Rattle.m17_control.specs.declared.packet.Control.TheVariants.{Ackn}
 use Rattle.m17_control.specs.declared.packet.Packet.{Packet}
 use Rattle.m17_control.specs.declared.packet.Packet.TheVariants as packets
-use Rattle.m17_directory.specs.Laws.{DoorCarriesReplies, PeersAreToldApart}
+use Rattle.m17_directory.specs.Entries.{is_peer}
+use Rattle.m17_directory.specs.Laws.{DoorCarriesReplies, JoinsAreTheClaims, PeersAreToldApart}
+use Rattle.m17_module.specs.Laws.{ItemsFollowTheirJoins, LaterEventsChangeNoItems}
+use Rattle.m17_turns.specs.Joined.{goes_to, items_of}
 use Rattle.m17_reflect.specs.Headline.{Headline, IsCarriedOut}
-use Rattle.m17_reflect.specs.Links.{IsLink, Link, link_setup}
-use Rattle.m17_reflect.specs.Queues.{carried}
+use Rattle.m17_reflect.specs.Links.{At, IsLink, Link, letter_of, link_setup, setup_at}
+use Rattle.m17_reflect.specs.Queues.{all_carried, carried}
 use Rattle.m17_reflect.specs.Run.{Run}
+use Rattle.m17_reflect.specs.Sendings.{memberships}
+use Rattle.m17_reflect.specs.Trails.{events_of}
 use Rattle.m17_client.specs.Client.{join_packet}
 use Rattle.m17_client.specs.Laws.{ClientKeepsWhatWasSaid, TalkIsAClientsEnd}
 use Rattle.m17_client.specs.Talk.{steps_of}
 use Rattle.m17_client.specs.Standing.{Standing}
 use Rattle.m17_client.specs.Steps.{ClientStep}
 use Rattle.m17_client.specs.Way.{GotIn, KeepsWhatWasSaid, Way}
-use Rattle.m17_ends.specs.BothEnds.{BothLetIn, IsInATrail, IsLinksEnd}
+use Rattle.m17_ends.specs.BothEnds.{BothLetIn, IsAnswered, IsInATrail, IsLinksEnd}
 use Rattle.m17_ends.specs.Laws.{BothEndsAgree, TalksAgree}
-use Rattle.m17_ends.proofs.Listed.{all_at, beside, map_at}
+use Rattle.m17_ends.proofs.Listed.{all_at, beside, from_place, map_at}
 use Rattle.m17_ends.proofs.Given.{speaks}
-use Rattle.m17_ends.proofs.Carried.{in_a_trail}
+use Rattle.m17_ends.proofs.Answered.{both_true, from_front, given_at, passes_too, routed_by, same_place}
+use Rattle.m17_ends.proofs.Carried.{given_in, in_a_trail}
 use Rattle.m17_ends.proofs.Heads.{is_ackn, is_frame}
 use Rattle.m17_ends.proofs.Told.{Telling, never_ackn, said_to_peer, told_all}
-use Rattle.m17_ends.proofs.Asked.{HeardAsk, heard_ask}
+use Rattle.m17_ends.proofs.Asked.{HeardAsk, IsJoinOf, heard_ask}
 
 -- the laws below that this rests on
 pub record Laws : Type 0 where
@@ -38,12 +50,27 @@ pub record Laws : Type 0 where
   pub frames : OneSpelling
   pub apart : PeersAreToldApart
   pub door : DoorCarriesReplies
+  pub claims : JoinsAreTheClaims
+  pub later : LaterEventsChangeNoItems
+  pub joins : ItemsFollowTheirJoins
+
+-- a Join that names the peer of an item is one of that peer
+joins_peer : (item : Item) (event : Event) (x : Peer) → item.peer ≡ x → (callsign : ℕ) (listens : Bool) (after : ℕ)
+    → event.body ≡ Join item.member item.peer callsign listens after → IsJoinOf x event.body
+joins_peer item event x same callsign listens after is = (
+  item.member,
+  callsign,
+  listens,
+  after,
+  is ∙ ap (λ (y : Peer). Join item.member y callsign listens after) same,
+)
 
 module _ {L : Type 0} where
   -- The link's end, with its link: what the way says that it heard is what the link heard, and what it said to the client
   -- is a reply, or an item of one of the client's memberships.
   record LinkThere (run : Run L) (links : List Link) (way : Way) (i : ℕ) : Type 0 where
     link : Link
+    at_link : At links i link
     is_link : IsLink link
     heard_is : way.link_heard ≡ link.heard
     told : (bytes : List ℕ) → Contains way.link_said (way.client, bytes)
@@ -63,6 +90,7 @@ module _ {L : Type 0} where
       (subst (λ l. slice_get l i ≡ Some entries) (sym out.of_heard) at_heard) in
       record {
         link = link;
+        at_link = at_link;
         is_link = all_at IsLink out.links i link out.each at_link;
         heard_is = heard_all ∙ sym same;
         told = λ bytes there. said_to_peer (link_setup run.plan i) link.entries (carried run.handed.queues)
@@ -71,33 +99,74 @@ module _ {L : Type 0} where
             is.new_mouth is.said there;
       }
 
-  -- an ACKN that was said to the client goes back to a request of it that the link heard
-  ackn_asked : (laws : Laws) (run : Run L) (links : List Link) (i : ℕ) (way : Way) (there : LinkThere run links way i)
-      (q : Packet) → q ≡ packets.Control Ackn
+  -- What an ACKN that was said to the client goes back to: a request of it that the link heard, and that a module answered.
+  record Answering (run : Run L) (i : ℕ) (way : Way) : Type 0 where
+    asked : ℕ
+    request : HeardAsk way.link_heard way.client asked
+    answered : IsAnswered run i asked way.client
+
+  ackn_asked : (laws : Laws) (run : Run L) (heard_all : List (List Heard)) (out : IsCarriedOut run heard_all) (i : ℕ)
+      (way : Way) (there : LinkThere run out.links way i) (q : Packet) → q ≡ packets.Control Ackn
       → Telling (link_setup run.plan i) there.link.entries (carried run.handed.queues) way.client q
-      → HeardAsk way.link_heard way.client
-  ackn_asked laws run links i way there q is (Telling.Replied c same reply) =
+      → Answering run i way
+  ackn_asked laws run heard_all out i way there q is (Telling.Replied c same reply) =
       let ackn : c ≡ Ackn = cc in
       absurd (never_ackn laws.door (link_setup run.plan i) there.link.entries way.client
       (subst (Contains _) ackn reply))
-  ackn_asked laws run links i way there q is (Telling.Carried j item joined held said) =
-      rw there.heard_is (heard_ask (link_setup run.plan i) there.link.heard there.link.entries way.client j laws.apart
-      there.is_link.says joined)
+  ackn_asked laws run heard_all out i way there q is (Telling.Carried j item to_it among held said) =
+      let given = given_in run out.links j.m j.member.place item out.trails out.queues held in
+      let at = given_at laws.later laws.joins (setup_at run.plan j.m) (events_of given.trail) item given.given in
+      let goes = passes_too (goes_to i (is_peer way.client)) (all_carried run.handed.queues)
+      (flat_map (items_of (carried run.handed.queues)) (memberships (link_setup run.plan i) there.link.entries way.client))
+      item (out.mouths.shares i there.link way.client there.at_link) among in
+      let (by_link, to_peer) = both_true (i == item.link) (is_peer way.client item.peer) goes in
+      let link_is : item.link ≡ i = sym (eqb-true i item.link by_link) in
+      let peer_is : item.peer ≡ way.client = sym (laws.apart.same way.client item.peer to_peer) in
+      let route = routed_by run.plan out.links (letter_of run.plan j.m) i there.link given.trail at.join.event
+      (out.trails.each j.m given.trail given.there) there.at_link
+      (from_front (suc at.n) (events_of given.trail) at.join.position at.join.event at.join.there)
+      (at.join.link ∙ link_is) in
+      record {
+        asked = at.join.event.tag.index;
+        request = rw there.heard_is (heard_ask (link_setup run.plan i) there.link.heard there.link.entries
+            (letter_of run.plan j.m) way.client at.join.event laws.claims there.is_link.says route
+            (joins_peer item at.join.event way.client peer_is at.join.callsign at.join.listens at.join.after
+            at.join.body));
+        answered = record {
+          m = j.m;
+          trail = given.trail;
+          there = given.there;
+          n = at.n;
+          ackn = item;
+          gives = at.gives;
+          says = said ∙ ap Some is;
+          to_peer = peer_is;
+          by_link = link_is;
+          queued = subst (λ (place : ℕ). Contains (carried run.handed.queues j.m place) item)
+              (sym (same_place item.member j.member to_it)) held;
+          join = at.join;
+          of_entry = refl;
+        };
+      }
 
-  let_in : (laws : Laws) (run : Run L) (links : List Link) (i : ℕ) (way : Way) (first : Standing)
-      (steps front : List ClientStep) → LinkThere run links way i → KeepsWhatWasSaid way first steps
-      → GotIn way first front → BothLetIn way first front
-  let_in laws run links i way first steps front there keeps got =
+  let_in : (laws : Laws) (run : Run L) (heard_all : List (List Heard)) (out : IsCarriedOut run heard_all) (i : ℕ)
+      (way : Way) (first : Standing) (steps front : List ClientStep) → LinkThere run out.links way i
+      → KeepsWhatWasSaid way first steps → GotIn way first front → BothLetIn run i way first front
+  let_in laws run heard_all out i way first steps front there keeps got =
       let (q, spelled, telling) = there.told got.answer got.answer_said in
-      let asked = ackn_asked laws run links i way there q (is_ackn q got.answer got.is_ackn spelled) telling in
+      let ackn = ackn_asked laws run heard_all out i way there q (is_ackn q got.answer got.is_ackn spelled) telling in
+      let asked = ackn.request in
       let own : SpellsControl (join_packet first) asked.bytes =
-      keeps.asks asked.at asked.bytes asked.packet asked.there asked.asks asked.spelled in
+      keeps.asks asked.at asked.bytes asked.packet (from_place way.link_heard ackn.asked _ asked.there)
+      asked.asks asked.spelled in
       let same : asked.bytes ≡ got.asking =
       laws.exact.one_spelling (packets.Control (join_packet first)) asked.bytes got.asking own got.asks in
       record {
         got_in = got;
+        asked = ackn.asked;
         at = asked.at;
-        link_heard = subst (λ b. Contains way.link_heard (heard.Datagram way.client asked.at b)) same asked.there;
+        link_heard = asked.there ∙ ap (λ (b : List ℕ). Some (heard.Datagram way.client asked.at b)) same;
+        answered = ackn.answered;
       }
 
   -- a voice packet that was said to the client is given out in a trail
@@ -107,7 +176,7 @@ module _ {L : Type 0} where
       → Telling (link_setup run.plan i) there.link.entries (carried run.handed.queues) way.client q
       → IsInATrail run packet
   voice_given laws run heard_all out i way there packet q is (Telling.Replied c same reply) = absurd cc
-  voice_given laws run heard_all out i way there packet q is (Telling.Carried j item joined held said) =
+  voice_given laws run heard_all out i way there packet q is (Telling.Carried j item to_it among held said) =
       in_a_trail run out.links j.m j.member.place item packet out.trails out.queues held
       (speaks packet item.body (link_setup run.plan i).name (said ∙ ap Some is))
 
@@ -119,7 +188,8 @@ module _ {L : Type 0} where
       record {
         keeps = keeps;
         let_in = λ front rest are connected.
-            let_in laws run out.links i way first steps front there keeps (keeps.got_in front rest are connected);
+            let_in laws run headline.heard out i way first steps front there keeps
+            (keeps.got_in front rest are connected);
         in_trails = λ packet kept.
             let (bytes, spelled, said) = keeps.said packet kept in
             let (q, other, telling) = there.told bytes said in

@@ -40,11 +40,16 @@ row_cases None q queue e = absurd (none-some queue e)
 row_cases (Some row) q queue e = (row, refl, e)
 
 module _ {L : Type 0} where
-  -- so a voice packet that a queue carried is given out in a trail
-  pub in_a_trail : (run : Run L) (links : List Link) (m q : ℕ) (item : Item) (packet : StreamPacket)
+  -- what a queue carried was given by the events of its module's trail
+  pub record GivenIn (run : Run L) (m : ℕ) (item : Item) : Type 0 where
+    pub trail : TrailEnd Event
+    pub there : At run.handed.trails m trail
+    pub given : Contains (items_given (setup_at run.plan m) (events_of trail)) item
+
+  pub given_in : (run : Run L) (links : List Link) (m q : ℕ) (item : Item)
       → AreTrails run.plan links run.handed.trails → QueuesCarry run
-      → Contains (carried run.handed.queues m q) item → Speaks packet item.body → IsInATrail run packet
-  in_a_trail run links m q item packet trails queues h speak =
+      → Contains (carried run.handed.queues m q) item → GivenIn run m item
+  given_in run links m q item trails queues h =
       let (queue, at_queue, there) = of_option (λ (queue : TrailEnd Item). items_of queue.order)
       (slice_get (row_at run.handed.queues m) q) item h in
       let (row, at_row, at_q) = row_cases (slice_get run.handed.queues m) q queue at_queue in
@@ -52,7 +57,18 @@ module _ {L : Type 0} where
       (queues.count ∙ sym trails.count) at_row in
       let (missed, at_missed) = beside run.handed.queues run.handed.missed m row
       (queues.count ∙ sym queues.missed_count) at_row in
-      let (n, gives) = gives_out (setup_at run.plan m) (events_of trail) item packet
-      (was_given (events_of trail) _ (queues.each m trail row missed at_trail at_row at_missed) q queue item at_q there)
-      speak in
-      record { m = m; trail = trail; there = at_trail; n = n; gives = gives }
+      record {
+        trail = trail;
+        there = at_trail;
+        given =
+            was_given (events_of trail) _ (queues.each m trail row missed at_trail at_row at_missed) q queue item at_q there;
+      }
+
+  -- so a voice packet that a queue carried is given out in a trail
+  pub in_a_trail : (run : Run L) (links : List Link) (m q : ℕ) (item : Item) (packet : StreamPacket)
+      → AreTrails run.plan links run.handed.trails → QueuesCarry run
+      → Contains (carried run.handed.queues m q) item → Speaks packet item.body → IsInATrail run packet
+  in_a_trail run links m q item packet trails queues h speak =
+      let is = given_in run links m q item trails queues h in
+      let (n, gives) = gives_out (setup_at run.plan m) (events_of is.trail) item packet is.given speak in
+      record { m = m; trail = is.trail; there = is.there; n = n; gives = gives }

@@ -4,4 +4,5 @@ mod Carried
 mod Heads
 mod Told
 mod Asked
+mod Answered
 mod Agreed

@@ -54,7 +54,7 @@ module _ {A : Type 0} where
   passed test (y ∷ xs) x h =
       passed_step test (test y) y (filter test xs) xs x refl h (λ more. passed test xs x more)
 
-  passes_step : (b : Bool) (y : A) (kept : List A) (x : A) → (Contains kept x ⊎ ((y ≡ x) × (b ≡ true)))
+  pub passes_step : (b : Bool) (y : A) (kept : List A) (x : A) → (Contains kept x ⊎ ((y ≡ x) × (b ≡ true)))
       → Contains (cond b (y ∷ kept) kept) x
   passes_step true y kept x (inl more) = later y kept x more
   passes_step false y kept x (inl more) = more

@@ -52,7 +52,8 @@ in_either first second whole x order h =
 pub data Telling (setup : Setup) (entries : List Entry) (queues : Queues) (x : Peer) (q : Packet) : Type 0 where
   Replied : (c : Control) → q ≡ packets.Control c → Contains (direct_replies setup entries x) c
       → Telling setup entries queues x q
-  Carried : (j : Joined) (item : Item) → Contains (memberships setup entries x) j
+  Carried : (j : Joined) (item : Item) → is_to j.member item ≡ true
+      → Contains (flat_map (items_of queues) (memberships setup entries x)) item
       → Contains (queues j.m j.member.place) item → packet_said item.body setup.name ≡ Some q
       → Telling setup entries queues x q
 
@@ -64,7 +65,8 @@ from_items setup entries queues x q h =
     let (item, there, said) = some_of (λ (item : Item). packet_said item.body setup.name)
     (flat_map (items_of queues) (memberships setup entries x)) q h in
     let (j, joined, for_it) = one_of (items_of queues) (memberships setup entries x) item there in
-    Telling.Carried j item joined (passed (is_to j.member) (queues j.m j.member.place) item for_it).0 said
+    let (held, to_it) = passed (is_to j.member) (queues j.m j.member.place) item for_it in
+    Telling.Carried j item to_it there held said
 
 told_to_peer : (setup : Setup) (entries : List Entry) (queues : Queues) (x : Peer) (attempts : List Datagram)
     (bytes : List ℕ) → PeersAreToldApart → IsToldAs setup entries queues x attempts → Contains attempts (x, bytes)

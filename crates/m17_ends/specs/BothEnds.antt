@@ -1,20 +1,28 @@
 -- A link of a run of the reflector as one end of a way, and what both ends of it agree on. This
 -- profile.
-use Rattle.std.specs.Prelude.{◌≡◌, ◌⊎◌, ℕ, true, List, ◌++◌, Contains, Some}
+use Rattle.std.specs.Prelude.{◌≡◌, ◌⊎◌, ℕ, suc, true, List, ◌++◌, take, Contains, Some}
 use Rattle.m17_values.specs.declared.heard.Heard.{Heard}
 use Rattle.m17_values.specs.declared.heard.Heard.TheVariants as heard
 use Rattle.m17_values.specs.declared.member.Member.{Member}
+use Rattle.m17_values.specs.declared.peer.Peer.{Peer}
 use Rattle.m17_stream.specs.declared.packet.StreamPacket.{StreamPacket}
 use Rattle.m17_control.specs.declared.event.Event.{Event}
+use Rattle.m17_control.specs.declared.item.Item.{Item}
+use Rattle.m17_control.specs.declared.packet.Control.TheVariants.{Ackn}
+use Rattle.m17_control.specs.declared.packet.Packet.TheVariants as packets
+use Rattle.m17_control.specs.Spelled.{packet_said}
 use Rattle.m17_ports.specs.Said.{MouthTold}
 use Rattle.m17_ports.specs.Told.{StartsEmpty}
 use Rattle.m17_floor.specs.Laws.{IsAdmittedPacket}
 use Rattle.m17_module.specs.Events.{acts_of}
 use Rattle.m17_module.specs.Echoes.{echo_at}
 use Rattle.m17_module.specs.Items as module_items
+use Rattle.m17_module.specs.Items.{items_at}
+use Rattle.m17_module.specs.Laws.{FollowsJoin}
 use Rattle.m17_lane.specs.Ends.{TrailEnd}
 use Rattle.m17_receiver.specs.Devices.{Tells}
-use Rattle.m17_reflect.specs.Links.{At, setup_at}
+use Rattle.m17_reflect.specs.Links.{At, link_setup, setup_at}
+use Rattle.m17_reflect.specs.Queues.{carried}
 use Rattle.m17_reflect.specs.Run.{Run}
 use Rattle.m17_reflect.specs.Trails.{events_of}
 use Rattle.m17_client.specs.Standing.{Standing}
@@ -52,20 +60,40 @@ pub record IsInATrail {L : Type 0} (run : Run L) (packet : StreamPacket) : Type 
   pub n : ℕ
   pub gives : GivesOut (setup_at run.plan m) (events_of trail) n packet
 
--- How a client got in, as both ends have it: the link heard the CONN or LSTN that the client had
--- said before it heard its ACKN. This profile.
-pub record BothLetIn (way : Way) (first : Standing) (steps : List ClientStep) : Type 0 where
+-- A module answers an entry of a link: at a position of its trail it gives the peer an ACKN, which
+-- goes by that link, and which the queue of its member carried. The Join of the member came of the
+-- entry, and stands at that position or before it. This profile.
+pub record IsAnswered {L : Type 0} (run : Run L) (i asked : ℕ) (x : Peer) : Type 0 where
+  pub m : ℕ
+  pub trail : TrailEnd Event
+  pub there : At run.handed.trails m trail
+  pub n : ℕ
+  pub ackn : Item
+  pub gives : Contains (items_at (setup_at run.plan m) (events_of trail) n) ackn
+  pub says : packet_said ackn.body (link_setup run.plan i).name ≡ Some (packets.Control Ackn)
+  pub to_peer : ackn.peer ≡ x
+  pub by_link : ackn.link ≡ i
+  pub queued : Contains (carried run.handed.queues m ackn.member.place) ackn
+  pub join : FollowsJoin (take (suc n) (events_of trail)) ackn
+  pub of_entry : join.event.tag.index ≡ asked
+
+-- How a client got in, as both ends have it: the link heard, at an entry, the CONN or LSTN that the
+-- client had said before it heard its ACKN; and a module answered that entry. This profile.
+pub record BothLetIn {L : Type 0} (run : Run L) (i : ℕ) (way : Way) (first : Standing)
+    (steps : List ClientStep) : Type 0 where
   pub got_in : GotIn way first steps
+  pub asked : ℕ
   pub at : ℕ
-  pub link_heard : Contains way.link_heard (heard.Datagram way.client at got_in.asking)
+  pub link_heard : At way.link_heard asked (heard.Datagram way.client at got_in.asking)
+  pub answered : IsAnswered run i asked way.client
 
 -- What the ends agree on: the client keeps what was said to it; where it is connected, the link
--- heard its request; and each packet that it keeps is an admitted one, or a parrot's echo, in some
--- module's trail. This profile.
-pub record EndsAgree {L : Type 0} (run : Run L) (way : Way) (first : Standing)
+-- heard its request, and a module answered that; and each packet that it keeps is an admitted one,
+-- or a parrot's echo, in some module's trail. This profile.
+pub record EndsAgree {L : Type 0} (run : Run L) (i : ℕ) (way : Way) (first : Standing)
     (steps : List ClientStep) : Type 0 where
   pub keeps : KeepsWhatWasSaid way first steps
   pub let_in : (front rest : List ClientStep) → steps ≡ front ++ rest
-      → is_connected (standing_after first front).state ≡ true → BothLetIn way first front
+      → is_connected (standing_after first front).state ≡ true → BothLetIn run i way first front
   pub in_trails : (packet : StreamPacket) → Contains (keeps_of steps) packet
       → IsInATrail run packet

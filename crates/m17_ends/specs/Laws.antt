@@ -15,11 +15,11 @@ abbrev pub BothEndsAgree : (L : Type 0) → Type 0
 BothEndsAgree L =
     (run : Run L) (headline : Headline run) (i : ℕ) (way : Way) (first : Standing)
     (steps : List ClientStep) → IsLinksEnd run i way → NothingInvented way
-    → IsClientsEnd way first steps → EndsAgree run way first steps
+    → IsClientsEnd way first steps → EndsAgree run i way first steps
 
 -- The same of a run of `talk` as the client's end. This profile.
 abbrev pub TalksAgree : (L : Type 0) → Type 0
 TalksAgree L =
     (run : Run L) (headline : Headline run) (i : ℕ) (way : Way) (plan : TalkPlan)
     (turns : List Turn) → IsLinksEnd run i way → NothingInvented way
-    → IsTalkOver way plan turns → EndsAgree run way plan.client (steps_of turns)
+    → IsTalkOver way plan turns → EndsAgree run i way plan.client (steps_of turns)

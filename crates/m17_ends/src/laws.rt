@@ -15,4 +15,7 @@ pub fn both_ends_agree<L>()
     m17_stream::laws::one_spelling();
     m17_directory::laws::peers_are_told_apart();
     m17_directory::laws::door_carries_replies();
+    m17_directory::laws::joins_are_the_claims();
+    m17_module::laws::later_events_change_no_items();
+    m17_module::laws::items_follow_their_joins();
 }

@@ -9,6 +9,9 @@ returns-clause-ends g c = both_agree (record {
   frames = c.one_spelling.ensures;
   apart = c.peers_are_told_apart.ensures;
   door = c.door_carries_replies.ensures;
+  claims = c.joins_are_the_claims.ensures;
+  later = c.later_events_change_no_items.ensures;
+  joins = c.items_follow_their_joins.ensures;
 })
 
 pub returns-clause-talks : goal.returns-clause-talks
@@ -19,4 +22,7 @@ returns-clause-talks g c = talks_agree (record {
   frames = c.one_spelling.ensures;
   apart = c.peers_are_told_apart.ensures;
   door = c.door_carries_replies.ensures;
+  claims = c.joins_are_the_claims.ensures;
+  later = c.later_events_change_no_items.ensures;
+  joins = c.items_follow_their_joins.ensures;
 })
