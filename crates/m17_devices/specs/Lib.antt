@@ -15,5 +15,7 @@ pub use Rattle.m17_port_memory.specs.Kept
 pub use Rattle.m17_port_memory.specs.Script
 pub use Rattle.m17_port_memory.specs.Handed
 pub use Rattle.m17_port_memory.specs.Peers
+pub use Rattle.m17_faulty_memory.specs.Answers
+pub use Rattle.m17_faulty_memory.specs.Torn
 pub use Rattle.m17_crew.specs.Crew
 pub use Rattle.m17_crew.specs.Laws

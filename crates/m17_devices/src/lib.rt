@@ -7,6 +7,7 @@
 pub use m17_crew::{
     Crew, Order, RefusingCrew, Running, Starter, StdCrew, Work, join_all, start_all,
 };
+pub use m17_faulty_memory::{FaultyEar, TornBook};
 pub use m17_io::{Fault, Input, Outlet, Sink, Source, read_tied};
 pub use m17_memory::{BytesOutlet, BytesSink, BytesSource, WaitingSource};
 pub use m17_port_memory::{ListBook, ListMouth, ScriptEar, ScriptPorts, TallyMouth};
