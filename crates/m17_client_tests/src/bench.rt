@@ -101,7 +101,7 @@ pub(crate) enum Entry {
 }
 
 /// The same as the ear says it.
-fn said_by_ear(entry: Entry) -> Heard {
+pub(crate) fn said_by_ear(entry: Entry) -> Heard {
     match entry {
         Entry::Hears(at, word) => Heard::Datagram {
             from: reflector(),

@@ -68,18 +68,20 @@ fn step(client: &mut Client, meets: Meets, said: Option<Word>) -> (usize, bool, 
     (out.len(), say(&out, said), state)
 }
 
-/// Takes a client through these steps, and demands what is said and the state at each.
-fn go_on(rt: &impl Abort, client: &mut Client, steps: &[Step]) {
-    for (meets, said, wanted) in steps {
+/// Takes a client through these steps, and demands what is said and the state at each. A step that fails is named by its
+/// table, the row there and its own number.
+fn go_on(rt: &impl Abort, table: &str, row: usize, client: &mut Client, steps: &[Step]) {
+    for (i, (meets, said, wanted)) in steps.iter().enumerate() {
         let (_, says, state) = step(client, *meets, *said);
-        assert!(rt; says && state == *wanted && client.state() == *wanted);
+        let as_wanted = says && state == *wanted && client.state() == *wanted;
+        assert!(rt; as_wanted, "{table} {row}, step {i}");
     }
 }
 
 /// The same for a client that was idle before.
-fn play(rt: &impl Abort, listen: bool, steps: &[Step]) {
+fn play(rt: &impl Abort, table: &str, row: usize, listen: bool, steps: &[Step]) {
     let mut client = client(rt, listen);
-    go_on(rt, &mut client, steps);
+    go_on(rt, table, row, &mut client, steps);
 }
 
 const UNANSWERED: [Step; 6] = [
@@ -93,7 +95,7 @@ const UNANSWERED: [Step; 6] = [
 
 #[test]
 fn five_conns_go_unanswered(rt: HostRuntime) {
-    play(&rt, false, &UNANSWERED);
+    play(&rt, "unanswered", 0, false, &UNANSWERED);
 }
 
 const LOST: [Step; 4] = [
@@ -110,8 +112,8 @@ const REFUSED: [Step; 2] = [
 
 #[test]
 fn silence_and_nack_close_a_client(rt: HostRuntime) {
-    play(&rt, false, &LOST);
-    play(&rt, true, &REFUSED);
+    play(&rt, "lost", 0, false, &LOST);
+    play(&rt, "refused", 0, true, &REFUSED);
 }
 
 const ANSWERS: [Step; 4] = [
@@ -136,12 +138,15 @@ const LEAVES: [Step; 2] = [(Leave, Some(Part), Leaving), (Hears(50, Disc), None,
 #[test]
 fn a_connected_client_answers_pings_and_keeps_packets(rt: HostRuntime) {
     let mut client = client(&rt, false);
-    go_on(&rt, &mut client, &ANSWERS);
+    go_on(&rt, "answers", 0, &mut client, &ANSWERS);
     for (sid, number, kept) in FRAMES {
         let meets = Hears(40, Frame(sid, number, false));
-        assert!(rt; step(&mut client, meets, None).0 == kept);
+        assert!(rt;
+            step(&mut client, meets, None).0 == kept,
+            "frame {number} of {sid}"
+        );
     }
-    go_on(&rt, &mut client, &LEAVES);
+    go_on(&rt, "leaves", 0, &mut client, &LEAVES);
 }
 
 const INSIDE: State = Connected { heard_at: 3 };
@@ -163,18 +168,16 @@ const PACKETS: [(Word, State, State, State, Option<Word>); 9] = [
 /// Each state with each packet: what is said, and the state afterwards.
 #[test]
 fn each_state_meets_each_packet(rt: HostRuntime) {
-    for (packet, joined, after, left, said) in PACKETS {
-        play(
-            &rt,
-            true,
-            &[ASKS_TO_LISTEN, (Hears(3, packet), None, joined)],
-        );
+    for row in 0..PACKETS.len() {
+        let (packet, joined, after, left, said) = PACKETS[row];
+        let asking = [ASKS_TO_LISTEN, (Hears(3, packet), None, joined)];
+        play(&rt, "asking", row, true, &asking);
         let inside = [
             ASKS_TO_LISTEN,
             (Hears(1, Ackn), None, Connected { heard_at: 1 }),
             (Hears(3, packet), said, after),
         ];
-        play(&rt, true, &inside);
+        play(&rt, "inside", row, true, &inside);
         let leaving = [
             ASKS_TO_LISTEN,
             (Leave, Some(Part), Leaving),
@@ -182,16 +185,17 @@ fn each_state_meets_each_packet(rt: HostRuntime) {
             (Quiet(1_000), None, ASKED),
             (Hears(1_001, packet), None, ASKED),
         ];
-        play(&rt, true, &leaving);
+        play(&rt, "leaving", row, true, &leaving);
     }
 }
 
 /// A packet finds an idle client on its way in: it says its CONN, and nothing comes of the packet.
 #[test]
 fn an_idle_client_minds_no_packet(rt: HostRuntime) {
-    for row in PACKETS {
+    for row in 0..PACKETS.len() {
         let mut idle = client(&rt, false);
-        assert!(rt; step(&mut idle, Hears(7, row.0), Some(Conn)) == (1, true, ASKING));
+        let came = step(&mut idle, Hears(7, PACKETS[row].0), Some(Conn));
+        assert!(rt; came == (1, true, ASKING), "idle {row}");
     }
 }
 
@@ -205,13 +209,14 @@ const CLOSING: [(Word, State, u64); 4] = [
 
 #[test]
 fn a_closed_client_stays_closed(rt: HostRuntime) {
-    for (packet, closed, at) in CLOSING {
+    for row in 0..CLOSING.len() {
+        let (packet, closed, at) = CLOSING[row];
         let steps = [
             ASKS,
             (Hears(1, packet), None, closed),
             (Quiet(at), None, closed),
         ];
-        play(&rt, false, &steps);
+        play(&rt, "closing", row, false, &steps);
     }
 }
 
@@ -238,6 +243,6 @@ const WAITS_INSIDE: [Step; 4] = [
 /// Nothing is heard in each state, up to a millisecond before its wait is over, and then at that moment.
 #[test]
 fn each_wait_is_over_at_its_moment(rt: HostRuntime) {
-    play(&rt, false, &WAITS);
-    play(&rt, false, &WAITS_INSIDE);
+    play(&rt, "waits", 0, false, &WAITS);
+    play(&rt, "waits inside", 0, false, &WAITS_INSIDE);
 }

@@ -1,6 +1,6 @@
 //! Modules are served beside each other, and links too; what is to be said goes out before the ears have ended, wherever it
-//! is queued; a patient run waits at a full queue; and what one link hears goes out by another. The devices wait for one
-//! another.
+//! is queued; a patient run waits at a full queue; what one link hears goes out by another; and a member keeps its place. The
+//! devices wait for one another.
 
 use crate::bench::{
     a_book, a_mouth, conn, disc, must, one_book, one_ear, pair_of_books, plan, said, two_books,
@@ -57,14 +57,15 @@ fn two_modules_at_once(rt: HostRuntime) {
     drop(done);
 }
 
-// Runs one module over two links with these ears and mouths.
+// Runs one module with so many places over two links with these ears and mouths.
 fn run_links<R: Threads + Wait + Abort + Copy + Send + 'static>(
     rt: &R,
     alloc: Global,
+    places: u32,
     ears: (MeetingEar, MeetingEar),
     mouths: (MeetingMouth, MeetingMouth),
 ) -> Met {
-    let plan = plan(rt, "A", 4);
+    let plan = plan(rt, "A", places);
     let ears = two_ears(rt, alloc, ears.0, ears.1);
     let mouths = must(rt, Vec::from_array(alloc, [mouths.0, mouths.1]));
     let traces = pair_of_books(rt, alloc, 8_192);
@@ -87,6 +88,7 @@ fn run_ends<R: Threads + Wait + Abort + Copy + Send + 'static>(rt: &R, alloc: Gl
     run_links(
         rt,
         alloc,
+        4,
         (MeetingEar::new(first, one), MeetingEar::new(second, two)),
         (MeetingMouth::new(three, 0), MeetingMouth::new(four, 0)),
     )
@@ -132,7 +134,7 @@ fn run_crossing<R: Threads + Wait + Abort + Copy + Send + 'static>(rt: &R, alloc
         MeetingMouth::new(counts_of(rt, &of_first, &of_ears), 0),
         MeetingMouth::new(counts_of(rt, &of_second, &of_ears), 0),
     );
-    run_links(rt, alloc, (first, second), mouths)
+    run_links(rt, alloc, 4, (first, second), mouths)
 }
 
 #[test]
@@ -144,6 +146,45 @@ fn frames_cross_from_link_to_link(rt: HostRuntime) {
         assert!(rt; mouth.said == 12 && mouth.frames == 10);
     }
     drop(done);
+}
+
+// Runs two links in one module that has one place. The second link's peer asks once the first link's is in, and that one
+// speaks once the second link's mouth has answered.
+fn run_one_place<R: Threads + Wait + Abort + Copy + Send + 'static>(rt: &R, alloc: Global) -> Met {
+    let of_ears = new_count(rt, alloc);
+    let of_first = new_count(rt, alloc);
+    let of_second = new_count(rt, alloc);
+    let spoken = said(1, 100, &m17_stream::write(&frame(7, 0, true)));
+    let by_first = [(0, conn(rt, 1, 0, b'A')), (1, spoken), (1, Heard::End)];
+    let by_second = [(1, conn(rt, 2, 50, b'A')), (1, Heard::End)];
+    let by_first = must(rt, Vec::from_array(alloc, by_first));
+    let by_second = must(rt, Vec::from_array(alloc, by_second));
+    let first = MeetingEar::new(by_first, counts_of(rt, &of_ears, &of_second));
+    let second = MeetingEar::new(by_second, counts_of(rt, &of_ears, &of_first));
+    let mouths = (
+        MeetingMouth::new(counts_of(rt, &of_first, &of_ears), 0),
+        MeetingMouth::new(counts_of(rt, &of_second, &of_ears), 0),
+    );
+    run_links(rt, alloc, 1, (first, second), mouths)
+}
+
+// How much each of the two mouths said, and how many NACKs the second one.
+fn by_both_mouths(done: &Met) -> Option<(u64, u64, u64)> {
+    let first = done.mouths.first()?;
+    let second = done.mouths.get(1)?;
+    Some((first.said, second.said, second.nacks))
+}
+
+// The second link's peer is told a NACK and nothing else. The first link's keeps the place: it is told an ACKN, what it
+// says then is admitted, and at the end of its link it is told to go.
+#[test]
+fn a_member_keeps_its_place_from_another_link(rt: HostRuntime) {
+    let done = run_one_place(&rt, rt.alloc());
+    assert!(rt; !done.lost && !done.book_failed);
+    assert!(rt; done.admitted.as_slice() == [1].as_slice());
+    let said = by_both_mouths(&done).expect(&rt, "two mouths");
+    drop(done);
+    assert!(rt; said == (2, 1, 1));
 }
 
 // Runs two modules over one link with these devices.

@@ -1,10 +1,10 @@
-//! Two links with two made evenings on the same three modules: what the books then hold.
+//! Two links with two made evenings on the same three modules: what the books then hold, and that they are legal.
 
 use crate::bench::{must, pair_of_books, plan, three_books, two_ears, two_mouths};
-use m17_book::{Record, read_book};
+use m17_book::{Record, Report, check_book_for, read_book};
 use m17_crew::StdCrew;
 use m17_make::Maker;
-use m17_memory::BytesSource;
+use m17_memory::{BytesSink, BytesSource};
 use m17_port_memory::{ListBook, ListMouth, ScriptEar};
 use m17_reflect::{Returned, reflect};
 use m17_values::{Heard, Member};
@@ -85,4 +85,66 @@ fn the_books_hold_all_who_joined(rt: HostRuntime) {
     let joined = all_joined(&rt, rt.alloc(), &done.books);
     drop(done);
     assert!(rt; joined.len() == 24 && differ(&joined));
+}
+
+// What is said of this book, which is legal; where it is not, the test ends.
+fn report_of(rt: &impl Abort, alloc: Global, book: &ListBook) -> Report {
+    let bytes = must(rt, book.bytes().to_vec(alloc));
+    let mut source = BytesSource::new(bytes, Vec::new(alloc));
+    let silent = must(rt, BytesSink::make(alloc, 0, Vec::new(alloc)));
+    must(rt, must(rt, check_book_for(&mut source, &silent)))
+}
+
+// How many bytes a record of this kind has.
+fn length_of(kind: u8) -> usize {
+    match kind {
+        1 => 37,
+        2 => 31,
+        _ => 97,
+    }
+}
+
+// How many records the bytes of a book have, how many packets with the verdict opened, and with that or continued.
+fn counted(bytes: &[u8]) -> Report {
+    let mut report = Report {
+        records: 0,
+        streams: 0,
+        admitted: 0,
+    };
+    let mut at: usize = 9;
+    for _record in 0..bytes.len() {
+        let Some(kind) = bytes.get(at) else {
+            return report;
+        };
+        let verdict = bytes.get(at.saturating_add(30)).copied().unwrap_or(0);
+        let (opened, continued) = (*kind == 3 && verdict == 1, *kind == 3 && verdict == 2);
+        report.records = report.records.saturating_add(1);
+        report.streams = report.streams.saturating_add(u64::from(opened));
+        report.admitted = report
+            .admitted
+            .saturating_add(u64::from(opened || continued));
+        at = at.saturating_add(length_of(*kind));
+    }
+    report
+}
+
+// Whether each of these books is legal, is told to hold what its bytes hold, and has as many admitted packets as its
+// module counted.
+fn are_legal(rt: &impl Abort, alloc: Global, books: &Vec<ListBook>, admitted: &Vec<u64>) -> bool {
+    for (book, count) in books.iter().zip(admitted.iter()) {
+        let report = report_of(rt, alloc, book);
+        if report != counted(book.bytes()) || report.admitted != *count || report.streams == 0 {
+            return false;
+        }
+    }
+    true
+}
+
+#[test]
+fn each_book_is_legal(rt: HostRuntime) {
+    let done = run(&rt, rt.alloc());
+    let (failed, books) = (done.lost || done.book_failed, done.books.len());
+    let legal = are_legal(&rt, rt.alloc(), &done.books, &done.admitted);
+    drop(done);
+    assert!(rt; !failed && books == 3 && legal);
 }

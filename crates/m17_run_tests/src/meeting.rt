@@ -172,8 +172,9 @@ pub(crate) struct MeetingMouth {
     awaited: u64,
     pub(crate) met: bool,
     pub(crate) said: u64,
-    // How many of these are stream packets.
+    // How many of these are stream packets, and how many are NACKs.
     pub(crate) frames: u64,
+    pub(crate) nacks: u64,
 }
 
 impl MeetingMouth {
@@ -185,6 +186,7 @@ impl MeetingMouth {
             met: true,
             said: 0,
             frames: 0,
+            nacks: 0,
         }
     }
 }
@@ -213,6 +215,9 @@ impl Mouth for MeetingMouth {
         if bytes.len() == FRAME_LENGTH {
             self.met = self.met && self.counts.meet(self.said, self.awaited);
             self.frames = self.frames.saturating_add(1);
+        }
+        if bytes.starts_with(b"NACK") {
+            self.nacks = self.nacks.saturating_add(1);
         }
         self.said = self.said.saturating_add(1);
         self.met = self.met && self.counts.meet(self.said, 0);

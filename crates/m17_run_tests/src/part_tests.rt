@@ -106,7 +106,6 @@ fn receiver_parts<R: Abort>(rt: &R, alloc: Global) -> ReceiverParts<u32, u32>
         doors: room(rt, alloc),
         noted: room(rt, alloc),
         orders: room(rt, alloc),
-        seats: room(rt, alloc),
         tapes: room(rt, alloc),
         lost: false,
         failed: false,
@@ -122,7 +121,6 @@ fn worker_parts<R: Abort>(rt: &R, alloc: Global) -> WorkerParts<u32>
         inboxes: room(rt, alloc),
         queues: room(rt, alloc),
         orders: room(rt, alloc),
-        seats: room(rt, alloc),
         tapes: room(rt, alloc),
         missed: room(rt, alloc),
         admitted: room(rt, alloc),
@@ -131,22 +129,23 @@ fn worker_parts<R: Abort>(rt: &R, alloc: Global) -> WorkerParts<u32>
 }
 
 // The parts of two receivers.
-fn parted_receivers<R: Abort>(rt: &R, alloc: Global) -> ReceiverParts<u32, u32> {
+fn parted_receivers<R: Abort>(rt: &R, alloc: Global) -> (ReceiverParts<u32, u32>, Vec<RollSeat>) {
     let (first, second) = seats(rt, alloc);
     let first = receiver(rt, alloc, 0, 70, 80, first);
     let second = receiver(rt, alloc, 1, 71, 81, second);
     let mut jobs = must(rt, Vec::from_array(alloc, [first, second]));
+    let mut seats = room(rt, alloc);
     let mut parts = receiver_parts(rt, alloc);
-    part_receivers(&mut jobs, &mut parts);
-    parts
+    part_receivers(&mut jobs, &mut seats, &mut parts);
+    (parts, seats)
 }
 
 #[test]
 fn receivers_come_apart_in_order(rt: HostRuntime) {
-    let parts = parted_receivers(&rt, rt.alloc());
+    let (parts, seats) = parted_receivers(&rt, rt.alloc());
     assert!(rt; parts.ears.as_slice() == [70, 71].as_slice());
     assert!(rt; parts.traces.as_slice() == [80, 81].as_slice());
-    assert!(rt; parts.doors.len() == 2 && parts.seats.len() == 2);
+    assert!(rt; parts.doors.len() == 2 && seats.len() == 2);
     assert!(rt; parts.lost && !parts.failed, "the second link is lost");
     drop(parts);
 }
@@ -157,8 +156,9 @@ fn parted_workers<R: Abort>(rt: &R, alloc: Global) -> WorkerParts<u32> {
     let first = worker(rt, alloc, b'A', 90, 5, first);
     let second = worker(rt, alloc, b'B', 91, 6, second);
     let mut jobs = must(rt, Vec::from_array(alloc, [first, second]));
+    let mut seats = room(rt, alloc);
     let mut parts = worker_parts(rt, alloc);
-    part_workers(&mut jobs, &mut parts);
+    part_workers(&mut jobs, &mut seats, &mut parts);
     parts
 }
 
