@@ -288,6 +288,7 @@ checked_links() {
             cat said
             return 1
         }
+        "$program" check <kept/$letter.book | cmp - said || return 1
         sed -n "s/^$letter admitted \([0-9]*\) missed 0$/\1/p" served >wanted
         sed -n 's/^legal [0-9]* records [0-9]* streams \([0-9]*\) admitted$/\1/p' said | cmp - wanted || return 1
     done

@@ -71,10 +71,25 @@ def read_time(text):
     return 1000 * calendar.timegm(whole) + int((found.group(4) or "0").ljust(3, "0"))
 
 
-def better_start(old, new):
-    """Of two that were taken for the start of the reflector, the one to go on with. Each is too late by as long as a write
-    took, so the earlier one; but where the new one is later by seconds, the clock was set."""
-    return new if old is None or new < old or new > old + CLOCK_SET else old
+class Clock:
+    """Knows whether the clock of the machine was set since a start was taken: its time then went on otherwise than the
+    count of time that nobody sets."""
+
+    def __init__(self):
+        self.offset = self.now()
+
+    def now(self):
+        return int(1000 * (time.time() - time.monotonic()))
+
+    def better_start(self, old, new):
+        """Of two that were taken for the start of the reflector, the one to go on with. Each is too late by as long as a write
+        took, which on a disk that hangs is long, so the earlier one; but where the new one is later by seconds and the
+        clock was set, that one."""
+        was_set = self.now() > self.offset + CLOCK_SET
+        if old is None or new < old or (was_set and new > old + CLOCK_SET):
+            self.offset = self.now()
+            return new
+        return old
 
 
 def crc_step(value):
