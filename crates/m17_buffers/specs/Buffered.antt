@@ -1,4 +1,4 @@
--- What contracts see of a buffer over a device. This profile.
+-- What contracts see of a buffer over a device.
 use Rattle.std.specs.Prelude.{ℕ, List, ◌++◌, Option, None, Some}
 
 -- the bytes in the buffer, and the device below

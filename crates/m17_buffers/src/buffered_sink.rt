@@ -11,7 +11,6 @@ use std::alloc::Global;
 use std::marker::Model;
 
 /// A sink that gathers what is written, and sends it on by the outlet below where its buffer is full, or at a `flush`.
-/// This profile.
 #[derive(Drop)]
 pub struct BufferedSink<O: Outlet + Drop> {
     outlet: O,
@@ -51,22 +50,22 @@ impl<O: Outlet + Drop> BufferedSink<O> {
 }
 
 impl<O: Outlet + Drop> Sink for BufferedSink<O> {
-    ghost faults = { λ b. O.faults b.device };
-
-    ghost written = { λ b. followed_by (O.sent b.device) b.held };
-
-    ghost held_back = { λ b. length b.held };
+    ghost told = { λ b. record {
+      written = followed_by (O.told b.device).sent b.held;
+      held_back = length b.held;
+      faults = (O.told b.device).faults;
+    } };
 
     ghost faults_fit = { λ b. O.faults_fit b.device };
 
     fn write(&mut self, bytes: &[u8]) -> Result<(), Failed>
-        ensures cause { HasCause (O.faults self.old.device) (O.faults self.new.device) result }
+        ensures cause { HasCause (O.told self.old.device).faults (O.told self.new.device).faults result }
         ensures ok { OnOk result ((before : List ℕ)
-            → followed_by (O.sent self.old.device) self.old.held ≡ Some before
-            → followed_by (O.sent self.new.device) self.new.held ≡ Some (before ++ bytes.now)) }
+            → followed_by (O.told self.old.device).sent self.old.held ≡ Some before
+            → followed_by (O.told self.new.device).sent self.new.held ≡ Some (before ++ bytes.now)) }
         ensures err { OnErr result ((before : List ℕ)
-            → followed_by (O.sent self.old.device) self.old.held ≡ Some before
-            → AppendsPrefix before bytes.now (followed_by (O.sent self.new.device) self.new.held)) }
+            → followed_by (O.told self.old.device).sent self.old.held ≡ Some before
+            → AppendsPrefix before bytes.now (followed_by (O.told self.new.device).sent self.new.held)) }
 
         // What there is room for is held, and the outlet below is asked to send nothing.
         ensures gathers { length self.old.held + length bytes.now ≤ 65536

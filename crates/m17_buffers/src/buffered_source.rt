@@ -9,7 +9,7 @@ use m17_values::{Failed, NoMemory};
 use std::alloc::Global;
 use std::marker::Model;
 
-/// A source that reads ahead from the source below, so that one of its reads serves many of its own. This profile.
+/// A source that reads ahead from the source below, so that one of its reads serves many of its own.
 #[derive(Drop)]
 pub struct BufferedSource<S: Source + Drop> {
     source: S,
@@ -55,12 +55,12 @@ impl<S: Source + Drop> BufferedSource<S> {
     // Reads once from below into the buffer, which is empty.
     fn refill(&mut self) -> Result<(), Failed>
         requires { self.old.held ≡ [] }
-        ensures cause { HasCause (S.faults self.old.device) (S.faults self.new.device) result }
-        ensures more { OnOk result ((bytes : List ℕ) → S.left self.old.device ≡ Some bytes
-            → (held_then self.new.held (S.left self.new.device) ≡ Some bytes)
+        ensures cause { HasCause (S.told self.old.device).faults (S.told self.new.device).faults result }
+        ensures more { OnOk result ((bytes : List ℕ) → (S.told self.old.device).left ≡ Some bytes
+            → (held_then self.new.held (S.told self.new.device).left ≡ Some bytes)
             × (self.new.held ≡ [] → bytes ≡ [])) }
         ensures kept { OnErr result ((self.new.held ≡ [])
-            × (S.left self.new.device ≡ S.left self.old.device)) }
+            × ((S.told self.new.device).left ≡ (S.told self.old.device).left)) }
     {
         self.start = 0;
         self.end = 0;
@@ -85,22 +85,22 @@ impl<S: Source + Drop> BufferedSource<S> {
 }
 
 impl<S: Source + Drop> Source for BufferedSource<S> {
-    ghost faults = { λ b. S.faults b.device };
-
-    ghost left = { λ b. held_then b.held (S.left b.device) };
-
-    ghost at_hand = { λ b. nat_lt 0 (length b.held) || S.at_hand b.device };
+    ghost told = { λ b. record {
+      left = held_then b.held (S.told b.device).left;
+      at_hand = nat_lt 0 (length b.held) || (S.told b.device).at_hand;
+      faults = (S.told b.device).faults;
+    } };
 
     ghost faults_fit = { λ b. S.faults_fit b.device };
 
     fn read(&mut self, into: &mut [u8]) -> Result<usize, Failed>
-        ensures cause { HasCause (S.faults self.old.device) (S.faults self.new.device) result }
+        ensures cause { HasCause (S.told self.old.device).faults (S.told self.new.device).faults result }
         ensures within { IfOk result (λ n. n ≤ length into.old) }
         ensures taken { IfOk result (λ n. (bytes : List ℕ)
-            → held_then self.old.held (S.left self.old.device) ≡ Some bytes
-            → Takes bytes n into.old into.new (held_then self.new.held (S.left self.new.device))) }
-        ensures nothing_taken { OnErr result (held_then self.new.held (S.left self.new.device)
-            ≡ held_then self.old.held (S.left self.old.device)) }
+            → held_then self.old.held (S.told self.old.device).left ≡ Some bytes
+            → Takes bytes n into.old into.new (held_then self.new.held (S.told self.new.device).left)) }
+        ensures nothing_taken { OnErr result (held_then self.new.held (S.told self.new.device).left
+            ≡ held_then self.old.held (S.told self.old.device).left) }
 
         // While bytes are held the source below is asked for none, so that the read does not wait.
         ensures held_first { 0 < length self.old.held → self.new.device ≡ self.old.device }

@@ -11,7 +11,7 @@ mod send_all;
 pub use buffered_sink::BufferedSink;
 pub use buffered_source::BufferedSource;
 
-/// How many bytes a buffer has room for. This profile.
+/// How many bytes a buffer has room for.
 pub const BUFFER_BYTES: usize = 65_536;
 
 #[cfg(test)]

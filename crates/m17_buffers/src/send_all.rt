@@ -8,10 +8,10 @@ use m17_io::Outlet;
 // failed.
 pub(crate) fn send_all<O: Outlet>(out: &mut O, bytes: &[u8]) -> usize
     ensures within { result ≤ length bytes.now }
-    ensures sent { O.sent out.new ≡ followed_by (O.sent out.old) (take result bytes.now) }
-    ensures counted { O.faults out.old ≤ O.faults out.new }
-    ensures failed { result < length bytes.now → HasRisen (O.faults out.old) (O.faults out.new) }
-    ensures no_fault { result ≡ length bytes.now → O.faults out.new ≡ O.faults out.old }
+    ensures sent { (O.told out.new).sent ≡ followed_by (O.told out.old).sent (take result bytes.now) }
+    ensures counted { (O.told out.old).faults ≤ (O.told out.new).faults }
+    ensures failed { result < length bytes.now → HasRisen (O.told out.old).faults (O.told out.new).faults }
+    ensures no_fault { result ≡ length bytes.now → (O.told out.new).faults ≡ (O.told out.old).faults }
 {
     let mut done = 0;
     while done < bytes.len() {

@@ -1,14 +1,13 @@
--- What contracts see of a crew. This profile.
+-- What contracts see of a crew.
 use Rattle.std.specs.Prelude.{ℕ, List}
 
 -- A crew: the numbers of the starts that it refuses of itself, how many starts there were, and how
--- many were refused. This profile.
+-- many were refused.
 pub record CrewKept : Type 0 where
   pub refuses : List ℕ
   pub starts : ℕ
   pub refusals : ℕ
 
 -- A crew that has started nothing.
--- This profile.
 abbrev pub new_crew : List ℕ → CrewKept
 new_crew refuses = record { refuses = refuses; starts = 0; refusals = 0 }

@@ -4,12 +4,11 @@ use Rattle.std.specs.List.{AllZip}
 
 module _ {A : Type 0} where
   -- The job is as it was, or it was done.
-  -- This profile.
   abbrev pub Ran : (A → A → Type 0) → A → A → Type 0
   Ran does j k = (k ≡ j) ⊎ does j k
 
   -- What the two calls say where nothing ran before: of the jobs some are left, those behind them
-  -- ran, in order, and what these came to stands behind the ones that are left. This profile.
+  -- ran, in order, and what these came to stands behind the ones that are left.
   pub record AreBack (does : A → A → Type 0) (jobs before left started back : List A) : Type 0
     where
       pub none_before : before ≡ []
@@ -17,13 +16,11 @@ module _ {A : Type 0} where
       pub joined : (ended : List A) × (back ≡ left ++ ended) × AllZip does (reverse started) ended
 
 -- The jobs come back in their order, each as it was or done.
--- This profile.
 abbrev pub JobsComeBackInOrder : {A : Type 0} → (A → A → Type 0) → Type 0
 JobsComeBackInOrder {A} does = (jobs before left started back : List A)
     → AreBack does jobs before left started back → AllZip (Ran does) jobs back
 
 -- Where none is left, the jobs come back done, in their order.
--- This profile.
 abbrev pub AllJobsComeBackDone : {A : Type 0} → (A → A → Type 0) → Type 0
 AllJobsComeBackDone {A} does = (jobs before left started back : List A)
     → AreBack does jobs before left started back → left ≡ [] → AllZip does jobs back

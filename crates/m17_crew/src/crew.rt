@@ -9,11 +9,11 @@ use std::sync::Wait;
 use std::thread::{Builder, Threads};
 
 /// What `Crew::start` alone has, and shows to the crew. No other crate can make one, so a crew is told of a start, and
-/// that one was refused, by nobody else. This profile.
+/// that one was refused, by nobody else.
 #[derive(Drop)]
 pub struct Starter(());
 
-/// What starts jobs, each in a thread of its own. This profile.
+/// What starts jobs, each in a thread of its own.
 pub trait Crew {
     /// How many starts were refused.
     ghost refusals: { Self → ℕ };
@@ -42,7 +42,7 @@ pub trait Crew {
 
     /// Starts the job in a thread of its own. It comes back as it was, and the refusal is counted, where the crew
     /// withholds this start, where the system gives no thread, and where there is no memory for it; nothing of the job
-    /// was done then. This profile.
+    /// was done then.
     final fn start<W: Work, R: Threads + Wait + Copy + Send + 'static>(
         &mut self,
         rt: &R,

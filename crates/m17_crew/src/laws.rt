@@ -1,5 +1,4 @@
 //! What the clauses of `start_all` and `join_all` come to together. Each function has no body: its clause is the law.
-//! This profile.
 ghost use Rattle.m17_crew.specs.Laws.{AllJobsComeBackDone, JobsComeBackInOrder};
 
 use crate::Work;

@@ -12,7 +12,7 @@ use std::thread::Threads;
 
 /// Starts the jobs, the last first, each in a thread of its own, and appends them to `running`, which has to have room
 /// for all. `Failed` where the crew refused one: it and the jobs before it are then still in `jobs`, as they were and
-/// in their order, and those behind it run. This profile.
+/// in their order, and those behind it run.
 pub fn start_all<W: Work, C: Crew, R: Threads + Wait + Copy + Send + 'static>(
     rt: &R,
     alloc: Global,
@@ -45,7 +45,7 @@ pub fn start_all<W: Work, C: Crew, R: Threads + Wait + Copy + Send + 'static>(
 }
 
 /// Joins the jobs that run, the last first, and appends them to `jobs`, done, which has to have room for all. Where
-/// `start_all` started them, they so end in their order, behind those that it could not start. This profile.
+/// `start_all` started them, they so end in their order, behind those that it could not start.
 pub fn join_all<W: Work, R: Threads + Wait>(
     rt: &R,
     running: &mut Vec<Running<W>>,

@@ -1,4 +1,4 @@
-/// What a thread is told on its order lane. Each job first waits for `Go` or `Quit`. This profile.
+/// What a thread is told on its order lane. Each job first waits for `Go` or `Quit`.
 #[derive(Clone, Copy, Debug, PartialEq, Eq)]
 pub enum Order {
     /// Begin.

@@ -4,7 +4,7 @@ ghost use Rattle.m17_ports.specs.Ports.{next_number};
 use crate::{Crew, Starter};
 use std::marker::Model;
 
-/// A crew that can be told to refuse, for tests. It starts the other jobs as `StdCrew` does. This profile.
+/// A crew that can be told to refuse, for tests. It starts the other jobs as `StdCrew` does.
 #[derive(Debug, Drop)]
 pub struct RefusingCrew {
     refuses: Vec<u64>,
@@ -27,7 +27,7 @@ impl Model for RefusingCrew {
 impl RefusingCrew {
     ghost use Rattle.m17_crew.specs.Crew.{new_crew};
 
-    /// A crew that has started nothing, and refuses the starts with these numbers, counted from 0. This profile.
+    /// A crew that has started nothing, and refuses the starts with these numbers, counted from 0.
     pub fn new(refuses: Vec<u64>) -> RefusingCrew
         ensures new { result ≡ new_crew refuses.items }
     {

@@ -18,7 +18,7 @@ impl<W: Work> Promise<Result<W, W>> for Did<W> {
 }
 
 /// A job that was started and is still to be joined. Contracts see the job as it was when it was started. One that is
-/// dropped lets its thread run on, and what the job does is then known to nobody. This profile.
+/// dropped lets its thread run on, and what the job does is then known to nobody.
 #[derive(Drop)]
 pub struct Running<W: Work> {
     job: Snapshot<W>,
@@ -39,7 +39,7 @@ impl<W: Work> Model for Running<W> {
 }
 
 impl<W: Work> Running<W> {
-    /// Waits until the thread has ended, and gives the job, done. This profile.
+    /// Waits until the thread has ended, and gives the job, done.
     pub fn join<R: Threads + Wait>(self, rt: &R) -> W
         ensures done { W.does self result }
     {

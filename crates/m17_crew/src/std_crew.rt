@@ -5,7 +5,7 @@ use crate::{Crew, Starter};
 use std::marker::Model;
 
 /// The crew of the system: each job gets a thread. It refuses a start only where the system gives no thread or no
-/// memory, and counts just these. This profile.
+/// memory, and counts just these.
 #[derive(Debug, Drop)]
 pub struct StdCrew {
     starts: u64,
@@ -24,7 +24,7 @@ impl Model for StdCrew {
 impl StdCrew {
     ghost use Rattle.m17_crew.specs.Crew.{new_crew};
 
-    /// A crew that has started nothing. This profile.
+    /// A crew that has started nothing.
     pub fn new() -> StdCrew
         ensures new { result ≡ new_crew [] }
     {

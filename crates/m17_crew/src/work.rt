@@ -1,7 +1,6 @@
 use std::sync::Wait;
 
 /// A job for a thread of its own. It owns all that it needs, goes into the thread with it, and comes back with it.
-/// This profile.
 pub trait Work: Drop + Send + 'static {
     /// What has to hold of the job before it is done.
     ghost ready: { Self → Type 0 };

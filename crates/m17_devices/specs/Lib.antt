@@ -10,7 +10,7 @@ pub use Rattle.m17_ports.specs.Ear
 pub use Rattle.m17_ports.specs.Mouth
 pub use Rattle.m17_ports.specs.Tallies
 pub use Rattle.m17_ports.specs.Ports
-pub use Rattle.m17_ports.specs.Shelf
+pub use Rattle.m17_ports.specs.Book
 pub use Rattle.m17_port_memory.specs.Kept
 pub use Rattle.m17_port_memory.specs.Script
 pub use Rattle.m17_port_memory.specs.Handed

@@ -1,6 +1,7 @@
--- What a book hands over to its thread. This profile.
-use Rattle.std.specs.Prelude.{◌≡◌, ℕ, Bool, false, List, []}
+-- What a book hands over to its thread.
+use Rattle.std.specs.Prelude.{◌≡◌, ℕ, ◌-◌, ◌^◌, min, Bool, false, List, [], None, Some}
 use Rattle.std.specs.List.{flat_map}
+use Rattle.m17_ports.specs.Book.{BookTold}
 use Rattle.m17_lane.specs.Ends.{PushEnd}
 
 -- the bytes of these writes, in order
@@ -14,7 +15,15 @@ pub record QueueKept : Type 0 where
   pub faults : ℕ
   pub number : ℕ
 
--- The book is new: nothing was handed over, and it has not failed. Up to 2048 writes wait for its thread. This profile.
+-- what a book tells that hands its writes over: its faults and its number, and no bytes
+abbrev pub queue_told : QueueKept → BookTold (Unit {0})
+queue_told book = record {
+  written = None;
+  faults = min book.faults (2 ^ 64 - 1);
+  device = record { mark = Some book.number; label = tt };
+}
+
+-- The book is new: nothing was handed over, and it has not failed. Up to 2048 writes wait for its thread.
 pub record IsNewQueue (number : ℕ) (book : QueueKept) : Type 0 where
   pub nothing : book.slips.pushed ≡ []
   pub room : book.slips.capacity ≡ 2048

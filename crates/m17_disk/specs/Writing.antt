@@ -1,27 +1,8 @@
--- What the thread of a book does. This profile.
-use Rattle.std.specs.Prelude.{◌≡◌, ℕ, Bool, true, false, List, [], take, Option}
-use Rattle.m17_io.specs.Faults.{HasRisen}
-use Rattle.m17_ports.specs.Told.{told_then}
+-- What the thread of a book does.
+use Rattle.std.specs.Prelude.{◌≡◌, true, false, List, [], Contains}
+use Rattle.m17_ports.specs.Book.{BookTold, HasText}
 use Rattle.m17_disk.specs.Queue.{QueueKept, joined}
 use Rattle.m17_disk.specs.declared.writer.Writer.{Writer}
-
--- what a book tells, and how often it has failed
-abbrev pub Tells : Type 0
-Tells = Option (List ℕ) × ℕ
-
--- what is said of a book: what was written, as far as that is told, and how often it has failed
-pub record Words (B : Type 0) : Type 0 where
-  pub written : B → Option (List ℕ)
-  pub faults : B → ℕ
-
--- All of the text was written to the book, and its count of faults stands; or a write of it failed, the count rose, and
--- a first part of the text was written. This profile.
-pub record HasText (before : Tells) (text : List ℕ) (failed : Bool) (after : Tells) : Type 0
-  where
-    pub whole : failed ≡ false →
-        (after.0 ≡ told_then before.0 text) × (after.1 ≡ before.1)
-    pub cut : failed ≡ true → (n : ℕ)
-        × (after.0 ≡ told_then before.0 (take n text)) × HasRisen before.1 after.1
 
 -- nothing was taken, and no write failed
 pub record IsReady {B : Type 0} (j : Writer B) : Type 0 where
@@ -34,12 +15,19 @@ pub record IsOfBook {B : Type 0} (book : QueueKept) (j : Writer B) : Type 0 wher
   pub only : j.slips.producers ≡ 1
 
 -- What the thread did: it took writes from its lane, and nothing else of the lane changed; what it took has gone to its
--- book, in order, each once, up to a write that failed. This profile.
-pub record WriterDid {B : Type 0} (words : Words B) (j k : Writer B) : Type 0 where
+-- book, in order, each once, up to a write that failed. `told` says what its book tells.
+pub record WriterDid {B L : Type 0} (told : B → BookTold L) (j k : Writer B) : Type 0 where
   pub slips : k.slips ≡ record j.slips { popped = k.slips.popped }
-  pub text : HasText (words.written j.book, words.faults j.book) (joined k.slips.popped) k.failed
-      (words.written k.book, words.faults k.book)
+  pub text : HasText (told j.book) (joined k.slips.popped) k.failed (told k.book)
 
--- The thread ended, and no write failed: all that it took was written. This profile.
-abbrev pub ComesToEnd : {B : Type 0} → Words B → Writer B → Type 0
-ComesToEnd {B} words j = (k : Writer B) × WriterDid words j k × (k.failed ≡ false)
+-- The thread ended, and no write failed: all that it took was written.
+abbrev pub ComesToEnd : {B L : Type 0} → (B → BookTold L) → Writer B → Type 0
+ComesToEnd {B} told j = (k : Writer B) × WriterDid told j k × (k.failed ≡ false)
+
+-- The thread ended, and a write of its book failed.
+abbrev pub FailsToWrite : {B L : Type 0} → (B → BookTold L) → Writer B → Type 0
+FailsToWrite {B} told j = (k : Writer B) × WriterDid told j k × (k.failed ≡ true)
+
+-- one of these threads ended, and a write of its book failed
+abbrev pub OneFailsToWrite : {B L : Type 0} → (B → BookTold L) → List (Writer B) → Type 0
+OneFailsToWrite {B} told jobs = (j : Writer B) × Contains jobs j × FailsToWrite told j

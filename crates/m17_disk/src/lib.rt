@@ -21,6 +21,6 @@ mod writing;
 pub use both_ends::all_written;
 pub use opening::{Hand, open};
 pub use queued_book::QueuedBook;
-pub use settling::settle;
+pub use settling::{Unsettled, settle};
 pub use slip::Slip;
 pub use writer::Writer;

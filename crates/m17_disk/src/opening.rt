@@ -19,7 +19,7 @@ use std::thread::Threads;
 const SLIPS: u32 = 2048;
 
 /// The thread of a book, for `settle`. Contracts see its job as it was when it was started. One that is dropped leaves the
-/// thread asleep. This profile.
+/// thread asleep.
 #[derive(Drop)]
 pub struct Hand<B: Book + Drop + Send + 'static> {
     pub(crate) running: Running<Writer<B>>,
@@ -52,7 +52,7 @@ struct Made<B, R: Drop> {
 }
 
 /// A book with this number whose writes a new thread makes to `inner`, and that thread. `Failed` where there is no thread
-/// or no memory for it. This profile.
+/// or no memory for it.
 pub fn open<B: Book + Drop + Send + 'static, R: Threads + Wait + Copy + Drop + Send + 'static>(
     rt: R,
     alloc: Global,

@@ -2,7 +2,7 @@ ghost use Rattle.std.specs.Prelude.{◌≡◌, ◌++◌, ℕ, ◌-◌, ◌^◌, 
 ghost use Rattle.m17_io.specs.Faults.{HasCause};
 ghost use Rattle.m17_ports.specs.Told.{told_then};
 ghost use Rattle.m17_ports.specs.Ports.{next_number};
-ghost use Rattle.m17_disk.specs.Queue.{joined, IsSameEnd};
+ghost use Rattle.m17_disk.specs.Queue.{joined, queue_told, IsSameEnd};
 
 use crate::slip::Slip;
 use m17_lane::Pusher;
@@ -26,7 +26,7 @@ pub(crate) const RESTS: u32 = 250;
 /// in all and a millisecond more for each write that found room, so that a flood is held back and a disk that hangs is
 /// not waited for. It fails where the lane is full after that, where the thread has ended, since its own book failed,
 /// and where a write has more than 112 bytes. From its first failure on it hands nothing over, so what it handed over is
-/// a first part of what was to be written. This profile.
+/// a first part of what was to be written.
 #[derive(Drop)]
 pub struct QueuedBook<R: Drop> {
     pub(crate) rt: R,
@@ -54,7 +54,7 @@ impl<R: Drop> Model for QueuedBook<R> {
 impl<R: Drop> QueuedBook<R> {
     ghost use Rattle.m17_disk.specs.Queue.{QueueKept};
 
-    /// The same book with this number. This profile.
+    /// The same book with this number.
     pub fn numbered(self, number: u64) -> QueuedBook<R>
         ensures { result ≡ record self { number = number } }
     {
@@ -126,18 +126,11 @@ fn push_soon<R: Wait + Clock>(
 }
 
 impl<R: Wait + Clock + Drop> Book for QueuedBook<R> {
-    ghost use Rattle.std.specs.Prelude.{Some};
     ghost use Rattle.std.proofs.Math.Nat.{min-le_right};
 
     type Label = ();
 
-    ghost faults = { λ b. min b.faults (2 ^ 64 - 1) };
-
-    ghost written = { λ _. None };
-
-    ghost mark = { λ b. Some b.number };
-
-    ghost label = { λ _. tt };
+    ghost told = { queue_told };
 
     ghost faults_fit = { λ b. min-le_right b.faults (2 ^ 64 - 1) };
 

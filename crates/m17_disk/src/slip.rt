@@ -6,7 +6,7 @@ use std::marker::Model;
 /// How many bytes one write may have. A header, a record or an entry has 101 at the most.
 pub(crate) const SLIP_BYTES: usize = 112;
 
-/// The bytes of one write, on their way to the thread that makes it. Contracts see the list of bytes. This profile.
+/// The bytes of one write, on their way to the thread that makes it. Contracts see the list of bytes.
 #[derive(Drop)]
 pub struct Slip(ArrayVec<u8, SLIP_BYTES>);
 

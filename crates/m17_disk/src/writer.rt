@@ -12,7 +12,7 @@ use std::sync::{Arc, Wait};
 
 /// The job of a book's thread: it takes what was handed over and writes it to its book, what waits together in one
 /// write, and sleeps while nothing waits. It ends at the first write that fails; and where it was told to stop, once
-/// nothing waits any more. Then it says so. It takes no memory. This profile.
+/// nothing waits any more. Then it says so. It takes no memory.
 #[derive(Drop)]
 pub struct Writer<B> {
     /// What is to be written.
@@ -32,7 +32,7 @@ pub struct Writer<B> {
 impl<B: Book + Drop + Send + 'static> Work for Writer<B> {
     ghost ready = { λ j. IsReady j };
 
-    ghost does = { λ j k. WriterDid (record { written = B.written; faults = B.faults }) j k };
+    ghost does = { λ j k. WriterDid B.told j k };
 
     fn go<R: Wait>(&mut self, rt: &R) {
         self.work(rt);
@@ -44,7 +44,7 @@ impl<B: Book> Writer<B> {
     // Writes what comes, up to the end. It announces its sleep before it looks, so that nothing comes in between.
     fn work<R: Wait>(&mut self, rt: &R)
         requires { IsReady self.old }
-        ensures { WriterDid (record { written = B.written; faults = B.faults }) self.old self.new }
+        ensures { WriterDid B.told self.old self.new }
     {
         let mut stops = false;
         for _ in rt.forever() {

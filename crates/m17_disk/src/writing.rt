@@ -1,7 +1,7 @@
 //! What a book's thread takes and writes at a time.
 ghost use Rattle.std.specs.Prelude.{◌≡◌, ◌++◌, false};
 ghost use Rattle.m17_disk.specs.Queue.{joined};
-ghost use Rattle.m17_disk.specs.Writing.{Tells, HasText};
+ghost use Rattle.m17_ports.specs.Book.{BookTold, HasText};
 
 use crate::slip::{SLIP_BYTES, Slip};
 use arrayvec::ArrayVec;
@@ -24,12 +24,11 @@ pub(crate) fn write_next<B: Book, R: Wait>(
 ) -> bool
     requires { failed.old ≡ false }
     ensures slips { slips.new ≡ record slips.old { popped = slips.new.popped } }
-    ensures text { (start : Tells) →
-        HasText start (joined slips.old.popped) false (B.written book.old, B.faults book.old) →
-        HasText start (joined slips.new.popped) failed.new
-        (B.written book.new, B.faults book.new) }
+    ensures text { (start : BookTold B.Label)
+        → HasText start (joined slips.old.popped) false (B.told book.old)
+        → HasText start (joined slips.new.popped) failed.new (B.told book.new) }
 {
-    m17_ports::laws::told_in_turn::<u8>();
+    m17_ports::laws::books_are_written_in_turn::<B::Label>();
     let batch = gather(rt, slips);
     if batch.is_empty() {
         return false;

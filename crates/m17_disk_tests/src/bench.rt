@@ -90,13 +90,11 @@ impl<R: Clock + Drop> Book for Gated<R> {
 
     type Label = ();
 
-    ghost faults = { λ b. min b.faults (2 ^ 64 - 1) };
-
-    ghost written = { λ _. None };
-
-    ghost mark = { λ _. None };
-
-    ghost label = { λ _. tt };
+    ghost told = { λ b. record {
+      written = None;
+      faults = min b.faults (2 ^ 64 - 1);
+      device = record { mark = None; label = tt };
+    } };
 
     ghost faults_fit = { λ b. min-le_right b.faults (2 ^ 64 - 1) };
 

@@ -1,7 +1,7 @@
 ghost use Rattle.std.specs.Prelude.{◌≡◌};
 
 use crate::bench::{Gated, Shared, must};
-use m17_disk::{Hand, QueuedBook, all_written, open, settle};
+use m17_disk::{Hand, QueuedBook, Unsettled, all_written, open, settle};
 use m17_port_memory::ListBook;
 use m17_ports::Book;
 use m17_values::Failed;
@@ -43,10 +43,10 @@ fn a_book_whose_thread_hangs_fails_when_its_lane_is_full(rt: HostRuntime) {
     let (mut book, mut hands) = opened(rt, rt.alloc(), &shared);
     let taken = write_bytes(&mut book, 3000);
     let more = book.write(b"0").is_ok();
-    let settled = settle(&rt, &mut hands).is_ok();
+    let late = settle(&rt, &mut hands) == Err(Unsettled::Late);
     let seen = shared.seen();
     shared.shut.store(false, Ordering::SeqCst);
-    assert!(rt; taken >= 2048 && taken <= 2080 && !more && !settled && seen == (0, 0));
+    assert!(rt; taken >= 2048 && taken <= 2080 && !more && late && seen == (0, 0));
 }
 
 #[test]
@@ -80,8 +80,8 @@ fn a_book_whose_thread_failed_fails(rt: HostRuntime) {
     let fails = comes_to_fail(&rt, &mut book);
     shared.fails.store(false, Ordering::SeqCst);
     let more = book.write(&[0]).is_ok();
-    let settled = settle(&rt, &mut hands).is_ok();
-    assert!(rt; first && fails && !more && !settled && shared.seen() == (0, 0));
+    let failed = settle(&rt, &mut hands) == Err(Unsettled::Failed);
+    assert!(rt; first && fails && !more && failed && shared.seen() == (0, 0));
 }
 
 // Three writes to a book in memory, of which the second has no bytes: what it holds when its thread has ended, and whether

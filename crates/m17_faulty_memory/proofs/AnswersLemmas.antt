@@ -8,10 +8,10 @@ use Rattle.m17_values.specs.declared.heard.Heard.{Heard}
 use Rattle.m17_values.specs.declared.heard.Heard.TheVariants.{Fault, End}
 use Rattle.m17_io.specs.Faults.{HasRisen}
 use Rattle.m17_ports.specs.Told.{told_then, StartsEmpty}
-use Rattle.m17_ports.specs.Ear.{EndsPastCount}
+use Rattle.m17_ports.specs.Ear.{EarTold, EndsPastCount}
 use Rattle.m17_ports.specs.Ports.{next_number}
 use Rattle.m17_ports.specs.Untold.{nothing_told}
-use Rattle.m17_faulty_memory.specs.Answers.{FaultyKept, is_listed, listed_below, answer_at, answers_of, answers_told, told_of, faults_of, IsInStep, IsAnswered}
+use Rattle.m17_faulty_memory.specs.Answers.{FaultyKept, is_listed, listed_below, answer_at, answers_of, answers_told, faulty_told, IsInStep, IsAnswered}
 
 -- one list that is told is the other
 same_told : (one other : List Heard) → Some one ≡ Some other → one ≡ other
@@ -169,10 +169,10 @@ counted-inner own before after h = omega (arith, h)
 end_is_no_fault : (answer : Heard) → answer ≡ End → answer ≡ Fault → ⊥
 end_is_no_fault answer ends fails = cc
 
-module _ {E : Type 0} (heard : E → Option (List Heard)) (faults : E → ℕ) (old : FaultyKept E) where
+module _ {E L : Type 0} (told : E → EarTold L) (old : FaultyKept E) where
   -- a call behind the last that has a number
   pub answered-over : 2 ^ 64 - 1 ≤ old.calls
-      → IsAnswered heard faults old End (record old { ends = next_number old.ends })
+      → IsAnswered told old End (record old { ends = next_number old.ends })
   answered-over full = record {
     numbered = λ few. absurd (omega (arith, few, full));
     past = λ _. record { answer_is = refl; after = refl };
@@ -180,7 +180,7 @@ module _ {E : Type 0} (heard : E → Option (List Heard)) (faults : E → ℕ) (
 
   -- a call that is listed
   pub answered-listed : old.calls < 2 ^ 64 - 1 → is_listed old.fails old.calls ≡ true
-      → IsAnswered heard faults old Fault
+      → IsAnswered told old Fault
       (record old { calls = old.calls + 1; faults = next_number old.faults })
   answered-listed few listed = record {
     numbered = λ _. inl (record { listed = listed; answer_is = refl; after = refl });
@@ -190,12 +190,13 @@ module _ {E : Type 0} (heard : E → Option (List Heard)) (faults : E → ℕ) (
   -- and one that is not, which the inner ear answers
   pub answered-passed : (inner : E) (answer : Heard)
       → old.calls < 2 ^ 64 - 1 → is_listed old.fails old.calls ≡ false
-      → heard inner ≡ told_then (heard old.inner) (answer ∷ [])
-      → faults old.inner ≤ faults inner
-      → (answer ≡ Fault → HasRisen (faults old.inner) (faults inner))
-      → (answer ≢ Fault → faults inner ≡ faults old.inner)
-      → IsAnswered heard faults old answer (record old { inner = inner; calls = old.calls + 1 })
-  answered-passed inner answer few unlisted said counted fault no_fault = record {
+      → (told inner).heard ≡ told_then (told old.inner).heard (answer ∷ [])
+      → (told old.inner).faults ≤ (told inner).faults
+      → (answer ≡ Fault → HasRisen (told old.inner).faults (told inner).faults)
+      → (answer ≢ Fault → (told inner).faults ≡ (told old.inner).faults)
+      → (told inner).device ≡ (told old.inner).device
+      → IsAnswered told old answer (record old { inner = inner; calls = old.calls + 1 })
+  answered-passed inner answer few unlisted said counted fault no_fault same_device = record {
     numbered = λ _. inr (record {
       unlisted = unlisted;
       after = refl;
@@ -203,67 +204,68 @@ module _ {E : Type 0} (heard : E → Option (List Heard)) (faults : E → ℕ) (
       counted = counted;
       fault = fault;
       no_fault = no_fault;
+      same_device = same_device;
     });
     past = λ full. absurd (omega (arith, few, full));
   }
 
   -- what a call adds to what is told
-  pub heard-answered : (answer : Heard) (new : FaultyKept E) → IsAnswered heard faults old answer new
-      → IsInStep old.fails old.calls (heard old.inner) → (old.calls < 2 ^ 64 - 1 → old.ends ≡ 0)
-      → (EndsPastCount (told_of heard old) → ⊥)
-      → told_of heard new ≡ told_then (told_of heard old) (answer ∷ [])
+  pub heard-answered : (answer : Heard) (new : FaultyKept E) → IsAnswered told old answer new
+      → IsInStep old.fails old.calls (told old.inner).heard → (old.calls < 2 ^ 64 - 1 → old.ends ≡ 0)
+      → (EndsPastCount (faulty_told told old).heard → ⊥)
+      → (faulty_told told new).heard ≡ told_then (faulty_told told old).heard (answer ∷ [])
   heard-answered answer new h in_step last counts = elim (cases_lt old.calls (2 ^ 64 - 1)) [
     | inl few ↦ elim (h.numbered few) [
-      | inl failed ↦ ap (told_of heard) failed.after
-          ∙ (told-listed old.fails old.calls old.ends (heard old.inner) failed.listed (last few)
-          ∙ ap (λ (a : Heard). told_then (told_of heard old) (a ∷ [])) (sym failed.answer_is))
-      | inr passed ↦ ap (told_of heard) passed.after
-          ∙ told-passed old.fails old.calls old.ends (heard old.inner) (heard new.inner) answer
+      | inl failed ↦ ap (λ (ear : FaultyKept E). (faulty_told told ear).heard) failed.after
+          ∙ (told-listed old.fails old.calls old.ends (told old.inner).heard failed.listed (last few)
+          ∙ ap (λ (a : Heard). told_then (faulty_told told old).heard (a ∷ [])) (sym failed.answer_is))
+      | inr passed ↦ ap (λ (ear : FaultyKept E). (faulty_told told ear).heard) passed.after
+          ∙ told-passed old.fails old.calls old.ends (told old.inner).heard (told new.inner).heard answer
           passed.unlisted in_step passed.said (last few)
     ]
     | inr full ↦
         let over = h.past full in
-        ap (told_of heard) over.after
-        ∙ (told-over old.fails old.calls old.ends (heard old.inner) counts
-        ∙ ap (λ (a : Heard). told_then (told_of heard old) (a ∷ [])) (sym over.answer_is))
+        ap (λ (ear : FaultyKept E). (faulty_told told ear).heard) over.after
+        ∙ (told-over old.fails old.calls old.ends (told old.inner).heard counts
+        ∙ ap (λ (a : Heard). told_then (faulty_told told old).heard (a ∷ [])) (sym over.answer_is))
   ]
 
   -- and to the count of faults
-  pub counted-answered : (answer : Heard) (new : FaultyKept E) → IsAnswered heard faults old answer new
-      → faults_of faults old ≤ faults_of faults new
+  pub counted-answered : (answer : Heard) (new : FaultyKept E) → IsAnswered told old answer new
+      → (faulty_told told old).faults ≤ (faulty_told told new).faults
   counted-answered answer new h = elim (cases_lt old.calls (2 ^ 64 - 1)) [
     | inl few ↦ elim (h.numbered few) [
       | inl failed ↦
-          let e = ap (faults_of faults) failed.after in
-          rw e (counted-own old.faults (faults old.inner))
+          let e = ap (λ (ear : FaultyKept E). (faulty_told told ear).faults) failed.after in
+          rw e (counted-own old.faults (told old.inner).faults)
       | inr passed ↦
-          let e = ap (faults_of faults) passed.after in
-          rw e (counted-inner old.faults (faults old.inner) (faults new.inner) passed.counted)
+          let e = ap (λ (ear : FaultyKept E). (faulty_told told ear).faults) passed.after in
+          rw e (counted-inner old.faults (told old.inner).faults (told new.inner).faults passed.counted)
     ]
-    | inr full ↦ let e = ap (faults_of faults) (h.past full).after in rw e (omega arith)
+    | inr full ↦ let e = ap (λ (ear : FaultyKept E). (faulty_told told ear).faults) (h.past full).after in rw e (omega arith)
   ]
 
-  pub fault-answered : (answer : Heard) (new : FaultyKept E) → IsAnswered heard faults old answer new
-      → answer ≡ Fault → HasRisen (faults_of faults old) (faults_of faults new)
+  pub fault-answered : (answer : Heard) (new : FaultyKept E) → IsAnswered told old answer new
+      → answer ≡ Fault → HasRisen (faulty_told told old).faults (faulty_told told new).faults
   fault-answered answer new h fault = elim (cases_lt old.calls (2 ^ 64 - 1)) [
     | inl few ↦ elim (h.numbered few) [
       | inl failed ↦
-          let e = ap (faults_of faults) failed.after in
-          rw e (risen-own old.faults (faults old.inner))
+          let e = ap (λ (ear : FaultyKept E). (faulty_told told ear).faults) failed.after in
+          rw e (risen-own old.faults (told old.inner).faults)
       | inr passed ↦
-          let e = ap (faults_of faults) passed.after in
-          rw e (risen-inner old.faults (faults old.inner) (faults new.inner) (passed.fault fault))
+          let e = ap (λ (ear : FaultyKept E). (faulty_told told ear).faults) passed.after in
+          rw e (risen-inner old.faults (told old.inner).faults (told new.inner).faults (passed.fault fault))
     ]
     | inr full ↦ absurd (end_is_no_fault answer (h.past full).answer_is fault)
   ]
 
-  pub no_fault-answered : (answer : Heard) (new : FaultyKept E) → IsAnswered heard faults old answer new
-      → answer ≢ Fault → faults_of faults new ≡ faults_of faults old
+  pub no_fault-answered : (answer : Heard) (new : FaultyKept E) → IsAnswered told old answer new
+      → answer ≢ Fault → (faulty_told told new).faults ≡ (faulty_told told old).faults
   no_fault-answered answer new h differs = elim (cases_lt old.calls (2 ^ 64 - 1)) [
     | inl few ↦ elim (h.numbered few) [
       | inl failed ↦ absurd (differs failed.answer_is)
-      | inr passed ↦ ap (faults_of faults) passed.after
+      | inr passed ↦ ap (λ (ear : FaultyKept E). (faulty_told told ear).faults) passed.after
           ∙ ap (λ (count : ℕ). min (old.faults + count) (2 ^ 64 - 1)) (passed.no_fault differs)
     ]
-    | inr full ↦ ap (faults_of faults) (h.past full).after
+    | inr full ↦ ap (λ (ear : FaultyKept E). (faulty_told told ear).faults) (h.past full).after
   ]

@@ -1,4 +1,4 @@
--- What contracts see of a book that keeps a first part of a write and fails. This profile.
+-- What contracts see of a book that keeps a first part of a write and fails.
 use Rattle.std.specs.Prelude.{ℕ, ◌-◌, min, List, [], ◌++◌, length, take, nat_eq, Option}
 use Rattle.std.specs.Map.{lookup}
 use Rattle.m17_ports.specs.Ports.{next_number}
@@ -18,7 +18,7 @@ new_book most numbers =
     record { written = []; room = most; next_call = 0; fails = numbers; faults = 0 }
 
 -- How many of its bytes call n appends before it fails, where it is to fail: of two entries with one number the first
--- holds. This profile.
+-- holds.
 abbrev pub torn_at : List (ℕ × ℕ) → ℕ → Option ℕ
 torn_at fails n = lookup (λ number. nat_eq number n) fails
 
@@ -41,7 +41,6 @@ fails_to_write book = record book {
 }
 
 -- A book after a call that failed and appended so many of its bytes, all where there are fewer, and none past the room.
--- This profile.
 abbrev pub tears : TornKept → ℕ → List ℕ → TornKept
 tears book most bytes = record book {
   written = book.written ++ take (min most (book.room - length book.written)) bytes;

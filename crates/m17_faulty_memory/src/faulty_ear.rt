@@ -2,13 +2,13 @@ ghost use Rattle.std.specs.Prelude.{◌≡◌, ◌≢◌, ℕ, ◌-◌, ◌^◌,
 ghost use Rattle.m17_io.specs.Faults.{HasRisen};
 ghost use Rattle.m17_ports.specs.Told.{told_then, StartsEmpty};
 ghost use Rattle.m17_ports.specs.Ear.{EndsPastCount};
-ghost use Rattle.m17_faulty_memory.specs.Answers.{IsAnswered, faults_of, told_of, unscripted};
+ghost use Rattle.m17_faulty_memory.specs.Answers.{IsAnswered, faulty_told};
 
 use m17_ports::Ear;
 use m17_values::Heard;
 use std::marker::Model;
 
-/// An ear over another one, which fails at the calls that it was told to fail at. This profile.
+/// An ear over another one, which fails at the calls that it was told to fail at.
 #[derive(Drop)]
 pub struct FaultyEar<E: Ear + Drop> {
     inner: E,
@@ -32,7 +32,7 @@ impl<E: Ear + Drop> Model for FaultyEar<E> {
       faults = e.faults;
     } };
 
-    ghost invariant = { λ e. IsInStep e.fails.items e.calls (E.heard e.inner)
+    ghost invariant = { λ e. IsInStep e.fails.items e.calls (E.told e.inner).heard
         × (e.calls < 2 ^ 64 - 1 → e.ends ≡ 0) };
 }
 
@@ -41,12 +41,12 @@ impl<E: Ear + Drop> FaultyEar<E> {
 
     /// An ear over `inner`, of which nothing was heard. `fails` lists the numbers of calls of `hear`, from 0, that are
     /// to answer Fault and leave the inner ear alone; every other call is the inner one's. After 2^64 - 1 calls it
-    /// answers End by itself. This profile.
+    /// answers End by itself.
     pub fn new(inner: E, fails: Vec<u64>) -> FaultyEar<E>
-        requires unheard { StartsEmpty (E.heard inner) }
+        requires unheard { StartsEmpty (E.told inner).heard }
         ensures made { result ≡ new_ear inner fails.items }
-        ensures starts { StartsEmpty (told_of E.heard result) }
-        ensures faults { faults_of E.faults result ≡ E.faults inner }
+        ensures starts { StartsEmpty (faulty_told E.told result).heard }
+        ensures faults { (faulty_told E.told result).faults ≡ (E.told inner).faults }
     {
         FaultyEar {
             inner,
@@ -59,11 +59,10 @@ impl<E: Ear + Drop> FaultyEar<E> {
 
     // Answers the next call.
     fn next(&mut self) -> Heard
-        ensures answered { IsAnswered E.heard E.faults self.old result self.new }
-        ensures in_step { IsInStep self.old.fails self.old.calls (E.heard self.old.inner) }
+        ensures answered { IsAnswered E.told self.old result self.new }
+        ensures in_step { IsInStep self.old.fails self.old.calls (E.told self.old.inner).heard }
         ensures ends_last { self.old.calls < 2 ^ 64 - 1 → self.old.ends ≡ 0 }
-        ensures same_mark { E.mark self.new.inner ≡ E.mark self.old.inner }
-        ensures same_label { E.label self.new.inner ≡ E.label self.old.inner }
+        ensures same_device { (E.told self.new.inner).device ≡ (E.told self.old.inner).device }
     {
         if self.calls == u64::MAX {
             self.ends = self.ends.saturating_add(1);
@@ -88,32 +87,26 @@ impl<E: Ear + Drop> Ear for FaultyEar<E> {
 
     type Label = E::Label;
 
-    ghost faults = { λ e. faults_of E.faults e };
+    ghost told = { λ e. faulty_told E.told e };
 
-    ghost heard = { λ e. told_of E.heard e };
+    ghost faults_fit = { λ e. min-le_right (e.faults + (E.told e.inner).faults) (2 ^ 64 - 1) };
 
-    ghost mark = { λ e. unscripted (E.mark e.inner) };
-
-    ghost label = { λ e. E.label e.inner };
-
-    ghost faults_fit = { λ e. min-le_right (e.faults + E.faults e.inner) (2 ^ 64 - 1) };
-
-    ghost follows_script = { λ e. unscripted-follows (E.mark e.inner) (told_of E.heard e) };
+    ghost follows_script = { λ e. unscripted-follows (E.told e.inner).device.mark
+        (faulty_told E.told e).heard };
 
     fn hear(&mut self) -> Heard
         // What this call answers: a Fault where it is listed, and else what the inner ear does.
-        ensures answered { IsAnswered E.heard E.faults self.old result self.new }
+        ensures answered { IsAnswered E.told self.old result self.new }
 
-        ensures counted { faults_of E.faults self.old ≤ faults_of E.faults self.new }
+        ensures counted { (faulty_told E.told self.old).faults ≤ (faulty_told E.told self.new).faults }
         ensures fault { result ≡ Heard.Fault
-            → HasRisen (faults_of E.faults self.old) (faults_of E.faults self.new) }
+            → HasRisen (faulty_told E.told self.old).faults (faulty_told E.told self.new).faults }
         ensures no_fault { result ≢ Heard.Fault
-            → faults_of E.faults self.new ≡ faults_of E.faults self.old }
-        ensures appended { (EndsPastCount (told_of E.heard self.old) → ⊥)
-            → told_of E.heard self.new
-            ≡ told_then (told_of E.heard self.old) (result ∷ []) }
-        ensures same_device { (unscripted (E.mark self.new.inner) ≡ unscripted (E.mark self.old.inner))
-            × (E.label self.new.inner ≡ E.label self.old.inner) }
+            → (faulty_told E.told self.new).faults ≡ (faulty_told E.told self.old).faults }
+        ensures appended { (EndsPastCount (faulty_told E.told self.old).heard → ⊥)
+            → (faulty_told E.told self.new).heard
+            ≡ told_then (faulty_told E.told self.old).heard (result ∷ []) }
+        ensures same_device { (E.told self.new.inner).device ≡ (E.told self.old.inner).device }
     {
         self.next()
     }

@@ -9,7 +9,6 @@ use std::alloc::Global;
 use std::marker::Model;
 
 /// A book that keeps its bytes in memory, of a fixed room, which can be told to keep a first part of a write and fail.
-/// This profile.
 #[derive(Debug, Drop)]
 pub struct TornBook {
     bytes: Vec<u8>,
@@ -42,7 +41,7 @@ impl TornBook {
     /// A book with room for so many bytes, with nothing written. `fails` lists calls of `write` that are to fail: their
     /// numbers, from 0, each with how many of its bytes it appends before; of two entries with one number the first
     /// holds. A write that would pass the room and is not listed fails too, and appends nothing. `NoMemory` where there
-    /// is none for the room, and never for a room of 0. This profile.
+    /// is none for the room, and never for a room of 0.
     pub fn make(alloc: Global, room: usize, fails: Vec<(u64, usize)>) -> Result<TornBook, NoMemory>
         ensures made { IfOk result (λ book. book ≡ new_book room fails.items) }
         ensures no_room { room ≡ 0 → IsOk result }
@@ -59,7 +58,7 @@ impl TornBook {
         }
     }
 
-    /// The bytes written. This profile.
+    /// The bytes written.
     pub fn bytes(&self) -> &[u8]
         ensures { result.now ≡ self.now.written }
     {
@@ -92,13 +91,11 @@ impl Book for TornBook {
 
     type Label = ();
 
-    ghost faults = { λ b. min b.faults (2 ^ 64 - 1) };
-
-    ghost written = { λ b. Some b.written };
-
-    ghost mark = { λ _. Some 0 };
-
-    ghost label = { λ _. tt };
+    ghost told = { λ b. record {
+      written = Some b.written;
+      faults = min b.faults (2 ^ 64 - 1);
+      device = record { mark = Some 0; label = tt };
+    } };
 
     ghost faults_fit = { λ b. min-le_right b.faults (2 ^ 64 - 1) };
 

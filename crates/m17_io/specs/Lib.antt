@@ -3,3 +3,4 @@ pub mod Source
 pub mod Sink
 pub mod Tied
 pub mod Outlet
+pub mod Fill

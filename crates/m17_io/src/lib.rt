@@ -6,12 +6,14 @@
 #![tactic(auto)]
 
 mod fault;
+mod filling;
 mod input;
 mod outlet;
 mod sink;
 mod source;
 
 pub use fault::Fault;
+pub use filling::fill;
 pub use input::{Input, read_tied};
 pub use outlet::Outlet;
 pub use sink::Sink;

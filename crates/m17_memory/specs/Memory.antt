@@ -1,4 +1,4 @@
--- What contracts see of the devices in memory. This profile.
+-- What contracts see of the devices in memory.
 use Rattle.std.specs.Prelude.{ℕ, List}
 
 -- a source in memory: the bytes that are left, the number of the next call, the numbers of the calls that are

@@ -7,7 +7,7 @@ use m17_values::Failed;
 use std::alloc::Global;
 use std::marker::Model;
 
-/// An outlet that keeps what is sent in memory, takes a few bytes at a time, and can be told to fail. This profile.
+/// An outlet that keeps what is sent in memory, takes a few bytes at a time, and can be told to fail.
 #[derive(Debug, Drop)]
 pub struct BytesOutlet {
     bytes: Vec<u8>,
@@ -69,9 +69,7 @@ impl BytesOutlet {
 impl Outlet for BytesOutlet {
     ghost use Rattle.std.proofs.Math.Nat.{min-le_right};
 
-    ghost faults = { λ s. min s.faults (2 ^ 64 - 1) };
-
-    ghost sent = { λ s. Some s.sent };
+    ghost told = { λ s. record { sent = Some s.sent; faults = min s.faults (2 ^ 64 - 1) } };
 
     ghost faults_fit = { λ s. min-le_right s.faults (2 ^ 64 - 1) };
 

@@ -7,7 +7,7 @@ use m17_values::{Failed, NoMemory};
 use std::alloc::Global;
 use std::marker::Model;
 
-/// A sink that keeps its bytes in memory, of a fixed room, which can be told to fail. This profile.
+/// A sink that keeps its bytes in memory, of a fixed room, which can be told to fail.
 #[derive(Debug, Drop)]
 pub struct BytesSink {
     bytes: Vec<u8>,
@@ -73,11 +73,11 @@ impl BytesSink {
 impl Sink for BytesSink {
     ghost use Rattle.std.proofs.Math.Nat.{min-le_right};
 
-    ghost faults = { λ s. min s.faults (2 ^ 64 - 1) };
-
-    ghost written = { λ s. Some s.written };
-
-    ghost held_back = { λ _. 0 };
+    ghost told = { λ s. record {
+      written = Some s.written;
+      held_back = 0;
+      faults = min s.faults (2 ^ 64 - 1);
+    } };
 
     ghost faults_fit = { λ s. min-le_right s.faults (2 ^ 64 - 1) };
 

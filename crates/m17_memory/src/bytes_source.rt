@@ -6,7 +6,7 @@ use m17_io::Source;
 use m17_values::Failed;
 use std::marker::Model;
 
-/// Bytes in memory as a source, which can be told to fail. This profile.
+/// Bytes in memory as a source, which can be told to fail.
 #[derive(Debug, Drop)]
 pub struct BytesSource {
     bytes: Vec<u8>,
@@ -57,11 +57,11 @@ impl BytesSource {
 impl Source for BytesSource {
     ghost use Rattle.std.proofs.Math.Nat.{min-le_right};
 
-    ghost faults = { λ s. min s.faults (2 ^ 64 - 1) };
-
-    ghost left = { λ s. Some s.left };
-
-    ghost at_hand = { λ _. true };
+    ghost told = { λ s. record {
+      left = Some s.left;
+      at_hand = true;
+      faults = min s.faults (2 ^ 64 - 1);
+    } };
 
     ghost faults_fit = { λ s. min-le_right s.faults (2 ^ 64 - 1) };
 

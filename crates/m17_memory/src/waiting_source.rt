@@ -5,7 +5,7 @@ use m17_io::Source;
 use m17_values::Failed;
 
 /// Bytes in memory as a source of which each read would wait for the outside, as at a terminal: nothing is ever at
-/// hand. This profile.
+/// hand.
 #[derive(Debug, Drop)]
 pub struct WaitingSource {
     /// The bytes, and when they fail.
@@ -31,11 +31,11 @@ impl WaitingSource {
 impl Source for WaitingSource {
     ghost use Rattle.std.proofs.Math.Nat.{min-le_right};
 
-    ghost faults = { λ s. min s.bytes.faults (2 ^ 64 - 1) };
-
-    ghost left = { λ s. Some s.bytes.left };
-
-    ghost at_hand = { λ _. false };
+    ghost told = { λ s. record {
+      left = Some s.bytes.left;
+      at_hand = false;
+      faults = min s.bytes.faults (2 ^ 64 - 1);
+    } };
 
     ghost faults_fit = { λ s. min-le_right s.bytes.faults (2 ^ 64 - 1) };
 

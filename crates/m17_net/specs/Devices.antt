@@ -1,4 +1,4 @@
--- What contracts see of an ear, a mouth and a book of a real machine, and of its ports. This profile.
+-- What contracts see of an ear, a mouth and a book of a real machine, and of its ports.
 use Rattle.std.specs.Prelude.{◌≡◌, ◌≢◌, ◌⊎◌, ℕ, suc, min, ◌-◌, ◌^◌, ◌≤◌, List, [], ◌∷◌, ◌++◌, take, All, Bool, Option, option_map, None, Some}
 use Rattle.std.specs.Net.Addr.{is_ipv6}
 use Rattle.std.specs.Net.Grammar.{IsSocketText}
@@ -8,10 +8,12 @@ use Rattle.std.specs.declared.time.Instant.{Instant}
 use Rattle.m17_values.specs.declared.heard.Heard.{Heard}
 use Rattle.m17_values.specs.declared.heard.Heard.TheVariants as heard
 use Rattle.m17_ports.specs.Told.{told_then}
-use Rattle.m17_ports.specs.Mouth.{Datagram}
-use Rattle.m17_ports.specs.Ports.{next_number}
+use Rattle.m17_ports.specs.Ear.{EarTold}
+use Rattle.m17_ports.specs.Mouth.{Datagram, MouthTold}
+use Rattle.m17_ports.specs.Book.{BookTold}
+use Rattle.m17_ports.specs.Ports.{PortsTold, next_number}
 use Rattle.m17_disk.specs.Queue.{IsNewQueue, QueueKept}
-use Rattle.m17_disk.specs.Writing.{ComesToEnd, IsOfBook, IsReady, Words}
+use Rattle.m17_disk.specs.Writing.{ComesToEnd, IsOfBook, IsReady}
 use Rattle.m17_disk.specs.declared.writer.Writer.{Writer}
 use Rattle.m17_net.specs.Address.{IsPeerAt, IsAddressOf}
 use Rattle.m17_net.specs.Moments.{ReadsMoment}
@@ -40,6 +42,14 @@ new_ear clock wire start until n = record {
   number = n;
 }
 
+-- what an ear of a socket tells: its faults and its number, and nothing of what it heard
+abbrev pub udp_ear_told : {C W : Type 0} → EarKept C W → EarTold (Unit {0})
+udp_ear_told ear = record {
+  heard = None;
+  faults = min ear.faults (2 ^ 64 - 1);
+  device = record { mark = Some (record { number = ear.number; script = None }); label = tt };
+}
+
 -- a mouth: its socket, whether that is one of IPv6, how often it has failed, and its number
 pub record MouthKept (W : Type 0) : Type 0 where
   pub wire : W
@@ -51,6 +61,15 @@ pub record MouthKept (W : Type 0) : Type 0 where
 abbrev pub new_mouth : {W : Type 0} → W → Bool → ℕ → MouthKept W
 new_mouth wire six n = record { wire = wire; six = six; faults = 0; number = n }
 
+-- what a mouth of a socket tells: its faults and its number, and nothing of what it said
+abbrev pub udp_mouth_told : {W : Type 0} → MouthKept W → MouthTold (Unit {0})
+udp_mouth_told mouth = record {
+  said = None;
+  tallies = λ _. None;
+  faults = min mouth.faults (2 ^ 64 - 1);
+  device = record { mark = Some (record { number = mouth.number; peers = None }); label = tt };
+}
+
 -- a book: its file, how often it has failed, and its number
 pub record BookKept (F : Type 0) : Type 0 where
   pub file : F
@@ -61,6 +80,14 @@ pub record BookKept (F : Type 0) : Type 0 where
 abbrev pub new_book : {F : Type 0} → F → ℕ → BookKept F
 new_book file n = record { file = file; faults = 0; number = n }
 
+-- what a book in a file tells: its faults and its number, and no bytes
+abbrev pub file_book_told : {F : Type 0} → BookKept F → BookTold (Unit {0})
+file_book_told book = record {
+  written = None;
+  faults = min book.faults (2 ^ 64 - 1);
+  device = record { mark = Some book.number; label = tt };
+}
+
 -- ports: the instant that they read when they were made, if their clock gave one, how many calls there were, how often
 -- they have failed, and the jobs of the threads that they started for books
 pub record PortsKept (J : Type 0) : Type 0 where
@@ -69,8 +96,12 @@ pub record PortsKept (J : Type 0) : Type 0 where
   pub faults : ℕ
   pub writing : List J
 
--- One thread more was started for a book: it is that of a new book, it took nothing, and its file has not failed. This
--- profile.
+-- what ports of a system tell: their calls and their faults, and nothing of what was asked
+abbrev pub udp_ports_told : {J : Type 0} → PortsKept J → PortsTold
+udp_ports_told ports =
+    record { asked = None; calls = ports.calls; faults = min ports.faults (2 ^ 64 - 1) }
+
+-- One thread more was started for a book: it is that of a new book, it took nothing, and its file has not failed.
 pub record IsBegun {F : Type 0} (before after : List (Writer (BookKept F))) : Type 0 where
   pub job : Writer (BookKept F)
   pub last : after ≡ before ++ job ∷ []
@@ -80,15 +111,11 @@ pub record IsBegun {F : Type 0} (before after : List (Writer (BookKept F))) : Ty
   pub ready : IsReady job
   pub no_fault : job.book.faults ≡ 0
 
--- what is said of a book in a file: its bytes are not told
-abbrev pub file_words : {F : Type 0} → Words (BookKept F)
-file_words = record { written = λ _. None; faults = λ book. min book.faults (2 ^ 64 - 1) }
-
--- Each of these threads came to its end, and no write of its file failed. This profile.
+-- Each of these threads came to its end, and no write of its file failed.
 abbrev pub AreWritten : {F : Type 0} → List (Writer (BookKept F)) → Type 0
-AreWritten {F} jobs = All (ComesToEnd (file_words {F = F})) jobs
+AreWritten {F} jobs = All (ComesToEnd (file_book_told {F = F})) jobs
 
--- An ear that ends at a moment, or never, is over where its last moment is this one. This profile.
+-- An ear that ends at a moment, or never, is over where its last moment is this one.
 abbrev pub IsOver : Option ℕ → ℕ → Type 0
 IsOver None last = ⊥
 IsOver (Some until) last = until ≤ last
@@ -106,7 +133,7 @@ TakesUntold before after =
     (after ≡ before) ⊎ ((lost : Sent) × (after ≡ told_then before (lost ∷ [])))
 
 -- What the socket gave, and what the ear says of it: of a datagram its first 64 bytes and the peer at its address;
--- nothing else was taken. Only at a Fault and at the End a datagram is lost that was taken. This profile.
+-- nothing else was taken. Only at a Fault and at the End a datagram is lost that was taken.
 abbrev pub TellsTaken : Heard → Option (List Sent) → Option (List Sent) → Type 0
 TellsTaken (heard.Datagram from at bytes) before after = (address : SocketAddr) × (whole : List ℕ)
     × (after ≡ told_then before ((address, whole) ∷ []))
@@ -115,9 +142,9 @@ TellsTaken (heard.Quiet at) before after = after ≡ before
 TellsTaken heard.Fault before after = TakesUntold before after
 TellsTaken heard.End before after = TakesUntold before after
 
--- what an ear tells at a moment: what its socket took and sent, how often that broke, the instants that its clock read,
--- how often a reading gave an error, and its last moment
-pub record EarTold : Type 0 where
+-- what an ear has found by a moment: what its socket took and sent, how often that broke, the instants that its clock
+-- read, how often a reading gave an error, and its last moment
+pub record EarFound : Type 0 where
   pub taken : Option (List Sent)
   pub sent : Option (List Sent)
   pub broken : Option ℕ
@@ -125,9 +152,9 @@ pub record EarTold : Type 0 where
   pub unread : Option ℕ
   pub last : ℕ
 
-abbrev pub ear_told : Option (List Sent) → Option (List Sent) → Option ℕ
-    → Option (List Instant) → Option ℕ → ℕ → EarTold
-ear_told taken sent broken readings unread last = record {
+abbrev pub ear_found : Option (List Sent) → Option (List Sent) → Option ℕ
+    → Option (List Instant) → Option ℕ → ℕ → EarFound
+ear_found taken sent broken readings unread last = record {
   taken = taken;
   sent = sent;
   broken = broken;
@@ -136,14 +163,13 @@ ear_told taken sent broken readings unread last = record {
   last = last;
 }
 
--- One thing failed, once: the socket broke, or a reading of the clock gave an error. This profile.
-abbrev pub HasFailed : EarTold → EarTold → Type 0
+-- One thing failed, once: the socket broke, or a reading of the clock gave an error.
+abbrev pub HasFailed : EarFound → EarFound → Type 0
 HasFailed before after =
     ((after.broken ≡ option_map suc before.broken) × (after.unread ≡ before.unread))
     ⊎ ((after.broken ≡ before.broken) × (after.unread ≡ option_map suc before.unread))
 
--- The count rose by one at a Fault, and stands at another answer. One that has come to 2^64 - 1 stays there. This
--- profile.
+-- The count rose by one at a Fault, and stands at another answer. One that has come to 2^64 - 1 stays there.
 pub record CountsFault (answer : Heard) (before after : ℕ) : Type 0 where
   pub fault : answer ≡ heard.Fault → after ≡ next_number before
   pub other : answer ≢ heard.Fault → after ≡ before
@@ -154,7 +180,7 @@ SendsTo six datagram before after = (address : SocketAddr) × IsAddressOf six da
     × (after ≡ told_then before ((address, datagram.1) ∷ []))
 
 -- The halves of a link that is new: both have this number, the ear counts its moments from the start of the ports and
--- ends at its moment, and the mouth knows whether the address that was asked for is one of IPv6. This profile.
+-- ends at its moment, and the mouth knows whether the address that was asked for is one of IPv6.
 pub record IsNewLink {C W : Type 0} (bind : List ℕ) (until : Option ℕ) (start : Option Instant)
     (n : ℕ) (link : EarKept C W × MouthKept W) : Type 0 where
   pub address : SocketAddr
@@ -163,9 +189,9 @@ pub record IsNewLink {C W : Type 0} (bind : List ℕ) (until : Option ℕ) (star
   pub ear : link.0 ≡ new_ear link.0.clock link.0.wire link.0.start until n
   pub mouth : link.1 ≡ new_mouth link.1.wire (is_ipv6 (socket_ip address)) n
 
--- What an ear that counts its moments from an instant, and ends at a moment or never, does at one call. This profile.
+-- What an ear that counts its moments from an instant, and ends at a moment or never, does at one call.
 pub record Listens (start : Instant) (until : Option ℕ)
-    (before : EarTold) (answer : Heard) (after : EarTold) : Type 0 where
+    (before : EarFound) (answer : Heard) (after : EarFound) : Type 0 where
   -- an ear that is over leaves its socket alone
   pub over : IsOver until before.last → (answer ≡ heard.End) × (after ≡ before)
   -- it ends at the first moment at which it is over, and at no earlier one

@@ -1,4 +1,4 @@
--- What the errors of a socket mean to an ear and a mouth. This profile.
+-- What the errors of a socket mean to an ear and a mouth.
 use Rattle.std.specs.declared.io.ErrorKind.{ErrorKind}
 use Rattle.std.specs.declared.io.ErrorKind.TheVariants.{WouldBlock, TimedOut, Interrupted, ConnectionRefused, ConnectionReset, HostUnreachable, NetworkUnreachable, NetworkDown}
 use Rattle.m17_net.specs.declared.trouble.Trouble.{Trouble}

@@ -1,4 +1,4 @@
--- What follows from how peers and addresses belong together. This profile.
+-- What follows from how peers and addresses belong together.
 use Rattle.std.specs.Prelude.{◌≡◌}
 use Rattle.std.specs.Net.Addr.{is_ipv6}
 use Rattle.std.specs.Net.Socket.{socket_ip, socket_port, IsSocketAddr}
@@ -7,7 +7,6 @@ use Rattle.m17_values.specs.declared.peer.Peer.{Peer}
 use Rattle.m17_net.specs.Address.{IsPeerAt, IsAddressOf}
 
 -- What goes to the peer that a datagram came from, by a socket of the same family, goes to where the datagram came from.
--- This profile.
 abbrev pub AnswersGoBack : Type 0
 AnswersGoBack = (from back : SocketAddr) (peer : Peer) → IsSocketAddr from
     → IsPeerAt from peer → IsAddressOf (is_ipv6 (socket_ip from)) peer back

@@ -1,4 +1,4 @@
--- What a socket for datagrams takes and sends, and what is told of its errors and a clock's. This profile.
+-- What a socket for datagrams takes and sends, and what is told of its errors and a clock's.
 use Rattle.std.specs.Prelude.{◌≡◌, ℕ, suc, ◌<◌, List, [], ◌∷◌, length, take, All, Option, option_map, Result, Ok, Err}
 use Rattle.std.specs.IoError.{error_kind}
 use Rattle.std.specs.declared.io.Error.{Error}
@@ -10,12 +10,12 @@ use Rattle.m17_net.specs.declared.trouble.Trouble.TheVariants.{Waited, Passing, 
 use Rattle.m17_net.specs.Errors.{meaning_of}
 use Rattle.m17_net.specs.Tries.{GivesUpAfter}
 
--- A datagram on the network: the address that it comes from or goes to, and its bytes. This profile.
+-- A datagram on the network: the address that it comes from or goes to, and its bytes.
 abbrev pub Sent : Type 0
 Sent = SocketAddr × List ℕ
 
 -- What a call found: where the datagram came from, how much room there was, and the bytes that it
--- put there. This profile.
+-- put there.
 pub record Found : Type 0 where
   pub from : SocketAddr
   pub room : ℕ
@@ -24,7 +24,7 @@ pub record Found : Type 0 where
 abbrev pub found : SocketAddr → ℕ → List ℕ → Found
 found from room bytes = record { from = from; room = room; bytes = bytes }
 
--- One datagram was taken, and as much of it as there was room for was found. This profile.
+-- One datagram was taken, and as much of it as there was room for was found.
 abbrev pub HasTaken : Option (List Sent) → Found → Option (List Sent) → Type 0
 HasTaken before f after = (whole : List ℕ)
     × (after ≡ told_then before ((f.from, whole) ∷ [])) × (f.bytes ≡ take f.room whole)
@@ -36,17 +36,17 @@ broken_after Passing n = n
 broken_after Unreachable n = n
 broken_after Broken n = option_map suc n
 
--- A call breaks the socket where its error is none that passes. This profile.
+-- A call breaks the socket where its error is none that passes.
 abbrev pub BreaksBy : {T : Type 0} → Result T Error → Option ℕ → Option ℕ → Type 0
 BreaksBy (Ok _) before after = after ≡ before
 BreaksBy (Err e) before after = after ≡ broken_after (meaning_of (error_kind e)) before
 
--- A call that gave an error counts one more, and each other call leaves the count. This profile.
+-- A call that gave an error counts one more, and each other call leaves the count.
 abbrev pub CountsError : {T E : Type 0} → Result T E → Option ℕ → Option ℕ → Type 0
 CountsError (Ok _) before after = after ≡ before
 CountsError (Err _) before after = after ≡ option_map suc before
 
--- A call that gave an error is told by the kind of that, and each other call is not. This profile.
+-- A call that gave an error is told by the kind of that, and each other call is not.
 abbrev pub TellsError : {T : Type 0} → Result T Error
     → Option (List ErrorKind) → Option (List ErrorKind) → Type 0
 TellsError (Ok _) before after = after ≡ before
@@ -57,11 +57,11 @@ abbrev pub IsPassing : ErrorKind → Type 0
 IsPassing kind = meaning_of kind ≡ Passing
 
 -- After these errors a datagram is given up: 16 that are each worth another call; or fewer of these, and then one that
--- is not. This profile.
+-- is not.
 abbrev pub GivesUp : List ErrorKind → Type 0
 GivesUp errors = GivesUpAfter IsPassing 16 errors
 
--- After these errors, if there are any, another call is made: fewer than 16, each worth that. This profile.
+-- After these errors, if there are any, another call is made: fewer than 16, each worth that.
 abbrev pub GoesOn : List ErrorKind → Type 0
 GoesOn errors = All IsPassing errors × (length errors < 16)
 

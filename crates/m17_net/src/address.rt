@@ -9,7 +9,7 @@ use std::net::{IpAddr, Ipv4Addr, Ipv6Addr, SocketAddr};
 const FOUR_BYTES: usize = 4;
 
 /// The peer at an address of a socket. An IPv4 address that a socket of IPv6 shows within one of its own (IPv4-mapped)
-/// is the IPv4 address. The zone and the flow label of an IPv6 address are left out. This profile.
+/// is the IPv4 address. The zone and the flow label of an IPv6 address are left out.
 pub fn peer_at(address: SocketAddr) -> Peer
     ensures { IsPeerAt address result }
 {
@@ -39,7 +39,7 @@ fn padded(octets: [u8; 4]) -> [u8; 16]
 
 /// The address to which a socket sends what goes to a peer; `six` says whether the socket is one of IPv6. Such a socket
 /// reaches an IPv4 peer by the IPv6 address that holds its own (IPv4-mapped). A socket of IPv4 is given the IPv6 address
-/// of an IPv6 peer, and cannot send to it. This profile.
+/// of an IPv6 peer, and cannot send to it.
 pub fn address_of(peer: &Peer, six: bool) -> SocketAddr
     ensures { IsAddressOf six peer.now result }
 {

@@ -7,7 +7,7 @@ ghost use Rattle.m17_ports.specs.Told.{told_then};
 use std::io;
 use std::io::Write;
 
-/// A file, as a book writes to it: each writer of std is one. This profile.
+/// A file, as a book writes to it: each writer of std is one.
 pub trait BookFile {
     /// The bytes that it holds, where they are known.
     ghost held: { Self → Option (List ℕ) };

@@ -4,7 +4,7 @@ ghost use Rattle.m17_values.specs.declared.heard.Heard.{Heard};
 ghost use Rattle.m17_ports.specs.Told.{told_then};
 ghost use Rattle.m17_ports.specs.Ear.{EndsPastCount};
 ghost use Rattle.m17_ports.specs.Ports.{next_number};
-ghost use Rattle.m17_net.specs.Devices.{ear_told, CountsFault, IsOver, Listens};
+ghost use Rattle.m17_net.specs.Devices.{ear_found, CountsFault, IsOver, Listens};
 ghost use Rattle.m17_net.specs.Moments.{ReadsMoment};
 ghost use Rattle.m17_net.specs.Taking.{Comes, CountsUnread, SaysWhatCame, TellsAt};
 ghost use Rattle.m17_net.specs.Wire.{CountsError};
@@ -22,7 +22,7 @@ use std::time::{Duration, Instant};
 /// nothing spins.
 pub(crate) const WAIT_MS: u64 = 20;
 
-/// The receiving half of a UDP socket. Moments are milliseconds since the ports were made. This profile.
+/// The receiving half of a UDP socket. Moments are milliseconds since the ports were made.
 #[derive(Drop)]
 pub struct UdpEar<C: Timer + Drop, W: Wire + Drop = UdpSocket> {
     clock: C,
@@ -177,16 +177,11 @@ impl<C: Timer + Drop, W: Wire + Drop> UdpEar<C, W> {
 impl<C: Timer + Drop, W: Wire + Drop> Ear for UdpEar<C, W> {
     ghost use Rattle.std.proofs.Math.Nat.{min-le_right};
     ghost use Rattle.m17_ports.specs.Untold.{follows_none};
+    ghost use Rattle.m17_net.specs.Devices.{udp_ear_told};
 
     type Label = ();
 
-    ghost faults = { λ e. min e.faults (2 ^ 64 - 1) };
-
-    ghost heard = { λ _. None };
-
-    ghost mark = { λ e. Some (record { number = e.number; script = None }) };
-
-    ghost label = { λ _. tt };
+    ghost told = { udp_ear_told };
 
     ghost faults_fit = { λ e. min-le_right e.faults (2 ^ 64 - 1) };
 
@@ -204,9 +199,9 @@ impl<C: Timer + Drop, W: Wire + Drop> Ear for UdpEar<C, W> {
 
         // What it says is what its socket took, and when.
         ensures listens { Listens self.old.start self.old.until
-            (ear_told (W.taken self.old.wire) (W.sent self.old.wire) (W.broken self.old.wire)
+            (ear_found (W.taken self.old.wire) (W.sent self.old.wire) (W.broken self.old.wire)
             (C.readings self.old.clock) (C.unread self.old.clock) self.old.last) result
-            (ear_told (W.taken self.new.wire) (W.sent self.new.wire) (W.broken self.new.wire)
+            (ear_found (W.taken self.new.wire) (W.sent self.new.wire) (W.broken self.new.wire)
             (C.readings self.new.clock) (C.unread self.new.clock) self.new.last) }
         ensures counted_so { CountsFault result self.old.faults self.new.faults }
         ensures same_start { self.new.start ≡ self.old.start }

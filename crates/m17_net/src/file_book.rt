@@ -13,7 +13,7 @@ use std::io::ErrorKind;
 use std::marker::Model;
 
 /// A book in a file. Each write goes to the file at once, so what stands there ends with a whole record, as far as the
-/// system wrote it whole. A write takes as long as the system takes for it. This profile.
+/// system wrote it whole. A write takes as long as the system takes for it.
 #[derive(Drop)]
 pub struct FileBook<F: BookFile + Drop = File> {
     file: F,
@@ -78,17 +78,11 @@ fn append<F: BookFile>(file: &mut F, bytes: &[u8]) -> Result<(), Failed>
 
 impl<F: BookFile + Drop> Book for FileBook<F> {
     ghost use Rattle.std.proofs.Math.Nat.{min-le_right};
-    ghost use Rattle.m17_net.specs.Devices.{BookKept};
+    ghost use Rattle.m17_net.specs.Devices.{BookKept, file_book_told};
 
     type Label = ();
 
-    ghost faults = { λ b. min b.faults (2 ^ 64 - 1) };
-
-    ghost written = { λ _. None };
-
-    ghost mark = { λ b. Some b.number };
-
-    ghost label = { λ _. tt };
+    ghost told = { file_book_told };
 
     ghost faults_fit = { λ b. min-le_right b.faults (2 ^ 64 - 1) };
 

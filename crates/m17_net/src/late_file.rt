@@ -4,7 +4,7 @@ use std::io;
 use std::io::{Error, ErrorKind, Write};
 use std::sync::{Arc, OnceLock};
 
-/// A file that comes when it has been made. Until then nothing can be written to it. This profile.
+/// A file that comes when it has been made. Until then nothing can be written to it.
 #[derive(Drop)]
 pub struct LateFile {
     file: Arc<OnceLock<File>, Global>,

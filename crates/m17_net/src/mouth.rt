@@ -15,7 +15,7 @@ use m17_values::{Failed, Peer};
 use std::marker::Model;
 use std::net::UdpSocket;
 
-/// The sending half of a UDP socket. This profile.
+/// The sending half of a UDP socket.
 #[derive(Drop)]
 pub struct UdpMouth<W: Wire + Drop = UdpSocket> {
     wire: W,
@@ -55,20 +55,12 @@ impl<W: Wire + Drop> UdpMouth<W> {
 
 impl<W: Wire + Drop> Mouth for UdpMouth<W> {
     ghost use Rattle.std.proofs.Math.Nat.{min-le_right};
-    ghost use Rattle.m17_net.specs.Devices.{MouthKept};
+    ghost use Rattle.m17_net.specs.Devices.{MouthKept, udp_mouth_told};
     ghost use Rattle.m17_ports.specs.Untold.{names_nobody};
 
     type Label = ();
 
-    ghost faults = { λ m. min m.faults (2 ^ 64 - 1) };
-
-    ghost said = { λ _. None };
-
-    ghost tallies = { λ _ _. None };
-
-    ghost mark = { λ m. Some (record { number = m.number; peers = None }) };
-
-    ghost label = { λ _. tt };
+    ghost told = { udp_mouth_told };
 
     ghost faults_fit = { λ m. min-le_right m.faults (2 ^ 64 - 1) };
 

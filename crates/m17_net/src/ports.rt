@@ -1,18 +1,18 @@
-ghost use Rattle.std.specs.Prelude.{◌≡◌, ℕ, ◌-◌, ◌^◌, ◌≤◌, min, None, Some, IfSome, IfOk, OnOk, OnErr};
+ghost use Rattle.std.specs.Prelude.{◌≡◌, ◌-◌, ◌^◌, ◌≤◌, min, [], ◌∷◌, Err, IfSome, IfOk, OnOk, OnErr};
 ghost use Rattle.m17_io.specs.Faults.{HasCause};
-ghost use Rattle.m17_values.specs.declared.heard.Heard.{Heard};
 ghost use Rattle.m17_ports.specs.declared.question.Question.{Question};
-ghost use Rattle.m17_ports.specs.Told.{StartsEmpty};
-ghost use Rattle.m17_ports.specs.Marks.{IsNumbered};
-ghost use Rattle.m17_ports.specs.Mouth.{HasSaidNothing};
-ghost use Rattle.m17_ports.specs.Ports.{IsAsked, next_number};
-ghost use Rattle.m17_disk.specs.Queue.{IsNewQueue};
+ghost use Rattle.m17_ports.specs.Ear.{IsNewEar};
+ghost use Rattle.m17_ports.specs.Mouth.{IsNewMouth};
+ghost use Rattle.m17_ports.specs.Book.{IsNewBook};
+ghost use Rattle.m17_ports.specs.Ports.{HasAsked, next_number};
+ghost use Rattle.m17_disk.specs.Queue.{IsNewQueue, queue_told};
+ghost use Rattle.m17_disk.specs.Writing.{OneFailsToWrite};
 ghost use Rattle.m17_net.specs.Devices.{IsNewLink};
 
 use crate::ear::WAIT_MS;
 use crate::late_file::LateFile;
 use crate::{FileBook, UdpEar, UdpMouth};
-use m17_disk::{Hand, QueuedBook};
+use m17_disk::{Hand, QueuedBook, Unsettled};
 use m17_ports::Ports;
 use m17_values::Failed;
 use std::alloc::Global;
@@ -27,7 +27,7 @@ use std::{fs, io};
 
 /// Links on UDP sockets, and books in files, of the system that `rt` stands for. Each link and each book has the number
 /// of the call that made it. A book's writes are made by a thread of its own, which `staff` starts before the book is asked
-/// for, and `settle` ends. This profile.
+/// for, and `settle` ends.
 #[derive(Drop)]
 pub struct UdpPorts<R: Drop> {
     rt: R,
@@ -62,10 +62,9 @@ impl<R: Drop> Model for UdpPorts<R> {
 }
 
 impl<R: Net + Files<File = File> + Clock + AllocGlobal + Copy + Drop> UdpPorts<R> {
-    ghost use Rattle.std.specs.Prelude.{[]};
     ghost use Rattle.m17_net.specs.Devices.{PortsKept};
 
-    /// Ports that were asked for nothing yet. The moments of their ears are counted from now. This profile.
+    /// Ports that were asked for nothing yet. The moments of their ears are counted from now.
     pub fn new(rt: R) -> UdpPorts<R>
         ensures { result ≡ record { start = result.start; calls = 0; faults = 0; writing = [] } }
     {
@@ -136,10 +135,10 @@ impl<
         + Send
         + 'static,
 > UdpPorts<R> {
-    ghost use Rattle.m17_net.specs.Devices.{AreWritten, IsBegun, PortsKept};
+    ghost use Rattle.m17_net.specs.Devices.{AreWritten, IsBegun, PortsKept, file_book_told};
 
     /// Starts the thread of a book that is still to be asked for. As many books can be asked for as threads were started.
-    /// `Failed` where there is no thread or no memory for it. This profile.
+    /// `Failed` where there is no thread or no memory for it.
     pub fn staff(&mut self) -> Result<(), Failed>
         ensures begun { OnOk result (IsBegun self.old.writing self.new.writing) }
         ensures same { self.new ≡ record self.old { writing = self.new.writing } }
@@ -159,10 +158,12 @@ impl<
     }
 
     /// Brings the threads of the books to their end, when nobody writes to a book any more, and waits for that: for five
-    /// seconds together, or a tenth of a second for each where those before it took them all. `Failed` where one could
-    /// not write all that it took, or did not come to its end; it is left behind then. This profile.
-    pub fn settle(&mut self) -> Result<(), Failed>
+    /// seconds together, or a tenth of a second for each where those before it took them all. `Unsettled` where one
+    /// could not write all that it took, or did not come to its end; it is left behind then.
+    pub fn settle(&mut self) -> Result<(), Unsettled>
         ensures written { OnOk result (AreWritten self.old.writing) }
+        ensures failed { result ≡ Err Unsettled.Failed
+            → OneFailsToWrite file_book_told self.old.writing }
     {
         m17_disk::settle(&self.rt, &mut self.hands)
     }
@@ -191,6 +192,7 @@ impl<
         + 'static,
 > Ports for UdpPorts<R> {
     ghost use Rattle.std.proofs.Math.Nat.{min-le_right};
+    ghost use Rattle.m17_net.specs.Devices.{udp_ear_told, udp_mouth_told, udp_ports_told};
 
     type Ear = UdpEar<R>;
 
@@ -198,25 +200,17 @@ impl<
 
     type Book = QueuedBook<R>;
 
-    ghost faults = { λ p. min p.faults (2 ^ 64 - 1) };
-
-    ghost asked = { λ _. None };
-
-    ghost calls = { λ p. p.calls };
+    ghost told = { udp_ports_told };
 
     ghost faults_fit = { λ p. min-le_right p.faults (2 ^ 64 - 1) };
 
     fn link(&mut self, bind: &str, until: Option<u64>) -> Result<(UdpEar<R>, UdpMouth), Failed>
         ensures cause { HasCause (min self.old.faults (2 ^ 64 - 1))
             (min self.new.faults (2 ^ 64 - 1)) result }
-        ensures counted { self.new.calls ≡ next_number self.old.calls }
-        ensures asked { IsAsked None (Question.Link bind.now until) None }
-        ensures ear { IfOk result (λ link. (min link.0.faults (2 ^ 64 - 1) ≡ 0)
-            × StartsEmpty {A = Heard} None) }
-        ensures mouth { IfOk result (λ link. (min link.1.faults (2 ^ 64 - 1) ≡ 0)
-            × HasSaidNothing None (λ _. None)) }
-        ensures numbered { IfOk result (λ link. IsNumbered (Some link.0.number) self.old.calls
-            × IsNumbered (Some link.1.number) self.old.calls) }
+        ensures asked { HasAsked (Question.Link bind.now until ∷ []) (udp_ports_told self.old)
+            (udp_ports_told self.new) }
+        ensures ear { IfOk result (λ link. IsNewEar self.old.calls (udp_ear_told link.0)) }
+        ensures mouth { IfOk result (λ link. IsNewMouth self.old.calls (udp_mouth_told link.1)) }
 
         // The link is as it was asked for, its moments are counted from the start of the ports, and only the text of an
         // address is taken.
@@ -239,11 +233,9 @@ impl<
     fn book(&mut self, name: &str) -> Result<QueuedBook<R>, Failed>
         ensures cause { HasCause (min self.old.faults (2 ^ 64 - 1))
             (min self.new.faults (2 ^ 64 - 1)) result }
-        ensures counted { self.new.calls ≡ next_number self.old.calls }
-        ensures asked { IsAsked None (Question.Book name.now) None }
-        ensures book { IfOk result (λ book. (min book.faults (2 ^ 64 - 1) ≡ 0)
-            × StartsEmpty {A = ℕ} None) }
-        ensures numbered { IfOk result (λ book. IsNumbered (Some book.number) self.old.calls) }
+        ensures asked { HasAsked (Question.Book name.now ∷ []) (udp_ports_told self.old)
+            (udp_ports_told self.new) }
+        ensures book { IfOk result (λ book. IsNewBook self.old.calls (queue_told book)) }
         ensures same_start { self.new.start ≡ self.old.start }
         ensures same_books { self.new.writing ≡ self.old.writing }
 

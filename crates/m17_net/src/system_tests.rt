@@ -2,6 +2,7 @@
 use crate::ports::sockets;
 use crate::tests::must;
 use crate::{UdpEar, UdpMouth, UdpPorts, peer_at};
+use m17_disk::Unsettled;
 use m17_ports::{Book, Ear, Mouth, Ports};
 use m17_values::{Failed, Heard, Peer};
 use std::alloc::{AllocGlobal, Global};
@@ -333,7 +334,7 @@ fn a_book_on_a_full_device_fails(rt: HostRuntime) {
         let failed = write_to_full(&rt, &mut ports);
         let taken = write_once_to_full(&rt, &mut ports);
         let more = makes_book(&mut ports, "/dev/full");
-        assert!(rt; failed && taken && !more && ports.settle() == Err(Failed));
+        assert!(rt; failed && taken && !more && ports.settle() == Err(Unsettled::Failed));
     }
 }
 

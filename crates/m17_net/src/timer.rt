@@ -6,7 +6,7 @@ ghost use Rattle.m17_net.specs.Wire.{CountsError};
 use std::time::{Clock, Duration, Instant};
 use std::{io, thread};
 
-/// A clock, as an ear uses it: each clock of std is one. This profile.
+/// A clock, as an ear uses it: each clock of std is one.
 pub trait Timer {
     /// The instants that its readings gave so far, where the clock tells them.
     ghost readings: { Self → Option (List Instant) };

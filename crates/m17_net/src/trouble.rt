@@ -3,7 +3,7 @@ ghost use Rattle.m17_net.specs.Errors.{meaning_of};
 
 use std::io::ErrorKind;
 
-/// What an error of a socket means to an ear or a mouth. This profile.
+/// What an error of a socket means to an ear or a mouth.
 #[derive(Clone, Copy, Debug, PartialEq, Eq)]
 pub(crate) enum Trouble {
     /// The socket waited as long as it may: nothing came, or its buffer stayed full.

@@ -7,7 +7,7 @@ use std::io;
 use std::io::{Error, ErrorKind};
 use std::net::{SocketAddr, UdpSocket};
 
-/// A socket for datagrams, as an ear and a mouth use it: the system's, or one that a test makes. This profile.
+/// A socket for datagrams, as an ear and a mouth use it: the system's, or one that a test makes.
 pub trait Wire {
     /// The datagrams that it took so far, each with the address that it came from, where the socket tells them.
     ghost taken: { Self → Option (List Sent) };

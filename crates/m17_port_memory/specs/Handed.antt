@@ -1,4 +1,4 @@
--- What ports with a script tell and hand out. This profile.
+-- What ports with a script tell and hand out.
 use Rattle.std.specs.Prelude.{◌≡◌, ℕ, Bool, ◌&&◌, List, [], ◌∷◌, ◌++◌, length, nat_lt, nat_le, Option, None, Some, if◌then◌else◌}
 use Rattle.m17_ports.specs.Ports.{next_number}
 use Rattle.m17_ports.specs.declared.question.Question.{Question}
@@ -17,7 +17,7 @@ told_with fits (Some all) question =
     if fits && nat_lt (length all) 64 then Some (all ++ question ∷ []) else None
 
 -- What is told after one question more: that too, as long as there are at most 64, each with a text of at most 64
--- bytes, and from then on nothing. This profile.
+-- bytes, and from then on nothing.
 abbrev pub asked_then : Option (List Question) → Question → Option (List Question)
 asked_then told question = told_with (nat_le (length (text_of question)) 64) told question
 
@@ -32,7 +32,7 @@ asks ports question = record ports {
 abbrev pub faulted : PortsKept → PortsKept
 faulted ports = record ports { faults = next_number ports.faults }
 
--- The next link was handed out, as it was when it was new, with the number of the call. This profile.
+-- The next link was handed out, as it was when it was new, with the number of the call.
 pub record HandsLink (old : PortsKept) (question : Question) (link : ScriptKept × SaidKept)
     (new : PortsKept) : Type 0 where
   pub next : ScriptKept × SaidKept
@@ -42,7 +42,7 @@ pub record HandsLink (old : PortsKept) (question : Question) (link : ScriptKept 
   pub mouth : link.1 ≡ new_mouth next.1.room next.1.fails old.calls
   pub after : new ≡ record (asks old question) { links = rest }
 
--- The next book was handed out, as it was when it was new, with the number of the call. This profile.
+-- The next book was handed out, as it was when it was new, with the number of the call.
 pub record HandsBook (old : PortsKept) (question : Question) (book : WrittenKept)
     (new : PortsKept) : Type 0 where
   pub next : WrittenKept

@@ -1,4 +1,4 @@
--- What contracts see of the devices in memory. This profile.
+-- What contracts see of the devices in memory.
 use Rattle.std.specs.Prelude.{ℕ, List, [], ◌∷◌, ◌++◌, Option, Some}
 use Rattle.m17_values.specs.declared.heard.Heard.{Heard}
 use Rattle.m17_values.specs.declared.peer.Peer.{Peer}

@@ -1,4 +1,4 @@
--- A mouth that names nobody tells no tally. This profile.
+-- A mouth that names nobody tells no tally.
 use Rattle.std.specs.Prelude.{◌≡◌, ◌↔◌, List, Option, None, Some, IsSome, Contains, MatchOption}
 use Rattle.std.proofs.Common.{subst}
 use Rattle.m17_values.specs.declared.peer.Peer.{Peer}

@@ -1,4 +1,4 @@
--- The order of peers tells all peers apart, so that a peer has a tally exactly where it is named. This profile.
+-- The order of peers tells all peers apart, so that a peer has a tally exactly where it is named.
 use Rattle.std.specs.Prelude.{◌≡◌, ◌↔◌, ℕ, Bool, true, false, List, Option, Some, IsSome, Contains, MatchBool, MatchOption, refl}
 use Rattle.std.specs.Ordering.{nat_cmp, bool_cmp, eq_by_cmp, is_eq, MatchOrdering, ordering_then}
 use Rattle.std.specs.Cmp.{IsTotalOrder, bool_cmp_total}

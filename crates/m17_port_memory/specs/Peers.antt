@@ -1,4 +1,4 @@
--- Tallies by peer, looked up in the order of peers. This profile.
+-- Tallies by peer, looked up in the order of peers.
 use Rattle.std.specs.Prelude.{List, Option}
 use Rattle.std.specs.Ordering.{nat_cmp, bool_cmp, ordering_then}
 use Rattle.std.specs.Cmp.Lexicographic.{slice_cmp}

@@ -1,4 +1,4 @@
--- What an ear with a script answers. This profile.
+-- What an ear with a script answers.
 use Rattle.std.specs.Prelude.{◌≡◌, ◌⊎◌, ℕ, Bool, true, false, List, [], ◌∷◌, Option, Some, unwrap_or, slice_get, MatchOption, ◌+◌, ◌-◌, ◌^◌, min, count_by, replicate, refl}
 use Rattle.std.proofs.Common.{zero, suc, ap, inl, inr, subst}
 use Rattle.m17_values.specs.declared.heard.Heard.{Heard}
@@ -6,11 +6,11 @@ use Rattle.m17_values.specs.declared.heard.Heard.TheVariants.{Datagram, Quiet, F
 use Rattle.m17_ports.specs.Ear.{EndsPastCount, FollowsScript}
 use Rattle.m17_port_memory.specs.Kept.{ScriptKept}
 
--- The answer of call n: the script's entry n, and End behind the last. This profile.
+-- The answer of call n: the script's entry n, and End behind the last.
 abbrev pub answer_at : List Heard → ℕ → Heard
 answer_at script n = unwrap_or (slice_get script n) End
 
--- The answers of the first n calls: the script's entries in order, and Ends behind the last. This profile.
+-- The answers of the first n calls: the script's entries in order, and Ends behind the last.
 abbrev pub heard_of : List Heard → ℕ → List Heard
 heard_of script zero = []
 heard_of [] (suc n) = End ∷ heard_of [] n
@@ -28,7 +28,7 @@ abbrev pub faults_of : ScriptKept → ℕ
 faults_of ear = min (count_by is_fault (heard_of ear.script ear.calls)) (2 ^ 64 - 1)
 
 -- One more call of an ear with a script: the answer is the script's next, and the call is counted. Where Ends are
--- counted no further, one more of them changes nothing. This profile.
+-- counted no further, one more of them changes nothing.
 pub record IsAnswered (old : ScriptKept) (answer : Heard) (new : ScriptKept) : Type 0 where
   pub answer_is : answer ≡ answer_at old.script old.calls
   pub after : (new ≡ record old { calls = old.calls + 1 })

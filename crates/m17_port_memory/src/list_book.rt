@@ -7,7 +7,7 @@ use m17_values::{Failed, NoMemory};
 use std::alloc::Global;
 use std::marker::Model;
 
-/// A book that keeps its bytes in memory, of a fixed room, which can be told to fail. This profile.
+/// A book that keeps its bytes in memory, of a fixed room, which can be told to fail.
 #[derive(Debug, Drop)]
 pub struct ListBook {
     bytes: Vec<u8>,
@@ -41,7 +41,7 @@ impl ListBook {
 
     /// A book with room for so many bytes, with nothing written. `fails` lists the numbers of calls of `write`, from 0,
     /// that are to fail; a write that would pass the room fails too. `NoMemory` where there is none for the room, and
-    /// never for a room of 0. This profile.
+    /// never for a room of 0.
     pub fn make(alloc: Global, room: usize, fails: Vec<u64>) -> Result<ListBook, NoMemory>
         ensures made { IfOk result (λ book. book ≡ new_book room fails.items 0) }
         ensures no_room { room ≡ 0 → IsOk result }
@@ -59,7 +59,7 @@ impl ListBook {
         }
     }
 
-    /// The bytes written. This profile.
+    /// The bytes written.
     pub fn bytes(&self) -> &[u8]
         ensures { result.now ≡ self.now.written }
     {
@@ -82,16 +82,11 @@ impl ListBook {
 impl Book for ListBook {
     ghost use Rattle.std.proofs.Math.Nat.{min-le_right};
     ghost use Rattle.m17_port_memory.specs.Kept.{WrittenKept, fails_to_write, writes};
+    ghost use Rattle.m17_port_memory.specs.Tells.{list_book_told};
 
     type Label = ();
 
-    ghost faults = { λ b. min b.faults (2 ^ 64 - 1) };
-
-    ghost written = { λ b. Some b.written };
-
-    ghost mark = { λ b. Some b.number };
-
-    ghost label = { λ _. tt };
+    ghost told = { list_book_told };
 
     ghost faults_fit = { λ b. min-le_right b.faults (2 ^ 64 - 1) };
 

@@ -13,7 +13,7 @@ use std::marker::Model;
 /// The most bytes of a datagram that is kept.
 const DATAGRAM_BYTES: usize = 64;
 
-/// A mouth that keeps the datagrams said in memory, of a fixed room, which can be told to fail. This profile.
+/// A mouth that keeps the datagrams said in memory, of a fixed room, which can be told to fail.
 #[derive(Debug, Drop)]
 pub struct ListMouth {
     list: Vec<(Peer, Gram)>,
@@ -47,7 +47,7 @@ impl ListMouth {
 
     /// A mouth with room for so many datagrams of at most 64 bytes, with nothing said. `fails` lists the numbers of
     /// calls of `say`, from 0, that are to fail; a call that would pass the room, or 64 bytes, fails too. `NoMemory`
-    /// where there is none for the room, and never for a room of 0. This profile.
+    /// where there is none for the room, and never for a room of 0.
     pub fn make(alloc: Global, room: usize, fails: Vec<u64>) -> Result<ListMouth, NoMemory>
         ensures made { IfOk result (λ mouth. mouth ≡ new_mouth room fails.items 0) }
         ensures no_room { room ≡ 0 → IsOk result }
@@ -65,7 +65,7 @@ impl ListMouth {
         }
     }
 
-    /// The datagrams said, oldest first. This profile.
+    /// The datagrams said, oldest first.
     pub fn list(&self) -> &[(Peer, Gram)]
         ensures { result.now ≡ self.now.said }
     {
@@ -88,23 +88,16 @@ impl ListMouth {
 impl Mouth for ListMouth {
     ghost use Rattle.std.proofs.Math.Nat.{min-le_right};
     ghost use Rattle.m17_port_memory.specs.Kept.{SaidKept, fails_to_say, says};
-    ghost use Rattle.m17_port_memory.specs.Named.{names_nobody};
+    ghost use Rattle.m17_ports.specs.Untold.{names_nobody};
+    ghost use Rattle.m17_port_memory.specs.Tells.{list_mouth_told};
 
     type Label = ();
 
-    ghost faults = { λ m. min m.faults (2 ^ 64 - 1) };
-
-    ghost said = { λ m. Some m.said };
-
-    ghost tallies = { λ _ _. None };
-
-    ghost mark = { λ m. Some (record { number = m.number; peers = None }) };
-
-    ghost label = { λ _. tt };
+    ghost told = { list_mouth_told };
 
     ghost faults_fit = { λ m. min-le_right m.faults (2 ^ 64 - 1) };
 
-    ghost tells_named = { λ _. names_nobody None };
+    ghost tells_named = { λ _. names_nobody };
 
     fn say(&mut self, to: &Peer, bytes: &[u8]) -> Result<(), Failed>
         ensures cause { HasCause (min self.old.faults (2 ^ 64 - 1))

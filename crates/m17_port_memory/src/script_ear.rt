@@ -8,7 +8,7 @@ use m17_ports::Ear;
 use m17_values::{Gram, Heard};
 use std::marker::Model;
 
-/// An ear that hands out a list, its script, and then `End` at every call. This profile.
+/// An ear that hands out a list, its script, and then `End` at every call.
 #[derive(Debug, Drop)]
 pub struct ScriptEar {
     script: Vec<Heard>,
@@ -36,7 +36,7 @@ impl Model for ScriptEar {
 impl ScriptEar {
     ghost use Rattle.m17_port_memory.specs.Kept.{ScriptKept, new_ear};
 
-    /// An ear with this script, of which nothing was heard. Its number is 0. This profile.
+    /// An ear with this script, of which nothing was heard. Its number is 0.
     pub fn new(heard: Vec<Heard>) -> ScriptEar
         ensures { result ≡ new_ear heard.items 0 }
     {
@@ -48,7 +48,7 @@ impl ScriptEar {
         }
     }
 
-    /// The script, with what was heard of it. This profile.
+    /// The script, with what was heard of it.
     pub fn into_script(self) -> Vec<Heard>
         ensures { result.items ≡ self.script }
     {
@@ -85,16 +85,11 @@ impl ScriptEar {
 impl Ear for ScriptEar {
     ghost use Rattle.std.proofs.Math.Nat.{min-le_right};
     ghost use Rattle.m17_port_memory.specs.Script.{told-follows};
+    ghost use Rattle.m17_port_memory.specs.Tells.{script_ear_told};
 
     type Label = ();
 
-    ghost faults = { faults_of };
-
-    ghost heard = { λ e. Some (heard_of e.script e.calls) };
-
-    ghost mark = { λ e. Some (record { number = e.number; script = Some e.script }) };
-
-    ghost label = { λ _. tt };
+    ghost told = { script_ear_told };
 
     ghost faults_fit = { λ e. min-le_right (count_by is_fault (heard_of e.script e.calls))
         (2 ^ 64 - 1) };

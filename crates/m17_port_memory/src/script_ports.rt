@@ -1,4 +1,4 @@
-ghost use Rattle.std.specs.Prelude.{◌≡◌, ℕ, ◌-◌, ◌^◌, ◌≤◌, ◌↔◌, ◌⊎◌, min, length, nat_le, true, [], Contains, None, Some, IsErr, IfOk, OnErr};
+ghost use Rattle.std.specs.Prelude.{◌≡◌, ℕ, ◌-◌, ◌^◌, ◌≤◌, ◌↔◌, ◌⊎◌, min, length, nat_le, true, [], ◌∷◌, Contains, None, Some, IsErr, IfOk, OnErr};
 ghost use Rattle.m17_io.specs.Faults.{HasCause};
 
 use crate::{ListBook, ListMouth, ScriptEar};
@@ -35,7 +35,7 @@ impl Default for Asked {
 
 /// Ports that hand out the links and books that they were given, in order, and can be told to fail. What they hand out
 /// is as it was when it was new, and has the number of the call. They tell what was asked as long as that is at most 64
-/// questions with texts of at most 64 bytes. This profile.
+/// questions with texts of at most 64 bytes.
 #[derive(Drop)]
 pub struct ScriptPorts {
     links: Vec<(ScriptEar, ListMouth)>,
@@ -69,7 +69,7 @@ impl ScriptPorts {
     ghost use Rattle.m17_ports.specs.Ports.{next_number};
 
     /// Ports with these links and books to hand out. `fails` lists the numbers of calls, from 0, that are to fail; a
-    /// call for which none is left fails too. This profile.
+    /// call for which none is left fails too.
     pub fn new(
         links: Vec<(ScriptEar, ListMouth)>,
         books: Vec<ListBook>,
@@ -139,10 +139,11 @@ impl ScriptPorts {
 
 impl Ports for ScriptPorts {
     ghost use Rattle.std.proofs.Math.Nat.{min-le_right};
-    ghost use Rattle.m17_ports.specs.Told.{StartsEmpty};
-    ghost use Rattle.m17_ports.specs.Mouth.{HasSaidNothing};
-    ghost use Rattle.m17_ports.specs.Ports.{IsAsked, next_number};
-    ghost use Rattle.m17_port_memory.specs.Script.{faults_of, heard_of};
+    ghost use Rattle.m17_ports.specs.Ear.{IsNewEar};
+    ghost use Rattle.m17_ports.specs.Mouth.{IsNewMouth};
+    ghost use Rattle.m17_ports.specs.Book.{IsNewBook};
+    ghost use Rattle.m17_ports.specs.Ports.{HasAsked};
+    ghost use Rattle.m17_port_memory.specs.Tells.{list_book_told, list_mouth_told, script_ear_told, script_ports_told};
     ghost use Rattle.m17_port_memory.specs.Handed.{asked_then, asks, faulted, HandsLink, HandsBook};
 
     type Ear = ScriptEar;
@@ -151,25 +152,18 @@ impl Ports for ScriptPorts {
 
     type Book = ListBook;
 
-    ghost faults = { λ p. min p.faults (2 ^ 64 - 1) };
-
-    ghost asked = { λ p. p.asked };
-
-    ghost calls = { λ p. p.calls };
+    ghost told = { script_ports_told };
 
     ghost faults_fit = { λ p. min-le_right p.faults (2 ^ 64 - 1) };
 
     fn link(&mut self, bind: &str, until: Option<u64>) -> Result<(ScriptEar, ListMouth), Failed>
         ensures cause { HasCause (min self.old.faults (2 ^ 64 - 1))
             (min self.new.faults (2 ^ 64 - 1)) result }
-        ensures counted { self.new.calls ≡ next_number self.old.calls }
-        ensures asked { IsAsked self.old.asked (Question.Link bind.now until) self.new.asked }
-        ensures ear { IfOk result (λ link. (faults_of link.0 ≡ 0)
-            × StartsEmpty (Some (heard_of link.0.script link.0.calls))) }
-        ensures mouth { IfOk result (λ link. (min link.1.faults (2 ^ 64 - 1) ≡ 0)
-            × HasSaidNothing (Some link.1.said) (λ _. None)) }
-        ensures numbered { IfOk result (λ link. (link.0.number ≡ self.old.calls)
-            × (link.1.number ≡ self.old.calls)) }
+        ensures asked { HasAsked (Question.Link bind.now until ∷ []) (script_ports_told self.old)
+            (script_ports_told self.new) }
+        ensures ear { IfOk result (λ link. IsNewEar self.old.calls (script_ear_told link.0)) }
+        ensures mouth { IfOk result (λ link.
+            IsNewMouth self.old.calls (list_mouth_told link.1)) }
 
         // It fails exactly at the calls that were listed, and where no link is left.
         ensures told_to_fail { IsErr result ↔ (Contains self.old.fails self.old.calls
@@ -195,11 +189,9 @@ impl Ports for ScriptPorts {
     fn book(&mut self, name: &str) -> Result<ListBook, Failed>
         ensures cause { HasCause (min self.old.faults (2 ^ 64 - 1))
             (min self.new.faults (2 ^ 64 - 1)) result }
-        ensures counted { self.new.calls ≡ next_number self.old.calls }
-        ensures asked { IsAsked self.old.asked (Question.Book name.now) self.new.asked }
-        ensures book { IfOk result (λ book. (min book.faults (2 ^ 64 - 1) ≡ 0)
-            × StartsEmpty (Some book.written)) }
-        ensures numbered { IfOk result (λ book. book.number ≡ self.old.calls) }
+        ensures asked { HasAsked (Question.Book name.now ∷ []) (script_ports_told self.old)
+            (script_ports_told self.new) }
+        ensures book { IfOk result (λ book. IsNewBook self.old.calls (list_book_told book)) }
 
         // It fails exactly at the calls that were listed, and where no book is left.
         ensures told_to_fail { IsErr result ↔ (Contains self.old.fails self.old.calls

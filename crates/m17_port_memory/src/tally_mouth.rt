@@ -25,7 +25,7 @@ const NO_TALLY: Tally = Tally {
 };
 
 /// A mouth that keeps for each of some peers how many datagrams of each kind were said to it, and nothing else. It
-/// never fails. A datagram to another peer, or of another kind, is not kept. This profile.
+/// never fails. A datagram to another peer, or of another kind, is not kept.
 #[derive(Drop)]
 pub struct TallyMouth {
     tallies: BTreeMap<Peer, Tally>,
@@ -42,7 +42,7 @@ impl Model for TallyMouth {
 
 impl TallyMouth {
     /// A mouth with an empty tally for each of the peers, which may come in any order and more than once. `NoMemory`
-    /// where there is none for them. This profile.
+    /// where there is none for them.
     pub fn make(alloc: Global, peers: &[Peer]) -> Result<TallyMouth, NoMemory>
         ensures named { IfOk result (λ mouth. (peer : Peer)
             → IsSome (tally_at mouth.entries peer) ↔ Contains peers.now peer) }
@@ -60,7 +60,7 @@ impl TallyMouth {
         Ok(TallyMouth { tallies, number: 0 })
     }
 
-    /// The tally of a peer; none exactly where the peer is not named. This profile.
+    /// The tally of a peer; none exactly where the peer is not named.
     pub fn tally(&self, peer: &Peer) -> Option<Tally>
         ensures value { result ≡ tally_at self.now.entries peer.now }
         ensures named { IsSome result ↔ Contains (named_in self.now.entries) peer.now }
@@ -72,18 +72,11 @@ impl TallyMouth {
 impl Mouth for TallyMouth {
     ghost use Rattle.std.proofs.Common.{lit≤};
     ghost use Rattle.m17_port_memory.specs.PeerOrder.{tells-named};
+    ghost use Rattle.m17_port_memory.specs.Tells.{tally_mouth_told};
 
     type Label = ();
 
-    ghost faults = { λ _. 0 };
-
-    ghost said = { λ _. None };
-
-    ghost tallies = { λ m. tally_at m.entries };
-
-    ghost mark = { λ m. Some (record { number = m.number; peers = Some (named_in m.entries) }) };
-
-    ghost label = { λ _. tt };
+    ghost told = { tally_mouth_told };
 
     ghost faults_fit = { λ _. lit≤ tt };
 

@@ -1,2 +1,5 @@
 mod Telling
 mod Saying
+mod Hearing
+mod Writing
+mod Asking

@@ -7,10 +7,9 @@ use Rattle.std.specs.Option.{option_map}
 use Rattle.m17_values.specs.declared.peer.Peer.{Peer}
 use Rattle.m17_io.specs.Faults.{HasRisen}
 use Rattle.m17_ports.specs.Told.{told_then}
-use Rattle.m17_ports.specs.Mouth.{Datagram}
 use Rattle.m17_ports.specs.Tallies.{IsTallied, tally_then}
 use Rattle.m17_ports.specs.declared.tally.Tally.{Tally}
-use Rattle.m17_ports.specs.Said.{AreTallied, IsSameMouth, MouthTold, SaidOf}
+use Rattle.m17_ports.specs.Mouth.{AreTallied, Datagram, MouthTold, SaidOf}
 use Rattle.m17_ports.proofs.Telling.{told-in-turn, nothing-more}
 
 -- the tallies, when nothing more is said, and when two lists are
@@ -57,12 +56,12 @@ say-nothing mouth = record {
   counted = omega arith;
   lost = omega arith;
   none_lost = λ e. refl;
-  same_mouth = (refl, refl);
+  same_device = refl;
 }
 
 pub one-went : {L : Type 0} (before after : MouthTold L) (d : Datagram)
     → after.said ≡ told_then before.said (d ∷ []) → IsTallied before.tallies d.0 d.1 after.tallies
-    → after.faults ≡ before.faults → IsSameMouth before after → SaidOf before (d ∷ []) after
+    → after.faults ≡ before.faults → after.device ≡ before.device → SaidOf before (d ∷ []) after
 one-went before after d told tallied stands same = record {
   went = true ∷ [];
   each = refl;
@@ -71,12 +70,12 @@ one-went before after d told tallied stands same = record {
   counted = omega arith;
   lost = omega arith;
   none_lost = λ e. stands;
-  same_mouth = same;
+  same_device = same;
 }
 
 pub one-lost : {L : Type 0} (before after : MouthTold L) (d : Datagram)
     → after.said ≡ before.said → after.tallies ≡ before.tallies → before.faults ≤ after.faults
-    → HasRisen before.faults after.faults → IsSameMouth before after → SaidOf before (d ∷ []) after
+    → HasRisen before.faults after.faults → after.device ≡ before.device → SaidOf before (d ∷ []) after
 one-lost before after d told tallied counted risen same = record {
   went = false ∷ [];
   each = refl;
@@ -85,7 +84,7 @@ one-lost before after d told tallied counted risen same = record {
   counted = counted;
   lost = risen;
   none_lost = λ e. absurd (omega arith);
-  same_mouth = same;
+  same_device = same;
 }
 
 pub say-in-turn : {L : Type 0} (a b c : MouthTold L) (first second : List Datagram)
@@ -104,5 +103,5 @@ say-in-turn a b c first second h k =
       counted = omega (arith, h.counted, k.counted);
       lost = omega (arith, many, h.lost, k.lost, h.counted, k.counted);
       none_lost = λ e. k.none_lost (omega (arith, e, many)) ∙ h.none_lost (omega (arith, e, many));
-      same_mouth = (k.same_mouth.0 ∙ h.same_mouth.0, k.same_mouth.1 ∙ h.same_mouth.1);
+      same_device = k.same_device ∙ h.same_device;
     }

@@ -3,8 +3,7 @@ pub mod Marks
 pub mod Ear
 pub mod Tallies
 pub mod Mouth
-pub mod Said
-pub mod Shelf
+pub mod Book
 pub mod Ports
 pub mod Laws
 -- for proofs alone

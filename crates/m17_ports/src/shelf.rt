@@ -1,12 +1,12 @@
-ghost use Rattle.std.specs.Prelude.{◌≡◌, ℕ, ◌-◌, ◌^◌, ◌≤◌, List, take, Option, None, Some, false, OnOk, OnErr, IsOk};
+ghost use Rattle.std.specs.Prelude.{◌≡◌, ◌-◌, ◌^◌, ◌≤◌, None, Some, false};
 ghost use Rattle.std.specs.Option.{option_map};
-ghost use Rattle.m17_ports.specs.Shelf.{of_inner};
+ghost use Rattle.m17_ports.specs.Book.{shelf_told};
 
 use crate::Book;
 use m17_values::Failed;
 
 /// A book that may be missing: without an inner book it keeps nothing, says so, and never fails. Its label says whether
-/// it has one. This profile.
+/// it has one.
 #[derive(Debug, Drop)]
 pub struct Shelf<B> {
     /// The book that is written, if there is one.
@@ -18,22 +18,17 @@ impl<B: Book> Book for Shelf<B> {
 
     type Label = Option<B::Label>;
 
-    ghost faults = { λ s. of_inner B.faults 0 s.inner };
+    ghost told = { λ s. shelf_told (option_map B.told s.inner) };
 
-    ghost written = { λ s. of_inner B.written None s.inner };
-
-    ghost mark = { λ s. of_inner B.mark None s.inner };
-
-    ghost label = { λ s. option_map B.label s.inner };
-
-    ghost faults_fit = { λ s. elim s.inner as (λ inner. of_inner B.faults 0 inner ≤ 2 ^ 64 - 1)
+    ghost faults_fit = { λ s. elim s.inner
+        as (λ inner. (shelf_told (option_map B.told inner)).faults ≤ 2 ^ 64 - 1)
         [ None ↦ lit≤ tt | Some book ↦ B.faults_fit book ] };
 
     // It keeps what its inner book keeps, and nothing without one.
     fn is_kept(&self) -> bool
         ensures untold { result ≡ false
-            → (of_inner B.written None self.now.inner ≡ None)
-            × (of_inner B.mark None self.now.inner ≡ None) }
+            → ((shelf_told (option_map B.told self.now.inner)).written ≡ None)
+            × ((shelf_told (option_map B.told self.now.inner)).device.mark ≡ None) }
         ensures empty { self.now.inner ≡ None → result ≡ false }
     {
         match &self.inner {

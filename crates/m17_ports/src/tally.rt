@@ -1,5 +1,5 @@
 /// How many datagrams of each kind were said to a peer, by the first four bytes of each. A number that has come to
-/// 2^64 - 1 stays there. This profile.
+/// 2^64 - 1 stays there.
 #[derive(Clone, Copy, Debug, PartialEq, Eq)]
 pub struct Tally {
     /// Those that begin with `ACKN`.

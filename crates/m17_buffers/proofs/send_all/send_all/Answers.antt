@@ -8,7 +8,7 @@ pub loop-done-preserved : goal.loop-done-preserved
 loop-done-preserved g c = record {
   within = grind (arith, common_steps);
   sent = let there = rw (take_rest c.args.bytes.now c.loop-done.done) at c.in-Ok.ensures.ok in
-      followed-step (g.O.Outlet.sent c.args.out.now) (g.O.Outlet.sent c.loop-done.out) _ c.args.bytes.now c.loop-done.done c.in-Ok.n
+      followed-step (g.O.Outlet.told c.args.out.now).sent (g.O.Outlet.told c.loop-done.out).sent _ c.args.bytes.now c.loop-done.done c.in-Ok.n
       c.loop-done.invariant.sent there;
   sound = search rules;
 }

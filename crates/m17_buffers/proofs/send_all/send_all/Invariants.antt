@@ -6,8 +6,8 @@ use Rattle.m17_buffers.proofs.send_all.send_all.Given as goal
 abbrev pub invariant-loop-done : goal.invariant-loop-done
 invariant-loop-done g l = record {
   within : l.done ≤ length l.bytes;
-  sent : g.O.Outlet.sent l.out ≡ followed_by (g.O.Outlet.sent l.fn.out) (take l.done l.bytes);
-  sound : g.O.Outlet.faults l.out ≡ g.O.Outlet.faults l.fn.out;
+  sent : (g.O.Outlet.told l.out).sent ≡ followed_by (g.O.Outlet.told l.fn.out).sent (take l.done l.bytes);
+  sound : (g.O.Outlet.told l.out).faults ≡ (g.O.Outlet.told l.fn.out).faults;
 }
 
 abbrev pub decreases-loop-done : goal.decreases-loop-done

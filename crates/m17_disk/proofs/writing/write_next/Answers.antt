@@ -5,10 +5,9 @@ use Rattle.m17_disk.proofs.writing.write_next.Goals as goal
 
 pub returns-clause-text : goal.returns-clause-text
 returns-clause-text g c = λ start h.
-    text_more c.told_in_turn.ensures.parts start
-    (g.B.Book.written c.args.book.now, g.B.Book.faults c.args.book.now)
-    (g.B.Book.written c.write.new.self, g.B.Book.faults c.write.new.self)
+    text_more c.books_are_written_in_turn.ensures start (g.B.Book.told c.args.book.now) (g.B.Book.told c.write.new.self)
     (joined c.args.slips.now.popped) c.as_slice.result.now (joined c.gather-batch.new.slips.popped)
     c.is_err.result c.write.result
     (c.gather-batch.ensures.bytes ∙ ap (λ l. joined c.args.slips.now.popped ++ l) (sym c.as_slice.ensures.value))
-    c.is_err.ensures.value c.write.ensures.cause c.write.ensures.appended c.write.ensures.prefix h
+    c.is_err.ensures.value c.write.ensures.cause c.write.ensures.appended c.write.ensures.prefix
+    c.write.ensures.same_device h

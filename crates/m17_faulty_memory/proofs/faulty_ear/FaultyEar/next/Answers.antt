@@ -8,7 +8,7 @@ invariant_of-self-then-contains g c =
     let e = c.self.inside in
     let value = rw c.deref.ensures.value at c.contains.ensures.value in
     let listed : is_listed e.fails.items e.calls ≡ true = sym value ∙ c.if-contains.true in (
-      in_step-listed e.fails.items e.calls (g.E.Ear.heard e.inner) listed c.self.invariant.0,
+      in_step-listed e.fails.items e.calls (g.E.Ear.told e.inner).heard listed c.self.invariant.0,
       λ few. c.self.invariant.1 (omega arith),
     )
 
@@ -19,7 +19,7 @@ returns-then-contains-clause-answered g c =
     let value = rw c.deref.ensures.value at c.contains.ensures.value in
     let listed : is_listed e.fails.items e.calls ≡ true = sym value ∙ c.if-contains.true in
     rw (← c.self.view_is, c.saturating_add-self-inside-then-contains.ensures)
-    (answered-listed g.E.Ear.heard g.E.Ear.faults _ few listed)
+    (answered-listed g.E.Ear.told _ few listed)
 
 pub returns-clause-answered : goal.returns-clause-answered
 returns-clause-answered g c =
@@ -28,7 +28,7 @@ returns-clause-answered g c =
     let value = rw c.deref.ensures.value at c.contains.ensures.value in
     let unlisted : is_listed e.fails.items e.calls ≡ false = sym value ∙ c.if-contains.false in
     let h = c.hear-heard.ensures in
-    let said = h.appended (never_past e.fails.items e.calls (g.E.Ear.heard e.inner) c.self.invariant.0 few) in
+    let said = h.appended (never_past e.fails.items e.calls (g.E.Ear.told e.inner).heard c.self.invariant.0 few) in
     rw (← c.self.view_is)
-    (answered-passed g.E.Ear.heard g.E.Ear.faults _ c.hear-heard.new.self c.hear-heard.result few unlisted said
-    h.counted h.fault h.no_fault)
+    (answered-passed g.E.Ear.told _ c.hear-heard.new.self c.hear-heard.result few unlisted said
+    h.counted h.fault h.no_fault h.same_device)

@@ -1,7 +1,7 @@
 use Rattle.std.proofs.Common.{rules, arith}
 use Rattle.std.proofs.lemmas.Grind.{common_steps}
-use Rattle.m17_fill.proofs.FillSteps.{IsBegun, filled_more, filled_at_end}
-use Rattle.m17_fill.proofs.filling.fill.Goals as goal
+use Rattle.m17_io.proofs.FillSteps.{IsBegun, filled_more, filled_at_end}
+use Rattle.m17_io.proofs.filling.fill.Goals as goal
 
 pub loop-have-preserved : goal.loop-have-preserved
 loop-have-preserved g c = record {

@@ -3,7 +3,7 @@ use Rattle.std.proofs.Common.{◌≡◌, ℕ, ◌+◌, ◌-◌, ◌<◌, ◌≤�
 use Rattle.std.proofs.lemmas.List.{drop-drop, drop_all, drop_at, take_at, append-nil, length-take-le, length-drop, take_rest}
 use Rattle.std.proofs.Math.Seq.{take-add}
 use Rattle.m17_io.specs.Source.{Takes}
-use Rattle.m17_fill.specs.Fill.{IsFilled}
+use Rattle.m17_io.specs.Fill.{IsFilled}
 use borrow.Rule.Slice.PartMut.{put_mid}
 
 -- what is written over the rest of a buffer stands after its front

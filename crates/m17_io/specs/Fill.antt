@@ -1,4 +1,4 @@
--- What it means that a buffer was filled from a source. This profile.
+-- What it means that a buffer was filled from a source.
 use Rattle.std.specs.Prelude.{◌≡◌, ℕ, ◌<◌, ◌≤◌, List, ◌++◌, length, take, drop, Option, Some}
 
 -- So many of the bytes that were left stand at the front of the buffer, and the rest of them is
