@@ -179,13 +179,14 @@ def with_another_verdict(draw, record):
     return bytes(record)
 
 
+ENDS_OF_CALLSIGNS = (0, 1, 40**9 - 1, 40**9, 40**9 + 1, 40**9 + 40**8 - 1, 40**9 + 40**8, 2**48 - 1)
 FIELDS = {
     # of all records: where the field is, and values of it
     "link": (1, (b"\3", b"\4", b"\xff")),
     "place": (18, (b"\0\0\0\xff", b"\0\0\1\0", b"\1\0\0\0")),
     # of a join
     "listens": (30, (b"\1", b"\2")),
-    "callsign": (31, tuple(a.to_bytes(6, "big") for a in (0, 1, 40**9 - 1, 40**9, 2**48 - 1))),
+    "callsign": (31, tuple(a.to_bytes(6, "big") for a in ENDS_OF_CALLSIGNS)),
     # of a leave
     "why": (30, (b"\0", b"\1", b"\5", b"\6")),
     # of a packet: verdict and value

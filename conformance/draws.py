@@ -1,6 +1,6 @@
 """Random choices, packets, talk and moments, from which the cases are made."""
 
-from packets import BROADCAST, FIRST_WITHOUT_CALLSIGN, crc, encode
+from packets import BROADCAST, FIRST_WITHOUT_CALLSIGN, GROUPS, crc, encode
 
 LAST_MOMENT = 2**64 - 1
 
@@ -70,8 +70,14 @@ def sealed(packet):
     return packet[:52] + crc(packet[:52]).to_bytes(2, "big")
 
 
-CALLSIGNS = [encode(text) for text in ("AB1CD", "N0CALL", "HOT", " A", "-", "/.", "M17-TST", ".........", "W1A-5/P")]
-NO_CALLSIGNS = [0, BROADCAST, FIRST_WITHOUT_CALLSIGN, BROADCAST - 1]
+STATIONS = ("AB1CD", "N0CALL", "HOT", " A", "-", "/.", "M17-TST", ".........", "W1A-5/P")
+OF_GROUPS = ("#AB", "#A", "#  -", "#........")
+CALLSIGNS = [encode(text) for text in STATIONS + OF_GROUPS]
+NO_CALLSIGNS = [0, BROADCAST, GROUPS, FIRST_WITHOUT_CALLSIGN, BROADCAST - 1]
+
+
+def any_callsign(draw):
+    return draw.between(GROUPS + 1, FIRST_WITHOUT_CALLSIGN - 1) if draw.chance(30) else draw.between(1, GROUPS - 1)
 
 
 def any_packet(draw):
@@ -86,7 +92,7 @@ def any_packet(draw):
             addresses = [draw.pick(CALLSIGNS + NO_CALLSIGNS + [draw.below(2**48)]) for _ in range(2)]
             lsd = b"".join(address.to_bytes(6, "big") for address in addresses) + draw.bytes(16)
         return stream(draw.below(65536), draw.below(65536), draw.chance(20), None, draw.bytes(16), lsd)
-    source = draw.pick(CALLSIGNS) if draw.chance(70) else draw.between(1, FIRST_WITHOUT_CALLSIGN - 1)
+    source = draw.pick(CALLSIGNS) if draw.chance(70) else any_callsign(draw)
     module = chr(ord("A") + draw.below(26)) if kind in ("CONN", "LSTN") else ""
     return named(kind, source, module)
 

@@ -117,13 +117,13 @@ def words_plain(command):
 
 
 GOOD = {
-    "call": ["N0CALL", "M17-TST", " A", ".........", "A B", "-", "-", "-", "/"],
+    "call": ["N0CALL", "M17-TST", " A", ".........", "A B", "-", "-", "-", "/", "#AB", "#........"],
     "modules": ["A", "ABC", "CBA", "ZA", "ABCDEFGHIJKLMNOPQRSTUVWXYZ"],
     "parrots": ["A"],
     "places": ["1", "256", "0001", "00000000000000000000000000000256", "64"],
 }
 BAD = {
-    "call": ["", "ABCDEFGHIJ", "a", "A ", "A_B", " ", "#AB", "\u00c4", "-A", "--", b"\xff", b"A\xff"],
+    "call": ["", "ABCDEFGHIJ", "a", "A ", "A_B", " ", "#", "##", "A#", "#ABCDEFGHI", "\u00c4", "-A", "--", b"\xff", b"A\xff"],
     "modules": ["", "AA", "a", "A B", "ABCA", "1", "[", "@", "\u00c4", "-A", b"A\xff"],
     "parrots": ["", "AA", "AD", "D", "ABCD", "a", b"\xff"],
     "places": ["0", "0", "257", "257", "", "+1", "-1", " 1", "1 ", "0x10", "1e1", "1.0", "_1", "1_0", "\u0661"],

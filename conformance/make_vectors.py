@@ -109,6 +109,7 @@ vector(
         b"M18 " + stream(1, 0)[4:],
         conn_from(0),
         conn_from(0xEE6B28000000),
+        conn_from(0xF46109000000),
         conn_from(0xFFFFFFFFFFFF),
         conn_from(0, "["),
         conn("AB1CD", "["),
@@ -126,10 +127,14 @@ vector(
         conn_from(40),
         conn_from(0x9FDD51),
         conn_from(0xEE6B27FFFFFF),
+        conn_from(0xEE6B28000001),
+        conn_from(0xEE6B28000051),
+        conn_from(0xF46108FFFFFF),
         with_lsd((0xFFFFFFFFFFFF, 0), 0, bytes(14)),
         with_lsd((0xEE6B28000000, 0xFFFFFFFFFFFE), 0xFFFF, b"\xff" * 14),
     ),
-    "Callsigns from the least address to the greatest, one with a leading space; broadcast; what has no callsign.",
+    "Callsigns from the least address to the greatest, one with a leading space; then groups, from the least to the"
+    " greatest; broadcast; what has no callsign.",
 )
 vector(
     "show-ends-of-lines",

@@ -9,18 +9,20 @@ from collections import namedtuple
 
 LETTERS = " ABCDEFGHIJKLMNOPQRSTUVWXYZ0123456789-/."
 BROADCAST = 2**48 - 1
-FIRST_WITHOUT_CALLSIGN = 40**9
+GROUPS = 40**9  # no callsign itself: a group's address is this and the sum of its letters
+FIRST_WITHOUT_CALLSIGN = GROUPS + 40**8
 
 
 def encode(text):
-    """The address of a callsign of 1 to 9 letters that doesn't end in a space, or None."""
-    if not 1 <= len(text) <= 9 or text[-1] == " " or any(letter not in LETTERS for letter in text):
+    """The address of a callsign, or None: 1 to 9 letters, or # and 1 to 8 letters, of which the last is no space."""
+    start, letters = (GROUPS, text[1:]) if text[:1] == "#" else (0, text)
+    if not letters or len(text) > 9 or letters[-1] == " " or any(letter not in LETTERS for letter in letters):
         return None
-    return sum(LETTERS.index(letter) * 40**place for place, letter in enumerate(text))
+    return start + sum(LETTERS.index(letter) * 40**place for place, letter in enumerate(letters))
 
 
 def has_callsign(address):
-    return 1 <= address < FIRST_WITHOUT_CALLSIGN
+    return 1 <= address < FIRST_WITHOUT_CALLSIGN and address != GROUPS
 
 
 def address_text(address):
@@ -28,6 +30,8 @@ def address_text(address):
     if not has_callsign(address):
         return "broadcast" if address == BROADCAST else "%012X" % address
     text = ""
+    if address > GROUPS:
+        text, address = "#", address - GROUPS
     while address:
         text += LETTERS[address % 40]
         address //= 40

@@ -14,7 +14,7 @@ from books import book_record
 from draws import named, sealed, stream
 from files import TRACE_MAGIC, InputRefused, read_trace
 from generate import judge_record
-from packets import Control, Refused, Stream, address_text, crc, decode, encode
+from packets import LETTERS, Control, Refused, Stream, address_text, crc, decode, encode
 from reflector import Peer, peer_text
 from traces import FAULT, datagram, quiet
 
@@ -88,14 +88,30 @@ class Bytes(unittest.TestCase):
             ("M17-TST", 0x1389F9BAED),
             (".........", 0xEE6B27FFFFFF),
             (" A", 40),
+            ("A", 1),
+            ("#A", 0xEE6B28000001),
+            ("#AB", 0xEE6B28000051),
+            ("#........", 0xF46108FFFFFF),
         ):
             self.assertEqual(encode(text), address)
             self.assertEqual(address_text(address), text)
-        for address, text in ((0, "000000000000"), (0xEE6B28000000, "EE6B28000000"), (2**48 - 1, "broadcast")):
+        for address, text in (
+            (0, "000000000000"),
+            (0xEE6B28000000, "EE6B28000000"),
+            (0xF46109000000, "F46109000000"),
+            (2**48 - 1, "broadcast"),
+        ):
             self.assertEqual(address_text(address), text)
 
+    def test_each_callsign_of_one_and_two_letters(self):
+        for start, sign in ((0, ""), (0xEE6B28000000, "#")):
+            for number in range(1, 1600):
+                text = sign + LETTERS[number % 40] + (LETTERS[number // 40] if number >= 40 else "")
+                self.assertEqual(address_text(start + number), text)
+                self.assertEqual(encode(text), start + number)
+
     def test_texts_that_are_no_callsigns(self):
-        for text in ("", "ABCDEFGHIJ", "a", "A ", "A_", "\u00c4", "#AB"):
+        for text in ("", "ABCDEFGHIJ", "a", "A ", "A_", "\u00c4", "#", "# ", "##", "A#", "#ABCDEFGHI", "#a"):
             self.assertIsNone(encode(text))
 
     def test_a_packet_is_read(self):
@@ -121,7 +137,9 @@ class Show(unittest.TestCase):
             ("434F4E4E00000000000041", "refused address 000000000000"),
             ("434F4E4EFFFFFFFFFFFF41", "refused address broadcast"),
             ("434F4E4E0000000000005B", "refused address 000000000000"),
+            ("434F4E4EEE6B2800005141", "conn #AB A"),
             ("434F4E4EEE6B2800000041", "refused address EE6B28000000"),
+            ("434F4E4EF4610900000041", "refused address F46109000000"),
             ("434F4E4E0000009FDD51", "refused magic 434F4E4E"),
             ("44495343", "disc"),
             ("444953430000009FDD51", "disc AB1CD"),

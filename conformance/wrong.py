@@ -62,6 +62,18 @@ WRONG = {
         "return 1 <= address <=",
         "show",
     ),
+    "address_between_stations_and_groups_is_read": (
+        "packets",
+        " and address != GROUPS",
+        "",
+        "show",
+    ),
+    "groups_have_no_sign": (
+        "packets",
+        "text, address = \"#\", address",
+        "text, address = \"\", address",
+        "show",
+    ),
     "broadcast_is_hex": (
         "packets",
         "\"broadcast\" if address == BROADCAST else ",

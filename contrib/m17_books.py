@@ -15,6 +15,8 @@ RECORDS = {1: 37, 2: 31, 3: 97}
 WHYS = ("asked", "moved", "silent", "stopped", "replaced")
 VERDICTS = ("opened", "continued", "busy", "repeat", "late", "after-end", "not-member", "listen-only")
 LETTERS = " ABCDEFGHIJKLMNOPQRSTUVWXYZ0123456789-/."
+# Above it lie the groups, # and up to eight letters: this and the sum of the letters.
+GROUPS = 40**9
 END_BIT = 0x8000
 # The magics of packets, by length.
 MAGICS = {4: (b"ACKN", b"NACK", b"DISC"), 10: (b"PING", b"PONG", b"DISC"), 11: (b"CONN", b"LSTN"), 54: (b"M17 ",)}
@@ -35,14 +37,21 @@ def number(data):
     return int.from_bytes(data, "big")
 
 
+def has_callsign(data):
+    """Whether the address of six bytes is that of a callsign, 1 to 40^9 - 1, or of a group."""
+    return 0 < number(data) < GROUPS + 40**8 and number(data) != GROUPS
+
+
 def callsign(data):
     """The text of an address of six bytes."""
     value = number(data)
     if value == 2**48 - 1:
         return "broadcast"
-    if not 0 < value < 40**9:
+    if not has_callsign(data):
         return data.hex().upper()
     text = ""
+    if value > GROUPS:
+        text, value = "#", value - GROUPS
     while value:
         value, letter = divmod(value, 40)
         text += LETTERS[letter]
@@ -114,7 +123,7 @@ def refusal(data):
         return "length"
     if data[:4] not in MAGICS[len(data)]:
         return "magic"
-    if len(data) in (10, 11) and not 0 < number(data[4:10]) < 40**9:
+    if len(data) in (10, 11) and not has_callsign(data[4:10]):
         return "address"
     if len(data) == 11 and not 0x41 <= data[10] <= 0x5A:
         return "module"

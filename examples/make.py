@@ -20,11 +20,13 @@ VOICE_STREAM = 0x0005
 
 
 def address(callsign):
-    """A callsign as six bytes: its letters are the digits of a number to base 40, the first letter least significant."""
+    """A callsign as six bytes: its letters are the digits of a number to base 40, the first letter least significant.
+    That of a group, # and up to eight letters, begins at 40^9."""
+    start, letters = (40**9, callsign[1:]) if callsign.startswith("#") else (0, callsign)
     value = 0
-    for letter in reversed(callsign):
+    for letter in reversed(letters):
         value = 40 * value + LETTERS.index(letter)
-    return value.to_bytes(6, "big")
+    return (start + value).to_bytes(6, "big")
 
 
 def crc(data):

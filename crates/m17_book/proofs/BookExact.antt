@@ -8,7 +8,7 @@ use Rattle.m17_fields.specs.Fields.{IsBytes}
 use Rattle.m17_fields.specs.Reading.{HasOneReading}
 use Rattle.m17_book.specs.Book.{TellsFlaw, MagicFlaw, LetterFlaw, BookHeaderFlaw, book_magic, book_header, HasBookForm, LacksBookForm, IsBook, RefusesBook}
 use Rattle.m17_book.specs.Flaws.{RecordFlaw}
-use Rattle.m17_book.specs.Laws.{IsClear, Kept, BooksAreExact, BookFormsAreExact}
+use Rattle.m17_book.specs.Laws.{IsClear, BookKept, BooksAreExact, BookFormsAreExact}
 use Rattle.m17_book.specs.Limits.{most_bytes, SpellsEach}
 use Rattle.m17_book.specs.Parsed.{BeginsWith}
 use Rattle.m17_book.specs.Records.{SpellsRecord}
@@ -78,20 +78,20 @@ pub stopped : (bytes : List ℕ) (letter : ℕ) (records : List Record) (front r
 stopped bytes letter records front rest e form =
     record { spelled = form.2; whole = e ∙ ap (λ xs. xs ++ rest) form.3 ∙ append_assoc (book_header letter) form.1 rest }
 
-kept_eq : (a b : Kept) → a.letter ≡ b.letter → a.records ≡ b.records → a ≡ b
+kept_eq : (a b : BookKept) → a.letter ≡ b.letter → a.records ≡ b.records → a ≡ b
 kept_eq a b l r = ap (λ (x : ℕ). record a { letter = x }) l ∙ ap (λ (x : List Record). record b { records = x }) r
 
-abbrev HasForm : List ℕ → Kept → Type 0
+abbrev HasForm : List ℕ → BookKept → Type 0
 HasForm bytes kept = HasBookForm bytes kept.letter kept.records
 
 module _ (c : IsClear SpellsRecord RecordFlaw) where
-  one_form : (bytes : List ℕ) (a b : Kept) → HasForm bytes a → HasForm bytes b → a ≡ b
+  one_form : (bytes : List ℕ) (a b : BookKept) → HasForm bytes a → HasForm bytes b → a ≡ b
   one_form bytes a b h k =
       let same = same_header bytes a.letter b.letter h.1 k.1 h.3 k.3 in
       kept_eq a b same.letter (one_list SpellsRecord RecordFlaw c a.records b.records k.1
       (subst (λ (xs : List ℕ). SpellsEach SpellsRecord a.records xs) same.rest h.2) k.2)
 
-  form_not_refused : (bytes : List ℕ) (kept : Kept) (refusal : FormRefusal) → HasForm bytes kept → LacksBookForm bytes refusal → ⊥
+  form_not_refused : (bytes : List ℕ) (kept : BookKept) (refusal : FormRefusal) → HasForm bytes kept → LacksBookForm bytes refusal → ⊥
   form_not_refused bytes kept refusal h (inl k) = header_not_refused bytes kept.letter h.1 refusal h.0 h.3 k
   form_not_refused bytes kept refusal h (inr k) =
       let s = stopped bytes k.0 k.1 k.2 k.3 k.4 k.5 in
@@ -116,7 +116,7 @@ module _ (c : IsClear SpellsRecord RecordFlaw) where
       f.2 ∙ ap (λ (x : Flaw). say x (length h.2) (length h.3)) same.2 ∙ ap (λ (xs : List ℕ). say g.0 (length xs) (length h.3)) front
       ∙ ap (λ (xs : List ℕ). say g.0 (length k.2) (length xs)) same.1 ∙ sym g.2
 
-  book_not_refused : (bytes : List ℕ) (kept : Kept) (refusal : FormRefusal) → IsBook bytes kept.letter kept.records → RefusesBook bytes refusal → ⊥
+  book_not_refused : (bytes : List ℕ) (kept : BookKept) (refusal : FormRefusal) → IsBook bytes kept.letter kept.records → RefusesBook bytes refusal → ⊥
   book_not_refused bytes kept refusal h (inl k) = omega (arith, h.0, k.0)
   book_not_refused bytes kept refusal h (inr k) = form_not_refused bytes kept refusal h.1 k.1
 
@@ -128,7 +128,7 @@ module _ (c : IsClear SpellsRecord RecordFlaw) where
 
 -- a book or a refusal, of whatever size
 abbrev pub ReadsForm : List ℕ → Type 0
-ReadsForm bytes = ((kept : Kept) × HasForm bytes kept) ⊎ ((refusal : FormRefusal) × LacksBookForm bytes refusal)
+ReadsForm bytes = ((kept : BookKept) × HasForm bytes kept) ⊎ ((refusal : FormRefusal) × LacksBookForm bytes refusal)
 
 is_module : (l : ℕ) → IsModule l ⊎ (IsModule l → ⊥)
 is_module l =
@@ -226,7 +226,7 @@ module _ (c : IsClear SpellsRecord RecordFlaw)
         one_reading = λ bytes all. one_form_reading bytes (reads_form bytes all);
       }
 
-  large_alone : (bytes : List ℕ) → most_bytes < length bytes → HasOneReading (λ (kept : Kept) b. IsBook b kept.letter kept.records) RefusesBook bytes
+  large_alone : (bytes : List ℕ) → most_bytes < length bytes → HasOneReading (λ (kept : BookKept) b. IsBook b kept.letter kept.records) RefusesBook bytes
   large_alone bytes large =
       inr (
         Large most_bytes,
@@ -237,7 +237,7 @@ module _ (c : IsClear SpellsRecord RecordFlaw)
         },
       )
 
-  sized : (bytes : List ℕ) → length bytes ≤ most_bytes → ReadsForm bytes → HasOneReading (λ (kept : Kept) b. IsBook b kept.letter kept.records) RefusesBook bytes
+  sized : (bytes : List ℕ) → length bytes ≤ most_bytes → ReadsForm bytes → HasOneReading (λ (kept : BookKept) b. IsBook b kept.letter kept.records) RefusesBook bytes
   sized bytes low (inl found) =
       inl (
         found.0,

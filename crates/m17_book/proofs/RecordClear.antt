@@ -4,6 +4,7 @@ use Rattle.std.proofs.lemmas.List.{take_at, drop_at}
 use Rattle.m17_fields.specs.Fields.{be_16, be_32, be_48, be_64, Fields16AreExact, Fields32AreExact, Fields48AreExact, Fields64AreExact}
 use Rattle.m17_callsign.specs.AddressBytes.{address_bytes}
 use Rattle.m17_callsign.specs.Callsign.{HasCallsign}
+use Rattle.m17_callsign.specs.Laws.{EachAddressHasOneCallsign}
 use Rattle.m17_control.specs.declared.event.Tag.{Tag}
 use Rattle.m17_control.specs.declared.event.Why.{Why}
 use Rattle.m17_control.specs.declared.event.Why.TheVariants.{Asked, Moved, Silent, Stopped, Replaced}
@@ -26,12 +27,13 @@ use Rattle.m17_book.specs.declared.refusal.Flaw.TheVariants as flaws
 use Rattle.m17_book.proofs.Pieces.{parts, cons_parts}
 use Rattle.m17_book.specs.Laws.{IsClear}
 
--- the laws of the fields, and of stream packets
+-- the laws of the fields, of callsigns and of stream packets
 pub record FieldLaws : Type 0 where
   pub of_16 : Fields16AreExact
   pub of_32 : Fields32AreExact
   pub of_48 : Fields48AreExact
   pub of_64 : Fields64AreExact
+  pub callsigns : EachAddressHasOneCallsign
   pub stream : OneSpelling
 
 -- the bytes of a record after its first 30
@@ -233,7 +235,7 @@ same_join law tag tag' moment moment' member member' listen listen' call call' x
     let first = cons_parts (if listen then 1 else 0) (if listen' then 1 else 0) _ _ eq in
     let address = parts (address_bytes call) (address_bytes call') x y refl first.1 in
     let same_listen = listen_eq listen listen' first.0 in
-    let same_call : call ≡ call' = law.of_48.one_number call call' (omega (arith, f.1)) (omega (arith, g.1)) address.0 in
+    let same_call : call ≡ call' = law.of_48.one_number call call' (law.callsigns.within call f) (law.callsigns.within call' g) address.0 in
     cc
 
 same_leave : (tag tag' : Tag) (moment moment' : ℕ) (member member' : Member) (why why' : Why) (x y : List ℕ) → tag ≡ tag' → moment ≡ moment' → member ≡ member'

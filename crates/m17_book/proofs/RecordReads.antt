@@ -1,10 +1,12 @@
 -- Bytes begin with a record, or with a flaw of one.
 use Rattle.std.proofs.Common.{◌≡◌, ◌⊎◌, ℕ, ◌+◌, ◌<◌, ◌≤◌, ◌^◌, List, [], ◌∷◌, ◌++◌, length, take, drop, get_or, inl, inr, refl, sym, ap, subst, ◌∙◌, arith}
-use Rattle.std.proofs.lemmas.Bool.{cases_lt, cases_eq}
+use Rattle.std.proofs.lemmas.Bool.{cases_lt, cases_eq, cases_Bool, false≢true}
 use Rattle.std.proofs.lemmas.List.{length-take-le, length-drop}
 use Rattle.std.proofs.lemmas.List.Elements.{All-take, All-drop}
 use Rattle.std.proofs.Math.Seq.{take-add}
-use Rattle.m17_callsign.specs.Callsign.{HasCallsign, end_of_callsigns}
+use Rattle.std.specs.Prelude.{is_some}
+use Rattle.m17_callsign.specs.Callsign.{HasCallsign}
+use Rattle.m17_callsign.specs.Letters.{callsign_of}
 use Rattle.m17_fields.specs.Fields.{be_32, be_64, IsBytes}
 use Rattle.m17_control.specs.declared.event.Why.{Why}
 use Rattle.m17_control.specs.declared.event.Why.TheVariants.{Asked, Moved, Silent, Stopped, Replaced}
@@ -82,10 +84,10 @@ reads_head law b bytes some known = elim (cases_lt (length b) 2) [
   ]
 ]
 
-has_callsign : (a : ℕ) → (HasCallsign a) ⊎ (HasCallsign a → ⊥)
-has_callsign a = elim (cases_lt 0 a) [
-  | inl low ↦ elim (cases_lt a end_of_callsigns) [ inl high ↦ inl (low, high) | inr high ↦ inr (λ h. omega (arith, h.1)) ]
-  | inr low ↦ inr (λ h. omega (arith, h.0))
+has_callsign : FieldLaws → (a : ℕ) → (HasCallsign a) ⊎ (HasCallsign a → ⊥)
+has_callsign law a = elim (cases_Bool (is_some (callsign_of a))) [
+  | inl some ↦ inl ((law.callsigns.in_range a).0 some)
+  | inr none ↦ inr (λ has. false≢true (sym none ∙ (law.callsigns.in_range a).1 has))
 ]
 
 reads_join : FieldLaws → (b : List ℕ) (head : Head) → IsBytes b → HasHead b head → kind_of b ≡ 1 → IsKind (kind_of b) → Begins b
@@ -96,12 +98,12 @@ reads_join law b head bytes h kind known = elim (cases_lt (length b) 31) [
     | inl low ↦ elim (cases_lt (length b) 37) [
       | inl cut ↦ inr (flaws.Cut, (omega (arith, h.within), known, short_join b kind cut, sound_join b (length b) cut kind h.link h.place low))
       | inr l₃₇ ↦ let call = law.of_48.each_bytes (take 6 (drop 31 b)) (long_part 31 6 b l₃₇) (part_bytes 31 6 b bytes) in
-          elim (has_callsign call.0) [
+          elim (has_callsign law call.0) [
             | inl good ↦ inl (_, _, begins_join b head call.0 h kind l₃₇ low good call.2)
             | inr bad ↦ inr (
               flaws.Field 31,
               bad_field b Callsign known kind l₃₇ (sound_join b 31 (omega arith) kind h.link h.place low)
-                  (λ good. bad (subst HasCallsign (law.of_48.one_number good.0 call.0 (omega (arith, good.1.1)) call.1 (good.2 ∙ sym call.2)) good.1)),
+                  (λ good. bad (subst HasCallsign (law.of_48.one_number good.0 call.0 (law.callsigns.within good.0 good.1) call.1 (good.2 ∙ sym call.2)) good.1)),
             )
           ]
     ]

@@ -7,7 +7,7 @@ use Rattle.m17_control.specs.Forms.{IsModule}
 use Rattle.m17_book.specs.Answers.{IsOutside, IsBookOf}
 use Rattle.m17_book.specs.Book.{TellsFlaw, BookHeaderFlaw, book_header, LacksBookForm, RefusesBook}
 use Rattle.m17_book.specs.Flaws.{RecordFlaw}
-use Rattle.m17_book.specs.Laws.{Kept, BooksAreExact}
+use Rattle.m17_book.specs.Laws.{BookKept, BooksAreExact}
 use Rattle.m17_book.specs.Limits.{told, most_bytes}
 use Rattle.m17_book.specs.Records.{SpellsRecord}
 use Rattle.m17_book.specs.Steps.{PassesHeader}
@@ -145,7 +145,7 @@ refused_with {U = U} read (Err refusal) Left records spot reads is outside settl
 -- the law of books, of their records alone
 pub one_book : BooksAreExact → (bytes : List ℕ) (a b : List Record) → IsBookOf bytes a → IsBookOf bytes b → a ≡ b
 one_book law bytes a b h k =
-    ap (λ (kept : Kept). kept.records) (law.one_value bytes (record { letter = h.0; records = a }) (record { letter = k.0; records = b }) h.1 k.1)
+    ap (λ (kept : BookKept). kept.records) (law.one_value bytes (record { letter = h.0; records = a }) (record { letter = k.0; records = b }) h.1 k.1)
 
 pub book_or_refused : BooksAreExact → (bytes : List ℕ) (records : List Record) (refusal : FormRefusal) → IsBookOf bytes records → RefusesBook bytes refusal → ⊥
 book_or_refused law bytes records refusal h k = law.not_both bytes (record { letter = h.0; records = records }) refusal h.1 k

@@ -1,4 +1,4 @@
--- What readers of whole inputs answer where the bytes do not decide. This profile.
+-- What readers of whole inputs answer where the bytes do not decide.
 use Rattle.std.specs.Prelude.{◌≡◌, ℕ, List, [], ◌∷◌, ◌++◌}
 use Rattle.m17_values.specs.declared.heard.Heard.{Heard}
 use Rattle.m17_values.specs.declared.heard.Heard.TheVariants.{End}
@@ -7,7 +7,7 @@ use Rattle.m17_book.specs.declared.record.Record.{Record}
 use Rattle.m17_book.specs.declared.refusal.FormRefusal.{FormRefusal}
 use Rattle.m17_book.specs.declared.refusal.FormRefusal.TheVariants.{Cut, Kind, Field, Large, ReadFault, NoMemory}
 
--- The answers that the bytes do not decide: the source failed, or memory lacked. This profile.
+-- The answers that the bytes do not decide: the source failed, or memory lacked.
 abbrev pub IsOutside : FormRefusal → Type 0
 IsOutside (Cut at) = ⊥
 IsOutside (Kind at byte) = ⊥

@@ -1,4 +1,4 @@
--- Traces and books as bytes, and why other bytes are refused. This profile.
+-- Traces and books as bytes, and why other bytes are refused.
 use Rattle.std.specs.Prelude.{◌≡◌, ◌≢◌, ◌⊎◌, ℕ, ◌+◌, ◌<◌, ◌≤◌, List, [], ◌∷◌, ◌++◌, length, take, codes, slice_index}
 use Rattle.m17_control.specs.Forms.{IsModule}
 use Rattle.m17_values.specs.declared.heard.Heard.{Heard}
@@ -24,7 +24,7 @@ book_magic = codes "M17BOOK1"
 abbrev pub book_header : ℕ → List ℕ
 book_header letter = book_magic ++ letter ∷ []
 
--- The bytes are a book of this module with these records, of whatever size. This profile.
+-- The bytes are a book of this module with these records, of whatever size.
 abbrev pub HasBookForm : List ℕ → ℕ → List Record → Type 0
 HasBookForm bytes letter records = IsModule letter × (body : List ℕ)
     × SpellsEach SpellsRecord records body × (bytes ≡ book_header letter ++ body)
@@ -33,20 +33,20 @@ HasBookForm bytes letter records = IsModule letter × (body : List ℕ)
 abbrev pub IsBook : List ℕ → ℕ → List Record → Type 0
 IsBook bytes letter records = (length bytes ≤ most_bytes) × HasBookForm bytes letter records
 
--- The bytes are a trace with these entries, of whatever size. This profile.
+-- The bytes are a trace with these entries, of whatever size.
 abbrev pub HasTraceForm : List ℕ → List Heard → Type 0
 HasTraceForm bytes entries = (body : List ℕ) × SpellsEach SpellsEntry entries body
     × (bytes ≡ trace_magic ++ body)
 
 -- The bytes are the trace of a link that heard this: its entries and then the end, within the limits of
--- 67,108,864 bytes and 1,000,000 entries. This profile.
+-- 67,108,864 bytes and 1,000,000 entries.
 abbrev pub IsTrace : List ℕ → List Heard → Type 0
 IsTrace bytes heard = (length bytes ≤ most_bytes)
     × (entries : List Heard) × (length entries ≤ most_entries)
     × HasTraceForm bytes entries × (heard ≡ entries ++ End ∷ [])
 
 -- Why bytes do not begin with a magic: they end inside it, or this is the first byte that differs. The magic is one
--- field, which is judged when all its bytes are there. This profile.
+-- field, which is judged when all its bytes are there.
 abbrev pub MagicFlaw : List ℕ → List ℕ → Flaw → Type 0
 MagicFlaw magic bytes flaws.Cut = length bytes < 8
 MagicFlaw magic bytes (flaws.Kind byte) = ⊥
@@ -76,7 +76,7 @@ TellsFlaw Flawed rest place ReadFault = ⊥
 TellsFlaw Flawed rest place NoMemory = ⊥
 
 -- The bytes are refused as a book of whatever size: in the header, or where after whole records no other
--- begins. This profile.
+-- begins.
 abbrev pub LacksBookForm : List ℕ → FormRefusal → Type 0
 LacksBookForm bytes refusal = TellsFlaw BookHeaderFlaw bytes 0 refusal
     ⊎ ((letter : ℕ) × (records : List Record) × (front : List ℕ) × (rest : List ℕ)
@@ -84,13 +84,13 @@ LacksBookForm bytes refusal = TellsFlaw BookHeaderFlaw bytes 0 refusal
     × TellsFlaw RecordFlaw rest (length front) refusal)
 
 -- After these records the bytes are refused: in the header, where none was read, or behind the last of them. So a
--- reader that gives one record after another has given all that stand before what is wrong. This profile.
+-- reader that gives one record after another has given all that stand before what is wrong.
 abbrev pub StopsBook : List ℕ → List Record → FormRefusal → Type 0
 StopsBook bytes records refusal = ((records ≡ []) × TellsFlaw BookHeaderFlaw bytes 0 refusal)
     ⊎ ((letter : ℕ) × (front : List ℕ) × (rest : List ℕ) × (bytes ≡ front ++ rest)
     × HasBookForm front letter records × TellsFlaw RecordFlaw rest (length front) refusal)
 
--- The bytes are refused as a book: too many bytes come before all other reasons. This profile.
+-- The bytes are refused as a book: too many bytes come before all other reasons.
 abbrev pub RefusesBook : List ℕ → FormRefusal → Type 0
 RefusesBook bytes refusal = ((most_bytes < length bytes) × (refusal ≡ Large most_bytes))
     ⊎ ((length bytes ≤ most_bytes) × LacksBookForm bytes refusal)
@@ -110,7 +110,7 @@ LacksTraceForm bytes refusal = TellsFlaw (MagicFlaw trace_magic) bytes 0 refusal
     × TellsFlaw EntryFlaw rest (length front) refusal)
 
 -- The bytes are refused as a trace: too many bytes come before all other reasons, and too many entries in
--- their turn. This profile.
+-- their turn.
 abbrev pub RefusesTrace : List ℕ → FormRefusal → Type 0
 RefusesTrace bytes refusal = ((most_bytes < length bytes) × (refusal ≡ Large most_bytes))
     ⊎ ((length bytes ≤ most_bytes) × (HasTooMany bytes refusal ⊎ LacksTraceForm bytes refusal))

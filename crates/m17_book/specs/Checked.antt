@@ -1,4 +1,4 @@
--- What a checker of a book has gone through. This profile.
+-- What a checker of a book has gone through.
 use Rattle.std.specs.Prelude.{◌≡◌, ℕ, ◌-◌, List, [], ◌∷◌, ◌++◌, length, Option, None, Result, Ok, Err}
 use Rattle.m17_floor.specs.Acts.{moment_before}
 use Rattle.m17_floor.specs.Legal.{acts_in, moment_written}
@@ -16,7 +16,7 @@ pub record Checking : Type 0 where
   pub report : Report
   pub breach : Option Breach
 
--- The checker has gone through these records, which are legal, and has found no breach. This profile.
+-- The checker has gone through these records, which are legal, and has found no breach.
 pub record HasChecked (checker : Checking) (records : List Record) : Type 0 where
   pub unbroken : checker.breach ≡ None
   pub legal : IsLegalBook records
@@ -26,7 +26,7 @@ pub record HasChecked (checker : Checking) (records : List Record) : Type 0 wher
   pub last : checker.moment ≡ moment_written (acts_in (kept_of records)) (length records - 1)
 
 -- What comes of one record more: the records with it are legal, and the checker has gone through them; or it is the
--- first that breaks a rule. This profile.
+-- first that breaks a rule.
 abbrev pub ChecksNext : {T : Type 0} → Result T Breach → Checking → List Record → Record → Type 0
 ChecksNext (Ok _) checker records next = HasChecked checker (records ++ next ∷ [])
 ChecksNext (Err breach) checker records next =

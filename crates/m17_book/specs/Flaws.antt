@@ -1,4 +1,4 @@
--- Why bytes begin with no whole record or entry: tables of the fields whose values are not all allowed. This profile.
+-- Why bytes begin with no whole record or entry: tables of the fields whose values are not all allowed.
 use Rattle.std.specs.Prelude.{◌≡◌, ◌⊎◌, ℕ, ◌+◌, ◌<◌, ◌≤◌, List, length, slice_index}
 use Rattle.m17_fields.specs.Fields.{be_32, field_at}
 use Rattle.m17_callsign.specs.AddressBytes.{address_bytes}
@@ -16,7 +16,7 @@ abbrev pub kind_of : List ℕ → ℕ
 kind_of bytes = slice_index bytes 0
 
 -- A table of fields: which of them are in the bytes, where each begins, how many bytes it has, and which
--- values it may have; and whether the bytes end before their record or entry does. This profile.
+-- values it may have; and whether the bytes end before their record or entry does.
 module _ {Field : Type 0} (IsIn : Field → List ℕ → Type 0) (at_of size_of : Field → ℕ)
     (IsAllowed : Field → List ℕ → Type 0) (IsShort : List ℕ → Type 0) where
   -- each field that ends within the first n bytes has a value that is allowed
@@ -31,7 +31,7 @@ module _ {Field : Type 0} (IsIn : Field → List ℕ → Type 0) (at_of size_of 
     pub before : AreAllowed bytes (at_of field)
     pub bad : IsAllowed field bytes → ⊥
 
-  -- The bytes are some, and begin with no whole record or entry: what is wrong first. This profile.
+  -- The bytes are some, and begin with no whole record or entry: what is wrong first.
   abbrev pub HasFlaw : List ℕ → Flaw → Type 0
   HasFlaw bytes flaws.Cut = (0 < length bytes) × IsKind (kind_of bytes) × IsShort bytes
       × AreAllowed bytes (length bytes)
@@ -39,7 +39,7 @@ module _ {Field : Type 0} (IsIn : Field → List ℕ → Type 0) (at_of size_of 
   HasFlaw bytes (flaws.Field place) = IsKind (kind_of bytes)
       × (field : Field) × IsFirstBad bytes field × (place ≡ at_of field)
 
--- The fields of records whose values are not all allowed, in the order of the bytes. This profile.
+-- The fields of records whose values are not all allowed, in the order of the bytes.
 pub data RecordField : Type 0 where
   Link : RecordField
   Place : RecordField
@@ -81,7 +81,7 @@ record_field_size Verdict_ = 1
 record_field_size Value = 12
 record_field_size Packet = 54
 
--- The values that each field may have. This profile.
+-- The values that each field may have.
 abbrev pub IsAllowedInRecord : RecordField → List ℕ → Type 0
 IsAllowedInRecord Link bytes = slice_index bytes 1 < 4
 IsAllowedInRecord Place bytes = (place : ℕ) × (place < 256) × (be_32 place ≡ field_at 18 4 bytes)
@@ -107,7 +107,7 @@ RecordFlaw bytes flaw =
     HasFlaw IsInRecord record_field_at record_field_size IsAllowedInRecord IsShortRecord bytes flaw
 
 -- The fields of entries whose values are not all allowed: the family of the address, and the length of the
--- datagram behind an address of 4 bytes, or behind one of 16. This profile.
+-- datagram behind an address of 4 bytes, or behind one of 16.
 pub data EntryField : Type 0 where
   Family : EntryField
   Length_4 : EntryField

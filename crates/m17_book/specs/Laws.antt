@@ -1,4 +1,4 @@
--- Traces and books have one reading each, and each byte list has one. This profile.
+-- Traces and books have one reading each, and each byte list has one.
 use Rattle.std.specs.Prelude.{◌≡◌, ℕ, ◌<◌, List, [], ◌++◌, length}
 use Rattle.m17_fields.specs.Fields.{IsBytes}
 use Rattle.m17_fields.specs.Reading.{HasOneReading}
@@ -31,7 +31,7 @@ pub record IsClear {Value : Type 0} (Spells : Value → List ℕ → Type 0)
   pub no_flaw : (f : Flaw) → Flawed [] f → ⊥
 
 -- what a book stands for: the letter of its module, and its records
-pub record Kept : Type 0 where
+pub record BookKept : Type 0 where
   pub letter : ℕ
   pub records : List Record
 
@@ -40,11 +40,11 @@ TracesAreExact = IsExactForm IsTrace RefusesTrace
 
 abbrev pub BooksAreExact : Type 0
 BooksAreExact =
-    IsExactForm {Value = Kept} (λ bytes kept. IsBook bytes kept.letter kept.records)
+    IsExactForm {Value = BookKept} (λ bytes kept. IsBook bytes kept.letter kept.records)
     RefusesBook
 
 -- the same of books of whatever size, as a reader has them that gives one record after another
 abbrev pub BookFormsAreExact : Type 0
 BookFormsAreExact =
-    IsExactForm {Value = Kept} (λ bytes kept. HasBookForm bytes kept.letter kept.records)
+    IsExactForm {Value = BookKept} (λ bytes kept. HasBookForm bytes kept.letter kept.records)
     LacksBookForm

@@ -1,4 +1,4 @@
--- What traces and books have in common: their limits, values one after another, and how a place is told. This profile.
+-- What traces and books have in common: their limits, values one after another, and how a place is told.
 use Rattle.std.specs.Prelude.{◌≡◌, ℕ, ◌-◌, ◌^◌, ◌≤◌, min, List, [], ◌∷◌, ◌++◌}
 
 -- the most bytes of a trace or a book, and the most entries of a trace

@@ -1,11 +1,11 @@
--- A reader of a book as its callers see it. This profile.
+-- A reader of a book as its callers see it.
 use Rattle.std.specs.Prelude.{ℕ, Bool, List, Option}
 use Rattle.m17_book.specs.declared.cursor.Cursor.{Cursor}
 use Rattle.m17_book.specs.declared.refusal.FormRefusal.{FormRefusal}
 use Rattle.m17_book.specs.Ahead.{held}
 
 -- The bytes that the reader took from its source and has not passed yet, how many it passed, whether the header is
--- among those, and the refusal that it gave. This profile.
+-- among those, and the refusal that it gave.
 pub record Progress : Type 0 where
   pub unread : List ℕ
   pub place : ℕ

@@ -1,4 +1,4 @@
--- What a reader of a book has read. This profile.
+-- What a reader of a book has read.
 use Rattle.std.specs.Prelude.{◌≡◌, ◌⊎◌, ℕ, ◌≤◌, List, [], ◌∷◌, ◌++◌, length, Option, None, Some, Result, Ok, Err}
 use Rattle.std.specs.Bool.{MatchBool}
 use Rattle.m17_io.specs.Faults.{HasRisen}
@@ -10,7 +10,7 @@ use Rattle.m17_book.specs.declared.record.Record.{Record}
 use Rattle.m17_book.specs.declared.refusal.FormRefusal.{FormRefusal}
 use Rattle.m17_book.specs.declared.refusal.FormRefusal.TheVariants.{Cut, Kind, Field, Large, ReadFault, NoMemory}
 
--- The refusals that a reader gives: it knows no limit, and keeps nothing that takes memory. This profile.
+-- The refusals that a reader gives: it knows no limit, and keeps nothing that takes memory.
 abbrev pub IsReadersRefusal : FormRefusal → Type 0
 IsReadersRefusal (Cut at) = Unit {0}
 IsReadersRefusal (Kind at byte) = Unit {0}
@@ -29,7 +29,7 @@ HasRead reader left bytes records = MatchBool reader.begun
     (IsAhead reader.unread left bytes × (reader.place ≡ 0) × (records ≡ []))
 
 -- What the reader answers next, where it has read these records of the bytes: one record more; or nothing, and the
--- bytes are a book with these records; or why the bytes are no book, unless the source failed. This profile.
+-- bytes are a book with these records; or why the bytes are no book, unless the source failed.
 abbrev pub AnswersNext : Result (Option Record) FormRefusal → Progress → Option (List ℕ)
     → List ℕ → List Record → Type 0
 AnswersNext (Ok (Some record_)) reader left bytes records =
@@ -39,13 +39,13 @@ AnswersNext (Ok None) reader left bytes records = HasRead reader left bytes reco
 AnswersNext (Err refusal) reader left bytes records =
     (refusal ≡ ReadFault) ⊎ StopsBook bytes records refusal
 
--- One record more stands behind these. This profile.
+-- One record more stands behind these.
 abbrev pub HasNext : List ℕ → List Record → Record → Type 0
 HasNext bytes records next = (letter : ℕ) × (front : List ℕ) × (rest : List ℕ)
     × (bytes ≡ front ++ rest) × HasBookForm front letter (records ++ next ∷ [])
 
 -- How a call that reads ended, by the count of the source's faults before and after: it rose where the answer is
--- that the source failed, and else it stands. This profile.
+-- that the source failed, and else it stands.
 pub record HasReadCause {T : Type 0} (before after : ℕ)
     (result : Result T FormRefusal) : Type 0 where
   pub counted : before ≤ after

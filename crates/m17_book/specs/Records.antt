@@ -1,4 +1,4 @@
--- Records of a book and the bytes that spell them, field by field. This profile.
+-- Records of a book and the bytes that spell them, field by field.
 use Rattle.std.specs.Prelude.{◌≡◌, ℕ, ◌<◌, ◌^◌, List, [], ◌∷◌, ◌++◌, if◌then◌else◌}
 use Rattle.m17_fields.specs.Fields.{be_16, be_32, be_64}
 use Rattle.m17_callsign.specs.AddressBytes.{address_bytes}
@@ -15,7 +15,7 @@ use Rattle.m17_stream.specs.declared.packet.StreamPacket.{StreamPacket}
 use Rattle.m17_book.specs.declared.record.Record.{Record}
 use Rattle.m17_book.specs.declared.record.Record.TheVariants.{Join, Leave, Packet}
 
--- The byte for why a member left, and the byte of a verdict. This profile.
+-- The byte for why a member left, and the byte of a verdict.
 abbrev pub why_code : Why → ℕ
 why_code Asked = 1
 why_code Moved = 2
@@ -44,7 +44,7 @@ zeros_12 = 0 ∷ 0 ∷ zeros_10
 abbrev pub member_bytes : Member → List ℕ
 member_bytes member = be_32 member.place ++ be_64 member.generation
 
--- The 12 bytes of a verdict's value: of Busy the holder, of Late the number, of all others nothing. This profile.
+-- The 12 bytes of a verdict's value: of Busy the holder, of Late the number, of all others nothing.
 abbrev pub value_bytes : Verdict → List ℕ
 value_bytes Opened = zeros_12
 value_bytes Continued = zeros_12
@@ -59,13 +59,13 @@ value_bytes ListenOnly = zeros_12
 abbrev pub stream_bytes : StreamPacket → List ℕ
 stream_bytes packet = front_bytes packet ++ be_16 (crc_of (front_bytes packet))
 
--- The 30 bytes that all records begin with: kind, link, index, moment, place, generation. This profile.
+-- The 30 bytes that all records begin with: kind, link, index, moment, place, generation.
 abbrev pub head_bytes : ℕ → Tag → ℕ → Member → List ℕ
 head_bytes kind tag moment member =
     (kind ∷ tag.link ∷ []) ++ be_64 tag.index ++ be_64 moment
     ++ be_32 member.place ++ be_64 member.generation
 
--- The bytes of a record: 37 of a Join, 31 of a Leave, 97 of a Packet. This profile.
+-- The bytes of a record: 37 of a Join, 31 of a Leave, 97 of a Packet.
 abbrev pub record_bytes : Record → List ℕ
 record_bytes (Join tag moment member listen callsign) =
     head_bytes 1 tag moment member ++ ((if listen then 1 else 0) ∷ []) ++ address_bytes callsign
@@ -74,7 +74,7 @@ record_bytes (Packet tag moment member verdict packet) =
     head_bytes 3 tag moment member ++ (verdict_code verdict ∷ [])
     ++ value_bytes verdict ++ stream_bytes packet
 
--- The fields that all records have fit their places: there are four links and 256 places. This profile.
+-- The fields that all records have fit their places: there are four links and 256 places.
 pub record FitsHead (tag : Tag) (moment : ℕ) (member : Member) : Type 0 where
   pub link : tag.link < 4
   pub index : tag.index < 2 ^ 64
@@ -101,12 +101,12 @@ FitsRecord (Leave tag moment member why) = FitsHead tag moment member
 FitsRecord (Packet tag moment member verdict packet) =
     FitsHead tag moment member × FitsVerdict verdict × SpellsStream packet (stream_bytes packet)
 
--- The record spells the bytes: its fields fit their places, and stand there one after another. This profile.
+-- The record spells the bytes: its fields fit their places, and stand there one after another.
 abbrev pub SpellsRecord : Record → List ℕ → Type 0
 SpellsRecord record_ bytes = FitsRecord record_ × (bytes ≡ record_bytes record_)
 
 -- What a caller has to know to write a record, and can test: the link is below 4, and places, a Busy's holder's too,
--- are below 256, and a Late's number is below 32,768. This profile.
+-- are below 256, and a Late's number is below 32,768.
 abbrev pub IsLow : Tag → Member → Type 0
 IsLow tag member = (tag.link < 4) × (member.place < 256)
 

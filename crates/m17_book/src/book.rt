@@ -22,44 +22,46 @@ use std::alloc::Global;
 /// The records of a book: those that the bytes of the source spell behind the header of a module. It reads to the end
 /// of the source, through one buffer, and keeps no bytes. Else why the bytes are no book: `Cut`, `Kind` and `Field`
 /// with their places in the input, and before these `Large` at 67,108,864 where there are more bytes than that.
-/// `ReadFault` where the source failed, `NoMemory` where there is none for the list. This profile.
+/// `ReadFault` where the source failed, `NoMemory` where there is none for the list.
 pub fn read_book<S: Source>(alloc: Global, s: &mut S) -> Result<Vec<Record>, FormRefusal>
-    ensures book { IfOk result (λ records. (bytes : List ℕ) → S.left s.old ≡ Some bytes
+    ensures book { IfOk result (λ records. (bytes : List ℕ) → (S.told s.old).left ≡ Some bytes
         → IsBookOf bytes records.items) }
-    ensures refused { IfErr result (λ refusal. (bytes : List ℕ) → S.left s.old ≡ Some bytes
+    ensures refused { IfErr result (λ refusal. (bytes : List ℕ) → (S.told s.old).left ≡ Some bytes
         → IsOutside refusal ⊎ RefusesBook bytes refusal) }
-    ensures each_book { (bytes : List ℕ) → (records : List Record) → S.left s.old ≡ Some bytes
+    ensures each_book { (bytes : List ℕ) → (records : List Record)
+        → (S.told s.old).left ≡ Some bytes
         → IsBookOf bytes records → MatchResult result (λ found. found.items ≡ records) IsOutside }
-    ensures each_refusal { (bytes : List ℕ) → (refusal : FormRefusal) → S.left s.old ≡ Some bytes
-        → RefusesBook bytes refusal
+    ensures each_refusal { (bytes : List ℕ) → (refusal : FormRefusal)
+        → (S.told s.old).left ≡ Some bytes → RefusesBook bytes refusal
         → MatchResult result (λ _. ⊥) (λ told. IsOutside told ⊎ (told ≡ refusal)) }
-    ensures nothing_left { IfOk result (λ _. (bytes : List ℕ) → S.left s.old ≡ Some bytes
-        → S.left s.new ≡ Some []) }
-    ensures cause { HasReadCause (S.faults s.old) (S.faults s.new) result }
+    ensures nothing_left { IfOk result (λ _. (bytes : List ℕ) → (S.told s.old).left ≡ Some bytes
+        → (S.told s.new).left ≡ Some []) }
+    ensures cause { HasReadCause (S.told s.old).faults (S.told s.new).faults result }
 {
     read_book_for(alloc, s, &Silent)
 }
 
 /// The same for a command that prints into this sink: its source is read while the sink holds nothing back, and the
-/// sink is left as it is. This profile.
+/// sink is left as it is.
 pub fn read_book_for<S: Input<K>, K: Sink>(
     alloc: Global,
     s: &mut S,
     out: &K,
 ) -> Result<Vec<Record>, FormRefusal>
-    requires quiet { K.held_back out.now ≡ 0 }
-    ensures book { IfOk result (λ records. (bytes : List ℕ) → S.left s.old ≡ Some bytes
+    requires quiet { (K.told out.now).held_back ≡ 0 }
+    ensures book { IfOk result (λ records. (bytes : List ℕ) → (S.told s.old).left ≡ Some bytes
         → IsBookOf bytes records.items) }
-    ensures refused { IfErr result (λ refusal. (bytes : List ℕ) → S.left s.old ≡ Some bytes
+    ensures refused { IfErr result (λ refusal. (bytes : List ℕ) → (S.told s.old).left ≡ Some bytes
         → IsOutside refusal ⊎ RefusesBook bytes refusal) }
-    ensures each_book { (bytes : List ℕ) → (records : List Record) → S.left s.old ≡ Some bytes
+    ensures each_book { (bytes : List ℕ) → (records : List Record)
+        → (S.told s.old).left ≡ Some bytes
         → IsBookOf bytes records → MatchResult result (λ found. found.items ≡ records) IsOutside }
-    ensures each_refusal { (bytes : List ℕ) → (refusal : FormRefusal) → S.left s.old ≡ Some bytes
-        → RefusesBook bytes refusal
+    ensures each_refusal { (bytes : List ℕ) → (refusal : FormRefusal)
+        → (S.told s.old).left ≡ Some bytes → RefusesBook bytes refusal
         → MatchResult result (λ _. ⊥) (λ told. IsOutside told ⊎ (told ≡ refusal)) }
-    ensures nothing_left { IfOk result (λ _. (bytes : List ℕ) → S.left s.old ≡ Some bytes
-        → S.left s.new ≡ Some []) }
-    ensures cause { HasReadCause (S.faults s.old) (S.faults s.new) result }
+    ensures nothing_left { IfOk result (λ _. (bytes : List ℕ) → (S.told s.old).left ≡ Some bytes
+        → (S.told s.new).left ≡ Some []) }
+    ensures cause { HasReadCause (S.told s.old).faults (S.told s.new).faults result }
 {
     books_are_exact();
     let mut cursor = Cursor::new();
@@ -75,12 +77,12 @@ fn add_book<S: Input<K>, K: Sink>(
     out: &K,
     records: &mut Vec<Record>,
 ) -> Result<(), FormRefusal>
-    requires quiet { K.held_back out.now ≡ 0 }
+    requires quiet { (K.told out.now).held_back ≡ 0 }
     requires fits { records.old.items ≡ [] }
     ensures read { (bytes : List ℕ) → cursor.old.place ≡ 0
-        → IsAt (spot cursor.old (S.left source.old)) bytes
-        → ReadsBook result bytes records.new.items (spot cursor.new (S.left source.new)) }
-    ensures cause { HasReadCause (S.faults source.old) (S.faults source.new) result }
+        → IsAt (spot cursor.old (S.told source.old).left) bytes
+        → ReadsBook result bytes records.new.items (spot cursor.new (S.told source.new).left) }
+    ensures cause { HasReadCause (S.told source.old).faults (S.told source.new).faults result }
 {
     match pass_header(cursor, source, out) {
         Ok(()) => add_records(cursor, source, out, records),
@@ -95,12 +97,12 @@ fn add_records<S: Input<K>, K: Sink>(
     out: &K,
     records: &mut Vec<Record>,
 ) -> Result<(), FormRefusal>
-    requires quiet { K.held_back out.now ≡ 0 }
+    requires quiet { (K.told out.now).held_back ≡ 0 }
     requires fits { records.old.items ≡ [] }
-    ensures read { (ahead : List ℕ) → IsAt (spot cursor.old (S.left source.old)) ahead
+    ensures read { (ahead : List ℕ) → IsAt (spot cursor.old (S.told source.old).left) ahead
         → AddsAll SpellsRecord WrongRecord result (coming cursor.old.place ahead)
-        records.new.items (spot cursor.new (S.left source.new)) }
-    ensures cause { HasReadCause (S.faults source.old) (S.faults source.new) result }
+        records.new.items (spot cursor.new (S.told source.new).left) }
+    ensures cause { HasReadCause (S.told source.old).faults (S.told source.new).faults result }
 {
     'records: loop {
         if cursor.place() > MOST_BYTES {
@@ -121,13 +123,13 @@ fn add_record<S: Input<K>, K: Sink>(
     out: &K,
     records: &mut Vec<Record>,
 ) -> Result<bool, FormRefusal>
-    requires quiet { K.held_back out.now ≡ 0 }
-    ensures read { (ahead : List ℕ) → IsAt (spot cursor.old (S.left source.old)) ahead
+    requires quiet { (K.told out.now).held_back ≡ 0 }
+    ensures read { (ahead : List ℕ) → IsAt (spot cursor.old (S.told source.old).left) ahead
         → AddsOne SpellsRecord WrongRecord result (coming cursor.old.place ahead)
-        records.old.items records.new.items (spot cursor.new (S.left source.new)) }
+        records.old.items records.new.items (spot cursor.new (S.told source.new).left) }
     ensures goes_on { IfOk result (λ more. IsTrue more
         → told (cursor.old.place + 1) ≤ cursor.new.place) }
-    ensures cause { HasReadCause (S.faults source.old) (S.faults source.new) result }
+    ensures cause { HasReadCause (S.told source.old).faults (S.told source.new).faults result }
 {
     match next_record(cursor, source, out) {
         Ok(Some(record)) => match add_to(records, record) {

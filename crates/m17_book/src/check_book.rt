@@ -22,20 +22,20 @@ use m17_io::{Input, Sink};
 
 /// Whether the source holds a legal book, in fixed memory: it reads record by record to the end of the source, through
 /// one buffer, and says of the records what `check` says of them. Else why the bytes are no book, as `read_book` says it:
-/// also where a record breaks a rule, since a book is judged that is one. This profile.
+/// also where a record breaks a rule, since a book is judged that is one.
 pub fn check_book_for<S: Input<K>, K: Sink>(
     s: &mut S,
     out: &K,
 ) -> Result<Result<Report, Breach>, FormRefusal>
-    requires quiet { K.held_back out.now ≡ 0 }
-    ensures checked { IfOk result (λ verdict. (bytes : List ℕ) → S.left s.old ≡ Some bytes
+    requires quiet { (K.told out.now).held_back ≡ 0 }
+    ensures checked { IfOk result (λ verdict. (bytes : List ℕ) → (S.told s.old).left ≡ Some bytes
         → (records : List Record) × IsBookOf bytes records × TellsOfBook verdict records) }
-    ensures refused { IfErr result (λ refusal. (bytes : List ℕ) → S.left s.old ≡ Some bytes
+    ensures refused { IfErr result (λ refusal. (bytes : List ℕ) → (S.told s.old).left ≡ Some bytes
         → IsOutside refusal ⊎ RefusesBook bytes refusal) }
-    ensures nothing_left { IfOk result (λ _. (bytes : List ℕ) → S.left s.old ≡ Some bytes
-        → S.left s.new ≡ Some []) }
+    ensures nothing_left { IfOk result (λ _. (bytes : List ℕ) → (S.told s.old).left ≡ Some bytes
+        → (S.told s.new).left ≡ Some []) }
     ensures no_memory { IfErr result TakesNoMemory }
-    ensures cause { HasReadCause (S.faults s.old) (S.faults s.new) result }
+    ensures cause { HasReadCause (S.told s.old).faults (S.told s.new).faults result }
 {
     let mut cursor = Cursor::new();
     let mut checker = Checker::new();
@@ -53,14 +53,14 @@ fn follow_book<S: Input<K>, K: Sink>(
     out: &K,
     checker: &mut Checker,
 ) -> Result<(), FormRefusal>
-    requires quiet { K.held_back out.now ≡ 0 }
+    requires quiet { (K.told out.now).held_back ≡ 0 }
     requires fresh { HasSeen checker.old [] }
     ensures read { (bytes : List ℕ) → cursor.old.place ≡ 0
-        → IsAt (spot cursor.old (S.left source.old)) bytes
+        → IsAt (spot cursor.old (S.told source.old).left) bytes
         → (records : List Record) × HasSeen checker.new records
-        × ReadsBook result bytes records (spot cursor.new (S.left source.new)) }
+        × ReadsBook result bytes records (spot cursor.new (S.told source.new).left) }
     ensures no_memory { IfErr result TakesNoMemory }
-    ensures cause { HasReadCause (S.faults source.old) (S.faults source.new) result }
+    ensures cause { HasReadCause (S.told source.old).faults (S.told source.new).faults result }
 {
     match pass_header(cursor, source, out) {
         Ok(()) => follow_records(cursor, source, out, checker),
@@ -75,14 +75,14 @@ fn follow_records<S: Input<K>, K: Sink>(
     out: &K,
     checker: &mut Checker,
 ) -> Result<(), FormRefusal>
-    requires quiet { K.held_back out.now ≡ 0 }
+    requires quiet { (K.told out.now).held_back ≡ 0 }
     requires fresh { HasSeen checker.old [] }
-    ensures read { (ahead : List ℕ) → IsAt (spot cursor.old (S.left source.old)) ahead
+    ensures read { (ahead : List ℕ) → IsAt (spot cursor.old (S.told source.old).left) ahead
         → (records : List Record) × HasSeen checker.new records
         × AddsAll SpellsRecord WrongRecord result (coming cursor.old.place ahead) records
-        (spot cursor.new (S.left source.new)) }
+        (spot cursor.new (S.told source.new).left) }
     ensures no_memory { IfErr result TakesNoMemory }
-    ensures cause { HasReadCause (S.faults source.old) (S.faults source.new) result }
+    ensures cause { HasReadCause (S.told source.old).faults (S.told source.new).faults result }
 {
     records_are_clear();
     'records: loop {
@@ -104,16 +104,16 @@ fn follow_record<S: Input<K>, K: Sink>(
     out: &K,
     checker: &mut Checker,
 ) -> Result<bool, FormRefusal>
-    requires quiet { K.held_back out.now ≡ 0 }
+    requires quiet { (K.told out.now).held_back ≡ 0 }
     ensures read { (ahead : List ℕ) → (records : List Record)
-        → IsAt (spot cursor.old (S.left source.old)) ahead → HasSeen checker.old records
+        → IsAt (spot cursor.old (S.told source.old).left) ahead → HasSeen checker.old records
         → length records < 2 ^ 64 - 1 → (now : List Record) × HasSeen checker.new now
         × AddsOne SpellsRecord WrongRecord result (coming cursor.old.place ahead) records now
-        (spot cursor.new (S.left source.new)) }
+        (spot cursor.new (S.told source.new).left) }
     ensures goes_on { IfOk result (λ more. IsTrue more
         → told (cursor.old.place + 1) ≤ cursor.new.place) }
     ensures kinds { IfErr result IsReadersRefusal }
-    ensures cause { HasReadCause (S.faults source.old) (S.faults source.new) result }
+    ensures cause { HasReadCause (S.told source.old).faults (S.told source.new).faults result }
 {
     match next_record(cursor, source, out) {
         Ok(Some(found)) => {

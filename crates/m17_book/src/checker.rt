@@ -1,4 +1,4 @@
-ghost use Rattle.std.specs.Prelude.{◌≡◌, ◌<◌, ◌≤◌, ℕ, ◌-◌, ◌^◌, List, [], ◌∷◌, ◌++◌, length, max, Some, None, Err, IfErr};
+ghost use Rattle.std.specs.Prelude.{◌≡◌, ◌<◌, ◌≤◌, ℕ, ◌-◌, ◌^◌, List, [], ◌∷◌, ◌++◌, length, max, Some, None, Err, IfErr, OnErr};
 ghost use Rattle.m17_floor.specs.declared.act.Act.{Act};
 ghost use Rattle.m17_floor.specs.Acts.{moment_before};
 ghost use Rattle.m17_floor.specs.Floor.{admits};
@@ -17,7 +17,7 @@ use m17_stream::StreamPacket;
 use m17_values::Member;
 use std::marker::Model;
 
-/// Checks the records of a book one by one, in fixed memory: who is in, a frame of each, and the floor. This profile.
+/// Checks the records of a book one by one, in fixed memory: who is in, a frame of each, and the floor.
 #[derive(Debug, Drop)]
 pub struct Checker {
     roster: Roster,
@@ -168,12 +168,13 @@ impl Checker {
     }
 
     /// Checks the next record. A breach names the record and the first rule that it breaks, in the order of `Rule`; after
-    /// it the checker answers that breach again, and goes through nothing more. Its counts end at `2^64 - 1`: it says
-    /// what it promises of fewer records. This profile.
+    /// it the checker answers that breach again, goes through nothing more, and its report stands as it was. Its counts
+    /// end at `2^64 - 1`: it says what it promises of fewer records.
     pub fn next(&mut self, one: &Record) -> Result<(), Breach>
         ensures checks { (records : List Record) → HasChecked self.old records
             → length records < 2 ^ 64 - 1 → ChecksNext result self.new records one.now }
         ensures broken { IfErr result (λ breach. self.new.breach ≡ Some breach) }
+        ensures uncounted { OnErr result (self.new.report ≡ self.old.report) }
         ensures again { (breach : Breach) → self.old.breach ≡ Some breach
             → (result ≡ Err breach) × (self.new ≡ self.old) }
     {
@@ -232,7 +233,7 @@ impl Checker {
         follow(&mut self.roster, one)
     }
 
-    /// What the records hold that the checker has gone through. This profile.
+    /// What the records hold that the checker has gone through.
     pub fn report(&self) -> Report
         ensures counted { (records : List Record) → HasChecked self.now records
             → result ≡ report_of records }

@@ -9,7 +9,7 @@ use crate::{Breach, Checker, Record, Report};
 /// names the first record that breaks a rule, and the first rule that it breaks: `Moment` where its moment is below that
 /// of the record before it; `Member` where it is a Join at a place that is held, or a Leave of one that isn't in;
 /// `Verdict` where it is a packet, and its verdict, value included, isn't that of the floor rule. It takes no memory, and
-/// goes through the records once. This profile.
+/// goes through the records once.
 pub fn check(records: &[Record]) -> Result<Report, Breach>
     ensures answers { MatchResult result
         (λ report. IsLegalBook records.now × (report ≡ report_of records.now))

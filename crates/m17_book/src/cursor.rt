@@ -80,14 +80,14 @@ impl Cursor {
 
     // Reads once more from the source, and answers how many bytes came: none only at the end of the input.
     fn read_more<S: Input<K>, K: Sink>(&mut self, source: &mut S, out: &K) -> Result<usize, Failed>
-        requires quiet { K.held_back out.now ≡ 0 }
+        requires quiet { (K.told out.now).held_back ≡ 0 }
         requires fits { length (held self.old) < 8192 }
         ensures longer { IfOk result (λ n. length (held self.new) ≡ length (held self.old) + n) }
-        ensures more { IfOk result (λ n. (rest : List ℕ) → S.left source.old ≡ Some rest
-            → IsMoreOf rest n (held self.old) (held self.new) (S.left source.new)) }
-        ensures nothing_taken { OnErr result (S.left source.new ≡ S.left source.old) }
+        ensures more { IfOk result (λ n. (rest : List ℕ) → (S.told source.old).left ≡ Some rest
+            → IsMoreOf rest n (held self.old) (held self.new) (S.told source.new).left) }
+        ensures nothing_taken { OnErr result ((S.told source.new).left ≡ (S.told source.old).left) }
         ensures held { OnErr result (held self.new ≡ held self.old) }
-        ensures cause { HasCause (S.faults source.old) (S.faults source.new) result }
+        ensures cause { HasCause (S.told source.old).faults (S.told source.new).faults result }
         ensures place { self.new.place ≡ self.old.place }
     {
         self.move_to_front();
@@ -104,13 +104,13 @@ impl Cursor {
         source: &mut S,
         out: &K,
     ) -> Result<(), Failed>
-        requires quiet { K.held_back out.now ≡ 0 }
-        ensures kept { (ahead : List ℕ) → IsAhead (held self.old) (S.left source.old) ahead
-            → IsAhead (held self.new) (S.left source.new) ahead }
+        requires quiet { (K.told out.now).held_back ≡ 0 }
+        ensures kept { (ahead : List ℕ) → IsAhead (held self.old) (S.told source.old).left ahead
+            → IsAhead (held self.new) (S.told source.new).left ahead }
         ensures enough { OnOk result ((97 ≤ length (held self.new))
-            ⊎ ((ahead : List ℕ) → IsAhead (held self.old) (S.left source.old) ahead
-            → (S.left source.new ≡ Some []) × (ahead ≡ held self.new))) }
-        ensures cause { HasCause (S.faults source.old) (S.faults source.new) result }
+            ⊎ ((ahead : List ℕ) → IsAhead (held self.old) (S.told source.old).left ahead
+            → ((S.told source.new).left ≡ Some []) × (ahead ≡ held self.new))) }
+        ensures cause { HasCause (S.told source.old).faults (S.told source.new).faults result }
         ensures place { self.new.place ≡ self.old.place }
     {
         'reads: loop {
@@ -130,11 +130,11 @@ impl Cursor {
         source: &mut S,
         out: &K,
     ) -> Result<bool, Failed>
-        requires quiet { K.held_back out.now ≡ 0 }
+        requires quiet { (K.told out.now).held_back ≡ 0 }
         ensures far { IfOk result (λ far. (ahead : List ℕ)
-            → IsAhead (held self.old) (S.left source.old) ahead
+            → IsAhead (held self.old) (S.told source.old).left ahead
             → IsTrue far ↔ (67108864 < self.old.place + length ahead)) }
-        ensures cause { HasCause (S.faults source.old) (S.faults source.new) result }
+        ensures cause { HasCause (S.told source.old).faults (S.told source.new).faults result }
     {
         'reads: loop {
             let count = self.held().len();

@@ -3,7 +3,7 @@ ghost use Rattle.m17_book.specs.Flaws.{RecordFlaw};
 ghost use Rattle.m17_book.specs.Laws.{TracesAreExact, BooksAreExact, BookFormsAreExact, IsClear};
 ghost use Rattle.m17_book.specs.Records.{SpellsRecord};
 
-/// Each byte list is the trace of one heard list, or is refused as a trace for one reason, and not both. This profile.
+/// Each byte list is the trace of one heard list, or is refused as a trace for one reason, and not both.
 #[inline]
 pub fn traces_are_exact()
     ensures { TracesAreExact }
@@ -13,7 +13,7 @@ pub fn traces_are_exact()
 }
 
 /// Each byte list is the book of one module and one list of records, or is refused as a book for one reason, and not
-/// both. This profile.
+/// both.
 #[inline]
 pub fn books_are_exact()
     ensures { BooksAreExact }
@@ -22,11 +22,12 @@ pub fn books_are_exact()
     m17_fields::laws::fields_of_32_bits_are_exact();
     m17_fields::laws::fields_of_48_bits_are_exact();
     m17_fields::laws::fields_of_64_bits_are_exact();
+    m17_callsign::laws::each_address_has_one_callsign();
     m17_stream::laws::one_spelling();
     m17_stream::laws::reading_is_exact();
 }
 
-/// The same of books of whatever size, as `Reader` has them. This profile.
+/// The same of books of whatever size, as `Reader` has them.
 #[inline]
 pub fn book_forms_are_exact()
     ensures { BookFormsAreExact }
@@ -35,6 +36,7 @@ pub fn book_forms_are_exact()
     m17_fields::laws::fields_of_32_bits_are_exact();
     m17_fields::laws::fields_of_48_bits_are_exact();
     m17_fields::laws::fields_of_64_bits_are_exact();
+    m17_callsign::laws::each_address_has_one_callsign();
     m17_stream::laws::one_spelling();
     m17_stream::laws::reading_is_exact();
 }
@@ -48,5 +50,6 @@ pub(crate) fn records_are_clear()
     m17_fields::laws::fields_of_32_bits_are_exact();
     m17_fields::laws::fields_of_48_bits_are_exact();
     m17_fields::laws::fields_of_64_bits_are_exact();
+    m17_callsign::laws::each_address_has_one_callsign();
     m17_stream::laws::one_spelling();
 }

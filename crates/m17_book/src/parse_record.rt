@@ -99,6 +99,7 @@ fn parse_join(head: Head, b: &[u8]) -> Result<(Record, usize), Flaw>
         (RecordFlaw b.now) }
 {
     m17_fields::laws::fields_of_48_bits_are_exact();
+    m17_callsign::laws::each_address_has_one_callsign();
     if b.len() <= LISTEN_AT {
         return Err(Flaw::Cut);
     }
@@ -110,6 +111,8 @@ fn parse_join(head: Head, b: &[u8]) -> Result<(Record, usize), Flaw>
         return Err(Flaw::Cut);
     }
     let address = from_bytes(b[CALLSIGN_AT..JOIN_BYTES].as_array().unwrap());
+    // Of a station or of a group, as long as books have this version alone. Once there is a second one, a Join of this
+    // version has a station's, 1 to 40^9 - 1.
     let Some(callsign) = CallAddress::new(address) else {
         return Err(Flaw::Field(CALLSIGN_AT));
     };

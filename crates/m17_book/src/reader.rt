@@ -12,7 +12,7 @@ use crate::{FormRefusal, Record};
 use m17_io::{Input, Sink, Source};
 use std::marker::Model;
 
-/// Gives the records of a book one by one. It knows no limit on the book's size. This profile.
+/// Gives the records of a book one by one. It knows no limit on the book's size.
 #[derive(Debug, Drop)]
 pub struct Reader {
     cursor: Cursor,
@@ -45,17 +45,17 @@ impl Reader {
 
     /// The next record; none at the end of a book that was read whole. Else why the bytes are no book: `Cut`, `Kind`
     /// and `Field` with their places, and `ReadFault` where the source failed; never `Large` or `NoMemory`. After a
-    /// refusal it answers that refusal again, and reads nothing. This profile.
+    /// refusal it answers that refusal again, and reads nothing.
     pub fn next<S: Source>(&mut self, source: &mut S) -> Result<Option<Record>, FormRefusal>
         ensures answers { self.old.refusal ≡ None → (bytes : List ℕ) → (records : List Record)
-            → HasRead self.old (S.left source.old) bytes records
-            → AnswersNext result self.new (S.left source.new) bytes records }
+            → HasRead self.old (S.told source.old).left bytes records
+            → AnswersNext result self.new (S.told source.new).left bytes records }
         ensures each_record { self.old.refusal ≡ None → (bytes : List ℕ)
             → (records : List Record) → (next : Record)
-            → HasRead self.old (S.left source.old) bytes records → HasNext bytes records next
+            → HasRead self.old (S.told source.old).left bytes records → HasNext bytes records next
             → MatchResult result (λ found. found ≡ Some next) (λ refusal. refusal ≡ ReadFault) }
         ensures each_end { self.old.refusal ≡ None → (bytes : List ℕ) → (letter : ℕ)
-            → (records : List Record) → HasRead self.old (S.left source.old) bytes records
+            → (records : List Record) → HasRead self.old (S.told source.old).left bytes records
             → HasBookForm bytes letter records
             → MatchResult result (λ found. found ≡ None) (λ refusal. refusal ≡ ReadFault) }
         ensures open { IfOk result (λ _. self.new.refusal ≡ None) }
@@ -64,28 +64,27 @@ impl Reader {
         ensures again { (refusal : FormRefusal) → self.old.refusal ≡ Some refusal
             → (result ≡ Err refusal) × (source.new ≡ source.old) }
         ensures cause { self.old.refusal ≡ None
-            → HasReadCause (S.faults source.old) (S.faults source.new) result }
+            → HasReadCause (S.told source.old).faults (S.told source.new).faults result }
     {
         self.next_for(source, &Silent)
     }
 
-    /// The same for a command that prints into this sink: its source is read while the sink holds nothing back. This
-    /// profile.
+    /// The same for a command that prints into this sink: its source is read while the sink holds nothing back.
     pub fn next_for<S: Input<K>, K: Sink>(
         &mut self,
         source: &mut S,
         out: &K,
     ) -> Result<Option<Record>, FormRefusal>
-        requires quiet { K.held_back out.now ≡ 0 }
+        requires quiet { (K.told out.now).held_back ≡ 0 }
         ensures answers { self.old.refusal ≡ None → (bytes : List ℕ) → (records : List Record)
-            → HasRead self.old (S.left source.old) bytes records
-            → AnswersNext result self.new (S.left source.new) bytes records }
+            → HasRead self.old (S.told source.old).left bytes records
+            → AnswersNext result self.new (S.told source.new).left bytes records }
         ensures each_record { self.old.refusal ≡ None → (bytes : List ℕ)
             → (records : List Record) → (next : Record)
-            → HasRead self.old (S.left source.old) bytes records → HasNext bytes records next
+            → HasRead self.old (S.told source.old).left bytes records → HasNext bytes records next
             → MatchResult result (λ found. found ≡ Some next) (λ refusal. refusal ≡ ReadFault) }
         ensures each_end { self.old.refusal ≡ None → (bytes : List ℕ) → (letter : ℕ)
-            → (records : List Record) → HasRead self.old (S.left source.old) bytes records
+            → (records : List Record) → HasRead self.old (S.told source.old).left bytes records
             → HasBookForm bytes letter records
             → MatchResult result (λ found. found ≡ None) (λ refusal. refusal ≡ ReadFault) }
         ensures open { IfOk result (λ _. self.new.refusal ≡ None) }
@@ -94,7 +93,7 @@ impl Reader {
         ensures again { (refusal : FormRefusal) → self.old.refusal ≡ Some refusal
             → (result ≡ Err refusal) × (source.new ≡ source.old) }
         ensures cause { self.old.refusal ≡ None
-            → HasReadCause (S.faults source.old) (S.faults source.new) result }
+            → HasReadCause (S.told source.old).faults (S.told source.new).faults result }
     {
         records_are_clear();
         if let Some(refusal) = self.refusal {
@@ -115,13 +114,13 @@ impl Reader {
         source: &mut S,
         out: &K,
     ) -> Result<Option<Record>, FormRefusal>
-        requires quiet { K.held_back out.now ≡ 0 }
+        requires quiet { (K.told out.now).held_back ≡ 0 }
         ensures answers { (bytes : List ℕ) → (records : List Record)
-            → HasRead self.old (S.left source.old) bytes records
-            → AnswersNext result self.new (S.left source.new) bytes records }
+            → HasRead self.old (S.told source.old).left bytes records
+            → AnswersNext result self.new (S.told source.new).left bytes records }
         ensures stays { self.new.refusal ≡ self.old.refusal }
         ensures kinds { IfErr result IsReadersRefusal }
-        ensures cause { HasReadCause (S.faults source.old) (S.faults source.new) result }
+        ensures cause { HasReadCause (S.told source.old).faults (S.told source.new).faults result }
     {
         match self.begin(source, out) {
             Ok(()) => next_record(&mut self.cursor, source, out),
@@ -131,17 +130,17 @@ impl Reader {
 
     // Passes the header where that was not done yet.
     fn begin<S: Input<K>, K: Sink>(&mut self, source: &mut S, out: &K) -> Result<(), FormRefusal>
-        requires quiet { K.held_back out.now ≡ 0 }
+        requires quiet { (K.told out.now).held_back ≡ 0 }
         ensures begun { IfOk result (λ _. self.new.begun ≡ true) }
         ensures passed { IfOk result (λ _. (bytes : List ℕ) → (records : List Record)
-            → HasRead self.old (S.left source.old) bytes records
-            → HasRead self.new (S.left source.new) bytes records) }
+            → HasRead self.old (S.told source.old).left bytes records
+            → HasRead self.new (S.told source.new).left bytes records) }
         ensures refused { IfErr result (λ refusal. (bytes : List ℕ) → (records : List Record)
-            → HasRead self.old (S.left source.old) bytes records
+            → HasRead self.old (S.told source.old).left bytes records
             → (refusal ≡ ReadFault) ⊎ StopsBook bytes records refusal) }
         ensures stays { self.new.refusal ≡ self.old.refusal }
         ensures kinds { IfErr result IsReadersRefusal }
-        ensures cause { HasReadCause (S.faults source.old) (S.faults source.new) result }
+        ensures cause { HasReadCause (S.told source.old).faults (S.told source.new).faults result }
     {
         if self.begun {
             return Ok(());

@@ -4,7 +4,7 @@ use m17_floor::Verdict;
 use m17_stream::StreamPacket;
 use m17_values::Member;
 
-/// What a module's book says of one of its events. This profile.
+/// What a module's book says of one of its events.
 #[derive(Clone, Copy, Debug, PartialEq, Eq)]
 pub enum Record {
     /// A member came in, to listen only or to speak too.

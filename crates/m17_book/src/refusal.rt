@@ -1,5 +1,5 @@
 /// Why a trace or a book was not read. Places are bytes of the input, from 0. The first three come in the order of the
-/// input. This profile.
+/// input.
 #[derive(Clone, Copy, Debug, PartialEq, Eq)]
 pub enum FormRefusal {
     /// The input ends inside the header, an entry or a record: `at` is its length.

@@ -1,6 +1,6 @@
 use m17_floor::Rule;
 
-/// What a legal book holds. This profile.
+/// What a legal book holds.
 #[derive(Clone, Copy, Debug, PartialEq, Eq)]
 pub struct Report {
     /// How many records it has.
@@ -11,7 +11,7 @@ pub struct Report {
     pub admitted: u64,
 }
 
-/// Why a book isn't legal. This profile.
+/// Why a book isn't legal.
 #[derive(Clone, Copy, Debug, PartialEq, Eq)]
 pub struct Breach {
     /// The number of the first record that breaks a rule, from 0.

@@ -13,7 +13,7 @@ use m17_values::Member;
 use std::array;
 use std::marker::Model;
 
-/// How many places a book can name. This profile.
+/// How many places a book can name.
 pub(crate) const BOOK_PLACES: usize = 256;
 
 // Who is in, by place, the last admitted frame of each, and the floor.

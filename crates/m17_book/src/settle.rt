@@ -36,17 +36,17 @@ pub(crate) fn finish<T: Drop, S: Input<K>, K: Sink>(
     source: &mut S,
     out: &K,
 ) -> Result<Vec<T>, FormRefusal>
-    requires quiet { K.held_back out.now ≡ 0 }
+    requires quiet { (K.told out.now).held_back ≡ 0 }
     ensures ok { IfOk result (λ found. IsOk read × (found.items ≡ list.items)
         × (source.new ≡ source.old)) }
     ensures err { OnErr result (IsErr read) }
     ensures outside { IfErr read (λ found. IsOutside found → IfErr result IsOutside) }
     ensures settled { IfErr read (λ found. (total : ℕ) → (ahead : List ℕ)
-        → IsAhead (held cursor.old) (S.left source.old) ahead
+        → IsAhead (held cursor.old) (S.told source.old).left ahead
         → told total ≡ told (cursor.old.place + length ahead) → IsCutAt total found
         → IfErr result (IsSettled total found)) }
-    ensures cause { (before : ℕ) → HasReadCause before (S.faults source.old) read
-        → HasReadCause before (S.faults source.new) result }
+    ensures cause { (before : ℕ) → HasReadCause before (S.told source.old).faults read
+        → HasReadCause before (S.told source.new).faults result }
 {
     match settle(read, cursor, source, out) {
         Ok(()) => Ok(list),
@@ -62,17 +62,17 @@ pub(crate) fn settle<S: Input<K>, K: Sink>(
     source: &mut S,
     out: &K,
 ) -> Result<(), FormRefusal>
-    requires quiet { K.held_back out.now ≡ 0 }
+    requires quiet { (K.told out.now).held_back ≡ 0 }
     ensures ok { IfOk result (λ _. IsOk read × (source.new ≡ source.old)) }
     ensures err { OnErr result (IsErr read) }
     ensures outside { IfErr read (λ found. IsOutside found → IfErr result IsOutside) }
     ensures settled { IfErr read (λ found. (total : ℕ) → (ahead : List ℕ)
-        → IsAhead (held cursor.old) (S.left source.old) ahead
+        → IsAhead (held cursor.old) (S.told source.old).left ahead
         → told total ≡ told (cursor.old.place + length ahead) → IsCutAt total found
         → IfErr result (IsSettled total found)) }
     ensures no_memory { IfErr read TakesNoMemory → IfErr result TakesNoMemory }
-    ensures cause { (before : ℕ) → HasReadCause before (S.faults source.old) read
-        → HasReadCause before (S.faults source.new) result }
+    ensures cause { (before : ℕ) → HasReadCause before (S.told source.old).faults read
+        → HasReadCause before (S.told source.new).faults result }
 {
     match read {
         Ok(()) => Ok(()),
@@ -93,12 +93,12 @@ fn is_large<S: Input<K>, K: Sink>(
     source: &mut S,
     out: &K,
 ) -> Result<bool, Failed>
-    requires quiet { K.held_back out.now ≡ 0 }
+    requires quiet { (K.told out.now).held_back ≡ 0 }
     ensures large { IfOk result (λ large. (total : ℕ) → (ahead : List ℕ)
-        → IsAhead (held cursor.old) (S.left source.old) ahead
+        → IsAhead (held cursor.old) (S.told source.old).left ahead
         → told total ≡ told (cursor.old.place + length ahead) → IsCutAt total found
         → IsTrue large ↔ (most_bytes < total)) }
-    ensures cause { HasCause (S.faults source.old) (S.faults source.new) result }
+    ensures cause { HasCause (S.told source.old).faults (S.told source.new).faults result }
 {
     match found {
         FormRefusal::Cut { at } => Ok(at > MOST_BYTES),

@@ -9,11 +9,11 @@ pub(crate) struct Silent;
 impl Sink for Silent {
     ghost use Rattle.std.proofs.Common.{lit≤};
 
-    ghost faults = { λ _. 0 };
-
-    ghost written = { λ _. None };
-
-    ghost held_back = { λ _. 0 };
+    ghost told = { λ _. record {
+      written = None;
+      held_back = 0;
+      faults = 0;
+    } };
 
     fn write(&mut self, _bytes: &[u8]) -> Result<(), Failed> {
         Ok(())

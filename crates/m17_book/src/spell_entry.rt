@@ -12,7 +12,7 @@ use m17_values::{Gram, Heard, Peer};
 /// How many bytes an entry has at the most: a datagram of 64 bytes from an IPv6 address.
 const ENTRY_BYTES: usize = 93;
 
-/// The eight bytes that a trace begins with: `M17TRACE`. This profile.
+/// The eight bytes that a trace begins with: `M17TRACE`.
 pub fn write_trace_header() -> [u8; 8]
     ensures { result ≡ trace_magic }
 {
@@ -20,7 +20,7 @@ pub fn write_trace_header() -> [u8; 8]
 }
 
 /// The bytes of an entry of a trace: 18 to 93 of a datagram, 9 of quiet, 1 of a fault; none for the end, which a trace
-/// does not spell. Of an IPv4 address the first four bytes count. This profile.
+/// does not spell. Of an IPv4 address the first four bytes count.
 pub fn write_entry(h: &Heard) -> Option<ArrayVec<u8, 93>>
     ensures none { IsNone result ↔ (h.now ≡ End) }
     ensures spelled { IfSome result (λ bytes. bytes.items ≡ entry_bytes h.now) }

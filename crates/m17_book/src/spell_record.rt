@@ -13,7 +13,7 @@ use m17_fields::put;
 use m17_floor::Verdict;
 use m17_values::Member;
 
-/// The nine bytes that the book of a module begins with: `M17BOOK1` and its letter. This profile.
+/// The nine bytes that the book of a module begins with: `M17BOOK1` and its letter.
 pub fn write_header(letter: ModuleLetter) -> [u8; 9]
     ensures header { result ≡ book_header letter }
     ensures in_range { IsModule letter }
@@ -25,7 +25,7 @@ pub fn write_header(letter: ModuleLetter) -> [u8; 9]
 }
 
 /// The bytes of a record: 37 of a Join, 31 of a Leave, 97 of a Packet. The record's link is below 4, its places, a
-/// Busy's holder's among them, are below 256, and a Late's number is below 32,768. This profile.
+/// Busy's holder's among them, are below 256, and a Late's number is below 32,768.
 pub fn write_record(r: &Record) -> ArrayVec<u8, 97>
     requires { IsWritable r.now }
     ensures { SpellsRecord r.now result.items }

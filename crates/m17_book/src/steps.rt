@@ -40,16 +40,16 @@ pub(crate) fn pass_header<S: Input<K>, K: Sink>(
     source: &mut S,
     out: &K,
 ) -> Result<(), FormRefusal>
-    requires quiet { K.held_back out.now ≡ 0 }
-    ensures header { (ahead : List ℕ) → IsAhead (held cursor.old) (S.left source.old) ahead
+    requires quiet { (K.told out.now).held_back ≡ 0 }
+    ensures header { (ahead : List ℕ) → IsAhead (held cursor.old) (S.told source.old).left ahead
         → PassesHeader result (coming cursor.old.place ahead)
-        (spot cursor.new (S.left source.new)) }
+        (spot cursor.new (S.told source.new).left) }
     ensures kept { OnErr result ((ahead : List ℕ)
-        → IsAhead (held cursor.old) (S.left source.old) ahead
-        → IsAhead (held cursor.new) (S.left source.new) ahead) }
+        → IsAhead (held cursor.old) (S.told source.old).left ahead
+        → IsAhead (held cursor.new) (S.told source.new).left ahead) }
     ensures place { OnErr result (cursor.new.place ≡ cursor.old.place) }
     ensures kinds { IfErr result IsReadersRefusal }
-    ensures cause { HasReadCause (S.faults source.old) (S.faults source.new) result }
+    ensures cause { HasReadCause (S.told source.old).faults (S.told source.new).faults result }
 {
     let Ok(()) = cursor.fill(source, out) else {
         return Err(FormRefusal::ReadFault);
@@ -70,18 +70,18 @@ pub(crate) fn next_record<S: Input<K>, K: Sink>(
     source: &mut S,
     out: &K,
 ) -> Result<Option<Record>, FormRefusal>
-    requires quiet { K.held_back out.now ≡ 0 }
-    ensures next { (ahead : List ℕ) → IsAhead (held cursor.old) (S.left source.old) ahead
+    requires quiet { (K.told out.now).held_back ≡ 0 }
+    ensures next { (ahead : List ℕ) → IsAhead (held cursor.old) (S.told source.old).left ahead
         → IsNext SpellsRecord RecordFlaw result (coming cursor.old.place ahead)
-        (spot cursor.new (S.left source.new)) }
+        (spot cursor.new (S.told source.new).left) }
     ensures kept { OnErr result ((ahead : List ℕ)
-        → IsAhead (held cursor.old) (S.left source.old) ahead
-        → IsAhead (held cursor.new) (S.left source.new) ahead) }
+        → IsAhead (held cursor.old) (S.told source.old).left ahead
+        → IsAhead (held cursor.new) (S.told source.new).left ahead) }
     ensures place { OnErr result (cursor.new.place ≡ cursor.old.place) }
     ensures goes_on { IfOk result (λ next. IsSome next
         → told (cursor.old.place + 1) ≤ cursor.new.place) }
     ensures kinds { IfErr result IsReadersRefusal }
-    ensures cause { HasReadCause (S.faults source.old) (S.faults source.new) result }
+    ensures cause { HasReadCause (S.told source.old).faults (S.told source.new).faults result }
 {
     let Ok(()) = cursor.fill(source, out) else {
         return Err(FormRefusal::ReadFault);
@@ -105,10 +105,10 @@ pub(crate) fn pass_magic<S: Input<K>, K: Sink>(
     source: &mut S,
     out: &K,
 ) -> Result<(), FormRefusal>
-    requires quiet { K.held_back out.now ≡ 0 }
-    ensures magic { (ahead : List ℕ) → IsAt (spot cursor.old (S.left source.old)) ahead
-        → PassesMagic result cursor.old.place ahead (spot cursor.new (S.left source.new)) }
-    ensures cause { HasReadCause (S.faults source.old) (S.faults source.new) result }
+    requires quiet { (K.told out.now).held_back ≡ 0 }
+    ensures magic { (ahead : List ℕ) → IsAt (spot cursor.old (S.told source.old).left) ahead
+        → PassesMagic result cursor.old.place ahead (spot cursor.new (S.told source.new).left) }
+    ensures cause { HasReadCause (S.told source.old).faults (S.told source.new).faults result }
 {
     let Ok(()) = cursor.fill(source, out) else {
         return Err(FormRefusal::ReadFault);

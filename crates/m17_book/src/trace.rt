@@ -24,46 +24,46 @@ use std::alloc::Global;
 /// end of the source, through one buffer, and keeps no bytes. Else why the bytes are no trace: `Cut`, `Kind` and
 /// `Field` with their places in the input; before these `Large` at 67,108,864 where there are more bytes than that; and
 /// in its turn `Large` where entry 1,000,000, counted from 0, begins. `ReadFault` where the source failed, `NoMemory`
-/// where there is none for the list. This profile.
+/// where there is none for the list.
 pub fn read_trace<S: Source>(alloc: Global, s: &mut S) -> Result<Vec<Heard>, FormRefusal>
-    ensures trace { IfOk result (λ heard. (bytes : List ℕ) → S.left s.old ≡ Some bytes
+    ensures trace { IfOk result (λ heard. (bytes : List ℕ) → (S.told s.old).left ≡ Some bytes
         → IsTrace bytes heard.items) }
-    ensures refused { IfErr result (λ refusal. (bytes : List ℕ) → S.left s.old ≡ Some bytes
+    ensures refused { IfErr result (λ refusal. (bytes : List ℕ) → (S.told s.old).left ≡ Some bytes
         → IsOutside refusal ⊎ RefusesTrace bytes refusal) }
-    ensures each_trace { (bytes : List ℕ) → (heard : List Heard) → S.left s.old ≡ Some bytes
+    ensures each_trace { (bytes : List ℕ) → (heard : List Heard) → (S.told s.old).left ≡ Some bytes
         → IsTrace bytes heard → MatchResult result (λ found. found.items ≡ heard) IsOutside }
-    ensures each_refusal { (bytes : List ℕ) → (refusal : FormRefusal) → S.left s.old ≡ Some bytes
-        → RefusesTrace bytes refusal
+    ensures each_refusal { (bytes : List ℕ) → (refusal : FormRefusal)
+        → (S.told s.old).left ≡ Some bytes → RefusesTrace bytes refusal
         → MatchResult result (λ _. ⊥) (λ told. IsOutside told ⊎ (told ≡ refusal)) }
-    ensures nothing_left { IfOk result (λ _. (bytes : List ℕ) → S.left s.old ≡ Some bytes
-        → S.left s.new ≡ Some []) }
+    ensures nothing_left { IfOk result (λ _. (bytes : List ℕ) → (S.told s.old).left ≡ Some bytes
+        → (S.told s.new).left ≡ Some []) }
     ensures ends { IfOk result (λ heard. HasEnd heard.items) }
-    ensures cause { HasReadCause (S.faults s.old) (S.faults s.new) result }
+    ensures cause { HasReadCause (S.told s.old).faults (S.told s.new).faults result }
 {
     read_trace_for(alloc, s, &Silent)
 }
 
 /// The same for a command that prints into this sink: its source is read while the sink holds nothing back, and the
-/// sink is left as it is. This profile.
+/// sink is left as it is.
 pub fn read_trace_for<S: Input<K>, K: Sink>(
     alloc: Global,
     s: &mut S,
     out: &K,
 ) -> Result<Vec<Heard>, FormRefusal>
-    requires quiet { K.held_back out.now ≡ 0 }
-    ensures trace { IfOk result (λ heard. (bytes : List ℕ) → S.left s.old ≡ Some bytes
+    requires quiet { (K.told out.now).held_back ≡ 0 }
+    ensures trace { IfOk result (λ heard. (bytes : List ℕ) → (S.told s.old).left ≡ Some bytes
         → IsTrace bytes heard.items) }
-    ensures refused { IfErr result (λ refusal. (bytes : List ℕ) → S.left s.old ≡ Some bytes
+    ensures refused { IfErr result (λ refusal. (bytes : List ℕ) → (S.told s.old).left ≡ Some bytes
         → IsOutside refusal ⊎ RefusesTrace bytes refusal) }
-    ensures each_trace { (bytes : List ℕ) → (heard : List Heard) → S.left s.old ≡ Some bytes
+    ensures each_trace { (bytes : List ℕ) → (heard : List Heard) → (S.told s.old).left ≡ Some bytes
         → IsTrace bytes heard → MatchResult result (λ found. found.items ≡ heard) IsOutside }
-    ensures each_refusal { (bytes : List ℕ) → (refusal : FormRefusal) → S.left s.old ≡ Some bytes
-        → RefusesTrace bytes refusal
+    ensures each_refusal { (bytes : List ℕ) → (refusal : FormRefusal)
+        → (S.told s.old).left ≡ Some bytes → RefusesTrace bytes refusal
         → MatchResult result (λ _. ⊥) (λ told. IsOutside told ⊎ (told ≡ refusal)) }
-    ensures nothing_left { IfOk result (λ _. (bytes : List ℕ) → S.left s.old ≡ Some bytes
-        → S.left s.new ≡ Some []) }
+    ensures nothing_left { IfOk result (λ _. (bytes : List ℕ) → (S.told s.old).left ≡ Some bytes
+        → (S.told s.new).left ≡ Some []) }
     ensures ends { IfOk result (λ heard. HasEnd heard.items) }
-    ensures cause { HasReadCause (S.faults s.old) (S.faults s.new) result }
+    ensures cause { HasReadCause (S.told s.old).faults (S.told s.new).faults result }
 {
     traces_are_exact();
     let mut cursor = Cursor::new();
@@ -79,13 +79,13 @@ fn add_trace<S: Input<K>, K: Sink>(
     out: &K,
     heard: &mut Vec<Heard>,
 ) -> Result<(), FormRefusal>
-    requires quiet { K.held_back out.now ≡ 0 }
+    requires quiet { (K.told out.now).held_back ≡ 0 }
     requires fits { heard.old.items ≡ [] }
     ensures read { (bytes : List ℕ) → cursor.old.place ≡ 0
-        → IsAt (spot cursor.old (S.left source.old)) bytes
-        → ReadsTrace result bytes heard.new.items (spot cursor.new (S.left source.new)) }
+        → IsAt (spot cursor.old (S.told source.old).left) bytes
+        → ReadsTrace result bytes heard.new.items (spot cursor.new (S.told source.new).left) }
     ensures ends { OnOk result (HasEnd heard.new.items) }
-    ensures cause { HasReadCause (S.faults source.old) (S.faults source.new) result }
+    ensures cause { HasReadCause (S.told source.old).faults (S.told source.new).faults result }
 {
     match pass_magic(cursor, source, out) {
         Ok(()) => match add_entries(cursor, source, out, heard) {
@@ -103,13 +103,13 @@ fn add_entries<S: Input<K>, K: Sink>(
     out: &K,
     heard: &mut Vec<Heard>,
 ) -> Result<(), FormRefusal>
-    requires quiet { K.held_back out.now ≡ 0 }
+    requires quiet { (K.told out.now).held_back ≡ 0 }
     requires fits { heard.old.items ≡ [] }
-    ensures read { (ahead : List ℕ) → IsAt (spot cursor.old (S.left source.old)) ahead
+    ensures read { (ahead : List ℕ) → IsAt (spot cursor.old (S.told source.old).left) ahead
         → AddsAll SpellsEntry WrongEntry result (coming cursor.old.place ahead)
-        heard.new.items (spot cursor.new (S.left source.new)) }
+        heard.new.items (spot cursor.new (S.told source.new).left) }
     ensures few { IfOk result (λ _. length heard.new.items ≤ 1000000) }
-    ensures cause { HasReadCause (S.faults source.old) (S.faults source.new) result }
+    ensures cause { HasReadCause (S.told source.old).faults (S.told source.new).faults result }
 {
     'entries: loop {
         if cursor.place() > MOST_BYTES {
@@ -130,15 +130,15 @@ fn add_entry<S: Input<K>, K: Sink>(
     out: &K,
     heard: &mut Vec<Heard>,
 ) -> Result<bool, FormRefusal>
-    requires quiet { K.held_back out.now ≡ 0 }
+    requires quiet { (K.told out.now).held_back ≡ 0 }
     requires fits { length heard.old.items ≤ 1000000 }
-    ensures read { (ahead : List ℕ) → IsAt (spot cursor.old (S.left source.old)) ahead
+    ensures read { (ahead : List ℕ) → IsAt (spot cursor.old (S.told source.old).left) ahead
         → AddsOne SpellsEntry WrongEntry result (coming cursor.old.place ahead)
-        heard.old.items heard.new.items (spot cursor.new (S.left source.new)) }
+        heard.old.items heard.new.items (spot cursor.new (S.told source.new).left) }
     ensures few { length heard.new.items ≤ 1000000 }
     ensures more { IfOk result (λ more. IsTrue more
         → length heard.new.items ≡ length heard.old.items + 1) }
-    ensures cause { HasReadCause (S.faults source.old) (S.faults source.new) result }
+    ensures cause { HasReadCause (S.told source.old).faults (S.told source.new).faults result }
 {
     let Ok(()) = cursor.fill(source, out) else {
         return Err(FormRefusal::ReadFault);

@@ -82,11 +82,11 @@ pub(crate) struct Pieces {
 impl Source for Pieces {
     ghost use Rattle.std.proofs.Math.Nat.{min-le_right};
 
-    ghost faults = { λ s. min s.bytes.faults (2 ^ 64 - 1) };
-
-    ghost left = { λ _. None };
-
-    ghost at_hand = { λ _. true };
+    ghost told = { λ s. record {
+      left = None;
+      at_hand = true;
+      faults = min s.bytes.faults (2 ^ 64 - 1);
+    } };
 
     ghost faults_fit = { λ s. min-le_right s.bytes.faults (2 ^ 64 - 1) };
 

@@ -7,7 +7,7 @@ use Rattle.std.proofs.Math.Nat.{pow-suc, pow-succ', one-le-pow, pow-le-pow_right
 use Rattle.std.proofs.lemmas.List.Sums.{sum_by-cons}
 use Rattle.std.proofs.Math.Seq.{drop-cons}
 use Rattle.std.proofs.lemmas.Bool.{cases_eq}
-use Rattle.m17_callsign.specs.Callsign.{IsLetter, index_of, share_of}
+use Rattle.m17_callsign.specs.Callsign.{IsLetter, index_of, share_of, sum_of}
 use Rattle.m17_callsign.proofs.Alphabet.{index_of-letter-lt}
 
 -- from the last letter on: forty times what follows, and the letter's index
@@ -39,7 +39,7 @@ shares-cons x xs a (suc n) =
     let without = sum_by-cons (share_of xs) a (range_with_len (a + 1) n) in
     omega arith
 
-pub folded-is-sum : (xs : List ℕ) → folded xs ≡ sum_by (share_of xs) (range_with_len 0 (length xs))
+pub folded-is-sum : (xs : List ℕ) → folded xs ≡ sum_of xs
 folded-is-sum [] = folded-nil
 folded-is-sum (x ∷ xs) =
     let first = sum_by-cons (share_of (x ∷ xs)) 0 (range_with_len 1 (length xs)) in
@@ -104,8 +104,13 @@ at_start xs i v unknown low none seen =
     let first : i ≡ 0 = omega arith in
     subst (λ (found : Option ℕ). IsSeen xs 0 v found) none (subst (λ (j : ℕ). IsSeen xs j v unknown) first seen)
 
-pub seen_sum : (xs : List ℕ) (i v : ℕ) (unknown : Option ℕ) → i ≤ 0 → unknown ≡ None → IsSeen xs i v unknown → v ≡ sum_by (share_of xs) (range_with_len 0 (length xs))
+pub seen_sum : (xs : List ℕ) (i v : ℕ) (unknown : Option ℕ) → i ≤ 0 → unknown ≡ None → IsSeen xs i v unknown → v ≡ sum_of xs
 seen_sum xs i v unknown low none seen = (at_start xs i v unknown low none seen).seen.0 ∙ folded-is-sum xs
+
+pub seen_bound : (xs : List ℕ) (i v : ℕ) (unknown : Option ℕ) → i ≤ 0 → unknown ≡ None → IsSeen xs i v unknown → v < 40 ^ length xs
+seen_bound xs i v unknown low none seen =
+    let all : length xs - 0 ≡ length xs = omega arith in
+    subst (λ (n : ℕ). v < 40 ^ n) all (at_start xs i v unknown low none seen).bound
 
 pub seen_all : (xs : List ℕ) (i v : ℕ) (unknown : Option ℕ) → i ≤ 0 → unknown ≡ None → IsSeen xs i v unknown → All IsLetter xs
 seen_all xs i v unknown low none seen k d lt =

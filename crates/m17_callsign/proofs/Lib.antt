@@ -1,5 +1,6 @@
 pub mod Alphabet
-pub mod Cutting
+pub mod Exact
 pub mod Folded
+pub mod Pushed
 pub mod Spelled
 pub mod Unique

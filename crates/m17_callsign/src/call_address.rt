@@ -3,11 +3,15 @@ ghost use Rattle.std.specs.Prelude.{◌≡◌, ◌<◌, ◌^◌, ◌↔◌, IsSo
 use m17_values::Address;
 use std::marker::Model;
 
-/// The first address above all those that have a callsign.
+/// 40^9: the first address above those of callsigns of nine letters or fewer. The address of a group is this and the
+/// sum of its letters.
 pub(crate) const END_OF_CALLSIGNS: u64 = 262_144_000_000_000;
 
-/// An address that has a callsign: 1 to 40^9 - 1. Contracts see the number. M17 Protocol Specification, address
-/// encoding.
+/// 40^9 + 40^8: the first address above those of groups, which have eight letters or fewer.
+const END_OF_GROUPS: u64 = 268_697_600_000_000;
+
+/// An address that has a callsign, of a station or of a group: 1 to 40^9 - 1, or 40^9 + 1 to 40^9 + 40^8 - 1.
+/// Contracts see the number. M17 Protocol Specification, address encoding; the form of groups is this project's own.
 #[derive(Clone, Copy, Debug, PartialEq, Eq, PartialOrd, Ord)]
 pub struct CallAddress(u64);
 
@@ -27,21 +31,21 @@ impl Model for CallAddress {
 impl CallAddress {
     ghost use Rattle.m17_callsign.specs.Callsign.{HasCallsign};
 
-    /// The same address, where it has a callsign; none for 0 and for 40^9 and above. M17 Protocol Specification,
-    /// address encoding.
+    /// The same address, where it has a callsign; none for 0, for 40^9, and for 40^9 + 40^8 and above. M17 Protocol
+    /// Specification, address encoding.
     pub fn new(address: Address) -> Option<CallAddress>
         ensures in_range { IsSome result ↔ HasCallsign address }
         ensures same { IfSome result (λ call. call ≡ address) }
     {
         let value = address.value();
-        if value > 0 && value < END_OF_CALLSIGNS {
+        if value > 0 && value < END_OF_GROUPS && value != END_OF_CALLSIGNS {
             Some(CallAddress(value))
         } else {
             None
         }
     }
 
-    /// The same address, 1 to 40^9 - 1. M17 Protocol Specification, address encoding.
+    /// The same address. M17 Protocol Specification, address encoding.
     pub fn address(self) -> Address
         ensures same { result ≡ self }
         ensures in_range { HasCallsign result }

@@ -7,6 +7,9 @@ pub(crate) const BASE: u64 = 40;
 /// How many letters a callsign has at most.
 pub(crate) const MAX_LETTERS: usize = 9;
 
+/// The sign in front of the letters of a group, of which there are one fewer at most.
+pub(crate) const GROUP_SIGN: u8 = b'#';
+
 /// The 40 letters in the order of their indexes. M17 Protocol Specification, address encoding.
 const ALPHABET: &[u8; 40] = b" ABCDEFGHIJKLMNOPQRSTUVWXYZ0123456789-/.";
 

@@ -4,6 +4,7 @@ use Rattle.std.proofs.lemmas.Bool.{cases_eq}
 use Rattle.std.specs.Str.{bytes_eq}
 use Rattle.m17_callsign.specs.AddressBytes.{address_bytes}
 use Rattle.m17_fields.specs.Fields.{Fields48AreExact}
+use Rattle.m17_callsign.specs.Laws.{EachAddressHasOneCallsign}
 use Rattle.m17_control.specs.declared.packet.Control.{Control}
 use Rattle.m17_control.specs.declared.packet.Control.TheVariants.{Conn, Lstn, Ackn, Nack, Ping, Pong, Disc}
 use Rattle.m17_control.specs.Forms.{SpellsControl, IsFrom, IsModule, HasMagic}
@@ -22,8 +23,13 @@ control_by m long from letter =
 abbrev control_in : ℕ → List ℕ → Control
 control_in from b = control_by (take 4 b) (length b) from (get_or b 10 0)
 
-pub from_fits : (a : ℕ) → IsFrom a → a < 2 ^ 48
-from_fits a h = omega (arith, h.1)
+-- what is known of addresses: that six bytes are one, and which of them have a callsign
+pub record AddressLaws : Type 0 where
+  pub fields : Fields48AreExact
+  pub callsigns : EachAddressHasOneCallsign
+
+pub from_fits : AddressLaws → (a : ℕ) → IsFrom a → a < 2 ^ 48
+from_fits law a h = law.callsigns.within a h
 
 pub with_from_not_4 : (b : List ℕ) → (length b ≡ 10) ⊎ (length b ≡ 11) → length b ≢ 4
 with_from_not_4 b (inl h) e = omega arith
@@ -33,17 +39,17 @@ with_from_not_4 b (inr h) e = omega arith
 abbrev IsFromOf : List ℕ → ℕ → Type 0
 IsFromOf b a = length b ≢ 4 → IsFrom a × (address_bytes a ≡ take 6 (drop 4 b))
 
-from_back : Fields48AreExact → (a from : ℕ) (b : List ℕ) → IsFromOf b a → (length b ≡ 10) ⊎ (length b ≡ 11) → IsFrom from
+from_back : AddressLaws → (a from : ℕ) (b : List ℕ) → IsFromOf b a → (length b ≡ 10) ⊎ (length b ≡ 11) → IsFrom from
     → take 6 (drop 4 b) ≡ address_bytes from → a ≡ from
 from_back law a from b at long good field =
     let found = at (with_from_not_4 b long) in
-    law.one_number a from (from_fits a found.0) (from_fits from good) (found.1 ∙ field)
+    law.fields.one_number a from (from_fits law a found.0) (from_fits law from good) (found.1 ∙ field)
 
 -- the From of the bytes that a control packet spells
 six : List ℕ → List ℕ
 six b = take 6 (drop 4 b)
 
-control_back : Fields48AreExact → (c : Control) (a : ℕ) (b : List ℕ) → IsFromOf b a → SpellsControl c b → control_in a b ≡ c
+control_back : AddressLaws → (c : Control) (a : ℕ) (b : List ℕ) → IsFromOf b a → SpellsControl c b → control_in a b ≡ c
 unfolding six
 control_back law (Conn from letter) a b at h = ap (control_in a) h.2 ∙ ap (λ x. Conn x letter) (from_back law a from b at (inr (ap length h.2)) h.0 (ap six h.2))
 control_back law (Lstn from letter) a b at h = ap (control_in a) h.2 ∙ ap (λ x. Lstn x letter) (from_back law a from b at (inr (ap length h.2)) h.0 (ap six h.2))
@@ -117,7 +123,7 @@ is_control (Disc (Some from)) b h = subst IsControl (sym h.1) (record {
 })
 
 -- the same bytes spell one control packet
-pub one_control : Fields48AreExact → (c d : Control) (b : List ℕ) → SpellsControl c b → SpellsControl d b → c ≡ d
+pub one_control : AddressLaws → (c d : Control) (b : List ℕ) → SpellsControl c b → SpellsControl d b → c ≡ d
 one_control law c d b h k =
     elim (cases_eq (length b) 4) [
       | inl four ↦ (let none : IsFromOf b 0 = λ ne. absurd (ne four) in sym (control_back law c 0 b none h) ∙ control_back law d 0 b none k)

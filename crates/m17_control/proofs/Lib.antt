@@ -5,3 +5,4 @@ pub mod Refused
 pub mod ModuleSets
 pub mod ModuleTexts
 mod ModuleRanks
+mod ModuleBits

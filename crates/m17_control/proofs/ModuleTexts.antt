@@ -2,7 +2,7 @@
 use Rattle.std.proofs.Common.{◌≡◌, ◌≢◌, ℕ, ◌+◌, ◌<◌, true, false, List, length, slice_index, arith, refl, sym, ap, ◌∙◌, inl, inr, subst}
 use Rattle.std.proofs.lemmas.Bool.{cases_lt, cases_eq, false≢true}
 use Rattle.m17_control.specs.Forms.{IsModule}
-use Rattle.m17_control.specs.Modules.{serves, IsFront, IsModulesText, IsModulesRefused}
+use Rattle.m17_control.specs.Modules.{serves, IsSet, IsFront, IsModulesText, IsModulesRefused}
 use Rattle.m17_control.specs.declared.modules.Modules.{Modules}
 use Rattle.m17_control.specs.declared.modules.ModulesRefusal.{ModulesRefusal}
 use Rattle.m17_control.specs.declared.modules.ModulesRefusal.TheVariants.{Empty, Letter, Twice}
@@ -12,12 +12,14 @@ pub record IsReadSoFar (text : List ℕ) (place : ℕ) (m : Modules) : Type 0 wh
   pub front : IsFront text place
   pub found : (k : ℕ) → k < place → serves m (slice_index text k) ≡ true
   pub only : (letter : ℕ) → serves m letter ≡ true → (k : ℕ) × (k < place) × (slice_index text k ≡ letter)
+  pub set : IsSet m
 
-pub read_none : (text : List ℕ) (m : Modules) → ((letter : ℕ) → serves m letter ≡ false) → IsReadSoFar text 0 m
-read_none text m none = record {
+pub read_none : (text : List ℕ) (m : Modules) → ((letter : ℕ) → serves m letter ≡ false) → IsSet m → IsReadSoFar text 0 m
+read_none text m none set = record {
   front = record { letters = λ k less. absurd (omega arith); once = λ j k below less. absurd (omega arith) };
   found = λ k less. absurd (omega arith);
   only = λ letter h. absurd (false≢true (sym (none letter) ∙ h));
+  set = set;
 }
 
 -- a letter that is not in the set stands nowhere before
@@ -39,8 +41,9 @@ front_more text place byte m r is letter new = record {
 }
 
 pub read_more : (text : List ℕ) (place byte : ℕ) (m n : Modules) → IsReadSoFar text place m → byte ≡ slice_index text place → IsModule byte → serves m byte ≡ false →
-    serves n byte ≡ true → ((other : ℕ) → other ≢ byte → serves n other ≡ serves m other) → IsReadSoFar text (place + 1) n
-read_more text place byte m n r is letter new it others = record {
+    serves n byte ≡ true → ((other : ℕ) → other ≢ byte → serves n other ≡ serves m other) → (IsSet m → IsSet n)
+    → IsReadSoFar text (place + 1) n
+read_more text place byte m n r is letter new it others set = record {
   front = front_more text place byte m r is letter new;
   found = λ k less. elim (cases_lt k place) [
     | inl below ↦ others (slice_index text k) (apart text place byte m r new k below) ∙ r.found k below
@@ -52,6 +55,7 @@ read_more text place byte m n r is letter new it others = record {
     | inr other ↦
         (let old = r.only l (sym (others l other) ∙ h) in (old.0, omega (arith, old.1), old.2))
   ];
+  set = set r.set;
 }
 
 -- no longer beginning of the text is well formed than up to the place that is refused

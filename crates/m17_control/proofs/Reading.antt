@@ -1,15 +1,16 @@
 -- Each byte list is one packet, or is refused for one reason.
 use Rattle.std.proofs.Common.{◌≡◌, ◌≢◌, ◌↔◌, ◌⊎◌, ℕ, ◌-◌, ◌<◌, ◌≤◌, ◌^◌, min, List, length, take, drop, get_or, codes, None, Some, Result, Ok, Err, MatchResult, inl, inr, refl, sym, ap, ◌∙◌, subst, arith}
 use Rattle.std.proofs.lemmas.Bool.{cases_eq, cases_lt, cases_Bool, false≢true}
+use Rattle.std.specs.Prelude.{is_some}
 use Rattle.std.proofs.lemmas.List.{length-take, length-drop, take_all}
 use Rattle.std.proofs.lemmas.List.Elements.{All-take, All-drop}
 use Rattle.std.proofs.lemmas.Slice.Eq.{bytes_eq-Decides}
 use Rattle.std.specs.Str.{bytes_eq}
 use Rattle.m17_callsign.specs.AddressBytes.{address_bytes}
-use Rattle.m17_callsign.specs.Callsign.{end_of_callsigns}
+use Rattle.m17_callsign.specs.Letters.{callsign_of}
 use Rattle.m17_stream.specs.declared.packet.StreamRefusal.{StreamRefusal}
 use Rattle.m17_stream.specs.declared.packet.StreamRefusal.TheVariants as streams
-use Rattle.m17_fields.specs.Fields.{IsBytes, Fields48AreExact}
+use Rattle.m17_fields.specs.Fields.{IsBytes}
 use Rattle.m17_fields.specs.Reading.{HasOneReading}
 use Rattle.m17_stream.specs.Laws.{OnePacket}
 use Rattle.m17_stream.specs.Stream as stream
@@ -20,7 +21,7 @@ use Rattle.m17_control.specs.declared.packet.Refusal.{Refusal}
 use Rattle.m17_control.specs.declared.packet.Refusal.TheVariants.{Length, Magic, Address, Module, Crc}
 use Rattle.m17_control.specs.Laws.{DecodingIsExact}
 use Rattle.m17_control.specs.Forms.{Spells, Refuses, IsFrom, IsModule, IsLength, HasMagic, HasFrom}
-use Rattle.m17_control.proofs.Controls.{one_spelling as control_spelling}
+use Rattle.m17_control.proofs.Controls.{AddressLaws, one_spelling as control_spelling}
 use Rattle.m17_control.proofs.Parts.{of_from, of_module, no_stream_magic}
 use Rattle.m17_control.proofs.Refused.{HasOneStream, not_both, one_packet, one_refusal}
 
@@ -34,17 +35,17 @@ same_or_other a b =
     elim (cases_Bool (bytes_eq a b)) [ inl same ↦ inl (decides.0 same) | inr other ↦ inr (λ e. false≢true (sym other ∙ decides.1 e)) ]
 
 -- the From of bytes that have room for it
-has_from : Fields48AreExact → (b : List ℕ) → IsBytes b → HasMagic b → (length b ≡ 10) ⊎ (length b ≡ 11) → 10 ≤ length b → (a : ℕ) × HasFrom b a
-has_from six b h magic long room =
+has_from : AddressLaws → (b : List ℕ) → IsBytes b → HasMagic b → (length b ≡ 10) ⊎ (length b ≡ 11) → 10 ≤ length b → (a : ℕ) × HasFrom b a
+has_from law b h magic long room =
     let bytes = All-take (λ byte. byte < 2 ^ 8) 6 (drop 4 b) (All-drop (λ byte. byte < 2 ^ 8) 4 b h) in
-    let from = six.each_bytes (take 6 (drop 4 b)) (simp (length-take, length-drop) (omega arith)) bytes in
+    let from = law.fields.each_bytes (take 6 (drop 4 b)) (simp (length-take, length-drop) (omega arith)) bytes in
     (from.0, record { has_magic = magic; length_with_from = long; fits = from.1; field = from.2 })
 
-is_from : (a : ℕ) → (IsFrom a) ⊎ (IsFrom a → ⊥)
-is_from a =
-    elim (cases_lt 0 a) [
-      | inl low ↦ elim (cases_lt a end_of_callsigns) [ inl high ↦ inl (low, high) | inr high ↦ inr (λ h. omega (arith, h.1)) ]
-      | inr low ↦ inr (λ h. omega (arith, h.0))
+is_from : AddressLaws → (a : ℕ) → (IsFrom a) ⊎ (IsFrom a → ⊥)
+is_from law a =
+    elim (cases_Bool (is_some (callsign_of a))) [
+      | inl some ↦ inl ((law.callsigns.in_range a).0 some)
+      | inr none ↦ inr (λ has. false≢true (sym none ∙ (law.callsigns.in_range a).1 has))
     ]
 
 is_module : (l : ℕ) → (IsModule l) ⊎ (IsModule l → ⊥)
@@ -98,21 +99,21 @@ read_bare b long =
     ]
 
 -- a control packet with From, or the refusal of that
-read_from : Fields48AreExact → (b : List ℕ) → IsBytes b → length b ≡ 10 → HasMagic b → ((a : ℕ) → IsFrom a → HasFrom b a → (p : Packet) × Spells p b) → Reads b
-read_from six b h long magic make =
-    let from = has_from six b h magic (inl long) (omega arith) in
-    elim (is_from from.0) [ inl good ↦ inl (make from.0 good from.1) | inr bad ↦ inr (Address from.0, (from.1, bad)) ]
+read_from : AddressLaws → (b : List ℕ) → IsBytes b → length b ≡ 10 → HasMagic b → ((a : ℕ) → IsFrom a → HasFrom b a → (p : Packet) × Spells p b) → Reads b
+read_from law b h long magic make =
+    let from = has_from law b h magic (inl long) (omega arith) in
+    elim (is_from law from.0) [ inl good ↦ inl (make from.0 good from.1) | inr bad ↦ inr (Address from.0, (from.1, bad)) ]
 
-read_with_from : Fields48AreExact → (b : List ℕ) → IsBytes b → length b ≡ 10 → Reads b
-read_with_from six b h long =
+read_with_from : AddressLaws → (b : List ℕ) → IsBytes b → length b ≡ 10 → Reads b
+read_with_from law b h long =
     elim (same_or_other (take 4 b) (codes "PING")) [
-      | inl e ↦ read_from six b h long (inr (inl (long, inl e)))
+      | inl e ↦ read_from law b h long (inr (inl (long, inl e)))
           (λ a good from. (packets.Control (Ping a), (good, of_from (codes "PING") (address_bytes a) b long e from.field)))
       | inr ne ↦ elim (same_or_other (take 4 b) (codes "PONG")) [
-        | inl e ↦ read_from six b h long (inr (inl (long, inr (inl e))))
+        | inl e ↦ read_from law b h long (inr (inl (long, inr (inl e))))
             (λ a good from. (packets.Control (Pong a), (good, of_from (codes "PONG") (address_bytes a) b long e from.field)))
         | inr ne' ↦ elim (same_or_other (take 4 b) (codes "DISC")) [
-          | inl e ↦ read_from six b h long (inr (inl (long, inr (inr e))))
+          | inl e ↦ read_from law b h long (inr (inl (long, inr (inr e))))
               (λ a good from. (packets.Control (Disc (Some a)), (good, of_from (codes "DISC") (address_bytes a) b long e from.field)))
           | inr ne'' ↦ inr (Magic (take 4 b), (inr (inl long), refl, no_from_magic b long ne ne' ne''))
         ]
@@ -120,11 +121,11 @@ read_with_from six b h long =
     ]
 
 -- a control packet with From and a module, or the refusal of one of them
-read_module : Fields48AreExact → (b : List ℕ) → IsBytes b → length b ≡ 11 → HasMagic b
+read_module : AddressLaws → (b : List ℕ) → IsBytes b → length b ≡ 11 → HasMagic b
     → ((a : ℕ) → IsFrom a → HasFrom b a → IsModule (get_or b 10 0) → (p : Packet) × Spells p b) → Reads b
-read_module six b h long magic make =
-    let from = has_from six b h magic (inr long) (omega arith) in
-    elim (is_from from.0) [
+read_module law b h long magic make =
+    let from = has_from law b h magic (inr long) (omega arith) in
+    elim (is_from law from.0) [
       | inl good ↦ elim (is_module (get_or b 10 0)) [
         | inl letter ↦ inl (make from.0 good from.1 letter)
         | inr other ↦ inr (Module (get_or b 10 0), (long, refl, other, from.0, from.1, good))
@@ -132,16 +133,16 @@ read_module six b h long magic make =
       | inr bad ↦ inr (Address from.0, (from.1, bad))
     ]
 
-read_with_module : Fields48AreExact → (b : List ℕ) → IsBytes b → length b ≡ 11 → Reads b
-read_with_module six b h long =
+read_with_module : AddressLaws → (b : List ℕ) → IsBytes b → length b ≡ 11 → Reads b
+read_with_module law b h long =
     elim (same_or_other (take 4 b) (codes "CONN")) [
-      | inl e ↦ read_module six b h long (inr (inr (inl (long, inl e))))
+      | inl e ↦ read_module law b h long (inr (inr (inl (long, inl e))))
           (λ a good from letter. (
             packets.Control (Conn a (get_or b 10 0)),
             (good, letter, of_module (codes "CONN") (address_bytes a) b (get_or b 10 0) long e from.field refl),
           ))
       | inr ne ↦ elim (same_or_other (take 4 b) (codes "LSTN")) [
-        | inl e ↦ read_module six b h long (inr (inr (inl (long, inr e))))
+        | inl e ↦ read_module law b h long (inr (inr (inl (long, inr e))))
             (λ a good from letter. (
               packets.Control (Lstn a (get_or b 10 0)),
               (good, letter, of_module (codes "LSTN") (address_bytes a) b (get_or b 10 0) long e from.field refl),
@@ -159,14 +160,14 @@ read_stream : (b : List ℕ) → length b ≡ 54 → HasOneStream b → Reads b
 read_stream b long (inl one) = inl (packets.Stream one.0, one.1.spelled)
 read_stream b long (inr one) = refused_stream b long one.0 one.1.refused
 
-reads : Fields48AreExact → (b : List ℕ) → IsBytes b → HasOneStream b → Reads b
-reads six b h one =
+reads : AddressLaws → (b : List ℕ) → IsBytes b → HasOneStream b → Reads b
+reads law b h one =
     elim (cases_eq (length b) 4) [
       | inl long ↦ read_bare b long
       | inr n₁ ↦ elim (cases_eq (length b) 10) [
-        | inl long ↦ read_with_from six b h long
+        | inl long ↦ read_with_from law b h long
         | inr n₂ ↦ elim (cases_eq (length b) 11) [
-          | inl long ↦ read_with_module six b h long
+          | inl long ↦ read_with_module law b h long
           | inr n₃ ↦ elim (cases_eq (length b) 54) [
             | inl long ↦ read_stream b long one
             | inr n₄ ↦ inr (Length (min (length b) (2 ^ 32 - 1)), (no_length (length b) n₁ n₂ n₃ n₄, refl))
@@ -175,7 +176,7 @@ reads six b h one =
       ]
     ]
 
-one_reading : Fields48AreExact → (b : List ℕ) → IsBytes b → HasOneStream b → HasOneReading Spells Refuses b
+one_reading : AddressLaws → (b : List ℕ) → IsBytes b → HasOneStream b → HasOneReading Spells Refuses b
 one_reading law b h one = elim (reads law b h one) [
   | inl found ↦ inl (found.0, record { spelled = found.1; no_other = λ q s. one_packet law b one q found.0 s found.1; no_refusal = λ r k. not_both law b one found.0 r found.1 k })
   | inr found ↦ inr (found.0, record { refused = found.1; no_other = λ r k. one_refusal law b one r found.0 k found.1; no_value = λ p s. not_both law b one p found.0 s found.1 })
@@ -208,5 +209,5 @@ one_spelling : OnePacket → (p : Packet) (a b : List ℕ) → Spells p a → Sp
 one_spelling law (packets.Stream p) a b h k = law p a b h k
 one_spelling law (packets.Control c) a b h k = control_spelling c a b h k
 
-pub exact : Fields48AreExact → ((b : List ℕ) → IsBytes b → HasOneStream b) → OnePacket → DecodingIsExact
-exact six stream_law one = record { one_of_both = λ b h. one_reading six b h (stream_law b h); one_spelling = one_spelling one }
+pub exact : AddressLaws → ((b : List ℕ) → IsBytes b → HasOneStream b) → OnePacket → DecodingIsExact
+exact law stream_law one = record { one_of_both = λ b h. one_reading law b h (stream_law b h); one_spelling = one_spelling one }

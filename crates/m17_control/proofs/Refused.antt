@@ -4,7 +4,6 @@ use Rattle.std.proofs.lemmas.Bool.{cases_eq}
 use Rattle.m17_stream.specs.declared.packet.StreamPacket.{StreamPacket}
 use Rattle.m17_stream.specs.declared.packet.StreamRefusal.{StreamRefusal}
 use Rattle.m17_stream.specs.declared.packet.StreamRefusal.TheVariants as streams
-use Rattle.m17_fields.specs.Fields.{Fields48AreExact}
 use Rattle.m17_fields.specs.Reading.{HasOneReading}
 use Rattle.m17_stream.specs.Stream as stream
 use Rattle.m17_control.specs.declared.packet.Packet.{Packet}
@@ -12,7 +11,7 @@ use Rattle.m17_control.specs.declared.packet.Packet.TheVariants as packets
 use Rattle.m17_control.specs.declared.packet.Refusal.{Refusal}
 use Rattle.m17_control.specs.declared.packet.Refusal.TheVariants.{Length, Magic, Address, Module, Crc}
 use Rattle.m17_control.specs.Forms.{Spells, Refuses, IsFrom, IsModule, IsLength, HasMagic, HasFrom}
-use Rattle.m17_control.proofs.Controls.{IsControl, is_control, one_control, from_fits, with_from_not_4}
+use Rattle.m17_control.proofs.Controls.{AddressLaws, IsControl, is_control, one_control, from_fits, with_from_not_4}
 
 -- what the law of stream packets says of these bytes
 abbrev pub HasOneStream : List ℕ → Type 0
@@ -68,21 +67,21 @@ short_not_54 b (inr (inl h)) e = omega arith
 short_not_54 b (inr (inr h)) e = omega arith
 
 -- what spells a control packet is not refused
-control_not_refused : Fields48AreExact → (b : List ℕ) (r : Refusal) → IsControl b → Refuses b r → ⊥
+control_not_refused : AddressLaws → (b : List ℕ) (r : Refusal) → IsControl b → Refuses b r → ⊥
 control_not_refused law b (Length n) h r = r.0 (control_length b h)
 control_not_refused law b (Magic m) h r = r.2 h.magic
 control_not_refused law b (Address a) h r =
     let from = h.from (with_from_not_4 b r.0.length_with_from) in
-    let same : from.0 ≡ a = law.one_number from.0 a (from_fits from.0 from.1) r.0.fits (from.2 ∙ sym r.0.field) in
+    let same : from.0 ≡ a = law.fields.one_number from.0 a (from_fits law from.0 from.1) r.0.fits (from.2 ∙ sym r.0.field) in
     r.1 (subst IsFrom same from.1)
 control_not_refused law b (Module l) h r = r.2 (subst IsModule (sym r.1) (h.letter r.0))
 control_not_refused law b (Crc f e) h r = short_not_54 b h.short r.0
 
-pub not_both : Fields48AreExact → (b : List ℕ) → HasOneStream b → (p : Packet) (r : Refusal) → Spells p b → Refuses b r → ⊥
+pub not_both : AddressLaws → (b : List ℕ) → HasOneStream b → (p : Packet) (r : Refusal) → Spells p b → Refuses b r → ⊥
 not_both law b one (packets.Stream p) r s k = stream_not_refused b one p r s (stream_length b one p s) k
 not_both law b one (packets.Control c) r s k = control_not_refused law b r (is_control c b s) k
 
-pub one_packet : Fields48AreExact → (b : List ℕ) → HasOneStream b → (p q : Packet) → Spells p b → Spells q b → p ≡ q
+pub one_packet : AddressLaws → (b : List ℕ) → HasOneStream b → (p q : Packet) → Spells p b → Spells q b → p ≡ q
 one_packet law b one (packets.Stream p) (packets.Stream q) s k = ap packets.Stream (stream_one_packet b one p q s k)
 one_packet law b one (packets.Stream p) (packets.Control d) s k = absurd (short_not_54 b (is_control d b k).short (stream_length b one p s))
 one_packet law b one (packets.Control c) (packets.Stream q) s k = absurd (short_not_54 b (is_control c b s).short (stream_length b one q k))
@@ -108,18 +107,18 @@ magic_alone b (Address a) long never r = absurd (never r.0.has_magic)
 magic_alone b (Module l) long never r = absurd (never r.4.has_magic)
 magic_alone b (Crc f e) long never r = absurd (never r.1)
 
-address_alone : Fields48AreExact → (b : List ℕ) (a : ℕ) (r : Refusal) → HasFrom b a → (IsFrom a → ⊥) → Refuses b r → r ≡ Address a
+address_alone : AddressLaws → (b : List ℕ) (a : ℕ) (r : Refusal) → HasFrom b a → (IsFrom a → ⊥) → Refuses b r → r ≡ Address a
 address_alone law b a (Length m) h never r = absurd (r.0 (from_length b h.length_with_from))
 address_alone law b a (Magic m) h never r = absurd (r.2 h.has_magic)
-address_alone law b a (Address c) h never r = ap Address (law.one_number c a r.0.fits h.fits (r.0.field ∙ sym h.field))
-address_alone law b a (Module l) h never r = absurd (never (subst IsFrom (law.one_number r.3 a r.4.fits h.fits (r.4.field ∙ sym h.field)) r.5))
+address_alone law b a (Address c) h never r = ap Address (law.fields.one_number c a r.0.fits h.fits (r.0.field ∙ sym h.field))
+address_alone law b a (Module l) h never r = absurd (never (subst IsFrom (law.fields.one_number r.3 a r.4.fits h.fits (r.4.field ∙ sym h.field)) r.5))
 address_alone law b a (Crc f e) h never r = absurd (no_from_at b 54 r.0 (λ e. cc) (λ e. cc) h.length_with_from)
 
-module_alone : Fields48AreExact → (b : List ℕ) (a : ℕ) (r : Refusal) → length b ≡ 11 → HasFrom b a → IsFrom a → (IsModule (get_or b 10 0) → ⊥) → Refuses b r
+module_alone : AddressLaws → (b : List ℕ) (a : ℕ) (r : Refusal) → length b ≡ 11 → HasFrom b a → IsFrom a → (IsModule (get_or b 10 0) → ⊥) → Refuses b r
     → r ≡ Module (get_or b 10 0)
 module_alone law b a (Length m) long h from never r = absurd (r.0 (inr (inr (inl long))))
 module_alone law b a (Magic m) long h from never r = absurd (r.2 h.has_magic)
-module_alone law b a (Address c) long h from never r = absurd (r.1 (subst IsFrom (law.one_number a c h.fits r.0.fits (h.field ∙ sym r.0.field)) from))
+module_alone law b a (Address c) long h from never r = absurd (r.1 (subst IsFrom (law.fields.one_number a c h.fits r.0.fits (h.field ∙ sym r.0.field)) from))
 module_alone law b a (Module l) long h from never r = ap Module r.1
 module_alone law b a (Crc f e) long h from never r = absurd (omega arith)
 
@@ -134,7 +133,7 @@ crc_alone b one f e (Crc g d) h r =
     let expected : d ≡ e = cc in
     cc
 
-pub one_refusal : Fields48AreExact → (b : List ℕ) → HasOneStream b → (r s : Refusal) → Refuses b r → Refuses b s → r ≡ s
+pub one_refusal : AddressLaws → (b : List ℕ) → HasOneStream b → (r s : Refusal) → Refuses b r → Refuses b s → r ≡ s
 one_refusal law b one r (Length n) h k = length_alone b n r k.0 h ∙ ap Length (sym k.1)
 one_refusal law b one r (Magic m) h k = magic_alone b r k.0 k.2 h ∙ ap Magic (sym k.1)
 one_refusal law b one r (Address a) h k = address_alone law b a r k.0 k.1 h

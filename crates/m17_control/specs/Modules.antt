@@ -1,5 +1,5 @@
--- Sets of modules, and the texts that name them. This profile.
-use Rattle.std.specs.Prelude.{◌≡◌, ◌≢◌, ◌==◌, ◌&&◌, ℕ, ◌-◌, ◌<◌, List, Bool, length, nat_le, slice_index, filter}
+-- Sets of modules, and the texts that name them.
+use Rattle.std.specs.Prelude.{◌≡◌, ◌≢◌, ◌==◌, ◌&&◌, ℕ, ◌-◌, ◌^◌, ◌<◌, List, Bool, length, nat_le, slice_index, filter}
 use Rattle.std.specs.Int.{bit_at}
 use Rattle.std.specs.List.{range_with_len}
 use Rattle.m17_control.specs.Forms.{IsModule}
@@ -10,6 +10,10 @@ use Rattle.m17_control.specs.declared.modules.ModulesRefusal.TheVariants.{Empty,
 -- the module with this letter is in the set
 unfoldable pub serves : Modules → ℕ → Bool
 serves m letter = nat_le 65 letter && nat_le letter 90 && bit_at m.0 (letter - 65) == 1
+
+-- The value is a set of modules: it has no other bits than those of its letters. So equal sets are equal values.
+abbrev pub IsSet : Modules → Type 0
+IsSet m = m.0 < 2 ^ 26
 
 -- the letters of the set, in order
 abbrev pub letters_of : Modules → List ℕ

@@ -1,4 +1,4 @@
--- What an item of a module spells on the wire. This profile.
+-- What an item of a module spells on the wire.
 use Rattle.std.specs.Prelude.{ℕ, Option, None, Some}
 use Rattle.m17_control.specs.declared.event.Why.TheVariants.{Asked, Moved, Silent, Stopped, Replaced}
 use Rattle.m17_control.specs.declared.item.Said.{Said}

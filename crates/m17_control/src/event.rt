@@ -3,7 +3,7 @@ use m17_callsign::CallAddress;
 use m17_stream::StreamPacket;
 use m17_values::{Member, Peer};
 
-/// Which entry of which link an event comes from. This profile.
+/// Which entry of which link an event comes from.
 #[derive(Clone, Copy, Debug, PartialEq, Eq)]
 pub struct Tag {
     /// The link, from 0.
@@ -12,7 +12,7 @@ pub struct Tag {
     pub index: u64,
 }
 
-/// Why a member leaves. This profile.
+/// Why a member leaves.
 #[derive(Clone, Copy, Debug, PartialEq, Eq)]
 pub enum Why {
     /// Its peer sent a DISC.
@@ -27,7 +27,7 @@ pub enum Why {
     Replaced,
 }
 
-/// What happens to a module. This profile.
+/// What happens to a module.
 #[derive(Clone, Copy, Debug, PartialEq, Eq)]
 pub enum Body {
     /// A peer joins the module, to listen only or to speak too. It is greeted when at least `after` departed members
@@ -60,7 +60,7 @@ pub enum Body {
     Stop,
 }
 
-/// An event of a module. This profile.
+/// An event of a module.
 #[derive(Clone, Copy, Debug, PartialEq, Eq)]
 pub struct Event {
     /// The entry that it comes from.

@@ -2,7 +2,7 @@ use crate::{Control, Why};
 use m17_stream::StreamPacket;
 use m17_values::{Member, Peer};
 
-/// What a module says to one of its members. This profile.
+/// What a module says to one of its members.
 #[derive(Clone, Copy, Debug, PartialEq, Eq)]
 pub enum Said {
     /// It has joined. To be said when at least `after` departed members of its link were reported.
@@ -19,7 +19,7 @@ pub enum Said {
     Bye { why: Why },
 }
 
-/// Something that a module says, and to whom. This profile.
+/// Something that a module says, and to whom.
 #[derive(Clone, Copy, Debug, PartialEq, Eq)]
 pub struct Item {
     /// The member that it is for.
@@ -32,7 +32,7 @@ pub struct Item {
     pub body: Said,
 }
 
-/// A reply that goes to a peer past all modules: a NACK, or a DISC of 4 bytes. This profile.
+/// A reply that goes to a peer past all modules: a NACK, or a DISC of 4 bytes.
 #[derive(Clone, Copy, Debug, PartialEq, Eq)]
 pub struct Direct {
     /// The peer's link, from 0.

@@ -2,7 +2,7 @@ ghost use Rattle.std.specs.Prelude.{◌≡◌, ◌↔◌, IsSome, IfSome};
 
 use std::marker::Model;
 
-/// The letter of a module, A to Z. Contracts see its byte, 65 to 90. This profile.
+/// The letter of a module, A to Z. Contracts see its byte, 65 to 90.
 #[derive(Clone, Copy, Debug, PartialEq, Eq, PartialOrd, Ord)]
 pub struct ModuleLetter(u8);
 
@@ -21,7 +21,7 @@ impl Model for ModuleLetter {
 impl ModuleLetter {
     ghost use Rattle.m17_control.specs.Forms.{IsModule};
 
-    /// The module with this letter; none for a byte that is not A to Z, as for a small letter. This profile.
+    /// The module with this letter; none for a byte that is not A to Z, as for a small letter.
     #[inline]
     pub fn new(byte: u8) -> Option<ModuleLetter>
         ensures in_range { IsSome result ↔ IsModule byte }
@@ -34,7 +34,7 @@ impl ModuleLetter {
         }
     }
 
-    /// The letter of the module, A to Z. This profile.
+    /// The letter of the module, A to Z.
     #[inline]
     pub fn byte(self) -> u8
         ensures same { result ≡ self }

@@ -1,11 +1,11 @@
 ghost use Rattle.std.specs.Prelude.{◌≡◌, ◌≢◌, ◌↔◌, ℕ, false, true, length, IfOk, IsOk, IsTrue, MatchOption, Contains};
 ghost use Rattle.m17_control.specs.declared.modules.ModulesRefusal.{ModulesRefusal};
 
-/// A set of modules, A to Z. This profile.
+/// A set of modules, A to Z.
 #[derive(Clone, Copy, Debug, PartialEq, Eq)]
 pub struct Modules(u32);
 
-/// Why a text names no modules: the first reason, in the order of places. This profile.
+/// Why a text names no modules: the first reason, in the order of places.
 #[derive(Clone, Copy, Debug, PartialEq, Eq)]
 pub enum ModulesRefusal {
     /// It is empty.
@@ -18,22 +18,24 @@ pub enum ModulesRefusal {
 
 impl Modules {
     ghost use Rattle.m17_control.specs.Forms.{IsModule};
-    ghost use Rattle.m17_control.specs.Modules.{serves, letters_of, letters_before, IsModulesText, IsModulesRefused};
+    ghost use Rattle.m17_control.specs.Modules.{serves, letters_of, letters_before, IsModulesText, IsModulesRefused, IsSet};
 
-    /// No module. This profile.
+    /// No module.
     pub fn none() -> Modules
-        ensures { (letter : ℕ) → serves result letter ≡ false }
+        ensures none { (letter : ℕ) → serves result letter ≡ false }
+        ensures set { IsSet result }
     {
         Modules(0)
     }
 
     /// The modules whose letters are the bytes of the text, each once and in any order. `Empty` where there is none,
     /// `Letter` at the first byte that is no letter of a module, and `Twice` at the first letter that stands earlier
-    /// too, whichever place comes first. This profile.
+    /// too, whichever place comes first.
     pub fn read(text: &str) -> Result<Modules, ModulesRefusal>
         ensures ok { IsOk result ↔ IsModulesText text.now }
         ensures letters { IfOk result (λ modules. (letter : ℕ)
             → IsTrue (serves modules letter) ↔ Contains text.now letter) }
+        ensures set { IfOk result IsSet }
         ensures err { (refusal : ModulesRefusal)
             → (result ≡ Err refusal) ↔ IsModulesRefused text.now refusal }
     {
@@ -54,7 +56,7 @@ impl Modules {
         Ok(modules)
     }
 
-    /// Whether the module with this letter is in the set. This profile.
+    /// Whether the module with this letter is in the set.
     #[inline]
     pub fn has(&self, letter: u8) -> bool
         ensures { result ≡ serves self.now letter }
@@ -62,7 +64,7 @@ impl Modules {
         letter.is_ascii_uppercase() && (self.0 >> (letter - b'A')) & 1 == 1
     }
 
-    /// How many modules there are, 0 to 26. This profile.
+    /// How many modules there are, 0 to 26.
     pub fn count(&self) -> u32
         ensures { result ≡ length (letters_of self.now) }
     {
@@ -75,7 +77,7 @@ impl Modules {
         count
     }
 
-    /// How many modules of the set have letters before this one, where its module is in the set too. This profile.
+    /// How many modules of the set have letters before this one, where its module is in the set too.
     #[inline]
     pub fn rank(&self, letter: u8) -> Option<usize>
         ensures { MatchOption result (serves self.now letter ≡ false)
@@ -95,6 +97,7 @@ impl Modules {
         ensures it { serves self.new letter ≡ true }
         ensures others { (other : ℕ) → other ≢ letter
             → serves self.new other ≡ serves self.old other }
+        ensures set { IsSet self.old → IsSet self.new }
     {
         self.0 |= 1 << (letter - b'A');
     }

@@ -43,7 +43,7 @@ pub enum Packet {
     Control(Control),
 }
 
-/// Why bytes are no packet: the first reason that fits, in this order. This profile.
+/// Why bytes are no packet: the first reason that fits, in this order.
 #[derive(Clone, Copy, Debug, PartialEq, Eq)]
 pub enum Refusal {
     /// No packet has so many bytes; 4,294,967,295 for more than that.

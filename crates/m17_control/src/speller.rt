@@ -14,7 +14,7 @@ const DATAGRAM_BYTES: usize = 54;
 /// The datagram that says the item, where `name` is the reflector's address: 4, 10 or 54 bytes. A member that joined
 /// hears ACKN, a frame or an echo is its packet, and an answer its control packet; the question is PING with the
 /// reflector's name; who asked to leave hears the DISC of 4 bytes, and who was silent or outlived the link that of 10.
-/// None exactly for a member that moved or was replaced, to whom nothing is said. This profile.
+/// None exactly for a member that moved or was replaced, to whom nothing is said.
 pub fn spell(item: &Item, name: CallAddress) -> Option<ArrayVec<u8, 54>>
     ensures said { is_some result ≡ is_some (packet_said item.now.body name) }
     ensures bytes { IfSome result (λ datagram. IfSome (packet_said item.now.body name)

@@ -24,6 +24,7 @@ fn stands_for(bytes: &[u8], packet: Control) -> bool {
 fn control_packets_are_read_and_written(rt: HostRuntime) -> Result<(), Fail> {
     let near = from(0x9f_dd51).ok_or("no callsign")?;
     let far = from(0x4b13_d106).ok_or("no callsign")?;
+    let group = from(0xee6b_2800_0051).ok_or("no callsign")?;
     let a = ModuleLetter::new(b'A').ok_or("no module")?;
     let z = ModuleLetter::new(b'Z').ok_or("no module")?;
     assert!(rt;
@@ -41,6 +42,15 @@ fn control_packets_are_read_and_written(rt: HostRuntime) -> Result<(), Fail> {
             Control::Lstn {
                 from: far,
                 module: z
+            }
+        )
+    );
+    assert!(rt;
+        stands_for(
+            b"CONN\xee\x6b\x28\x00\x00\x51A",
+            Control::Conn {
+                from: group,
+                module: a
             }
         )
     );
@@ -90,6 +100,14 @@ fn other_bytes_are_refused(rt: HostRuntime) {
         (
             b"CONN\xff\xff\xff\xff\xff\xffA",
             Refusal::Address(0xffff_ffff_ffff),
+        ),
+        (
+            b"CONN\xee\x6b\x28\x00\x00\x00A",
+            Refusal::Address(0xee6b_2800_0000),
+        ),
+        (
+            b"CONN\xf4\x61\x09\x00\x00\x00A",
+            Refusal::Address(0xf461_0900_0000),
         ),
         (b"CONN\x00\x00\x00\x00\x00\x00\x5b", Refusal::Address(0)),
         (b"CONN\x00\x00\x00\x9f\xdd\x51\x5b", Refusal::Module(0x5b)),

@@ -1,4 +1,4 @@
--- How a command ends, and the last line of its run. This profile.
+-- How a command ends, and the last line of its run.
 use Rattle.std.specs.Prelude.{◌≡◌, ℕ, List, [], ◌∷◌, ◌++◌, codes, decimal, Option, None, Some}
 use Rattle.m17_io.specs.declared.fault.Fault.{Fault}
 use Rattle.m17_io.specs.declared.fault.Fault.TheVariants.{Read, Write}
@@ -65,7 +65,7 @@ failed_device ends.WriteFailed = Some Write
 
 -- A command came to this ending. `says` is what an ending says of the input and of what is left of
 -- it, whatever the sink tells; `prints` is what stands written for the input then. `first` is what
--- was written before the command, `written` what is written after it. This profile.
+-- was written before the command, `written` what is written after it.
 pub record Comes {R : Type 0} (says : TextEnding R → List ℕ → Option (List ℕ) → Type 0)
     (prints : TextEnding R → List ℕ → Option (List ℕ) → List ℕ → Type 0)
     (ending : TextEnding R) (input : List ℕ) (left first written : Option (List ℕ))

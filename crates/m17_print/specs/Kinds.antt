@@ -1,4 +1,4 @@
--- The kinds of what an entry of a link came to, and the word of each, for lines and summaries. This profile.
+-- The kinds of what an entry of a link came to, and the word of each, for lines and summaries.
 use Rattle.std.specs.Prelude.{ℕ, List, [], ◌∷◌, length, codes}
 use Rattle.m17_floor.specs.declared.verdict.Verdict.{Verdict}
 use Rattle.m17_floor.specs.declared.verdict.Verdict.TheVariants as verdict

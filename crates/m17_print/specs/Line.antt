@@ -1,4 +1,4 @@
--- A printed line: its room, and hex digits in it. This profile.
+-- A printed line: its room, and hex digits in it.
 use Rattle.std.specs.Prelude.{ℕ, ◌/◌, ◌%◌, ◌<◌, ◌≤◌, List, [], ◌∷◌, length, codes, slice_index}
 use Rattle.std.specs.List.{flat_map}
 
@@ -11,7 +11,7 @@ abbrev pub reason_room : ℕ
 reason_room = 16
 
 -- Only the head of a line stands there: a number of up to 20 digits and its space, and a letter and
--- its space. There is room for what the line says, whatever that is. This profile.
+-- its space. There is room for what the line says, whatever that is.
 abbrev pub IsBegun : List ℕ → Type 0
 IsBegun line = length line ≤ 23
 

@@ -1,9 +1,8 @@
 -- The printed text of addresses and packets. M17 Protocol Specification, address encoding and IP
 -- networking; the words are this profile's.
-use Rattle.std.specs.Prelude.{◌==◌, ℕ, ◌-◌, ◌^◌, List, [], ◌∷◌, ◌++◌, codes, decimal, nat_le, nat_lt, ◌&&◌, None, Some, if◌then◌else◌}
+use Rattle.std.specs.Prelude.{◌==◌, ℕ, ◌-◌, ◌^◌, List, [], ◌∷◌, ◌++◌, codes, decimal, unwrap_or, None, Some, if◌then◌else◌}
 use Rattle.std.specs.Int.{w16, to_be_bytes}
 use Rattle.m17_callsign.specs.AddressBytes.{address_bytes}
-use Rattle.m17_callsign.specs.Callsign.{end_of_callsigns}
 use Rattle.m17_callsign.specs.Letters.{callsign_of}
 use Rattle.m17_lsd.specs.Lsd.{text_of_type}
 use Rattle.m17_stream.specs.declared.packet.StreamPacket.{StreamPacket}
@@ -16,10 +15,9 @@ use Rattle.m17_control.specs.declared.packet.Refusal.TheVariants as refusals
 use Rattle.m17_print.specs.Line.{hex_of}
 use Rattle.m17_print.specs.Refused.{length_text, magic_text, crc_text}
 
--- an address: its callsign; `broadcast`; or else its 12 hex digits
+-- an address: its callsign, where it has one; `broadcast`; or else its 12 hex digits
 abbrev pub address_text : ℕ → List ℕ
-address_text address =
-    if nat_le 1 address && nat_lt address end_of_callsigns then callsign_of address else
+address_text address = unwrap_or (callsign_of address)
     (if address == 2 ^ 48 - 1 then codes "broadcast" else hex_of (address_bytes address))
 
 -- a stream packet, with all its fields

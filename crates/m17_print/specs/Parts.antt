@@ -1,4 +1,4 @@
--- The parts of a stream packet's printed text. This profile.
+-- The parts of a stream packet's printed text.
 use Rattle.std.specs.Prelude.{ℕ, Bool, List, ◌++◌, codes, decimal, if◌then◌else◌}
 use Rattle.std.specs.Int.{w16, to_be_bytes}
 use Rattle.m17_lsd.specs.Lsd.{text_of_type}

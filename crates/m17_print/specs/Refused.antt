@@ -1,4 +1,4 @@
--- The printed text of a refusal. This profile.
+-- The printed text of a refusal.
 use Rattle.std.specs.Prelude.{ℕ, List, ◌++◌, codes, decimal}
 use Rattle.std.specs.Int.{w16, to_be_bytes}
 use Rattle.m17_stream.specs.declared.packet.StreamRefusal.{StreamRefusal}

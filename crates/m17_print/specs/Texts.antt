@@ -1,4 +1,4 @@
--- A text that is a line for each item: of records, of lines, of entries, of peers. This profile.
+-- A text that is a line for each item: of records, of lines, of entries, of peers.
 use Rattle.std.specs.Prelude.{◌≡◌, ℕ, ◌<◌, List, ◌++◌, length, slice_get, Some}
 use Rattle.std.specs.List.{flat_map}
 

@@ -1,4 +1,4 @@
--- The words of verdicts. This profile.
+-- The words of verdicts.
 use Rattle.std.specs.Prelude.{ℕ, List, ◌++◌, codes, decimal}
 use Rattle.m17_floor.specs.declared.verdict.Verdict.{Verdict}
 use Rattle.m17_floor.specs.declared.verdict.Verdict.TheVariants.{Busy, Late}

@@ -6,8 +6,8 @@ use crate::Line;
 use m17_callsign::{Address, text, to_bytes};
 
 impl Line {
-    /// Appends an address: its callsign, as in `AB1CD`; `broadcast`; or else its 12 hex digits, as in `000000000000`.
-    /// M17 Protocol Specification, address encoding; the words are this profile's.
+    /// Appends an address: its callsign, as in `AB1CD` or `#AB`; `broadcast`; or else its 12 hex digits, as in
+    /// `000000000000`. M17 Protocol Specification, address encoding; the words are this profile's.
     pub fn push_address(&mut self, address: Address)
         requires { length self.old + 12 ≤ room }
         ensures appended { self.new ≡ self.old ++ address_text address }

@@ -3,21 +3,21 @@ ghost use Rattle.m17_print.specs.Line.{room, reason_room};
 
 use crate::Line;
 
-/// Why a command refuses its input. Each command has reasons of its own. This profile.
+/// Why a command refuses its input. Each command has reasons of its own.
 pub trait Reason {
     ghost use Rattle.std.specs.Prelude.{ℕ, List};
 
     /// Its words.
     ghost words: { Self → List ℕ };
 
-    /// Appends its words, as in `cut`: 16 bytes at the most. This profile.
+    /// Appends its words, as in `cut`: 16 bytes at the most.
     fn push_to(&self, line: &mut Line)
         requires { length line.old + reason_room ≤ room }
         ensures appended { line.new ≡ line.old ++ words self.now }
         ensures longer { length line.new ≤ length line.old + reason_room };
 }
 
-/// No reason: of a run whose input is refused for none. This profile.
+/// No reason: of a run whose input is refused for none.
 #[derive(Clone, Copy, Debug, PartialEq, Eq)]
 pub struct NoReason;
 
@@ -30,7 +30,7 @@ impl Reason for NoReason {
 }
 
 /// How a run of the program came to its end: all the ways that there are. Each command answers a type of its own, which
-/// has those that it can come to, and is made one of these. This profile.
+/// has those that it can come to, and is made one of these.
 #[derive(Clone, Copy, Debug, PartialEq, Eq)]
 pub enum Ending<R> {
     /// The command went to its end.
@@ -55,7 +55,7 @@ pub enum Ending<R> {
     NoMemory,
 }
 
-/// How a command came to its end that reads its input, prints, and asks for nothing more. This profile.
+/// How a command came to its end that reads its input, prints, and asks for nothing more.
 #[derive(Clone, Copy, Debug, PartialEq, Eq)]
 pub enum TextEnding<R> {
     /// The input was read to its end, and every line of the answer was written.
@@ -87,7 +87,7 @@ impl<R: Copy> TextEnding<R> {
 impl Line {
     ghost use Rattle.m17_print.specs.Endings.{last_line, input_refused_line};
 
-    /// Makes the last line of a run that ended so, which is empty where it has none. This profile.
+    /// Makes the last line of a run that ended so, which is empty where it has none.
     pub fn make_last<R: Reason>(&mut self, ending: &Ending<R>)
         ensures { self.new ≡ last_line R.words ending.now }
     {

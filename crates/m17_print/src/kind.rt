@@ -6,7 +6,7 @@ use m17_floor::Verdict;
 /// How many kinds there are.
 pub const KIND_COUNT: usize = 20;
 
-/// What an entry of a link came to. The word of each kind stands here alone, for lines and summaries. This profile.
+/// What an entry of a link came to. The word of each kind stands here alone, for lines and summaries.
 #[derive(Clone, Copy, Debug, PartialEq, Eq)]
 pub enum Kind {
     /// A peer joined.
@@ -76,14 +76,14 @@ const KINDS: [Kind; KIND_COUNT] = [
 ];
 
 impl Kind {
-    /// All kinds, in the order of a summary. This profile.
+    /// All kinds, in the order of a summary.
     pub fn all() -> [Kind; KIND_COUNT]
         ensures { result ≡ kinds }
     {
         KINDS
     }
 
-    /// The kind of a packet that was judged. This profile.
+    /// The kind of a packet that was judged.
     #[inline]
     pub fn of_verdict(verdict: Verdict) -> Kind
         ensures { result ≡ verdict_kind verdict }
@@ -100,7 +100,7 @@ impl Kind {
         }
     }
 
-    /// Its word, as in `after-end`. This profile.
+    /// Its word, as in `after-end`.
     pub fn word(self) -> &'static str
         ensures value { result.now ≡ kind_word self }
         ensures short { length result.now ≤ 13 }
@@ -129,7 +129,7 @@ impl Kind {
         }
     }
 
-    /// Its place in the order of a summary, from 0. This profile.
+    /// Its place in the order of a summary, from 0.
     #[inline]
     pub fn place(self) -> usize
         ensures value { result ≡ kind_place self }

@@ -9,7 +9,7 @@ use m17_control::Refusal;
 use m17_stream::StreamRefusal;
 
 impl Line {
-    /// Appends why bytes are no stream packet, as in `refused magic 434F4E58`. This profile.
+    /// Appends why bytes are no stream packet, as in `refused magic 434F4E58`.
     pub fn push_stream_refusal(&mut self, refusal: &StreamRefusal)
         requires { IsBegun self.old }
         ensures appended { self.new ≡ self.old ++ stream_refusal_text refusal.now }
@@ -22,7 +22,7 @@ impl Line {
         }
     }
 
-    /// Appends why bytes are no packet, as in `refused address 000000000000`. This profile.
+    /// Appends why bytes are no packet, as in `refused address 000000000000`.
     pub fn push_refusal(&mut self, refusal: &Refusal)
         requires { IsBegun self.old }
         ensures appended { self.new ≡ self.old ++ refusal_text refusal.now }
@@ -67,6 +67,7 @@ impl Line {
             ≡ self.old ++ (codes "refused address " ++ address_text number) }
         ensures ends { CanEnd self.new }
     {
+        m17_callsign::laws::each_address_has_one_callsign();
         self.push_text("refused address ");
         match Address::new(number) {
             Some(address) => self.push_address(address),

@@ -18,6 +18,8 @@ fn expect_packet(rt: &impl Abort, packet: &Packet, text: &str) {
 fn control_packets_are_a_word_and_their_fields(rt: HostRuntime) -> Result<(), Fail> {
     let from = CallAddress::new(m17_samples::ab1cd()).ok_or("no callsign")?;
     let other = CallAddress::new(m17_samples::n0call()).ok_or("no callsign")?;
+    let sum = Address::new(0xEE6B_2800_0051).ok_or("no address")?;
+    let group = CallAddress::new(sum).ok_or("no callsign")?;
     let a = ModuleLetter::new(b'A').ok_or("no module")?;
     let z = ModuleLetter::new(b'Z').ok_or("no module")?;
     let texts = [
@@ -32,6 +34,7 @@ fn control_packets_are_a_word_and_their_fields(rt: HostRuntime) -> Result<(), Fa
         (Control::Ackn, "ackn"),
         (Control::Nack, "nack"),
         (Control::Ping { from }, "ping AB1CD"),
+        (Control::Ping { from: group }, "ping #AB"),
         (Control::Pong { from }, "pong AB1CD"),
         (Control::Disc { from: None }, "disc"),
         (Control::Disc { from: Some(from) }, "disc AB1CD"),

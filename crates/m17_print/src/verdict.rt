@@ -5,7 +5,7 @@ ghost use Rattle.m17_print.specs.Verdicts.{verdict_word, verdict_text};
 use crate::{Kind, Line};
 use m17_floor::Verdict;
 
-/// The word of a verdict, as in `after-end`. This profile.
+/// The word of a verdict, as in `after-end`.
 pub fn verdict_word(verdict: Verdict) -> &'static str
     ensures value { result.now ≡ verdict_word verdict }
     ensures short { length result.now ≤ 13 }
@@ -15,7 +15,7 @@ pub fn verdict_word(verdict: Verdict) -> &'static str
 
 impl Line {
     /// Appends a verdict: its word, and after `busy` the place of the member that holds the floor, after `late` the
-    /// number of the sender's last admitted frame. This profile.
+    /// number of the sender's last admitted frame.
     #[inline]
     pub fn push_verdict(&mut self, verdict: Verdict)
         requires { IsBegun self.old }

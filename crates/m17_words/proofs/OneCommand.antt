@@ -1,6 +1,7 @@
 -- Words name one command.
 use Rattle.std.proofs.Common.{◌≡◌, ℕ, Bool, true, false, List, [], ◌∷◌, Option, None, Some, sym, ap, subst, ap₂, refl, ◌∙◌, rules}
 use Rattle.std.specs.Prelude.{IsTrue, map, string_bytes}
+use Rattle.m17_callsign.specs.Laws.{EachAddressHasOneCallsign}
 use Rattle.m17_words.specs.declared.order.ServeOrder.{ServeOrder}
 use Rattle.clap.specs.Words.{Row, Text}
 use Rattle.m17_control.specs.declared.modules.Modules.{Modules}
@@ -12,20 +13,25 @@ use Rattle.m17_words.specs.declared.first.FirstWord.TheVariants.{Judge, Show, Re
 use Rattle.m17_words.specs.Given.{IsGiven}
 use Rattle.m17_words.proofs.Named.{first_of, word_is, gives, values_of}
 use Rattle.m17_words.specs.Values.{IsNumberIfAny, NamesLetter, NamesModules, NamesParrots}
-use Rattle.m17_words.specs.Laws.{SameModules, SameCommand, OneCommand}
+use Rattle.m17_words.specs.Laws.{SameCommand, OneCommand}
+use Rattle.m17_control.specs.Laws.{SetsAreTheirLetters}
+use Rattle.std.proofs.lemmas.Bool.{false≢true}
 
-not_true : (b : Bool) → b ≡ false → IsTrue b → ⊥
-not_true true e h = let bad = e in cc
-not_true false e h = search rules
+-- a truth value is told by whether it is true
+one_truth : (a b : Bool) → (IsTrue a → IsTrue b) → (IsTrue b → IsTrue a) → a ≡ b
+one_truth true true h k = refl
+one_truth false false h k = refl
+one_truth true false h k = absurd (false≢true (h refl))
+one_truth false true h k = absurd (false≢true (k refl))
 
-same_modules : (text : List ℕ) (m m' : Modules) → NamesModules text m → NamesModules text m' → SameModules m' m
-same_modules text m m' named named' letter =
-    ((λ h. (named.letters letter).1 ((named'.letters letter).0 h)), (λ h. (named'.letters letter).1 ((named.letters letter).0 h)))
+same_modules : SetsAreTheirLetters → (text : List ℕ) (m m' : Modules) → NamesModules text m → NamesModules text m' → m' ≡ m
+same_modules law text m m' named named' = law m' m named'.set named.set
+    (λ letter. one_truth (serves m' letter) (serves m letter)
+    (λ h. (named.letters letter).1 ((named'.letters letter).0 h)) (λ h. (named'.letters letter).1 ((named.letters letter).0 h)))
 
-same_parrots : (found : Option (List ℕ)) (m m' p p' : Modules) → NamesParrots found m p → NamesParrots found m' p' → SameModules p' p
-same_parrots None m m' p p' none none' letter =
-    ((λ h. absurd (not_true (serves p' letter) (none' letter) h)), (λ h. absurd (not_true (serves p letter) (none letter) h)))
-same_parrots (Some text) m m' p p' some some' letter = same_modules text p p' some.0 some'.0 letter
+same_parrots : SetsAreTheirLetters → (found : Option (List ℕ)) (m m' p p' : Modules) → NamesParrots found m p → NamesParrots found m' p' → p' ≡ p
+same_parrots law None m m' p p' none none' = law p' p none'.1 none.1 (λ letter. none'.0 letter ∙ sym (none.0 letter))
+same_parrots law (Some text) m m' p p' some some' = same_modules law text p p' some.0 some'.0
 
 one_letter : (text : List ℕ) (a b : ℕ) → NamesLetter text a → NamesLetter text b → b ≡ a
 one_letter text a b x y = let e = x.1 in let f = y.1 in cc
@@ -44,49 +50,49 @@ same_binds : (found : Option (List Text)) (o o' : ServeOrder) → found ≡ Some
 same_binds found o o' a b = let e : Some (map string_bytes o'.binds.items) ≡ Some (map string_bytes o.binds.items) = sym b ∙ a in cc
 
 -- the values of a word are those of one command
-one_given : (word : FirstWord) (found : List Row) (given other : Command) → IsGiven word found given → IsGiven word found other → SameCommand given other
-one_given Judge found given other a b = subst (λ (given : Command). SameCommand given other) (sym a) b
-one_given Show found given other a b = subst (λ (given : Command). SameCommand given other) (sym a) b
-one_given Replay found (command.Replay c m p n s) (command.Replay c' m' p' n' s') a b = (
-  b.call_is.sum ∙ sym a.call_is.sum,
-  same_modules _ m m' a.modules_are b.modules_are,
-  same_parrots _ m m' p p' a.parrots_are b.parrots_are,
-  b.places_are.value ∙ sym a.places_are.value,
-  ((λ h. a.summary_is.1 (b.summary_is.0 h)), (λ h. b.summary_is.1 (a.summary_is.0 h))),
-)
-one_given Replay found (command.Replay c m p n s) _ a b = absurd b
-one_given Replay found _ other a b = absurd a
-one_given Make found (command.Make seed count) (command.Make seed' count') a b =
+one_given : SetsAreTheirLetters → EachAddressHasOneCallsign → (word : FirstWord) (found : List Row) (given other : Command) → IsGiven word found given → IsGiven word found other → SameCommand given other
+one_given law calls Judge found given other a b = subst (λ (given : Command). SameCommand given other) (sym a) b
+one_given law calls Show found given other a b = subst (λ (given : Command). SameCommand given other) (sym a) b
+one_given law calls Replay found (command.Replay c m p n s) (command.Replay c' m' p' n' s') a b =
+    let call : c' ≡ c = calls.one_address _ _ _ b.call_is a.call_is in
+    let modules : m' ≡ m = same_modules law _ m m' a.modules_are b.modules_are in
+    let parrots : p' ≡ p = same_parrots law _ m m' p p' a.parrots_are b.parrots_are in
+    let places : n' ≡ n = b.places_are.value ∙ sym a.places_are.value in
+    let summaries : s' ≡ s = one_truth s' s (λ h. a.summary_is.1 (b.summary_is.0 h)) (λ h. b.summary_is.1 (a.summary_is.0 h)) in
+    cc
+one_given law calls Replay found (command.Replay c m p n s) _ a b = absurd b
+one_given law calls Replay found _ other a b = absurd a
+one_given law calls Make found (command.Make seed count) (command.Make seed' count') a b =
     ap₂ command.Make (b.seed_is.value ∙ sym a.seed_is.value) (b.count_is.value ∙ sym a.count_is.value)
-one_given Make found (command.Make seed count) _ a b = absurd b
-one_given Make found _ other a b = absurd a
-one_given Check found given other a b = subst (λ (given : Command). SameCommand given other) (sym a) b
-one_given Talk found (command.Talk o) (command.Talk o') a b = record {
-  call = b.call_is.sum ∙ sym a.call_is.sum;
+one_given law calls Make found (command.Make seed count) _ a b = absurd b
+one_given law calls Make found _ other a b = absurd a
+one_given law calls Check found given other a b = subst (λ (given : Command). SameCommand given other) (sym a) b
+one_given law calls Talk found (command.Talk o) (command.Talk o') a b = record {
+  call = calls.one_address _ _ _ b.call_is a.call_is;
   letter = one_letter _ o.letter o'.letter a.module_is b.module_is;
-  listen = ((λ h. a.listen_is.1 (b.listen_is.0 h)), (λ h. b.listen_is.1 (a.listen_is.0 h)));
+  listen = one_truth o'.listen o.listen (λ h. a.listen_is.1 (b.listen_is.0 h)) (λ h. b.listen_is.1 (a.listen_is.0 h));
   bind = b.bind_is ∙ sym a.bind_is;
   to = sym b.to_is.text_is ∙ a.to_is.text_is;
   stay = b.stay_is.value ∙ sym a.stay_is.value;
   book = b.book_is ∙ sym a.book_is;
 }
-one_given Talk found (command.Talk o) _ a b = absurd b
-one_given Talk found _ other a b = absurd a
-one_given Serve found (command.Serve o) (command.Serve o') a b = record {
-  call = b.call_is.sum ∙ sym a.call_is.sum;
-  modules = same_modules _ o.modules o'.modules a.modules_are b.modules_are;
-  parrots = same_parrots _ o.modules o'.modules o.parrots o'.parrots a.parrots_are b.parrots_are;
+one_given law calls Talk found (command.Talk o) _ a b = absurd b
+one_given law calls Talk found _ other a b = absurd a
+one_given law calls Serve found (command.Serve o) (command.Serve o') a b = record {
+  call = calls.one_address _ _ _ b.call_is a.call_is;
+  modules = same_modules law _ o.modules o'.modules a.modules_are b.modules_are;
+  parrots = same_parrots law _ o.modules o'.modules o.parrots o'.parrots a.parrots_are b.parrots_are;
   places = b.places_are.value ∙ sym a.places_are.value;
   seconds = one_number _ _ _ o.seconds o'.seconds a.seconds_are b.seconds_are;
   book = b.book_is ∙ sym a.book_is;
   binds = same_binds _ o o' a.binds_are b.binds_are;
 }
-one_given Serve found (command.Serve o) _ a b = absurd b
-one_given Serve found _ other a b = absurd a
+one_given law calls Serve found (command.Serve o) _ a b = absurd b
+one_given law calls Serve found _ other a b = absurd a
 
-pub one_command : OneCommand
-one_command [] given other h h' = absurd h
-one_command (first ∷ words) given other h h' =
+pub one_command : SetsAreTheirLetters → EachAddressHasOneCallsign → OneCommand
+one_command law calls [] given other h h' = absurd h
+one_command law calls (first ∷ words) given other h h' =
     let a = gives words given h.1 in
     let b = values_of (first_of given) words other ((sym (h.0 ∙ word_is given) ∙ h'.0), h'.1) in
-    one_given (first_of given) _ given other a.1 b.1
+    one_given law calls (first_of given) _ given other a.1 b.1

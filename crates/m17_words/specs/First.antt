@@ -1,4 +1,4 @@
--- The first word of a command, and its table, for the code alone. This profile.
+-- The first word of a command, and its table, for the code alone.
 use Rattle.std.specs.Prelude.{codes}
 use Rattle.clap.specs.Words.{App, Text}
 use Rattle.m17_words.specs.declared.first.FirstWord.{FirstWord}

@@ -1,4 +1,4 @@
--- The values that the words after a command's first word give, for the code alone. This profile.
+-- The values that the words after a command's first word give, for the code alone.
 use Rattle.std.specs.Prelude.{◌≡◌, List}
 use Rattle.clap.specs.Words.{Row}
 use Rattle.m17_words.specs.declared.command.Command.{Command}

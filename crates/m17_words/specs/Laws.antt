@@ -1,9 +1,7 @@
--- Words name one command. This profile.
-use Rattle.std.specs.Prelude.{◌≡◌, ◌↔◌, ℕ, List, IsTrue, map, string_bytes}
+-- Words name one command.
+use Rattle.std.specs.Prelude.{◌≡◌, List, map, string_bytes}
 use Rattle.std.specs.Option.{option_map}
 use Rattle.clap.specs.Words.{Text}
-use Rattle.m17_control.specs.declared.modules.Modules.{Modules}
-use Rattle.m17_control.specs.Modules.{serves}
 use Rattle.m17_peer.specs.Text.{text_of}
 use Rattle.m17_words.specs.declared.order.TalkOrder.{TalkOrder}
 use Rattle.m17_words.specs.declared.order.ServeOrder.{ServeOrder}
@@ -11,15 +9,11 @@ use Rattle.m17_words.specs.declared.command.Command.{Command}
 use Rattle.m17_words.specs.declared.command.Command.TheVariants.{Judge, Show, Replay, Make, Check, Talk, Serve}
 use Rattle.m17_words.specs.Words.{Names}
 
--- the sets have the same modules
-abbrev pub SameModules : Modules → Modules → Type 0
-SameModules m m' = (letter : ℕ) → IsTrue (serves m letter) ↔ IsTrue (serves m' letter)
-
 -- the orders are one: each value is the same, and of each text and of the peer what it spells
 pub record SameOrder (o o' : TalkOrder) : Type 0 where
   pub call : o'.call ≡ o.call
   pub letter : o'.letter ≡ o.letter
-  pub listen : IsTrue o'.listen ↔ IsTrue o.listen
+  pub listen : o'.listen ≡ o.listen
   pub bind : string_bytes o'.bind ≡ string_bytes o.bind
   pub to : text_of o'.to ≡ text_of o.to
   pub stay : o'.stay ≡ o.stay
@@ -27,8 +21,8 @@ pub record SameOrder (o o' : TalkOrder) : Type 0 where
 
 pub record SameServe (o o' : ServeOrder) : Type 0 where
   pub call : o'.call ≡ o.call
-  pub modules : SameModules o'.modules o.modules
-  pub parrots : SameModules o'.parrots o.parrots
+  pub modules : o'.modules ≡ o.modules
+  pub parrots : o'.parrots ≡ o.parrots
   pub places : o'.places ≡ o.places
   pub seconds : o'.seconds ≡ o.seconds
   pub book : option_map string_bytes o'.book ≡ option_map string_bytes o.book
@@ -38,11 +32,8 @@ pub record SameServe (o o' : ServeOrder) : Type 0 where
 abbrev pub SameCommand : Command → Command → Type 0
 SameCommand Judge other = other ≡ Judge
 SameCommand Show other = other ≡ Show
-SameCommand (Replay call modules parrots places summary)
-    (Replay call' modules' parrots' places' summary') =
-    (call' ≡ call) × SameModules modules' modules × SameModules parrots' parrots
-    × (places' ≡ places) × (IsTrue summary' ↔ IsTrue summary)
-SameCommand (Replay call modules parrots places summary) other = ⊥
+SameCommand (Replay call modules parrots places summary) other =
+    other ≡ Replay call modules parrots places summary
 SameCommand (Make seed count) other = other ≡ Make seed count
 SameCommand Check other = other ≡ Check
 SameCommand (Talk order) (Talk order') = SameOrder order order'

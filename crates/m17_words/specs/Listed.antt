@@ -1,4 +1,4 @@
--- The options and arguments that the code lists, as rules of `clap`, for the code alone. This profile.
+-- The options and arguments that the code lists, as rules of `clap`, for the code alone.
 use Rattle.std.specs.Prelude.{List, map}
 use Rattle.std.specs.Borrow.{Bor}
 use Rattle.clap.specs.Words.{Rule, Text}

@@ -1,4 +1,4 @@
--- How a reflector is run, replayed or serving, and how many links it has, for the code alone. This profile.
+-- How a reflector is run, replayed or serving, and how many links it has, for the code alone.
 use Rattle.std.specs.Prelude.{◌<◌, ◌≤◌, List, codes, length, Option, None, Some}
 use Rattle.clap.specs.Words.{Row, Text}
 use Rattle.m17_callsign.specs.Callsign.{IsCallsignOf}

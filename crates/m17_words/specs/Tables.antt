@@ -1,4 +1,4 @@
--- The options and arguments of each command, as `clap` takes them. This profile.
+-- The options and arguments of each command, as `clap` takes them.
 use Rattle.std.specs.Prelude.{◌≡◌, true, List, [], ◌∷◌, codes, Option, Some, fold, unwrap_or}
 use Rattle.clap.specs.Lexer.{usize_max}
 use Rattle.clap.specs.Words.{App, Row, Rule, Text, all_of, fault_of, first_of, is_simple_and_free, matches_of, new_app, new_rule, with_rule}
@@ -38,7 +38,7 @@ arguments name = record (new_rule name) {
 abbrev pub table_of : Text → List Rule → App
 table_of name rules = fold with_rule (bare name) rules
 
--- The table of each command. This profile.
+-- The table of each command.
 unfoldable pub judge_table : App
 judge_table = table_of (codes "judge") []
 

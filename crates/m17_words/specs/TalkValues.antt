@@ -1,4 +1,4 @@
--- The values of a talk that take no memory, for the code alone. This profile.
+-- The values of a talk that take no memory, for the code alone.
 use Rattle.std.specs.Prelude.{List, [], codes}
 use Rattle.clap.specs.Words.{Row}
 use Rattle.m17_callsign.specs.Callsign.{IsCallsignOf}

@@ -1,9 +1,9 @@
--- The values of options and arguments: which texts they are, and their bounds. This profile.
+-- The values of options and arguments: which texts they are, and their bounds.
 use Rattle.std.specs.Prelude.{◌≡◌, ℕ, Bool, false, ◌≤◌, ◌↔◌, List, [], ◌∷◌, All, Contains, IsTrue, codes, Option, None, Some}
 use Rattle.std.specs.Str.Parse.{IsNumeral, digits_value}
 use Rattle.m17_control.specs.declared.modules.Modules.{Modules}
 use Rattle.m17_control.specs.Forms.{IsModule}
-use Rattle.m17_control.specs.Modules.{serves, IsModulesText}
+use Rattle.m17_control.specs.Modules.{serves, IsModulesText, IsSet}
 
 -- The text is one or more decimal digits and nothing else, with this value, which is within its bounds.
 pub record IsNumber (least most : ℕ) (text : List ℕ) (number : ℕ) : Type 0 where
@@ -23,10 +23,12 @@ IsNumberIfAny least most (Some text) (Some number) = IsNumber least most text nu
 pub record NamesModules (text : List ℕ) (modules : Modules) : Type 0 where
   pub is_text : IsModulesText text
   pub letters : (letter : ℕ) → IsTrue (serves modules letter) ↔ Contains text letter
+  pub set : IsSet modules
 
 -- the parrots among the modules: none, where none are named
 abbrev pub NamesParrots : Option (List ℕ) → Modules → Modules → Type 0
-NamesParrots None modules parrots = (letter : ℕ) → serves parrots letter ≡ false
+NamesParrots None modules parrots =
+    ((letter : ℕ) → serves parrots letter ≡ false) × IsSet parrots
 NamesParrots (Some text) modules parrots =
     NamesModules text parrots × All (λ letter. IsTrue (serves modules letter)) text
 

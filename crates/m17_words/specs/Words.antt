@@ -1,4 +1,4 @@
--- The words of the command line, and what they ask for. This profile.
+-- The words of the command line, and what they ask for.
 use Rattle.std.specs.Prelude.{◌≡◌, ℕ, Bool, Some, ◌-◌, ◌^◌, ◌<◌, ◌≤◌, List, [], ◌∷◌, codes, map, string_bytes, vec_len}
 use Rattle.std.specs.Option.{option_map}
 use Rattle.clap.specs.Words.{Row, Text}
@@ -106,7 +106,7 @@ Gives words Check = Takes check_table words
 Gives words (Talk order) = Takes talk_table words × IsTalk (found talk_table words) order
 Gives words (Serve order) = Takes serve_table words × IsServe (found serve_table words) order
 
--- The words name a command: the first is its word, byte for byte, and the others give its values. This profile.
+-- The words name a command: the first is its word, byte for byte, and the others give its values.
 abbrev pub Names : List Text → Command → Type 0
 Names [] command = ⊥
 Names (first ∷ words) command = (first ≡ word_of command) × Gives words command

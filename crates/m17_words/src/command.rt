@@ -2,7 +2,7 @@ use crate::{ServeOrder, TalkOrder};
 use m17_callsign::CallAddress;
 use m17_control::Modules;
 
-/// What the words ask for. This profile.
+/// What the words ask for.
 #[derive(Debug, PartialEq, Eq, Drop)]
 pub enum Command {
     /// `judge`: verdict lines for records of packets.
@@ -31,7 +31,7 @@ pub enum Command {
     Serve(ServeOrder),
 }
 
-/// Why the words give no command. This profile.
+/// Why the words give no command.
 #[derive(Clone, Copy, Debug, PartialEq, Eq)]
 pub enum WordsRefusal {
     /// They name none, or not all of its values, or more, or values out of bounds.

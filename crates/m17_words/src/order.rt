@@ -2,7 +2,7 @@ use m17_callsign::CallAddress;
 use m17_control::{ModuleLetter, Modules};
 use m17_values::Peer;
 
-/// What `talk` is to do, as its words say it. This profile.
+/// What `talk` is to do, as its words say it.
 #[derive(Debug, PartialEq, Eq, Drop)]
 pub struct TalkOrder {
     /// The client's callsign.
@@ -21,7 +21,7 @@ pub struct TalkOrder {
     pub book: Option<String>,
 }
 
-/// What `serve` is to do, as its words say it. This profile.
+/// What `serve` is to do, as its words say it.
 #[derive(Debug, PartialEq, Eq, Drop)]
 pub struct ServeOrder {
     /// The reflector's callsign.

@@ -20,7 +20,7 @@ const ENTRIES_MAX: u64 = 100_000;
 
 /// The command that the words name, with its values. `Refused` where they name none: there is no first word, or it is no
 /// command's, or the simple command of `clap` refuses the words after it, or a value breaks its bound; `NoMemory` where
-/// there was none for reading them. This profile.
+/// there was none for reading them.
 pub fn read_words(alloc: Global, words: &[String]) -> Result<Command, WordsRefusal>
     ensures named { IfOk result (Names (map string_bytes words.now)) }
     ensures refused { result ≡ Err WordsRefusal.Refused → (command : Command)

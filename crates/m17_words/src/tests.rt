@@ -128,7 +128,7 @@ fn each_value_is_read(rt: HostRuntime) {
 
 // Words that name no command: no word of a command, another case, help and the version, too many words and too few, a
 // value twice or none, values out of bounds, signs, digits of other scripts, parrots that are no modules.
-const REFUSED: [&str; 48] = [
+const REFUSED: [&str; 50] = [
     "",
     "judges",
     "Judge",
@@ -169,6 +169,8 @@ const REFUSED: [&str; 48] = [
     "replay --modules a",
     "replay --call -A",
     "replay --call=ab1cd",
+    "replay --call=A#",
+    "replay --call=#",
     "replay --parrots D",
     "make 17",
     "make 0 100001",

@@ -7,11 +7,11 @@ use Rattle.m17_book.proofs.book.add_book.Goals as goal
 pub returns-in-Ok-clause-read : goal.returns-in-Ok-clause-read
 returns-in-Ok-clause-read g c = λ bytes zero is.
     let header = c.in-Ok.ensures.header bytes is in
-    behind_header c.add_records.result c.in-Ok.field-0 bytes c.add_records.new.records.items (held c.pass_header.new.cursor) (g.S.Input.left c.pass_header.new.source)
-    c.args.cursor.now.place c.pass_header.new.cursor.place (spot c.add_records.new.cursor (g.S.Input.left c.add_records.new.source)) zero header
+    behind_header c.add_records.result c.in-Ok.field-0 bytes c.add_records.new.records.items (held c.pass_header.new.cursor) (g.S.Input.told c.pass_header.new.source).left
+    c.args.cursor.now.place c.pass_header.new.cursor.place (spot c.add_records.new.cursor (g.S.Input.told c.add_records.new.source).left) zero header
     (c.add_records.ensures.read header.1 header.4)
 
 pub returns-in-Err-clause-read : goal.returns-in-Err-clause-read
 returns-in-Err-clause-read g c = λ bytes zero is.
-    bad_header ℕ c.in-Err.refusal bytes [] c.args.cursor.now.place (spot c.pass_header.new.cursor (g.S.Input.left c.pass_header.new.source)) zero
+    bad_header ℕ c.in-Err.refusal bytes [] c.args.cursor.now.place (spot c.pass_header.new.cursor (g.S.Input.told c.pass_header.new.source).left) zero
     (c.in-Err.ensures.header bytes is) (c.in-Err.ensures.kept bytes is) c.in-Err.ensures.place

@@ -6,7 +6,7 @@ use Rattle.m17_book.proofs.book.add_records.Goals as goal
 
 pub records-init : goal.records-init
 records-init g c = record {
-  passed = λ ahead is. first_passed SpellsRecord (spot c.args.cursor.now (g.S.Input.left c.args.source.now)) ahead c.args.records.now.items c.requires.fits is;
+  passed = λ ahead is. first_passed SpellsRecord (spot c.args.cursor.now (g.S.Input.told c.args.source.now).left) ahead c.args.records.now.items c.requires.fits is;
   sound = search rules;
 }
 
@@ -15,7 +15,7 @@ records-preserved g c = record {
   passed = λ ahead is.
       let before = c.records.invariant.passed ahead is in
       added SpellsRecord WrongRecord c.args.cursor.now.place ahead c.records.records.items c.add_record.new.records.items
-      (spot c.records.cursor (g.S.Input.left c.records.source)) (spot c.add_record.new.cursor (g.S.Input.left c.add_record.new.source)) before
+      (spot c.records.cursor (g.S.Input.told c.records.source).left) (spot c.add_record.new.cursor (g.S.Input.told c.add_record.new.source).left) before
       c.in-Ok-true.field-0 c.in-Ok-true.field-0-test (c.in-Ok-true.ensures.read before.rest before.rest_is);
   sound = search rules;
 }
@@ -24,12 +24,12 @@ pub returns-in-Ok-false-clause-read : goal.returns-in-Ok-false-clause-read
 returns-in-Ok-false-clause-read g c = λ ahead is.
     let before = c.records.invariant.passed ahead is in
     ended SpellsRecord WrongRecord c.args.cursor.now.place ahead c.records.records.items c.add_record.new.records.items
-    (spot c.records.cursor (g.S.Input.left c.records.source)) (spot c.add_record.new.cursor (g.S.Input.left c.add_record.new.source)) before
+    (spot c.records.cursor (g.S.Input.told c.records.source).left) (spot c.add_record.new.cursor (g.S.Input.told c.add_record.new.source).left) before
     ℕ 0 c.in-Ok-false.field-0 c.in-Ok-false.field-0-test (omega arith) (c.in-Ok-false.ensures.read before.rest before.rest_is)
 
 pub returns-in-Err-clause-read : goal.returns-in-Err-clause-read
 returns-in-Err-clause-read g c = λ ahead is.
     let before = c.records.invariant.passed ahead is in
     stopped SpellsRecord WrongRecord c.args.cursor.now.place ahead c.records.records.items c.add_record.new.records.items
-    (spot c.records.cursor (g.S.Input.left c.records.source)) (spot c.add_record.new.cursor (g.S.Input.left c.add_record.new.source)) before
+    (spot c.records.cursor (g.S.Input.told c.records.source).left) (spot c.add_record.new.cursor (g.S.Input.told c.add_record.new.source).left) before
     ℕ c.in-Err.refusal (omega arith) (c.in-Err.ensures.read before.rest before.rest_is)

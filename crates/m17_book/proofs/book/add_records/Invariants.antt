@@ -6,9 +6,9 @@ use Rattle.m17_book.proofs.book.add_records.Given as goal
 -- the records so far were passed, and the source has not failed
 abbrev pub invariant-records : goal.invariant-records
 invariant-records g l = record {
-  passed : (ahead : List ℕ) → IsAt (spot l.fn.cursor (g.S.Input.left l.fn.source)) ahead
-      → HasPassed SpellsRecord l.fn.cursor.place ahead l.records.items (spot l.cursor (g.S.Input.left l.source));
-  sound : g.S.Input.faults l.source ≡ g.S.Input.faults l.fn.source;
+  passed : (ahead : List ℕ) → IsAt (spot l.fn.cursor (g.S.Input.told l.fn.source).left) ahead
+      → HasPassed SpellsRecord l.fn.cursor.place ahead l.records.items (spot l.cursor (g.S.Input.told l.source).left);
+  sound : (g.S.Input.told l.source).faults ≡ (g.S.Input.told l.fn.source).faults;
 }
 
 abbrev pub decreases-records : goal.decreases-records

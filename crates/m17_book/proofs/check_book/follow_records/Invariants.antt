@@ -8,10 +8,10 @@ use Rattle.m17_book.proofs.check_book.follow_records.Given as goal
 -- the records so far were passed and seen, and the source has not failed
 abbrev pub invariant-records : goal.invariant-records
 invariant-records g l = record {
-  passed : (ahead : List ℕ) → IsAt (spot l.fn.cursor (g.S.Input.left l.fn.source)) ahead
+  passed : (ahead : List ℕ) → IsAt (spot l.fn.cursor (g.S.Input.told l.fn.source).left) ahead
       → (records : List Record) × HasSeen l.checker records
-      × HasPassed SpellsRecord l.fn.cursor.place ahead records (spot l.cursor (g.S.Input.left l.source));
-  sound : g.S.Input.faults l.source ≡ g.S.Input.faults l.fn.source;
+      × HasPassed SpellsRecord l.fn.cursor.place ahead records (spot l.cursor (g.S.Input.told l.source).left);
+  sound : (g.S.Input.told l.source).faults ≡ (g.S.Input.told l.fn.source).faults;
 }
 
 abbrev pub decreases-records : goal.decreases-records

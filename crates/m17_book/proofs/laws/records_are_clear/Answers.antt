@@ -9,6 +9,7 @@ returns c =
       of_32 = c.fields_of_32_bits_are_exact.ensures;
       of_48 = c.fields_of_48_bits_are_exact.ensures;
       of_64 = c.fields_of_64_bits_are_exact.ensures;
+      callsigns = c.each_address_has_one_callsign.ensures;
       stream = c.one_spelling.ensures;
     } in
     clear law one_record_flaw

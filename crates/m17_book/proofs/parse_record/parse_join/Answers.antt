@@ -22,7 +22,7 @@ returns-in_default c =
     (sound_join b 31 (omega arith) c.requires.kind head.link head.place (omega arith))
     (λ good.
     let same : good.0 ≡ c.from_bytes-address.result = c.fields_of_48_bits_are_exact.ensures.one_number good.0 c.from_bytes-address.result
-    (omega (arith, good.1.1)) c.from_bytes-address.ensures.within (good.2 ∙ sym (c.from_bytes-address.ensures.bytes ∙ array)) in
+    (c.each_address_has_one_callsign.ensures.within good.0 good.1) c.from_bytes-address.ensures.within (good.2 ∙ sym (c.from_bytes-address.ensures.bytes ∙ array)) in
     let is = c.in_default.ensures.in_range.1 (subst HasCallsign same good.1) in cc)
 
 pub returns : goal.returns

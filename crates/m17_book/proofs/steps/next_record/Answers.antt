@@ -26,6 +26,6 @@ returns-in-Err-clause-next g c = λ ahead before.
     let is = c.fill.ensures.kept ahead before in
     let b = held c.fill.new.self in
     let enough = is_enough _ _ ahead _ _ before c.in-Ok.ensures.enough in
-    let tells = record_told b ahead c.in-Err.flaw c.fill.new.self.place (omega arith) (window b ahead (g.S.Input.left c.fill.new.source) is enough) (rw c.held-held.ensures at c.in-Err.ensures) in
+    let tells = record_told b ahead c.in-Err.flaw c.fill.new.self.place (omega arith) (window b ahead (g.S.Input.told c.fill.new.source).left is enough) (rw c.held-held.ensures at c.in-Err.ensures) in
     inr (rw c.refusal_of.ensures.told (same_told RecordFlaw ahead c.fill.new.self.place c.args.cursor.now.place c.place.result c.held-held.result.now b c.in-Err.flaw
     c.fill.ensures.place c.place.ensures c.held-held.ensures tells))

@@ -19,7 +19,7 @@ returns-in-Err-clause-magic g c = λ ahead before.
     let is = c.fill.ensures.kept ahead before in
     let b = held c.fill.new.self in
     let enough = is_enough _ _ ahead _ _ before c.in-Ok.ensures.enough in
-    let tells = magic_told trace_magic b ahead c.in-Err.flaw c.fill.new.self.place (window b ahead (g.S.Input.left c.fill.new.source) is enough) (rw c.held-held.ensures at c.in-Err.ensures) in
+    let tells = magic_told trace_magic b ahead c.in-Err.flaw c.fill.new.self.place (window b ahead (g.S.Input.told c.fill.new.source).left is enough) (rw c.held-held.ensures at c.in-Err.ensures) in
     inr (
       is,
       c.fill.ensures.place,

@@ -6,10 +6,10 @@ use Rattle.m17_book.proofs.trace.add_entries.Given as goal
 -- the entries so far were passed, and the source has not failed
 abbrev pub invariant-entries : goal.invariant-entries
 invariant-entries g l = record {
-  passed : (ahead : List ℕ) → IsAt (spot l.fn.cursor (g.S.Input.left l.fn.source)) ahead
-      → HasPassed SpellsEntry l.fn.cursor.place ahead l.heard.items (spot l.cursor (g.S.Input.left l.source));
+  passed : (ahead : List ℕ) → IsAt (spot l.fn.cursor (g.S.Input.told l.fn.source).left) ahead
+      → HasPassed SpellsEntry l.fn.cursor.place ahead l.heard.items (spot l.cursor (g.S.Input.told l.source).left);
   few : length l.heard.items ≤ 1000000;
-  sound : g.S.Input.faults l.source ≡ g.S.Input.faults l.fn.source;
+  sound : (g.S.Input.told l.source).faults ≡ (g.S.Input.told l.fn.source).faults;
 }
 
 abbrev pub decreases-entries : goal.decreases-entries

@@ -29,7 +29,7 @@ returns-in-Ok-add_to-clause-read g c = λ ahead before.
     let is = c.fill.ensures.kept ahead before in
     let enough = is_enough _ _ ahead _ _ before c.in-Ok.ensures.enough in
     let entry = c.in-Ok-take_entry.entry in
-    let left = g.S.Input.left c.fill.new.source in (
+    let left = (g.S.Input.told c.fill.new.source).left in (
       entry,
       c.in-Ok-add_to.ensures.added,
       subst (λ (n : ℕ). HasPassed SpellsEntry n ahead (entry ∷ []) (spot c.take_entry.new.cursor left)) c.fill.ensures.place
@@ -40,7 +40,7 @@ pub returns-in-Err-clause-read : goal.returns-in-Err-clause-read
 returns-in-Err-clause-read g c = λ ahead before.
     let is = c.fill.ensures.kept ahead before in
     let enough = is_enough _ _ ahead _ _ before c.in-Ok.ensures.enough in
-    let left = g.S.Input.left c.fill.new.source in
+    let left = (g.S.Input.told c.fill.new.source).left in
     let kept = c.in-Err.ensures.kept in
     inr (
       refl,

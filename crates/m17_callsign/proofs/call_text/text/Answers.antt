@@ -1,36 +1,39 @@
--- Each letter that is cut off, and the callsign at the end.
-use Rattle.std.proofs.Common.{ℕ, List, [], ◌∷◌, ◌++◌, ◌<◌, ◌/◌, length, arith, subst, sym, ap, ◌∙◌, inl, inr, lit<}
-use Rattle.std.proofs.lemmas.Str.{encode_ascii}
-use Rattle.m17_callsign.proofs.Cutting.{IsCut, cut_start, cut_room, cut_step, cut_end}
-use Rattle.m17_callsign.proofs.Unique.{answered, unanswered}
-use Rattle.m17_callsign.proofs.Spelled.{callsign_of-callsign}
+use Rattle.std.proofs.Common.{refl, Some, ◌≡◌, ◌∙◌, arith}
+use Rattle.m17_callsign.specs.Callsign.{HasCallsign}
+use Rattle.m17_callsign.specs.Letters.{callsign_of}
+use Rattle.m17_callsign.proofs.Spelled.{answered, none_computed, plain_computed, group_computed}
 use Rattle.m17_callsign.proofs.call_text.text.Goals as goal
+use Rattle.m17_callsign.proofs.call_text.text.Goals.{then-value-lt-END_OF_CALLSIGNS, else-value-lt-END_OF_CALLSIGNS}
 
-pub returns-then-rest-eq0-clause-some : goal.returns-then-rest-eq0-clause-some
-returns-then-rest-eq0-clause-some c = unanswered c.args.a (elim c.then-rest-eq0.either [ inl none ↦ inl (omega arith) | inr high ↦ inr (omega arith) ])
+no_callsign : (c : goal.After-from_residual) → c.from_residual.result ≡ callsign_of c.args.a
+no_callsign c =
+    let out : HasCallsign c.args.a → ⊥ = λ has. let some = c.in_err-new.ensures.in_range.1 has in cc in
+    c.from_residual.ensures ∙ none_computed c.args.a out
 
-pub loop-rest-init : goal.loop-rest-init
-loop-rest-init c =
-    let start = cut_start c.args.a (omega arith) (omega arith) in
-    subst (λ (rest : ℕ). IsCut c.args.a c.new-letters.result.bytes rest) (sym c.value-rest.ensures.value)
-    (subst (λ (bytes : List ℕ). IsCut c.args.a bytes c.args.a) (sym c.new-letters.ensures) start)
+its_callsign : (c : goal.Joined-value-lt-END_OF_CALLSIGNS) → Some c.if-value-lt-END_OF_CALLSIGNS.text.bytes ≡ callsign_of c.args.a
+its_callsign c =
+    let has : HasCallsign c.args.a = c.in_ok-new.ensures.in_range.0 refl in
+    let value = c.value-value.ensures.value in
+    elim c.if-value-lt-END_OF_CALLSIGNS.branch [
+      | then-value-lt-END_OF_CALLSIGNS w ↦
+          let low = w.if-value-lt-END_OF_CALLSIGNS.true in
+          plain_computed c.args.a c.if-value-lt-END_OF_CALLSIGNS.text.bytes has (omega arith)
+          (rw (w.text-is, w.push_letters.ensures, c.new-text.ensures, value) refl)
+      | else-value-lt-END_OF_CALLSIGNS w ↦
+          let high = w.if-value-lt-END_OF_CALLSIGNS.false in
+          let sign = w.push.ensures.ascii (omega arith) in
+          group_computed c.args.a c.if-value-lt-END_OF_CALLSIGNS.text.bytes has (omega arith)
+          (rw (w.text-is, w.push_letters-else-value-lt-END_OF_CALLSIGNS.ensures, sign, w.from.ensures, c.new-text.ensures, value) refl)
+    ]
 
-pub push-requires : goal.push-requires
-push-requires c =
-    let room = cut_room c.args.a c.loop-rest.letters.bytes c.loop-rest.rest c.loop-rest-test.true c.loop-rest.invariant in
-    let ascii : c.from.result < 128 = omega arith in
-    let one = ap length (encode_ascii c.from.result ascii) in
-    (lit< tt, omega arith)
+pub returns-in_err-new-clause-some : goal.returns-in_err-new-clause-some
+returns-in_err-new-clause-some c = answered c.from_residual.result c.args.a (no_callsign c)
 
-pub loop-rest-preserved : goal.loop-rest-preserved
-loop-rest-preserved c =
-    let step = cut_step c.args.a c.loop-rest.letters.bytes c.loop-rest.rest c.letter_at.result c.loop-rest-test.true c.letter_at.ensures.letter c.letter_at.ensures.index c.loop-rest.invariant in
-    let ascii : c.from.result < 128 = omega arith in
-    let pushed = c.push.ensures.ascii ascii ∙ ap (λ (x : ℕ). c.loop-rest.letters.bytes ++ x ∷ []) c.from.ensures in
-    subst (λ (bytes : List ℕ). IsCut c.args.a bytes (c.loop-rest.rest / 40)) (sym pushed) step
+pub returns-in_err-new-clause-letters : goal.returns-in_err-new-clause-letters
+returns-in_err-new-clause-letters c = no_callsign c
 
 pub returns-clause-some : goal.returns-clause-some
-returns-clause-some c = answered c.loop-rest.letters.bytes c.args.a (cut_end c.args.a c.loop-rest.letters.bytes c.loop-rest.rest (omega arith) c.loop-rest.invariant)
+returns-clause-some c = answered (Some c.if-value-lt-END_OF_CALLSIGNS.text.bytes) c.args.a (its_callsign c)
 
 pub returns-clause-letters : goal.returns-clause-letters
-returns-clause-letters c = callsign_of-callsign c.loop-rest.letters.bytes c.args.a (cut_end c.args.a c.loop-rest.letters.bytes c.loop-rest.rest (omega arith) c.loop-rest.invariant)
+returns-clause-letters c = its_callsign c

@@ -1,7 +1,7 @@
 -- Each step of the scan from the last letter, and what it has seen at the end.
 use Rattle.std.proofs.Common.{rules, refl}
 use Rattle.std.proofs.lemmas.Bool.{false≢true}
-use Rattle.m17_callsign.proofs.Folded.{seen_none, seen_letter, seen_unknown, seen_sum, seen_all, seen_fits}
+use Rattle.m17_callsign.proofs.Folded.{seen_none, seen_letter, seen_unknown, seen_sum, seen_all, seen_bound, seen_fits}
 use Rattle.m17_callsign.proofs.encoding.sum_of_letters.Goals as goal
 
 pub loop-place-init : goal.loop-place-init
@@ -30,7 +30,8 @@ loop-place-preserved c =
 
 pub returns-in-None-unknown-clause-within : goal.returns-in-None-unknown-clause-within
 returns-in-None-unknown-clause-within c =
-    seen_fits c.args.letters.now c.loop-place.place c.loop-place.value c.loop-place.unknown c.requires c.loop-place.invariant
+    seen_bound c.args.letters.now c.loop-place.place c.loop-place.value c.loop-place.unknown c.loop-place-test.false c.in-None-unknown.is
+    c.loop-place.invariant
 
 pub returns-in-None-unknown-clause-sum : goal.returns-in-None-unknown-clause-sum
 returns-in-None-unknown-clause-sum c =

@@ -5,8 +5,8 @@ use Rattle.m17_book.proofs.cursor.Cursor.fill.Given as goal
 -- the same is to come of the input, and the source has not failed
 abbrev pub invariant-reads : goal.invariant-reads
 invariant-reads g l = record {
-  kept : (ahead : List ℕ) → IsAhead (held l.fn.self) (g.S.Input.left l.fn.source) ahead → IsAhead (held l.self) (g.S.Input.left l.source) ahead;
-  sound : g.S.Input.faults l.source ≡ g.S.Input.faults l.fn.source;
+  kept : (ahead : List ℕ) → IsAhead (held l.fn.self) (g.S.Input.told l.fn.source).left ahead → IsAhead (held l.self) (g.S.Input.told l.source).left ahead;
+  sound : (g.S.Input.told l.source).faults ≡ (g.S.Input.told l.fn.source).faults;
   place : l.self.place ≡ l.fn.self.place;
 }
 

@@ -12,7 +12,7 @@ reads-preserved g c = record {
       let all : length c.held-count.result.now ≡ length (held c.reads.self) = ap length c.held-count.ensures in
       let passed = passed_all (held c.reads.self) (held c.pass.new.self) _ c.reads.self.place c.pass.new.self.place _ total all c.pass.ensures.held c.pass.ensures.place
       (c.reads.invariant.kept ahead before) in
-      let on = read_on (held c.pass.new.self) (held c.read_more.new.self) _ (g.S.Input.left c.read_more.new.source) c.pass.new.self.place c.in_ok-read_more.field-0 total
+      let on = read_on (held c.pass.new.self) (held c.read_more.new.self) _ (g.S.Input.told c.read_more.new.source).left c.pass.new.self.place c.in_ok-read_more.field-0 total
       c.in_ok-read_more.ensures.more passed in
       (on.0, on.1, ap (λ n. told (n + length on.0)) c.read_more.ensures.place ∙ on.2);
   sound = search rules;
@@ -34,6 +34,6 @@ returns-then-branch-eq0-clause-far g c = λ ahead before.
     let passed = passed_all (held c.reads.self) (held c.pass.new.self) _ c.reads.self.place c.pass.new.self.place _ total all c.pass.ensures.held c.pass.ensures.place
     (c.reads.invariant.kept ahead before) in
     let none : held c.pass.new.self ≡ _ = c.pass.ensures.held ∙ drop_whole (held c.reads.self) _ all in
-    let is = all_read (held c.pass.new.self) (held c.read_more.new.self) _ (g.S.Input.left c.read_more.new.source) c.pass.new.self.place c.in_ok-read_more.field-0 total
+    let is = all_read (held c.pass.new.self) (held c.read_more.new.self) _ (g.S.Input.told c.read_more.new.source).left c.pass.new.self.place c.in_ok-read_more.field-0 total
     c.if-branch-eq0.true none c.in_ok-read_more.ensures.more passed in
     (λ bad. absurd (false≢true bad), λ far. absurd (omega (arith, is, far, c.if-self-gt-MOST_BYTES.false)))

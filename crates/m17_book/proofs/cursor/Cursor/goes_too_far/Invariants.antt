@@ -6,9 +6,9 @@ use Rattle.m17_book.proofs.cursor.Cursor.goes_too_far.Given as goal
 -- the input has as many bytes as before, and the source has not failed
 abbrev pub invariant-reads : goal.invariant-reads
 invariant-reads g l = record {
-  kept : (ahead : List ℕ) → IsAhead (held l.fn.self) (g.S.Input.left l.fn.source) ahead
-      → IsOf (held l.self) (g.S.Input.left l.source) l.self.place (l.fn.self.place + length ahead);
-  sound : g.S.Input.faults l.source ≡ g.S.Input.faults l.fn.source;
+  kept : (ahead : List ℕ) → IsAhead (held l.fn.self) (g.S.Input.told l.fn.source).left ahead
+      → IsOf (held l.self) (g.S.Input.told l.source).left l.self.place (l.fn.self.place + length ahead);
+  sound : (g.S.Input.told l.source).faults ≡ (g.S.Input.told l.fn.source).faults;
 }
 
 abbrev pub decreases-reads : goal.decreases-reads

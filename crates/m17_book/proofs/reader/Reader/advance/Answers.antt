@@ -8,8 +8,8 @@ pub returns-in-Ok-clause-answers : goal.returns-in-Ok-clause-answers
 returns-in-Ok-clause-answers g c = λ bytes records before.
     let r = c.self.inside in
     let begun = ap (λ (p : Progress). p.begun) c.self.view_is ∙ c.in-Ok.ensures.begun in
-    let seen = subst (λ (p : Progress). HasRead p (g.S.Input.left c.begin.new.source) bytes records) (sym c.self.view_is)
+    let seen = subst (λ (p : Progress). HasRead p (g.S.Input.told c.begin.new.source).left bytes records) (sym c.self.view_is)
     (c.in-Ok.ensures.passed bytes records before) in
     let within = is_within (progress r.cursor r.begun r.refusal) _ bytes records begun seen in
     answers c.next_record.result (progress c.next_record.new.cursor r.begun r.refusal)
-    _ (g.S.Input.left c.begin.new.source) _ _ bytes records begun within (c.next_record.ensures.next within.rest within.ahead)
+    _ (g.S.Input.told c.begin.new.source).left _ _ bytes records begun within (c.next_record.ensures.next within.rest within.ahead)
