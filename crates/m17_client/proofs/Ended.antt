@@ -1,17 +1,22 @@
 -- A run that is over, and what is answered of it.
-use Rattle.std.proofs.Common.{◌≡◌, ◌↔◌, ◌⊎◌, ℕ, Bool, true, false, cond, ◌+◌, ◌≤◌, List, [], ◌∷◌, ◌++◌, length, take, refl, sym, ap, ◌∙◌, subst, inl, inr, arith, None, Some, IsTrue}
-use Rattle.std.specs.List.{last_or, slice_get, suffix_len}
+use Rattle.std.proofs.Common.{◌≡◌, ◌≢◌, ◌↔◌, ◌⊎◌, ℕ, Bool, true, false, cond, ◌+◌, ◌≤◌, List, [], ◌∷◌, ◌++◌, length, take, refl, sym, ap, ◌∙◌, subst, inl, inr, arith, None, Some, IsTrue}
+use Rattle.std.specs.List.{All, last_or, slice_get, suffix_len}
 use Rattle.std.proofs.lemmas.Bool.Decides.{leb_tells}
+use Rattle.std.proofs.lemmas.List.Elements.{All-push}
 use Rattle.std.proofs.lemmas.List.{append-nil, length_push, take_all, take_at, take-append-le}
 use Rattle.m17_values.specs.declared.heard.Heard.{Heard}
 use Rattle.m17_values.specs.declared.heard.Heard.TheVariants.{Datagram, Quiet, Fault, End}
+use Rattle.m17_ports.specs.Ear.{EarTold, HasHeard}
+use Rattle.m17_ports.specs.Laws.{EarsHearInTurn}
+use Rattle.m17_ports.specs.Mouth.{MouthTold}
+use Rattle.m17_ports.specs.Book.{BookTold}
 use Rattle.m17_client.specs.declared.run.Run.{Run}
 use Rattle.m17_client.specs.declared.talking.TalkEnd.{TalkEnd}
 use Rattle.m17_client.specs.declared.state.State.TheVariants.{Idle}
 use Rattle.m17_client.specs.Standing.{Standing}
 use Rattle.m17_client.specs.Steps.{ClientStep, standing_after}
 use Rattle.m17_client.specs.Talk.{IsClosed, IsEnded, IsLost, IsOver, IsTalkRun, IsTurn, TalkPlan, Turn, entries_of, is_fault, steps_of}
-use Rattle.m17_client.specs.TalkDevices.{BookTells, IsTalkEnd, MouthTells}
+use Rattle.m17_client.specs.TalkDevices.{IsTalkEnd}
 use Rattle.m17_client.specs.TalkSoFar.{GoesOn, IsSoFar, IsStepless, Origin}
 use Rattle.m17_client.proofs.OneStep.{last_push}
 use Rattle.m17_client.proofs.Turns.{entries_more, faults_more, steps_more}
@@ -41,8 +46,23 @@ goes_on_more plan turns turn before now n within over = elim (leb_tells n (lengt
       (take_all n (turns ++ turn ∷ []) (omega (arith, late.1, length_push turns turn))) over)
 ]
 
+-- a run that goes on has heard no End
+pub no_end_more : (plan : TalkPlan) (turns : List Turn) (turn : Turn)
+    → All (λ entry. entry ≢ End) (entries_of turns) → (IsOver plan (turns ++ turn ∷ []) → ⊥)
+    → All (λ entry. entry ≢ End) (entries_of (turns ++ turn ∷ []))
+no_end_more plan turns turn h now = subst (λ l. All (λ entry. entry ≢ End) l) (sym (entries_more turns turn))
+    (All-push (λ entry. entry ≢ End) (entries_of turns) turn.heard h (λ e. now (inl (
+    ap (last_or None) (entries_more turns turn) ∙ last_push None (entries_of turns) turn.heard ∙ ap Some e))))
+
+-- one more entry was heard
+pub hears_one : {L : Type 0} (law : EarsHearInTurn L) (start old new : EarTold L) (turns : List Turn) (turn : Turn)
+    → All (λ entry. entry ≢ End) (entries_of turns) → HasHeard start (entries_of turns) old
+    → HasHeard old (turn.heard ∷ []) new → HasHeard start (entries_of (turns ++ turn ∷ [])) new
+hears_one law start old new turns turn none h one = subst (λ l. HasHeard start l new) (sym (entries_more turns turn))
+    (law.in_turn start old new (entries_of turns) (turn.heard ∷ []) none h one)
+
 -- a run that went on before its last turn, and is over then
-pub whole_run : (origin : Origin) (turns : List Turn) (turn : Turn) (run : Run) (m : MouthTells) (b : BookTells)
+pub whole_run : {M B : Type 0} (origin : Origin M B) (turns : List Turn) (turn : Turn) (run : Run) (m : MouthTold M) (b : BookTold B)
     → GoesOn origin.plan turns → IsSoFar origin (turns ++ turn ∷ []) run m b
     → IsOver origin.plan (turns ++ turn ∷ []) → IsTalkRun origin.plan (turns ++ turn ∷ [])
 whole_run origin turns turn run m b before h over = record {
@@ -59,7 +79,7 @@ last_at : (turns : List Turn) (turn : Turn) → slice_get (turns ++ turn ∷ [])
 last_at [] turn = refl
 last_at (x ∷ xs) turn = last_at xs turn
 
-last_turn : (origin : Origin) (turns : List Turn) (turn : Turn) (run : Run) (m : MouthTells) (b : BookTells)
+last_turn : {M B : Type 0} (origin : Origin M B) (turns : List Turn) (turn : Turn) (run : Run) (m : MouthTold M) (b : BookTold B)
     → IsSoFar origin (turns ++ turn ∷ []) run m b
     → IsTurn origin.plan (steps_of turns) turn.heard turn.steps
 last_turn origin turns turn run m b h =
@@ -94,7 +114,7 @@ stepless turns turn (inl ended) =
 stepless turns turn (inr lost) = inl (lost_by_fault turns turn lost)
 
 -- a run that an entry ended is not closed
-not_closed : (origin : Origin) (turns : List Turn) (turn : Turn) (run : Run) (m : MouthTells) (b : BookTells)
+not_closed : {M B : Type 0} (origin : Origin M B) (turns : List Turn) (turn : Turn) (run : Run) (m : MouthTold M) (b : BookTold B)
     → GoesOn origin.plan turns → IsSoFar origin (turns ++ turn ∷ []) run m b
     → IsEnded (turns ++ turn ∷ []) ⊎ IsLost (turns ++ turn ∷ [])
     → IsClosed origin.plan (turns ++ turn ∷ []) → ⊥
@@ -114,7 +134,7 @@ not_true true h = absurd (h refl)
 not_true false h = refl
 
 -- what is answered of a whole run
-pub end_is : (origin : Origin) (turns : List Turn) (turn : Turn) (run : Run) (m : MouthTells) (b : BookTells)
+pub end_is : {M B : Type 0} (origin : Origin M B) (turns : List Turn) (turn : Turn) (run : Run) (m : MouthTold M) (b : BookTold B)
     (answer : TalkEnd) → GoesOn origin.plan turns → IsSoFar origin (turns ++ turn ∷ []) run m b
     → IsOver origin.plan (turns ++ turn ∷ []) → answer.state ≡ run.session.progress.client.state
     → answer.kept ≡ run.session.log.kept → answer.ended ≡ run.ended

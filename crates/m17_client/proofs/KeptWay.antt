@@ -16,7 +16,7 @@ use Rattle.m17_client.specs.declared.state.Input.TheVariants as input
 use Rattle.m17_client.specs.Standing.{Standing}
 use Rattle.m17_client.specs.Steps.{ClientStep, IsClientRun, inputs_of}
 use Rattle.m17_client.specs.Talk.{IsHeardAs, IsTurn, LeavesInTime, TakesTurn, TalkPlan, Turn, due_records, entries_of, steps_of}
-use Rattle.m17_client.specs.TalkDevices.{kept_by, records_of, says_of}
+use Rattle.m17_client.specs.TalkDevices.{datagrams_to, kept_by, records_of, says_of}
 use Rattle.m17_client.specs.Way.{Way, kept_in, keeps_of}
 use Rattle.m17_client.specs.Laws.{ClientKeepsWhatWasSaid, IsRecordOf, IsTalkOver, RecordsAreOfKeptPackets, TalkIsAClientsEnd}
 use Rattle.m17_client.proofs.Listed.{alone, map_of, mapped, none_there, one_of, there_cases, was_there}
@@ -115,7 +115,7 @@ heard_of turn = turn.heard
 abbrev steps_in : Turn → List ClientStep
 steps_in turn = turn.steps
 
-was_heard : (way : Way) (plan : TalkPlan) (turns : List Turn) → IsTalkOver way plan turns → (at : ℕ) (bytes : List ℕ)
+was_heard : {L : Type 0} (way : Way) (plan : TalkPlan) (turns : List Turn) → IsTalkOver L way plan turns → (at : ℕ) (bytes : List ℕ)
     → Contains (inputs_of (steps_of turns)) (input.Datagram at bytes)
     → Contains way.client_heard (heard.Datagram way.reflector at bytes)
 was_heard way plan turns h at bytes on =
@@ -132,17 +132,19 @@ was_heard way plan turns h at bytes on =
 abbrev bytes_of : Datagram → List ℕ
 bytes_of d = d.1
 
-was_said : (way : Way) (plan : TalkPlan) (turns : List Turn) → IsTalkOver way plan turns → (bytes : List ℕ)
-    → Contains way.client_said (way.reflector, bytes) → Contains (says_of (steps_of turns)) bytes
+was_said : {L : Type 0} (way : Way) (plan : TalkPlan) (turns : List Turn) → IsTalkOver L way plan turns
+    → (bytes : List ℕ) → Contains way.client_said (way.reflector, bytes)
+    → Contains (says_of (steps_of turns)) bytes
 was_said way plan turns h bytes there =
-    let went = items_where_true h.has_said.went (says_of (steps_of turns)) in
-    let all : way.client_said ≡ map (λ d. (plan.to, d)) went =
-    told_all h.before.0 (map (λ d. (plan.to, d)) went) way.client_said h.new_mouth (sym h.has_said.told ∙ h.told) in
-    let (one, in_went, is) = map_of (λ (d : List ℕ). (plan.to, d)) went (way.reflector, bytes) (rw all at there) in
-    subst (Contains (says_of (steps_of turns))) (ap bytes_of is)
-    (was_there h.has_said.went (says_of (steps_of turns)) one in_went)
+    let says = says_of (steps_of turns) in
+    let went = items_where_true h.has_said.went (datagrams_to plan.to says) in
+    let all : way.client_said ≡ went =
+    told_all h.before.said went way.client_said h.new_mouth (sym h.has_said.told ∙ h.told) in
+    let (one, in_says, is) = map_of (λ (d : List ℕ). (plan.to, d)) says (way.reflector, bytes)
+    (was_there h.has_said.went (datagrams_to plan.to says) (way.reflector, bytes) (rw all at there)) in
+    subst (Contains says) (ap bytes_of is) in_says
 
-pub talk_is_an_end : TalkIsAClientsEnd
+pub talk_is_an_end : {L : Type 0} → TalkIsAClientsEnd L
 talk_is_an_end way plan turns h = record {
   idle = h.idle;
   run = h.run.run;

@@ -4,7 +4,6 @@ mod OneStep
 mod Due
 mod OneTurn
 mod Turns
-mod Ears
 mod Ended
 mod Listed
 mod Moves

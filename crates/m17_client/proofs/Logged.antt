@@ -1,101 +1,72 @@
 -- One more record that a book was to take.
-use Rattle.std.proofs.Common.{◌≡◌, ℕ, true, false, ◌+◌, ◌-◌, ◌^◌, ◌≤◌, min, List, [], ◌∷◌, ◌++◌, length, take, refl, sym, ap, ◌∙◌, arith, Result, Ok, Err, OnOk, OnErr, is_err}
+use Rattle.std.proofs.Common.{◌≡◌, ℕ, Bool, true, false, ◌+◌, ◌-◌, ◌^◌, min, List, [], ◌∷◌, ◌++◌, length, take, sym, ap, subst, ◌∙◌, arith, Result, Ok, Err, OnOk, OnErr, is_err}
 use Rattle.std.specs.List.{concat}
 use Rattle.std.proofs.lemmas.List.{append-nil, append_assoc, length_push, take_all}
-use Rattle.m17_io.specs.Faults.{HasCause, HasRisen}
+use Rattle.m17_io.specs.Faults.{HasCause}
 use Rattle.m17_ports.specs.Told.{told_then}
-use Rattle.m17_client.specs.TalkDevices.{BookTells, HasWritten}
+use Rattle.m17_ports.specs.Book.{BookTold, HasText}
+use Rattle.m17_ports.specs.Laws.{BooksAreWrittenInTurn}
+use Rattle.m17_client.specs.TalkDevices.{HasWritten}
 use Rattle.m17_client.specs.declared.log.Log.{Log}
 use Rattle.m17_client.specs.TalkSoFar.{IsLogged}
-use Rattle.m17_client.proofs.Said.{told_then-append, told_then-nil}
 
 -- one more record behind others
-pub concat_more : (records : List (List ℕ)) (bytes : List ℕ)
-    → concat (records ++ bytes ∷ []) ≡ concat records ++ bytes
-concat_more [] bytes = append-nil bytes
-concat_more (x ∷ xs) bytes = ap (λ l. x ++ l) (concat_more xs bytes) ∙ sym (append_assoc x (concat xs) bytes)
+concat_more : (records : List (List ℕ)) (bytes : List ℕ)
+    → concat records ++ bytes ≡ concat (records ++ bytes ∷ [])
+concat_more [] bytes = sym (append-nil bytes)
+concat_more (x ∷ xs) bytes = append_assoc x (concat xs) bytes ∙ ap (λ l. x ++ l) (concat_more xs bytes)
 
--- nothing was to be written
-pub written_nothing : (book : BookTells) → HasWritten book [] false book
-written_nothing book = record {
-  whole = λ e. (told_then-nil book.0, refl);
-  stopped = λ e. absurd (cc e);
+-- a call of the book
+one_written : {L T E : Type 0} (law : BooksAreWrittenInTurn L) (old new : BookTold L) (bytes : List ℕ)
+    (result : Result T E) → HasCause old.faults new.faults result
+    → OnOk result (new.written ≡ told_then old.written bytes)
+    → OnErr result ((n : ℕ) × (new.written ≡ told_then old.written (take n bytes)))
+    → new.device ≡ old.device → HasText old bytes (is_err result) new
+one_written law old new bytes (Ok x) cause told prefix same =
+    law.one_went old new bytes told cause.no_fault same
+one_written law old new bytes (Err x) cause told prefix same =
+    law.one_failed old new bytes prefix.0 prefix.1 cause.counted cause.failed same
+
+-- a book that has not failed is written one more record
+writes_one : {L : Type 0} (law : BooksAreWrittenInTurn L) (start old new : BookTold L) (before : List (List ℕ))
+    (bytes : List ℕ) (failed : Bool) → HasText old bytes failed new → HasWritten start before false old
+    → HasWritten start (before ++ bytes ∷ []) failed new
+writes_one law start old new before bytes failed one h = record {
+  text = subst (λ l. HasText start l failed new) (concat_more before bytes)
+      (law.in_turn start old new (concat before) bytes failed h.text one);
+  at_one = λ e. omega (arith, length_push before bytes);
 }
 
 -- a book that failed is written no more
-pub stays_failed : (start book : BookTells) (before : List (List ℕ)) (bytes : List ℕ)
-    → HasWritten start before true book → HasWritten start (before ++ bytes ∷ []) true book
-stays_failed start book before bytes h = let s = h.stopped refl in record {
-  whole = λ e. absurd (cc e);
-  stopped = λ e. record {
-    whole = s.whole;
-    failing = s.failing;
-    unwritten = s.unwritten ++ bytes ∷ [];
-    in_order = ap (λ l. l ++ bytes ∷ []) s.in_order
-        ∙ append_assoc s.whole (s.failing ∷ s.unwritten) (bytes ∷ []);
-    size = s.size;
-    told = s.told;
-    counted = s.counted;
-    risen = s.risen;
-  };
-}
-
--- one more record is written
-pub writes_one : (start old new : BookTells) (before : List (List ℕ)) (bytes : List ℕ)
-    → new.0 ≡ told_then old.0 bytes → new.1 ≡ old.1
-    → HasWritten start before false old → HasWritten start (before ++ bytes ∷ []) false new
-writes_one start old new before bytes told same h = let w = h.whole refl in record {
-  whole = λ e. (
-    told ∙ ap (λ t. told_then t bytes) w.0 ∙ told_then-append start.0 (concat before) bytes
-        ∙ ap (told_then start.0) (sym (concat_more before bytes)),
-    same ∙ w.1,
-  );
-  stopped = λ e. absurd (cc e);
-}
-
--- the book fails at one more record
-pub fails_at : (start old new : BookTells) (before : List (List ℕ)) (bytes : List ℕ) (n : ℕ)
-    → new.0 ≡ told_then old.0 (take n bytes) → old.1 ≤ new.1 → HasRisen old.1 new.1
-    → HasWritten start before false old → HasWritten start (before ++ bytes ∷ []) true new
-fails_at start old new before bytes n told counted risen h = let w = h.whole refl in record {
-  whole = λ e. absurd (cc e);
-  stopped = λ e. record {
-    whole = before;
-    failing = bytes;
-    unwritten = [];
-    in_order = refl;
-    size = n;
-    told = told ∙ ap (λ t. told_then t (take n bytes)) w.0
-        ∙ told_then-append start.0 (concat before) (take n bytes);
-    counted = omega (arith, counted, w.1);
-    risen = omega (arith, risen, w.1);
-  };
+gives_up : {L : Type 0} (law : BooksAreWrittenInTurn L) (start book : BookTold L) (before : List (List ℕ))
+    (bytes : List ℕ) → HasWritten start before true book → HasWritten start (before ++ bytes ∷ []) true book
+gives_up law start book before bytes h = record {
+  text = subst (λ l. HasText start l true book) (concat_more before bytes)
+      (law.given_up start book (concat before) bytes h.text);
+  at_one = λ e. omega (arith, length_push before bytes);
 }
 
 -- a log that has not failed, after one more record
-pub logs_one : {T E : Type 0} (start old new : BookTells) (before : List (List ℕ)) (bytes : List ℕ) (log later : Log)
-    (result : Result T E) → log.failed ≡ false → later.kept ≡ min (log.kept + 1) (2 ^ 64 - 1)
-    → later.failed ≡ is_err result → HasCause old.1 new.1 result
-    → OnOk result (new.0 ≡ told_then old.0 bytes)
-    → OnErr result ((n : ℕ) × (new.0 ≡ told_then old.0 (take n bytes)))
-    → IsLogged start before log old → IsLogged start (before ++ bytes ∷ []) later new
-logs_one start old new before bytes log later (Ok x) was kept failed cause told prefix h = record {
+pub logs_one : {L T E : Type 0} (law : BooksAreWrittenInTurn L) (start old new : BookTold L)
+    (before : List (List ℕ)) (bytes : List ℕ) (log later : Log) (result : Result T E) → log.failed ≡ false
+    → later.kept ≡ min (log.kept + 1) (2 ^ 64 - 1) → later.failed ≡ is_err result
+    → HasCause old.faults new.faults result → OnOk result (new.written ≡ told_then old.written bytes)
+    → OnErr result ((n : ℕ) × (new.written ≡ told_then old.written (take n bytes)))
+    → new.device ≡ old.device → IsLogged start before log old
+    → IsLogged start (before ++ bytes ∷ []) later new
+logs_one law start old new before bytes log later result was kept failed cause told prefix same h = record {
   kept = omega (arith, kept, h.kept, length_push before bytes);
-  written = rw failed (writes_one start old new before bytes told cause.no_fault (rw was at h.written));
-}
-logs_one start old new before bytes log later (Err x) was kept failed cause told prefix h = record {
-  kept = omega (arith, kept, h.kept, length_push before bytes);
-  written = rw failed (fails_at start old new before bytes prefix.0 prefix.1 cause.counted cause.failed
-      (rw was at h.written));
+  written = rw failed (writes_one law start old new before bytes (is_err result)
+      (one_written law old new bytes result cause told prefix same) (rw was at h.written));
 }
 
 -- a log that failed, after one more record
-pub logs_none : (start book : BookTells) (before : List (List ℕ)) (bytes : List ℕ) (log later : Log)
-    → log.failed ≡ true → later.kept ≡ min (log.kept + 1) (2 ^ 64 - 1) → later.failed ≡ true
-    → IsLogged start before log book → IsLogged start (before ++ bytes ∷ []) later book
-logs_none start book before bytes log later was kept failed h = record {
+pub logs_none : {L : Type 0} (law : BooksAreWrittenInTurn L) (start book : BookTold L) (before : List (List ℕ))
+    (bytes : List ℕ) (log later : Log) → log.failed ≡ true → later.kept ≡ min (log.kept + 1) (2 ^ 64 - 1)
+    → later.failed ≡ true → IsLogged start before log book → IsLogged start (before ++ bytes ∷ []) later book
+logs_none law start book before bytes log later was kept failed h = record {
   kept = omega (arith, kept, h.kept, length_push before bytes);
-  written = rw failed (stays_failed start book before bytes (rw was at h.written));
+  written = rw failed (gives_up law start book before bytes (rw was at h.written));
 }
 
 -- three fields written one behind another

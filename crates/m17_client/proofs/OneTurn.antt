@@ -4,6 +4,8 @@ use Rattle.std.specs.List.{flat_map, last_or}
 use Rattle.std.specs.Option.{option_or}
 use Rattle.std.proofs.lemmas.List.{append-nil, append_assoc, map-append}
 use Rattle.std.proofs.lemmas.Grind.{flat_map-append}
+use Rattle.m17_ports.specs.Mouth.{MouthTold, SaidOf}
+use Rattle.m17_ports.specs.Book.{BookTold}
 use Rattle.m17_client.specs.declared.progress.Progress.{Progress}
 use Rattle.m17_client.specs.declared.session.Session.{Session}
 use Rattle.m17_stream.specs.declared.packet.StreamPacket.{StreamPacket}
@@ -13,7 +15,7 @@ use Rattle.m17_client.specs.Standing.{Standing}
 use Rattle.m17_client.specs.Client.{IsClientStep}
 use Rattle.m17_client.specs.Steps.{ClientStep, inputs_of, is_connected, ms_since, paused_at, sends_of, standing_after}
 use Rattle.m17_client.specs.Talk.{IsTimeToLeave, TalkPlan}
-use Rattle.m17_client.specs.TalkDevices.{BookTells, HasSaid, MouthTells, kept_by, records_of, said_by, says_of}
+use Rattle.m17_client.specs.TalkDevices.{datagrams_to, kept_by, records_of, said_by, says_of}
 use Rattle.m17_client.specs.TalkSoFar.{IsAfter, IsAt, IsLogged, IsTimeNow, Origin}
 use Rattle.m17_client.proofs.OneStep.{run_more}
 
@@ -30,18 +32,19 @@ records_more steps step =
     ∙ ap (λ l. records_of steps ++ l) (append-nil (flat_map (kept_by step.after.moment) step.actions)))
 
 -- a session after one more step
-pub at_more : (origin : Origin) (steps : List ClientStep) (step : ClientStep) (old new : Session)
-    (m later : MouthTells) (b written : BookTells) → IsAt origin steps old m b
+pub at_more : {M B : Type 0} (origin : Origin M B) (steps : List ClientStep) (step : ClientStep) (old new : Session)
+    (m later : MouthTold M) (b written : BookTold B) → IsAt origin steps old m b
     → IsClientStep old.progress.client step.input step.actions step.after
     → IsAfter origin.plan.client (steps ++ step ∷ []) new.progress
-    → HasSaid origin.mouth origin.plan.to (says_of steps ++ flat_map said_by step.actions) later
+    → SaidOf origin.mouth
+    (datagrams_to origin.plan.to (says_of steps ++ flat_map said_by step.actions)) later
     → IsLogged origin.book (records_of steps ++ flat_map (kept_by step.after.moment) step.actions) new.log written
     → IsAt origin (steps ++ step ∷ []) new later written
 at_more origin steps step old new m later b written h one after said logged = record {
   run = run_more origin.plan.client steps step h.run
       (subst (λ (c : Standing). IsClientStep c step.input step.actions step.after) h.after.client one);
   after = after;
-  said = subst (λ l. HasSaid origin.mouth origin.plan.to l later) (says_more steps step) said;
+  said = subst (λ l. SaidOf origin.mouth (datagrams_to origin.plan.to l) later) (says_more steps step) said;
   logged = subst (λ l. IsLogged origin.book l new.log written) (records_more steps step) logged;
 }
 

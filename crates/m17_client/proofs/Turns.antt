@@ -1,11 +1,13 @@
 -- One more turn of a run.
-use Rattle.std.proofs.Common.{◌≡◌, ◌↔◌, ◌⊎◌, ℕ, true, cond, suc, zero, ◌+◌, ◌≤◌, List, [], ◌∷◌, ◌++◌, take, reverse, refl, sym, ap, ◌∙◌, subst, inl, inr, arith, None, Some, IsTrue}
+use Rattle.std.proofs.Common.{◌≡◌, ◌↔◌, ◌⊎◌, ℕ, true, false, cond, suc, zero, ◌+◌, ◌≤◌, List, [], ◌∷◌, ◌++◌, take, reverse, refl, sym, ap, ◌∙◌, subst, inl, inr, arith, None, Some, IsTrue}
 use Rattle.std.specs.List.{last_or, prefix_len, slice_get, suffix_len}
 use Rattle.std.proofs.lemmas.List.{append-nil, map-append, reverse-append}
 use Rattle.std.proofs.lemmas.Grind.{flat_map-append}
 use Rattle.m17_values.specs.declared.heard.Heard.{Heard}
 use Rattle.m17_values.specs.declared.heard.Heard.TheVariants.{Datagram, Quiet, Fault, End}
 use Rattle.m17_values.specs.declared.peer.Peer.{Peer}
+use Rattle.m17_ports.specs.Mouth.{MouthTold, SaidOf}
+use Rattle.m17_ports.specs.Book.{BookTold, HasText}
 use Rattle.m17_client.specs.declared.run.Run.{Run}
 use Rattle.m17_client.specs.declared.state.Ending.{Ending}
 use Rattle.m17_client.specs.declared.state.Input.{Input}
@@ -13,8 +15,7 @@ use Rattle.m17_client.specs.declared.state.State.TheVariants.{Closed}
 use Rattle.m17_client.specs.Standing.{Standing}
 use Rattle.m17_client.specs.Steps.{ClientStep}
 use Rattle.m17_client.specs.Talk.{IsHeardAs, IsOver, IsTurn, TakesTurn, TalkPlan, Turn, entries_of, is_fault, steps_of}
-use Rattle.m17_client.specs.TalkDevices.{BookTells, MouthTells}
-use Rattle.m17_client.specs.TalkSoFar.{IsAt, IsSoFar, IsStepless, Origin}
+use Rattle.m17_client.specs.TalkSoFar.{IsAt, IsFresh, IsSoFar, IsStepless, Origin}
 use Rattle.m17_client.proofs.OneStep.{last_push}
 
 -- what was heard, and the steps, after one more turn
@@ -44,9 +45,31 @@ faults_more entries entry =
     ∙ ap (λ n. cond (is_fault entry) n 0) (let one : 1 + prefix_len is_fault (reverse entries)
     ≡ suffix_len is_fault entries + 1 = omega arith in one)
 
+-- what a run began with, of a client that was just made
+abbrev pub origin_of : {M B : Type 0} → TalkPlan → MouthTold M → BookTold B → Origin M B
+origin_of plan mouth book = record { plan = plan; mouth = mouth; book = book }
+
+pub just_made : {M B : Type 0} (plan : TalkPlan) (run : Run) (mouth : MouthTold M) (book : BookTold B)
+    → SaidOf mouth [] mouth → HasText book [] false book → IsFresh plan.client run.session
+    → run.faults ≡ 0 → run.ended ≡ false → IsSoFar (origin_of plan mouth book) [] run mouth book
+just_made plan run mouth book said text fresh faults ended = record {
+  at = record {
+    run = tt;
+    after = fresh.after;
+    said = said;
+    logged = record {
+      kept = fresh.kept;
+      written = rw fresh.failed (record { text = text; at_one = λ e. absurd (cc) });
+    };
+  };
+  each = λ n turn at. absurd (cc);
+  faults = faults;
+  ended = (λ e. absurd (cc), λ e. absurd (cc));
+}
+
 -- a run after one more turn
-pub so_far_more : (origin : Origin) (turns : List Turn) (turn : Turn) (old new : Run)
-    (m later : MouthTells) (b written : BookTells) → IsSoFar origin turns old m b
+pub so_far_more : {M B : Type 0} (origin : Origin M B) (turns : List Turn) (turn : Turn) (old new : Run)
+    (m later : MouthTold M) (b written : BookTold B) → IsSoFar origin turns old m b
     → IsAt origin (steps_of turns ++ turn.steps) new.session later written
     → IsTurn origin.plan (steps_of turns) turn.heard turn.steps
     → new.faults ≡ cond (is_fault turn.heard) (old.faults + 1) 0
@@ -79,7 +102,7 @@ no_turn plan earlier entry (inl e) = subst (λ x. IsTurn plan earlier x []) (sym
 no_turn plan earlier entry (inr e) = subst (λ x. IsTurn plan earlier x []) (sym e) refl
 
 -- a run is over where what is remembered of it says so
-pub over_is : (origin : Origin) (turns : List Turn) (run : Run) (m : MouthTells) (b : BookTells)
+pub over_is : {M B : Type 0} (origin : Origin M B) (turns : List Turn) (run : Run) (m : MouthTold M) (b : BookTold B)
     → IsSoFar origin turns run m b → ((run.ended ≡ true) ⊎ ((16 ≤ run.faults)
     ⊎ ((why : Ending) × (run.session.progress.client.state ≡ Closed why)))) ↔ IsOver origin.plan turns
 over_is origin turns run m b h =

@@ -1,4 +1,4 @@
--- Runs of a client: lists of steps, and what is looked up in them. This profile.
+-- Runs of a client: lists of steps, and what is looked up in them.
 use Rattle.std.specs.Prelude.{ℕ, Bool, true, false, ◌-◌, List, [], ◌∷◌, map, filter, Option, None, option_map, unwrap_or}
 use Rattle.std.specs.List.{find, last_or}
 use Rattle.std.specs.Option.{option_or}
@@ -10,13 +10,13 @@ use Rattle.m17_client.specs.declared.state.Action.{Action}
 use Rattle.m17_client.specs.Standing.{Standing}
 use Rattle.m17_client.specs.Client.{IsClientStep}
 
--- A step of a client: what it stepped on, what it asked for, in order, and where it stands after it. This profile.
+-- A step of a client: what it stepped on, what it asked for, in order, and where it stands after it.
 pub record ClientStep : Type 0 where
   pub input : Input
   pub actions : List Action
   pub after : Standing
 
--- Each step is one of the table, from where the step before it left the client. This profile.
+-- Each step is one of the table, from where the step before it left the client.
 abbrev pub IsClientRun : Standing → List ClientStep → Type 0
 IsClientRun first [] = Unit {0}
 IsClientRun first (step ∷ steps) =
@@ -50,12 +50,12 @@ is_send Leave = false
 abbrev pub sends_of : List ClientStep → List ClientStep
 sends_of steps = filter (λ step. is_send step.input) steps
 
--- The client's moment when it became connected: that of the first step that left it so. This profile.
+-- The client's moment when it became connected: that of the first step that left it so.
 abbrev pub connected_at : List ClientStep → Option ℕ
 connected_at steps = option_map (λ step. step.after.moment)
     (find (λ step. is_connected step.after.state) steps)
 
--- The client's moment at the last packet of the user, else when it became connected. This profile.
+-- The client's moment at the last packet of the user, else when it became connected.
 abbrev pub paused_at : List ClientStep → Option ℕ
 paused_at steps = option_or
     (option_map (λ step. step.after.moment) (last_or None (sends_of steps)))

@@ -1,5 +1,4 @@
 -- The way between a client and the link of a reflector, and what a client's end of it comes to.
--- This profile.
 use Rattle.std.specs.Prelude.{◌≡◌, ℕ, true, List, [], ◌∷◌, ◌++◌, Contains}
 use Rattle.std.specs.List.{flat_map}
 use Rattle.m17_values.specs.declared.heard.Heard.{Heard}
@@ -21,7 +20,7 @@ use Rattle.m17_client.specs.Steps.{ClientStep, IsClientRun, inputs_of, is_connec
 use Rattle.m17_client.specs.TalkDevices.{says_of}
 
 -- The two ends of a way: which peer each is to the other, and what each heard and said by its
--- socket. This profile.
+-- socket.
 pub record Way : Type 0 where
   pub reflector : Peer
   pub client : Peer
@@ -31,7 +30,7 @@ pub record Way : Type 0 where
   pub link_said : List Datagram
 
 -- Nothing is made up on the way: what either end heard from the other, the other said to it, byte
--- for byte. Any datagram may be lost, come more than once, or come in another order. This profile.
+-- for byte. Any datagram may be lost, come more than once, or come in another order.
 pub record NothingInvented (way : Way) : Type 0 where
   pub to_client : (at : ℕ) (bytes : List ℕ)
       → Contains way.client_heard (heard.Datagram way.reflector at bytes)
@@ -42,7 +41,7 @@ pub record NothingInvented (way : Way) : Type 0 where
 
 -- The steps are a run of a client that begins idle, at its end of the way: each datagram that it
 -- steps on was heard from the reflector, and all that was said to the reflector is what its steps
--- say. This profile.
+-- say.
 pub record IsClientsEnd (way : Way) (first : Standing) (steps : List ClientStep) : Type 0 where
   pub idle : first.state ≡ Idle
   pub run : IsClientRun first steps
@@ -59,14 +58,14 @@ kept_in (Keep packet) = packet ∷ []
 abbrev pub keeps_of : List ClientStep → List StreamPacket
 keeps_of steps = flat_map (λ step. flat_map kept_in step.actions) steps
 
--- The packet asks to join: it is a CONN or a LSTN. This profile.
+-- The packet asks to join: it is a CONN or a LSTN.
 abbrev pub IsJoinRequest : Control → Type 0
 IsJoinRequest (Conn from letter) = Unit {0}
 IsJoinRequest (Lstn from letter) = Unit {0}
 IsJoinRequest packet = ⊥
 
 -- How a client got in: it said its CONN or LSTN, and after that it stepped on an ACKN that it had
--- heard, and that the link had said to it. This profile.
+-- heard, and that the link had said to it.
 pub record GotIn (way : Way) (first : Standing) (steps : List ClientStep) : Type 0 where
   pub asking : List ℕ
   pub asks : SpellsControl (join_packet first) asking
@@ -82,14 +81,14 @@ pub record GotIn (way : Way) (first : Standing) (steps : List ClientStep) : Type
   pub answer_heard : Contains way.client_heard (heard.Datagram way.reflector at answer)
   pub answer_said : Contains way.link_said (way.client, answer)
 
--- The link said the packet to the client, byte for byte. This profile.
+-- The link said the packet to the client, byte for byte.
 abbrev pub WasSaid : Way → StreamPacket → Type 0
 WasSaid way packet = (bytes : List ℕ) × SpellsStream packet bytes
     × Contains way.link_said (way.client, bytes)
 
 -- What the ends come to: a client that is connected got in; a CONN or LSTN that the link heard from
 -- it is its own, byte for byte; each packet that it keeps was said to it; and of two neighbours
--- among these with one stream id, the later number is ahead. This profile.
+-- among these with one stream id, the later number is ahead.
 pub record KeepsWhatWasSaid (way : Way) (first : Standing) (steps : List ClientStep) : Type 0 where
   pub got_in : (front rest : List ClientStep) → steps ≡ front ++ rest
       → is_connected (standing_after first front).state ≡ true → GotIn way first front

@@ -27,7 +27,7 @@ const MOST_TRIES: u32 = 5;
 const SILENCE_MS: u64 = 30_000;
 
 /// A client by its table: what it is, its moments, what it kept last, and its state. Contracts see all of this. Its
-/// moment is the greatest of those that it was given. This profile.
+/// moment is the greatest of those that it was given.
 #[derive(Debug, Drop)]
 pub struct Client {
     call: CallAddress,
@@ -60,7 +60,7 @@ impl Model for Client {
 impl Client {
     ghost use Rattle.m17_client.specs.Standing.{at_moment, new_client};
 
-    /// An idle client with this callsign, for this module; `listen` where it only listens. This profile.
+    /// An idle client with this callsign, for this module; `listen` where it only listens.
     pub fn new(call: CallAddress, letter: ModuleLetter, listen: bool) -> Client
         ensures { result ≡ new_client call letter listen }
     {
@@ -76,14 +76,14 @@ impl Client {
         }
     }
 
-    /// The state. This profile.
+    /// The state.
     pub fn state(&self) -> State
         ensures { result ≡ self.now.state }
     {
         self.state
     }
 
-    /// The client's moment, in milliseconds: the greatest that it was given so far. This profile.
+    /// The client's moment, in milliseconds: the greatest that it was given so far.
     pub fn moment(&self) -> u64
         ensures { result ≡ self.now.moment }
     {
@@ -91,7 +91,7 @@ impl Client {
     }
 
     /// One step: what the input does by the table. What is to be said or kept is appended to `out`, in order, and the
-    /// answer is the state then. A datagram gives at most two actions, and any other input at most one. This profile.
+    /// answer is the state then. A datagram gives at most two actions, and any other input at most one.
     pub fn step(&mut self, input: &Input, out: &mut ArrayVec<Action, MOST_ACTIONS>) -> State
         requires { out.old.items ≡ [] }
         ensures step { IsClientStep self.old input.now out.new.items self.new }

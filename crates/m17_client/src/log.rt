@@ -2,11 +2,14 @@
 
 ghost use Rattle.std.specs.Prelude.{◌≡◌, List, ℕ, false, [], ◌∷◌, ◌++◌, ◌-◌, ◌^◌};
 ghost use Rattle.std.specs.List.{flat_map};
-ghost use Rattle.m17_client.specs.TalkDevices.{BookTells, HasSaid, MouthTells, kept_by, record_bytes, said_by};
+ghost use Rattle.m17_ports.specs.Mouth.{MouthTold, SaidOf};
+ghost use Rattle.m17_ports.specs.Book.{BookTold};
+ghost use Rattle.m17_client.specs.TalkDevices.{datagrams_to, kept_by, kept_record, said_by};
 ghost use Rattle.m17_client.specs.TalkSoFar.{IsLogged};
 
 use crate::Action;
 use m17_fields::put;
+use m17_ports::laws::{books_are_written_in_turn, mouths_say_in_turn};
 use m17_ports::{Book, Mouth};
 use m17_stream::StreamPacket;
 use m17_values::Peer;
@@ -47,19 +50,14 @@ impl Log {
         mouth: &mut M,
         book: &mut B,
     )
-        ensures said { (start : MouthTells) (before : List (List ℕ))
-            → HasSaid start to.now before
-            (M.said mouth.old, M.tallies mouth.old, M.faults mouth.old)
-            → HasSaid start to.now (before ++ flat_map said_by actions.now)
-            (M.said mouth.new, M.tallies mouth.new, M.faults mouth.new) }
-        ensures logged { (start : BookTells) (before : List (List ℕ))
-            → IsLogged start before self.old (B.written book.old, B.faults book.old)
+        ensures said { (start : MouthTold M.Label) (before : List (List ℕ))
+            → SaidOf start (datagrams_to to.now before) (M.told mouth.old)
+            → SaidOf start (datagrams_to to.now (before ++ flat_map said_by actions.now))
+            (M.told mouth.new) }
+        ensures logged { (start : BookTold B.Label) (before : List (List ℕ))
+            → IsLogged start before self.old (B.told book.old)
             → IsLogged start (before ++ flat_map (kept_by moment) actions.now) self.new
-            (B.written book.new, B.faults book.new) }
-        ensures same_mouth { (M.mark mouth.new ≡ M.mark mouth.old)
-            × (M.label mouth.new ≡ M.label mouth.old) }
-        ensures same_book { (B.mark book.new ≡ B.mark book.old)
-            × (B.label book.new ≡ B.label book.old) }
+            (B.told book.new) }
     {
         for action in actions {
             match action {
@@ -71,13 +69,12 @@ impl Log {
 
     // Keeps a packet that reached the client at this moment. A book that failed is written no more.
     fn keep<B: Book>(&mut self, moment: u64, packet: &StreamPacket, book: &mut B)
-        ensures logged { (start : BookTells) (before : List (List ℕ))
-            → IsLogged start before self.old (B.written book.old, B.faults book.old)
-            → IsLogged start (before ++ record_bytes moment packet.now ∷ []) self.new
-            (B.written book.new, B.faults book.new) }
-        ensures same_book { (B.mark book.new ≡ B.mark book.old)
-            × (B.label book.new ≡ B.label book.old) }
+        ensures { (start : BookTold B.Label) (before : List (List ℕ))
+            → IsLogged start before self.old (B.told book.old)
+            → IsLogged start (before ++ kept_record moment packet.now ∷ []) self.new
+            (B.told book.new) }
     {
+        books_are_written_in_turn::<B::Label>();
         self.kept = self.kept.saturating_add(1);
         if !self.failed {
             self.failed = book.write(&record(moment, packet)).is_err();
@@ -87,20 +84,17 @@ impl Log {
 
 // Says a datagram, which is lost where the mouth fails.
 fn say<M: Mouth>(to: &Peer, bytes: &[u8], mouth: &mut M)
-    ensures said { (start : MouthTells) (before : List (List ℕ))
-        → HasSaid start to.now before
-        (M.said mouth.old, M.tallies mouth.old, M.faults mouth.old)
-        → HasSaid start to.now (before ++ bytes.now ∷ [])
-        (M.said mouth.new, M.tallies mouth.new, M.faults mouth.new) }
-    ensures same_mouth { (M.mark mouth.new ≡ M.mark mouth.old)
-        × (M.label mouth.new ≡ M.label mouth.old) }
+    ensures { (start : MouthTold M.Label) (before : List (List ℕ))
+        → SaidOf start (datagrams_to to.now before) (M.told mouth.old)
+        → SaidOf start (datagrams_to to.now (before ++ bytes.now ∷ [])) (M.told mouth.new) }
 {
+    mouths_say_in_turn::<M::Label>();
     let _ = mouth.say(to, bytes);
 }
 
 // The record of a kept packet, with talker 0.
 fn record(moment: u64, packet: &StreamPacket) -> [u8; RECORD_BYTES]
-    ensures { result ≡ record_bytes moment packet.now }
+    ensures { result ≡ kept_record moment packet.now }
 {
     let mut bytes = [0; RECORD_BYTES];
     put(&mut bytes, 0, &moment.to_be_bytes());

@@ -8,7 +8,7 @@ ghost use Rattle.m17_client.specs.declared.state.Ending.{Ending};
 ghost use Rattle.m17_client.specs.declared.talking.TalkEnd.{TalkEnd};
 ghost use Rattle.m17_client.specs.Steps.{ClientStep, is_send};
 ghost use Rattle.m17_client.specs.Talk.{IsHeardAs, IsInOrder, IsTurn, Turn, is_fault};
-ghost use Rattle.m17_client.specs.TalkSoFar.{IsPlan, IsSoFar, IsStepless, Origin};
+ghost use Rattle.m17_client.specs.TalkSoFar.{IsFresh, IsPlan, IsSoFar, IsStepless, Origin};
 
 use crate::session::Session;
 use crate::talking::TalkEnd;
@@ -32,8 +32,9 @@ impl Run {
     /// A run in which nothing was heard yet.
     pub(crate) fn new(client: Client) -> Run
         requires { client.state ≡ State.Idle }
-        ensures { (origin : Origin) → origin.plan.client ≡ client
-            → IsSoFar origin [] result origin.mouth origin.book }
+        ensures fresh { IsFresh client result.session }
+        ensures no_fault { result.faults ≡ 0 }
+        ensures goes_on { result.ended ≡ false }
     {
         Run {
             session: Session::new(client),
@@ -54,19 +55,12 @@ impl Run {
     )
         requires in_order { IsInOrder script.now }
         requires faults { self.old.faults < 16 }
-        ensures taken { (origin : Origin) (turns : List Turn)
+        ensures { (origin : Origin M.Label B.Label) (turns : List Turn)
             → IsPlan origin.plan to.now script.now stay
-            → IsSoFar origin turns self.old
-            (M.said mouth.old, M.tallies mouth.old, M.faults mouth.old)
-            (B.written book.old, B.faults book.old)
+            → IsSoFar origin turns self.old (M.told mouth.old) (B.told book.old)
             → (steps : List ClientStep)
             × IsSoFar origin (turns ++ record { heard = entry; steps = steps } ∷ []) self.new
-            (M.said mouth.new, M.tallies mouth.new, M.faults mouth.new)
-            (B.written book.new, B.faults book.new) }
-        ensures same_mouth { (M.mark mouth.new ≡ M.mark mouth.old)
-            × (M.label mouth.new ≡ M.label mouth.old) }
-        ensures same_book { (B.mark book.new ≡ B.mark book.old)
-            × (B.label book.new ≡ B.label book.old) }
+            (M.told mouth.new) (B.told book.new) }
     {
         self.ended = is_end(&entry);
         self.count_fault(is_fault(&entry));

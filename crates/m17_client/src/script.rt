@@ -5,7 +5,7 @@ ghost use Rattle.m17_client.specs.Talk.{IsInOrder};
 
 use m17_stream::StreamPacket;
 
-/// Whether no moment of the script is below the one before it, as `talk` wants it. This profile.
+/// Whether no moment of the script is below the one before it, as `talk` wants it.
 pub fn is_in_order(script: &[(u64, StreamPacket)]) -> bool
     ensures { IsTrue result ↔ IsInOrder script.now }
 {

@@ -7,7 +7,7 @@ ghost use Rattle.m17_client.specs.declared.state.Input.{Input};
 ghost use Rattle.m17_client.specs.declared.state.State.{State};
 ghost use Rattle.m17_client.specs.Steps.{ClientStep, inputs_of, is_connected, is_send};
 ghost use Rattle.m17_client.specs.Talk.{IsHeardAs, IsInOrder, TakesTurn, TalkPlan, due_records};
-ghost use Rattle.m17_client.specs.TalkSoFar.{IsAt, IsPlan, Origin, due_now};
+ghost use Rattle.m17_client.specs.TalkSoFar.{IsAt, IsFresh, IsPlan, Origin, due_now};
 
 use crate::log::Log;
 use crate::progress::Progress;
@@ -28,8 +28,7 @@ impl Session {
     /// Nothing was heard yet.
     pub(crate) fn new(client: Client) -> Session
         requires { client.state ≡ State.Idle }
-        ensures { (origin : Origin) → origin.plan.client ≡ client
-            → IsAt origin [] result origin.mouth origin.book }
+        ensures { IsFresh client result }
     {
         Session {
             progress: Progress::new(client),
@@ -50,19 +49,11 @@ impl Session {
     )
         requires in_order { IsInOrder script.now }
         requires no_send { is_send input.now ≡ false }
-        ensures taken { (origin : Origin) (steps : List ClientStep) (entry : Heard)
+        ensures { (origin : Origin M.Label B.Label) (steps : List ClientStep) (entry : Heard)
             → IsPlan origin.plan to.now script.now stay → IsHeardAs to.now entry input.now
-            → IsAt origin steps self.old
-            (M.said mouth.old, M.tallies mouth.old, M.faults mouth.old)
-            (B.written book.old, B.faults book.old)
+            → IsAt origin steps self.old (M.told mouth.old) (B.told book.old)
             → (more : List ClientStep) × TakesTurn origin.plan steps entry more
-            × IsAt origin (steps ++ more) self.new
-            (M.said mouth.new, M.tallies mouth.new, M.faults mouth.new)
-            (B.written book.new, B.faults book.new) }
-        ensures same_mouth { (M.mark mouth.new ≡ M.mark mouth.old)
-            × (M.label mouth.new ≡ M.label mouth.old) }
-        ensures same_book { (B.mark book.new ≡ B.mark book.old)
-            × (B.label book.new ≡ B.label book.old) }
+            × IsAt origin (steps ++ more) self.new (M.told mouth.new) (B.told book.new) }
     {
         self.step(input, to, mouth, book);
         self.send_due(to, script, mouth, book);
@@ -80,20 +71,12 @@ impl Session {
         book: &mut B,
     )
         requires in_order { IsInOrder script.now }
-        ensures sent { (origin : Origin) (steps : List ClientStep)
+        ensures { (origin : Origin M.Label B.Label) (steps : List ClientStep)
             → origin.plan.to ≡ to.now → origin.plan.script ≡ script.now
-            → IsAt origin steps self.old
-            (M.said mouth.old, M.tallies mouth.old, M.faults mouth.old)
-            (B.written book.old, B.faults book.old)
+            → IsAt origin steps self.old (M.told mouth.old) (B.told book.old)
             → (sends : List ClientStep)
             × (inputs_of sends ≡ map (λ due. Input.Send due.1) (due_records origin.plan steps))
-            × IsAt origin (steps ++ sends) self.new
-            (M.said mouth.new, M.tallies mouth.new, M.faults mouth.new)
-            (B.written book.new, B.faults book.new) }
-        ensures same_mouth { (M.mark mouth.new ≡ M.mark mouth.old)
-            × (M.label mouth.new ≡ M.label mouth.old) }
-        ensures same_book { (B.mark book.new ≡ B.mark book.old)
-            × (B.label book.new ≡ B.label book.old) }
+            × IsAt origin (steps ++ sends) self.new (M.told mouth.new) (B.told book.new) }
     {
         'due: while let Some(packet) = self.progress.next_due(script) {
             self.send(packet, to, mouth, book);
@@ -103,18 +86,10 @@ impl Session {
     // Steps on an input that is no packet of the user, and does what comes of it.
     fn step<M: Mouth, B: Book>(&mut self, input: &Input, to: &Peer, mouth: &mut M, book: &mut B)
         requires { is_send input.now ≡ false }
-        ensures stepped { (origin : Origin) (steps : List ClientStep) → origin.plan.to ≡ to.now
-            → IsAt origin steps self.old
-            (M.said mouth.old, M.tallies mouth.old, M.faults mouth.old)
-            (B.written book.old, B.faults book.old)
+        ensures { (origin : Origin M.Label B.Label) (steps : List ClientStep) → origin.plan.to ≡ to.now
+            → IsAt origin steps self.old (M.told mouth.old) (B.told book.old)
             → (step : ClientStep) × (step.input ≡ input.now)
-            × IsAt origin (steps ++ step ∷ []) self.new
-            (M.said mouth.new, M.tallies mouth.new, M.faults mouth.new)
-            (B.written book.new, B.faults book.new) }
-        ensures same_mouth { (M.mark mouth.new ≡ M.mark mouth.old)
-            × (M.label mouth.new ≡ M.label mouth.old) }
-        ensures same_book { (B.mark book.new ≡ B.mark book.old)
-            × (B.label book.new ≡ B.label book.old) }
+            × IsAt origin (steps ++ step ∷ []) self.new (M.told mouth.new) (B.told book.new) }
     {
         let mut out = ArrayVec::new();
         self.progress.step(input, &mut out);
@@ -132,21 +107,13 @@ impl Session {
     )
         requires connected { is_connected self.old.progress.client.state ≡ true }
         requires room { self.old.progress.sent < 2 ^ 57 }
-        ensures stepped { (origin : Origin) (steps : List ClientStep) → origin.plan.to ≡ to.now
-            → IsAt origin steps self.old
-            (M.said mouth.old, M.tallies mouth.old, M.faults mouth.old)
-            (B.written book.old, B.faults book.old)
+        ensures stepped { (origin : Origin M.Label B.Label) (steps : List ClientStep) → origin.plan.to ≡ to.now
+            → IsAt origin steps self.old (M.told mouth.old) (B.told book.old)
             → (step : ClientStep) × (step.input ≡ Input.Send packet)
-            × IsAt origin (steps ++ step ∷ []) self.new
-            (M.said mouth.new, M.tallies mouth.new, M.faults mouth.new)
-            (B.written book.new, B.faults book.new) }
+            × IsAt origin (steps ++ step ∷ []) self.new (M.told mouth.new) (B.told book.new) }
         ensures due { (script : List (ℕ × StreamPacket))
             → due_now self.new.progress script ≡ drop 1 (due_now self.old.progress script) }
         ensures sent { self.new.progress.sent ≡ self.old.progress.sent + 1 }
-        ensures same_mouth { (M.mark mouth.new ≡ M.mark mouth.old)
-            × (M.label mouth.new ≡ M.label mouth.old) }
-        ensures same_book { (B.mark book.new ≡ B.mark book.old)
-            × (B.label book.new ≡ B.label book.old) }
     {
         let mut out = ArrayVec::new();
         self.progress.send(packet, &mut out);

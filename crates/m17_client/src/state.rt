@@ -5,7 +5,7 @@ use m17_values::Gram;
 /// The most bytes of a datagram that a client says: a stream packet's.
 pub const SAID_BYTES: usize = 54;
 
-/// Why a client is closed. This profile.
+/// Why a client is closed.
 #[derive(Clone, Copy, Debug, PartialEq, Eq)]
 pub enum Ending {
     /// The user left.
@@ -20,7 +20,7 @@ pub enum Ending {
     NoAnswer,
 }
 
-/// What a client is doing. Moments are milliseconds. This profile.
+/// What a client is doing. Moments are milliseconds.
 #[derive(Clone, Copy, Debug, PartialEq, Eq)]
 pub enum State {
     /// Nothing was said yet.
@@ -44,7 +44,7 @@ pub struct LastKept {
     pub number: u16,
 }
 
-/// What a client steps on. Moments are milliseconds. This profile.
+/// What a client steps on. Moments are milliseconds.
 #[derive(Clone, Debug, Drop)]
 pub enum Input {
     /// A datagram came from the reflector at this moment.
@@ -57,7 +57,7 @@ pub enum Input {
     Leave,
 }
 
-/// What a step asks for. This profile.
+/// What a step asks for.
 #[derive(Clone, Debug, Drop)]
 pub enum Action {
     /// Say a datagram of these bytes to the reflector.

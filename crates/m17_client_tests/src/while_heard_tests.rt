@@ -33,13 +33,11 @@ impl Ear for LookingEar {
 
     type Label = ();
 
-    ghost faults = { λ _. 2 ^ 64 - 1 };
-
-    ghost heard = { λ _. None };
-
-    ghost mark = { λ _. None };
-
-    ghost label = { λ _. tt };
+    ghost told = { λ _. record {
+      heard = None;
+      faults = 2 ^ 64 - 1;
+      device = record { mark = None; label = tt };
+    } };
 
     ghost faults_fit = { λ _. lit≤ tt };
 
@@ -65,23 +63,20 @@ struct CountingMouth {
 
 impl Mouth for CountingMouth {
     ghost use Rattle.std.proofs.Common.{lit≤};
-    ghost use Rattle.m17_port_memory.specs.Named.{names_nobody};
+    ghost use Rattle.m17_ports.specs.Untold.{names_nobody};
 
     type Label = ();
 
-    ghost faults = { λ _. 0 };
-
-    ghost said = { λ _. None };
-
-    ghost tallies = { λ _ _. None };
-
-    ghost mark = { λ _. Some (record { number = 0; peers = None }) };
-
-    ghost label = { λ _. tt };
+    ghost told = { λ _. record {
+      said = None;
+      tallies = λ _. None;
+      faults = 0;
+      device = record { mark = Some (record { number = 0; peers = None }); label = tt };
+    } };
 
     ghost faults_fit = { λ _. lit≤ tt };
 
-    ghost tells_named = { λ _. names_nobody None };
+    ghost tells_named = { λ _. names_nobody };
 
     fn say(&mut self, _to: &Peer, _bytes: &[u8]) -> Result<(), Failed> {
         self.said = self.said.saturating_add(1);

@@ -21,8 +21,9 @@ use Rattle.m17_directory.specs.declared.verdict.Act.TheVariants as act
 use Rattle.m17_directory.specs.Entries.{Entry}
 use Rattle.m17_directory.specs.Routed.{event_for, link_verdict, posts_at, posted, routed}
 use Rattle.m17_directory.specs.Laws.{LaterEntriesChangeNothing, OneEntryMore, EventsCarryTheirIndex, is_packet, packet_letter, packet_routed}
-use Rattle.m17_house.specs.declared.plan.Plan.{Plan}
-use Rattle.m17_house.specs.Replay.{setup_of, is_packet_body, is_packet_from, verdict_among, verdict_routed, packet_verdict}
+use Rattle.m17_plan.specs.declared.plan.Plan.{Plan}
+use Rattle.m17_house.specs.Replay.{is_packet_body, is_packet_from, verdict_among, verdict_routed, packet_verdict}
+use Rattle.m17_plan.specs.Planned.{setup_of}
 use Rattle.m17_house.specs.Carried.{events_of}
 use Rattle.m17_house.specs.SoFar.{found_from}
 use Rattle.m17_house.proofs.Lists.{slice_get_before, slice_get_end, length_more}

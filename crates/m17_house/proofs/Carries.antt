@@ -15,13 +15,14 @@ use Rattle.m17_control.specs.Modules.{serves, letters_of}
 use Rattle.m17_floor.specs.declared.verdict.Verdict.{Verdict}
 use Rattle.m17_module.specs.Items.{items_given, items_at}
 use Rattle.m17_module.specs.Laws.{OneEventMoreGives}
-use Rattle.m17_module.specs.StandsFor.{Kept}
+use Rattle.m17_module.specs.StandsFor.{ModuleKept}
 use Rattle.m17_directory.specs.declared.dispatch.Dispatch.{Dispatch}
 use Rattle.m17_directory.specs.declared.dispatch.Dispatch.TheVariants.{ToModule, ToDoor}
 use Rattle.m17_directory.specs.Routed.{event_for, reply_for}
 use Rattle.m17_port_memory.specs.Kept.{TalliesKept}
-use Rattle.m17_house.specs.declared.plan.Plan.{Plan}
-use Rattle.m17_house.specs.Replay.{module_setup, packet_to}
+use Rattle.m17_plan.specs.declared.plan.Plan.{Plan}
+use Rattle.m17_house.specs.Replay.{packet_to}
+use Rattle.m17_plan.specs.Planned.{module_setup}
 use Rattle.m17_house.specs.Tallied.{AreTalliesOf, HasSaidMore}
 use Rattle.m17_house.specs.Carried.{events_of, said_by_events, said_past_modules, said_after, RoomStands, IsRoomStep, HasCarried, answer_to}
 use Rattle.m17_house.proofs.Lists.{count_append, filter_map_nothing, filter_map_one}
@@ -135,7 +136,7 @@ reply_counts plan done direct x kind =
     counts ∙ ap (λ xs. count_by kind (xs ++ m)) (sym past) ∙ ap (λ xs. count_by kind (said_past_modules x longer ++ xs)) (sym modules)
 
 -- where each module stands after one event more
-rooms_after : (plan : Plan) (done : List Dispatch) (letter : ℕ) (event : Event) (rooms new : List (Option Kept)) →
+rooms_after : (plan : Plan) (done : List Dispatch) (letter : ℕ) (event : Event) (rooms new : List (Option ModuleKept)) →
     ((l : ℕ) → serves plan.modules l ≡ true → RoomStands plan l (events_of l done) rooms) →
     RoomStands plan letter (events_of letter done ++ event ∷ []) new →
     ((other : ℕ) (events : List Event) → 65 ≤ other → other ≢ letter → RoomStands plan other events rooms → RoomStands plan other events new) →
@@ -149,7 +150,7 @@ rooms_after plan done letter event rooms new before its others l served =
     ]
 
 -- An event was carried out.
-pub carried_event : OneEventMoreGives → (plan : Plan) (done : List Dispatch) (letter : ℕ) (event : Event) (rooms new : List (Option Kept)) (mouth said : TalliesKept) (items : List Item) (answer : Option Verdict) → serves plan.modules letter ≡ true → HasCarried plan done rooms mouth →
+pub carried_event : OneEventMoreGives → (plan : Plan) (done : List Dispatch) (letter : ℕ) (event : Event) (rooms new : List (Option ModuleKept)) (mouth said : TalliesKept) (items : List Item) (answer : Option Verdict) → serves plan.modules letter ≡ true → HasCarried plan done rooms mouth →
     IsRoomStep plan letter (events_of letter done) event (new, answer) →
     items ≡ items_at (module_setup plan letter) (events_of letter done ++ event ∷ []) (length (events_of letter done)) →
     ((other : ℕ) (events : List Event) → 65 ≤ other → other ≢ letter → RoomStands plan other events rooms → RoomStands plan other events new) →
@@ -165,7 +166,7 @@ carried_event law plan done letter event rooms new mouth said items answer serve
 )
 
 -- A reply was carried out.
-pub carried_reply : (plan : Plan) (done : List Dispatch) (direct : Direct) (rooms : List (Option Kept)) (mouth said : TalliesKept) → HasCarried plan done rooms mouth →
+pub carried_reply : (plan : Plan) (done : List Dispatch) (direct : Direct) (rooms : List (Option ModuleKept)) (mouth said : TalliesKept) → HasCarried plan done rooms mouth →
     HasSaidMore (λ x. map packets.Control (option_to_list (reply_for x (ToDoor direct)))) mouth said →
     HasCarried plan (done ++ ToDoor direct ∷ []) rooms said
 carried_reply plan done direct rooms mouth said before told = record {
@@ -187,7 +188,7 @@ said_nothing : (plan : Plan) (x : Peer) → said_after plan [] x ≡ []
 unfolding said_after
 said_nothing plan x = none_by plan x (letters_of plan.modules)
 
-pub carried_nothing : (plan : Plan) (rooms : List (Option Kept)) → ((letter : ℕ) → serves plan.modules letter ≡ true → RoomStands plan letter [] rooms) → (mouth : TalliesKept) → AreTalliesOf (λ x. []) mouth → HasCarried plan [] rooms mouth
+pub carried_nothing : (plan : Plan) (rooms : List (Option ModuleKept)) → ((letter : ℕ) → serves plan.modules letter ≡ true → RoomStands plan letter [] rooms) → (mouth : TalliesKept) → AreTalliesOf (λ x. []) mouth → HasCarried plan [] rooms mouth
 carried_nothing plan rooms new mouth none = record {
   rooms_stand = new;
   tallies = same_count_tallies (λ x. []) (said_after plan []) mouth (λ x kind. ap (count_by kind) (sym (said_nothing plan x))) none;

@@ -7,10 +7,10 @@ use Rattle.std.proofs.lemmas.List.Elements.{filter_map-append}
 use Rattle.m17_floor.specs.declared.verdict.Verdict.{Verdict}
 use Rattle.m17_module.specs.StandsFor as modules
 use Rattle.m17_directory.specs.declared.dispatch.Dispatch.{Dispatch}
-use Rattle.m17_directory.specs.StandsFor.{Kept}
+use Rattle.m17_directory.specs.StandsFor.{DirectoryKept}
 use Rattle.m17_directory.specs.Laws.{left_member}
 use Rattle.m17_port_memory.specs.Kept.{TalliesKept}
-use Rattle.m17_house.specs.declared.plan.Plan.{Plan}
+use Rattle.m17_plan.specs.declared.plan.Plan.{Plan}
 use Rattle.m17_house.specs.Tallied.{IsSameMouth}
 use Rattle.m17_house.specs.Carried.{HasCarried, IsServed, answer_to}
 use Rattle.m17_house.specs.SoFar.{IsCarriedOut, found_from, noting}
@@ -18,8 +18,8 @@ use Rattle.m17_house.proofs.Carries.{single}
 use Rattle.m17_house.proofs.Notes.{noting_more}
 
 -- Some of the posted are done, and these are left.
-pub record IsPartway (posted : List Dispatch) (name : ℕ) (old : Kept) (rooms : List (Option modules.Kept)) (mouth : TalliesKept)
-    (post : List Dispatch) (new : Kept) (rooms' : List (Option modules.Kept)) (mouth' : TalliesKept) (answer : Option Verdict) : Type 0 where
+pub record IsPartway (posted : List Dispatch) (name : ℕ) (old : DirectoryKept) (rooms : List (Option modules.ModuleKept)) (mouth : TalliesKept)
+    (post : List Dispatch) (new : DirectoryKept) (rooms' : List (Option modules.ModuleKept)) (mouth' : TalliesKept) (answer : Option Verdict) : Type 0 where
   pub done : List Dispatch
   pub posts : posted ≡ done ++ post
   pub noted : new ≡ noting (filter_map left_member done) old
@@ -27,7 +27,7 @@ pub record IsPartway (posted : List Dispatch) (name : ℕ) (old : Kept) (rooms :
   pub carried : (plan : Plan) (before : List Dispatch) → name ≡ plan.name → AllByRecursion (IsServed plan) posted → length before + length posted < 2 ^ 64 - 1 → HasCarried plan before rooms mouth →
       HasCarried plan (before ++ done) rooms' mouth' × (found_from plan before None posted ≡ found_from plan (before ++ done) answer post)
 
-pub partway_none : (posted : List Dispatch) (name : ℕ) (old : Kept) (rooms : List (Option modules.Kept)) (mouth : TalliesKept) → IsPartway posted name old rooms mouth posted old rooms mouth None
+pub partway_none : (posted : List Dispatch) (name : ℕ) (old : DirectoryKept) (rooms : List (Option modules.ModuleKept)) (mouth : TalliesKept) → IsPartway posted name old rooms mouth posted old rooms mouth None
 partway_none posted name old rooms mouth = record {
   done = [];
   posts = refl;
@@ -43,8 +43,8 @@ served_there : (plan : Plan) (done : List Dispatch) (d : Dispatch) (rest : List 
 served_there plan [] d rest all = all.0
 served_there plan (x ∷ done) d rest all = served_there plan done d rest all.1
 
-pub partway_more : (posted : List Dispatch) (name : ℕ) (old : Kept) (rooms : List (Option modules.Kept)) (mouth : TalliesKept)
-    (d : Dispatch) (rest post : List Dispatch) (mid new : Kept) (rooms1 rooms2 : List (Option modules.Kept)) (mouth1 mouth2 : TalliesKept) (found answer next : Option Verdict) →
+pub partway_more : (posted : List Dispatch) (name : ℕ) (old : DirectoryKept) (rooms : List (Option modules.ModuleKept)) (mouth : TalliesKept)
+    (d : Dispatch) (rest post : List Dispatch) (mid new : DirectoryKept) (rooms1 rooms2 : List (Option modules.ModuleKept)) (mouth1 mouth2 : TalliesKept) (found answer next : Option Verdict) →
     IsPartway posted name old rooms mouth post mid rooms1 mouth1 found →
     post ≡ d ∷ rest →
     new ≡ noting (option_to_list (left_member d)) mid →
@@ -74,7 +74,7 @@ partway_more posted name old rooms mouth d rest post mid new rooms1 rooms2 mouth
           );
     }
 
-pub partway_all : (posted : List Dispatch) (name : ℕ) (old : Kept) (rooms : List (Option modules.Kept)) (mouth : TalliesKept) (post : List Dispatch) (new : Kept) (rooms2 : List (Option modules.Kept)) (mouth2 : TalliesKept) (answer : Option Verdict) →
+pub partway_all : (posted : List Dispatch) (name : ℕ) (old : DirectoryKept) (rooms : List (Option modules.ModuleKept)) (mouth : TalliesKept) (post : List Dispatch) (new : DirectoryKept) (rooms2 : List (Option modules.ModuleKept)) (mouth2 : TalliesKept) (answer : Option Verdict) →
     IsPartway posted name old rooms mouth post new rooms2 mouth2 answer → post ≡ [] →
     (new ≡ noting (filter_map left_member posted) old) × IsSameMouth mouth mouth2
     × ((plan : Plan) (before : List Dispatch) → name ≡ plan.name → AllByRecursion (IsServed plan) posted → length before + length posted < 2 ^ 64 - 1 → HasCarried plan before rooms mouth → IsCarriedOut plan before posted (rooms2, mouth2) answer)

@@ -6,8 +6,8 @@ use Rattle.std.proofs.lemmas.Option.{same_Some, slice_get_within, slice_get-get_
 use Rattle.std.proofs.lemmas.Bool.{cases_lt, and_parts, leb-true, false≢true}
 use Rattle.m17_control.specs.declared.modules.Modules.{Modules}
 use Rattle.m17_control.specs.Modules.{serves}
-use Rattle.m17_module.specs.StandsFor.{Kept}
-use Rattle.m17_house.specs.declared.plan.Plan.{Plan}
+use Rattle.m17_module.specs.StandsFor.{ModuleKept}
+use Rattle.m17_plan.specs.declared.plan.Plan.{Plan}
 use Rattle.m17_house.specs.Carried.{IsNewRoom, RoomStands}
 use Rattle.m17_house.proofs.Lists.{slice_get_before, slice_get_end, length_more}
 
@@ -20,8 +20,8 @@ served_letter m letter e =
     (leb-true 65 letter each.0, leb-true letter 90 each.1)
 
 -- one cell more
-pub new_more : (plan : Plan) (cells : List (Option Kept)) (room : Option Kept) (letter : ℕ) → length cells + 65 ≡ letter → ((k : ℕ) (cell : Option Kept) → slice_get cells k ≡ Some cell → IsNewRoom plan (k + 65) cell) → IsNewRoom plan letter room →
-    (k : ℕ) (cell : Option Kept) → slice_get (cells ++ room ∷ []) k ≡ Some cell → IsNewRoom plan (k + 65) cell
+pub new_more : (plan : Plan) (cells : List (Option ModuleKept)) (room : Option ModuleKept) (letter : ℕ) → length cells + 65 ≡ letter → ((k : ℕ) (cell : Option ModuleKept) → slice_get cells k ≡ Some cell → IsNewRoom plan (k + 65) cell) → IsNewRoom plan letter room →
+    (k : ℕ) (cell : Option ModuleKept) → slice_get (cells ++ room ∷ []) k ≡ Some cell → IsNewRoom plan (k + 65) cell
 new_more plan cells room letter at each new k cell is =
     elim (cases_lt k (length cells)) [
       | inl below ↦ each k cell (sym (slice_get_before cells (room ∷ []) k below) ∙ is)
@@ -30,19 +30,19 @@ new_more plan cells room letter at each new k cell is =
           let here : k ≡ length cells = omega (arith, within, length_more cells room) in
           let it : room ≡ cell = same_Some room cell (sym (slice_get_end cells room []) ∙ ap (slice_get (cells ++ room ∷ [])) (sym here) ∙ is) in
           subst (λ (n : ℕ). IsNewRoom plan n cell) (sym at ∙ ap (λ n. n + 65) (sym here))
-          (subst (λ (r : Option Kept). IsNewRoom plan letter r) it new)
+          (subst (λ (r : Option ModuleKept). IsNewRoom plan letter r) it new)
     ]
 
 -- the module in a cell that is new
-room_in : (plan : Plan) (cells : List (Option Kept)) (letter : ℕ) (cell : Option Kept) → slice_get cells (letter - 65) ≡ Some cell → IsNewRoom plan letter cell → serves plan.modules letter ≡ true → RoomStands plan letter [] cells
+room_in : (plan : Plan) (cells : List (Option ModuleKept)) (letter : ℕ) (cell : Option ModuleKept) → slice_get cells (letter - 65) ≡ Some cell → IsNewRoom plan letter cell → serves plan.modules letter ≡ true → RoomStands plan letter [] cells
 room_in plan cells letter None is new served = absurd (false≢true (sym new ∙ served))
 room_in plan cells letter (Some kept) is new served = record { kept = kept; is_there = is; setup = new.0; stands = new.1 }
 
-pub room_of : (plan : Plan) (cells : List (Option Kept)) → length cells ≡ 26 → ((k : ℕ) (cell : Option Kept) → slice_get cells k ≡ Some cell → IsNewRoom plan (k + 65) cell) →
+pub room_of : (plan : Plan) (cells : List (Option ModuleKept)) → length cells ≡ 26 → ((k : ℕ) (cell : Option ModuleKept) → slice_get cells k ≡ Some cell → IsNewRoom plan (k + 65) cell) →
     (letter : ℕ) → serves plan.modules letter ≡ true → RoomStands plan letter [] cells
 room_of plan cells len each letter served =
     let in_range : (65 ≤ letter) × (letter ≤ 90) = served_letter plan.modules letter served in
-    let cell : Option Kept = get_or cells (letter - 65) None in
+    let cell : Option ModuleKept = get_or cells (letter - 65) None in
     let is : slice_get cells (letter - 65) ≡ Some cell = slice_get-get_or cells (letter - 65) None (omega (arith, in_range.0, in_range.1)) in
     let back : (letter - 65) + 65 ≡ letter = omega (arith, in_range.0) in
     room_in plan cells letter cell is (subst (λ (n : ℕ). IsNewRoom plan n cell) back (each (letter - 65) cell is)) served

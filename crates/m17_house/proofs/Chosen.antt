@@ -10,8 +10,9 @@ use Rattle.m17_directory.specs.Entries.{Claim, Entry, Setup, notice_of, notice_a
 use Rattle.m17_directory.specs.Known.{Past, is_of_place}
 use Rattle.m17_directory.specs.Routed.{past_at, unclaimed_at, others_at, asks_at, is_asks}
 use Rattle.m17_directory.specs.Laws.{EntriesBeforeDecide}
-use Rattle.m17_house.specs.declared.plan.Plan.{Plan}
-use Rattle.m17_house.specs.Replay.{setup_of, given_before, IsFreeClaim, IsLeastFree, IsChosenAt}
+use Rattle.m17_plan.specs.declared.plan.Plan.{Plan}
+use Rattle.m17_house.specs.Replay.{given_before, IsFreeClaim, IsLeastFree, IsChosenAt}
+use Rattle.m17_plan.specs.Planned.{setup_of}
 use Rattle.m17_house.specs.SoFar.{IsFreeMember, IsChoice, AreCounts, AreChosen, claim_of}
 use Rattle.m17_house.proofs.Lists.{slice_get_before, length_more, count_append, count_one}
 use Rattle.m17_house.proofs.Posts.{claim_end}

@@ -17,7 +17,7 @@ use Rattle.m17_module.specs.Events.{act_of, acts_of, kind_of}
 use Rattle.m17_directory.specs.declared.dispatch.Dispatch.{Dispatch}
 use Rattle.m17_directory.specs.declared.dispatch.Dispatch.TheVariants.{ToModule, ToDoor}
 use Rattle.m17_directory.specs.Laws.{is_packet, packet_letter}
-use Rattle.m17_house.specs.declared.plan.Plan.{Plan}
+use Rattle.m17_plan.specs.declared.plan.Plan.{Plan}
 use Rattle.m17_house.specs.Carried.{events_of, answer_to}
 use Rattle.m17_house.specs.SoFar.{found_from}
 use Rattle.m17_house.proofs.Lists.{slice_get_end}

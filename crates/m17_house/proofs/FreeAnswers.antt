@@ -26,8 +26,9 @@ use Rattle.m17_directory.specs.Entries.{Claim, Entry, claim_at, is_peer}
 use Rattle.m17_directory.specs.Given.{AreGivenFreely, gives, stands_for}
 use Rattle.m17_directory.specs.Laws.{EachEntrySaysOneThing, AreGivenOtherwise, PlacesChangeNoVerdict, JoinsTakeFreePlaces}
 use Rattle.m17_directory.specs.Routed.{link_verdict, routed, direct_replies}
-use Rattle.m17_house.specs.declared.plan.Plan.{Plan}
-use Rattle.m17_house.specs.Replay.{setup_of, module_setup, is_packet_body, is_packet_from, verdict_among, verdict_routed, packet_verdict, said_by_module, said_to}
+use Rattle.m17_plan.specs.declared.plan.Plan.{Plan}
+use Rattle.m17_house.specs.Replay.{is_packet_body, is_packet_from, verdict_among, verdict_routed, packet_verdict, said_by_module, said_to}
+use Rattle.m17_plan.specs.Planned.{setup_of, module_setup}
 use Rattle.m17_house.specs.Free.{ComeToTheSame}
 use Rattle.m17_house.specs.Laws.{FreeReplaysComeToTheSame}
 use Rattle.m17_house.proofs.FreeSame.{same_entries}

@@ -9,8 +9,9 @@ use Rattle.m17_directory.specs.Entries.{Claim, Entry, Setup, claim_at}
 use Rattle.m17_directory.specs.Known.{is_of_place}
 use Rattle.m17_directory.specs.Given.{IsOfFreePlace, IsGivenAt}
 use Rattle.m17_directory.specs.Routed.{past_at, asks_at, others_at}
-use Rattle.m17_house.specs.declared.plan.Plan.{Plan}
-use Rattle.m17_house.specs.Replay.{IsLeastFree, IsFreeClaim, IsChosenAt, setup_of, given_before}
+use Rattle.m17_plan.specs.declared.plan.Plan.{Plan}
+use Rattle.m17_house.specs.Replay.{IsLeastFree, IsFreeClaim, IsChosenAt, given_before}
+use Rattle.m17_plan.specs.Planned.{setup_of}
 use Rattle.m17_house.specs.Laws.{ReplaysGiveFreely}
 use Rattle.m17_house.proofs.Chosen.{range_more}
 use Rattle.m17_house.proofs.Lists.{count_append, count_one}

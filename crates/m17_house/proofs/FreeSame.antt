@@ -7,7 +7,7 @@ use Rattle.m17_values.specs.declared.heard.Heard.{Heard}
 use Rattle.m17_directory.specs.Entries.{Entry, Says, notice_at, is_fault, is_end, most_faults, ends_at}
 use Rattle.m17_directory.specs.Given.{SayTheSame}
 use Rattle.m17_directory.specs.Laws.{EachEntrySaysOneThing, HasBytes}
-use Rattle.m17_house.specs.declared.plan.Plan.{Plan}
+use Rattle.m17_plan.specs.declared.plan.Plan.{Plan}
 use Rattle.m17_house.specs.Free.{IsFreeReplayOf}
 use Rattle.m17_house.proofs.OneReplay.{says_one, says_there, bytes_there}
 

@@ -14,12 +14,12 @@ use Rattle.m17_directory.specs.declared.verdict.LinkVerdict.TheVariants as link
 use Rattle.m17_directory.specs.Entries.{Claim, Entry, Notice, Setup, claim_at}
 use Rattle.m17_directory.specs.Known.{Past}
 use Rattle.m17_directory.specs.Routed.{past_at, unclaimed_at, others_at, settled_at, asks_at, is_asks, posts_at, posted}
-use Rattle.m17_directory.specs.StandsFor.{Kept, StandsFor, IsHeard, IsSettled, unclaimed, claimed, departed_of}
+use Rattle.m17_directory.specs.StandsFor.{DirectoryKept, StandsFor, IsHeard, IsSettled, unclaimed, claimed, departed_of}
 use Rattle.m17_directory.specs.Laws.{OneEntryMore, OnlyServedAreRouted, EntriesBeforeDecide, EachWhoLeavesIsPosted, EndedWhereItEnds, is_ended, left_member}
 use Rattle.m17_port_memory.specs.Kept.{TalliesKept}
-use Rattle.m17_house.specs.declared.plan.Plan.{Plan}
+use Rattle.m17_plan.specs.declared.plan.Plan.{Plan}
 use Rattle.m17_house.specs.declared.run.Run.{Run}
-use Rattle.m17_house.specs.Replay.{setup_of}
+use Rattle.m17_plan.specs.Planned.{setup_of}
 use Rattle.m17_house.specs.Carried.{HasCarried, IsServed}
 use Rattle.m17_house.specs.SoFar.{change, scene, IsCarriedOut, IsChoice, IsGiven, IsSoFar, IsTakenIn, AreCounts, claim_of, noting, past_with, without_members}
 use Rattle.m17_house.proofs.Few.{few_heard, few_settled}
@@ -50,14 +50,14 @@ nothing_asked None apart = refl
 nothing_asked (Some a) apart = absurd (apart refl)
 
 -- What a directory has heard, in the words of a plan.
-record HasHeard (setup : Setup) (entries : List Entry) (notice : Notice) (mid : Kept) (verdict : LinkVerdict) (posts : List Dispatch) : Type 0 where
+record HasHeard (setup : Setup) (entries : List Entry) (notice : Notice) (mid : DirectoryKept) (verdict : LinkVerdict) (posts : List Dispatch) : Type 0 where
   stands : StandsFor mid (entries ++ unclaimed notice ∷ [])
   is_verdict : verdict ≡ (unclaimed_at (past_at setup (entries ++ unclaimed notice ∷ []) (length entries))).verdict
   are_posts : posts ≡ (unclaimed_at (past_at setup (entries ++ unclaimed notice ∷ []) (length entries))).posts
   departing : mid.departing ≡ map departed_of (unclaimed_at (past_at setup (entries ++ unclaimed notice ∷ []) (length entries))).left
   others : verdict ≡ link.Asks → mid.known ≡ others_at (past_at setup (entries ++ unclaimed notice ∷ []) (length entries))
 
-has_heard : (plan : Plan) (entries : List Entry) (notice : Notice) (old mid : Kept) (verdict : LinkVerdict) (posts : List Dispatch) → old.setup ≡ setup_of plan → old.departing ≡ [] → IsHeard old mid entries notice (record { verdict = verdict; posts = posts }) → HasHeard (setup_of plan) entries notice mid verdict posts
+has_heard : (plan : Plan) (entries : List Entry) (notice : Notice) (old mid : DirectoryKept) (verdict : LinkVerdict) (posts : List Dispatch) → old.setup ≡ setup_of plan → old.departing ≡ [] → IsHeard old mid entries notice (record { verdict = verdict; posts = posts }) → HasHeard (setup_of plan) entries notice mid verdict posts
 has_heard plan entries notice old mid verdict posts setup nobody heard =
     let left : List Known = (unclaimed_at (past_at old.setup (entries ++ unclaimed notice ∷ []) (length entries))).left in
     subst (λ (s : Setup). HasHeard s entries notice mid verdict posts) setup (record {
@@ -69,12 +69,12 @@ has_heard plan entries notice old mid verdict posts setup nobody heard =
     })
 
 -- nobody is departing when all that left were noted
-none_departing : (posts : List Dispatch) (mid : Kept) (left : List Known) → filter_map left_member posts ≡ map (λ (k : Known). k.member) left → mid.departing ≡ map departed_of left → without_members (filter_map left_member posts) mid.departing ≡ []
+none_departing : (posts : List Dispatch) (mid : DirectoryKept) (left : List Known) → filter_map left_member posts ≡ map (λ (k : Known). k.member) left → mid.departing ≡ map departed_of left → without_members (filter_map left_member posts) mid.departing ≡ []
 none_departing posts mid left members departing =
     ap (λ ms. without_members ms mid.departing) members ∙ ap (without_members (map (λ (k : Known). k.member) left)) departing ∙ all_noted left
 
 -- An entry was taken in.
-pub taken_in : EachWhoLeavesIsPosted → EndedWhereItEnds → OneEntryMore → OnlyServedAreRouted → (plan : Plan) (entries : List Entry) (notice : Notice) (old run : Run) (mouth mouth' : TalliesKept) (mid : Kept) (verdict : LinkVerdict) (posts : List Dispatch) (answer : Option Verdict) →
+pub taken_in : EachWhoLeavesIsPosted → EndedWhereItEnds → OneEntryMore → OnlyServedAreRouted → (plan : Plan) (entries : List Entry) (notice : Notice) (old run : Run) (mouth mouth' : TalliesKept) (mid : DirectoryKept) (verdict : LinkVerdict) (posts : List Dispatch) (answer : Option Verdict) →
     length entries < 2 ^ 58 → IsSoFar plan entries old mouth →
     IsHeard old.directory mid entries notice (record { verdict = verdict; posts = posts }) →
     mid.setup ≡ old.directory.setup → (mid.ended ≡ true) ↔ (verdict ≡ link.Ended) → length mid.known ≤ mid.setup.places →
@@ -95,23 +95,23 @@ taken_in leaves ends more only plan entries notice old run mouth mouth' mid verd
     let served : AllByRecursion (IsServed plan) posts = served_part only plan longer (posted (setup_of plan) entries) posts begin.0 all in
     let fits : length (posted (setup_of plan) entries) + length posts < 18446744073709551615 = omega (arith, so_far.few, count, few) in
     let carried : IsCarriedOut plan (posted (setup_of plan) entries) posts (run.stage.rooms, mouth') answer = carry (posted (setup_of plan) entries) so_far.idle.name served fits so_far.carried in
-    let is_known : run.directory.known ≡ mid.known = ap (λ (k : Kept). k.known) noted in
-    let all_setup : run.directory.setup ≡ setup_of plan = ap (λ (k : Kept). k.setup) noted ∙ setup ∙ so_far.idle.setup in
+    let is_known : run.directory.known ≡ mid.known = ap (λ (k : DirectoryKept). k.known) noted in
+    let all_setup : run.directory.setup ≡ setup_of plan = ap (λ (k : DirectoryKept). k.setup) noted ∙ setup ∙ so_far.idle.setup in
     let places : mid.setup.places ≡ plan.places = ap (λ (s : Setup). s.places) (setup ∙ so_far.idle.setup) in
     record {
       idle = record {
         is_plan = so_far.idle.is_plan;
         name = name ∙ so_far.idle.name;
         setup = all_setup;
-        departing = ap (λ (k : Kept). k.departing) noted
+        departing = ap (λ (k : DirectoryKept). k.departing) noted
             ∙ none_departing posts mid (unclaimed_at past).left (ap (filter_map left_member) has.are_posts ∙ leaves.heard past) has.departing;
         known = omega (arith, ap length is_known, bounded, places);
       };
-      stands = subst (λ (k : Kept). StandsFor k longer) (sym noted) (noting_stands (filter_map left_member posts) mid longer has.stands);
+      stands = subst (λ (k : DirectoryKept). StandsFor k longer) (sym noted) (noting_stands (filter_map left_member posts) mid longer has.stands);
       carried = subst (λ (ds : List Dispatch). IsCarriedOut plan (posted (setup_of plan) entries) ds (run.stage.rooms, mouth') answer) has.are_posts carried;
       is_verdict = has.is_verdict;
       others = λ asks. is_known ∙ has.others asks;
-      ends = ap (λ (k : Kept). k.ended) noted ∙ ended_by verdict mid.ended (is_ended verdict) refl ended ∙ ap is_ended has.is_verdict ∙ ends (setup_of plan) longer (length entries);
+      ends = ap (λ (k : DirectoryKept). k.ended) noted ∙ ended_by verdict mid.ended (is_ended verdict) refl ended ∙ ap is_ended has.is_verdict ∙ ends (setup_of plan) longer (length entries);
       few = omega (arith, so_far.few, count, ap length is_known, ap length has.are_posts);
       given = subst (λ (xs : List ℕ). AreCounts xs entries) (sym given) so_far.given;
       chosen = so_far.chosen;
@@ -133,13 +133,13 @@ asked_all law more plan entries notice claim asks =
     ∙ ap (λ c. (unclaimed_at (past_with plan entries (unclaimed notice))).posts ++ (settled_at past c).posts) (claim_end entries entry)
 
 -- What a directory has settled, in the words of a plan.
-record HasSettled (setup : Setup) (entries : List Entry) (entry : Entry) (mid : Kept) (verdict : LinkVerdict) (posts : List Dispatch) : Type 0 where
+record HasSettled (setup : Setup) (entries : List Entry) (entry : Entry) (mid : DirectoryKept) (verdict : LinkVerdict) (posts : List Dispatch) : Type 0 where
   stands : StandsFor mid (entries ++ entry ∷ [])
   is_verdict : verdict ≡ (settled_at (past_at setup (entries ++ entry ∷ []) (length entries)) entry.claim).verdict
   are_posts : posts ≡ (settled_at (past_at setup (entries ++ entry ∷ []) (length entries)) entry.claim).posts
   departing : mid.departing ≡ map departed_of (settled_at (past_at setup (entries ++ entry ∷ []) (length entries)) entry.claim).left
 
-has_settled : (plan : Plan) (entries : List Entry) (entry : Entry) (old mid : Kept) (verdict : LinkVerdict) (posts : List Dispatch) → old.setup ≡ setup_of plan → old.departing ≡ [] → IsSettled old mid entries entry (record { verdict = verdict; posts = posts }) → HasSettled (setup_of plan) entries entry mid verdict posts
+has_settled : (plan : Plan) (entries : List Entry) (entry : Entry) (old mid : DirectoryKept) (verdict : LinkVerdict) (posts : List Dispatch) → old.setup ≡ setup_of plan → old.departing ≡ [] → IsSettled old mid entries entry (record { verdict = verdict; posts = posts }) → HasSettled (setup_of plan) entries entry mid verdict posts
 has_settled plan entries entry old mid verdict posts setup nobody settled =
     let left : List Known = (settled_at (past_at old.setup (entries ++ entry ∷ []) (length entries)) entry.claim).left in
     subst (λ (s : Setup). HasSettled s entries entry mid verdict posts) setup (record {
@@ -150,7 +150,7 @@ has_settled plan entries entry old mid verdict posts setup nobody settled =
     })
 
 -- A request was settled.
-pub given_place : EachWhoLeavesIsPosted → EntriesBeforeDecide → OneEntryMore → OnlyServedAreRouted → (plan : Plan) (entries : List Entry) (notice : Notice) (old run : Run) (mouth mouth' : TalliesKept) (mid : Kept) (member : Option Member) (verdict : LinkVerdict) (posts : List Dispatch) (found answer : Option Verdict) →
+pub given_place : EachWhoLeavesIsPosted → EntriesBeforeDecide → OneEntryMore → OnlyServedAreRouted → (plan : Plan) (entries : List Entry) (notice : Notice) (old run : Run) (mouth mouth' : TalliesKept) (mid : DirectoryKept) (member : Option Member) (verdict : LinkVerdict) (posts : List Dispatch) (found answer : Option Verdict) →
     length entries < 2 ^ 58 → IsTakenIn plan entries notice (scene old mouth) (link.Asks, found) →
     IsChoice old.directory.known plan.places old.given member run.given →
     IsSettled old.directory mid entries (claimed notice (claim_of member)) (record { verdict = verdict; posts = posts }) →
@@ -174,23 +174,23 @@ given_place leaves law more only plan entries notice old run mouth mouth' mid me
     let served : AllByRecursion (IsServed plan) posts = served_part only plan longer before posts [] all in
     let fits : length before + length posts < 18446744073709551615 = omega (arith, taken.few, count, few, length-append (posted (setup_of plan) entries) heard) in
     let carried : IsCarriedOut plan before posts (run.stage.rooms, mouth') answer = carry before taken.idle.name served fits taken.carried.carried in
-    let is_known : run.directory.known ≡ mid.known = ap (λ (k : Kept). k.known) noted in
+    let is_known : run.directory.known ≡ mid.known = ap (λ (k : DirectoryKept). k.known) noted in
     let places : mid.setup.places ≡ plan.places = ap (λ (s : Setup). s.places) (setup ∙ taken.idle.setup) in
     record {
       member = member;
       idle = record {
         is_plan = taken.idle.is_plan;
         name = name ∙ taken.idle.name;
-        setup = ap (λ (k : Kept). k.setup) noted ∙ setup ∙ taken.idle.setup;
-        departing = ap (λ (k : Kept). k.departing) noted
+        setup = ap (λ (k : DirectoryKept). k.setup) noted ∙ setup ∙ taken.idle.setup;
+        departing = ap (λ (k : DirectoryKept). k.departing) noted
             ∙ none_departing posts mid (settled_at past (claim_of member)).left (ap (filter_map left_member) has.are_posts ∙ leaves.settled past (claim_of member)) has.departing;
         known = omega (arith, ap length is_known, bounded, places);
       };
-      asked = ap (λ (k : Kept). k.asked) noted ∙ asked;
-      stands = subst (λ (k : Kept). StandsFor k longer) (sym noted) (noting_stands (filter_map left_member posts) mid longer has.stands);
+      asked = ap (λ (k : DirectoryKept). k.asked) noted ∙ asked;
+      stands = subst (λ (k : DirectoryKept). StandsFor k longer) (sym noted) (noting_stands (filter_map left_member posts) mid longer has.stands);
       carried = subst (λ (ds : List Dispatch). HasCarried plan (before ++ ds) run.stage.rooms mouth') has.are_posts carried.carried;
       is_verdict = has.is_verdict;
-      ends = ap (λ (k : Kept). k.ended) noted ∙ ended ∙ taken.ends;
+      ends = ap (λ (k : DirectoryKept). k.ended) noted ∙ ended ∙ taken.ends;
       few = omega (arith, taken.few, count, ap length is_known, ap length has.are_posts);
       choice = choice;
     }

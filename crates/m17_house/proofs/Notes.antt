@@ -5,7 +5,7 @@ use Rattle.std.proofs.lemmas.Bool.{false≢true, and_from, eq-eqb}
 use Rattle.m17_values.specs.declared.member.Member.{Member}
 use Rattle.m17_directory.specs.declared.known.Departed.{Departed}
 use Rattle.m17_directory.specs.declared.known.Known.{Known}
-use Rattle.m17_directory.specs.StandsFor.{Kept, StandsFor, departed_of, is_member, without_member}
+use Rattle.m17_directory.specs.StandsFor.{DirectoryKept, StandsFor, departed_of, is_member, without_member}
 use Rattle.m17_house.specs.SoFar.{without_members, noting}
 use Rattle.m17_directory.specs.Entries.{Entry}
 
@@ -14,7 +14,7 @@ without_more : (a b : List Member) (departing : List Departed) → without_membe
 without_more [] b departing = refl
 without_more (m ∷ a) b departing = without_more a b (without_member m departing)
 
-pub noting_more : (a b : List Member) (kept : Kept) → noting b (noting a kept) ≡ noting (a ++ b) kept
+pub noting_more : (a b : List Member) (kept : DirectoryKept) → noting b (noting a kept) ≡ noting (a ++ b) kept
 noting_more a b kept = ap (λ (ds : List Departed). record { setup = kept.setup; moment = kept.moment; known = kept.known; asked = kept.asked; departing = ds; faults = kept.faults; ended = kept.ended }) (without_more a b kept.departing)
 
 -- each of those departing is among the members
@@ -73,5 +73,5 @@ pub all_noted : (left : List Known) → without_members (map (λ (k : Known). k.
 all_noted left = all_gone (map (λ (k : Known). k.member) left) (map departed_of left) (each_left left)
 
 -- Nothing else of what the directory stands for hangs on who is departing.
-pub noting_stands : (members : List Member) (kept : Kept) (entries : List Entry) → StandsFor kept entries → StandsFor (noting members kept) entries
+pub noting_stands : (members : List Member) (kept : DirectoryKept) (entries : List Entry) → StandsFor kept entries → StandsFor (noting members kept) entries
 noting_stands members kept entries stands = record { moment = stands.moment; known = stands.known; asked = stands.asked; faults = stands.faults }

@@ -15,9 +15,9 @@ use Rattle.m17_directory.specs.Routed.{unclaimed_at, others_at, settled_at, sett
 use Rattle.m17_directory.specs.StandsFor.{StandsFor, unclaimed, claimed}
 use Rattle.m17_directory.specs.Laws.{OneEntryMore, EntriesBeforeDecide, EndedWhereItEnds, EventsCarryTheirIndex, PacketsAreRouted, is_ended, packet_letter, packet_routed}
 use Rattle.m17_port_memory.specs.Kept.{TalliesKept}
-use Rattle.m17_house.specs.declared.plan.Plan.{Plan}
+use Rattle.m17_plan.specs.declared.plan.Plan.{Plan}
 use Rattle.m17_house.specs.declared.run.Run.{Run}
-use Rattle.m17_house.specs.Replay.{IsPlan, setup_of}
+use Rattle.m17_plan.specs.Planned.{IsPlan, setup_of}
 use Rattle.m17_house.specs.Carried.{HasCarried}
 use Rattle.m17_house.specs.SoFar.{change, scene, IsGiven, IsOneMore, IsSoFar, IsTakenIn, claim_of, past_with}
 use Rattle.m17_house.proofs.Lists.{length_more}

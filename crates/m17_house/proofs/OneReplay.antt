@@ -11,8 +11,9 @@ use Rattle.m17_directory.specs.Entries.{Claim, Entry, Notice, Says, SaysEach, no
 use Rattle.m17_directory.specs.Known.{Past, is_of_place}
 use Rattle.m17_directory.specs.Routed.{past_at, unclaimed_at, others_at, asks_at, is_asks}
 use Rattle.m17_directory.specs.Laws.{EntriesBeforeDecide, EndedWhereItEnds, EachEntrySaysOneThing, HasBytes, is_ended}
-use Rattle.m17_house.specs.declared.plan.Plan.{Plan}
-use Rattle.m17_house.specs.Replay.{IsLeastFree, IsFreeClaim, IsReplayOf, given_before, setup_of}
+use Rattle.m17_plan.specs.declared.plan.Plan.{Plan}
+use Rattle.m17_house.specs.Replay.{IsLeastFree, IsFreeClaim, IsReplayOf, given_before}
+use Rattle.m17_plan.specs.Planned.{setup_of}
 use Rattle.m17_house.specs.Laws.{OneReplay}
 use Rattle.m17_house.proofs.Chosen.{count_range}
 

@@ -14,9 +14,10 @@ use Rattle.m17_directory.specs.Known.{is_of_place}
 use Rattle.m17_directory.specs.Routed.{link_verdict, posted, routed, direct_replies}
 use Rattle.m17_directory.specs.Laws.{LaterEntriesChangeNothing, OneEntryMore, EntriesBeforeDecide, EndedWhereItEnds, EventsCarryTheirIndex, is_ended}
 use Rattle.m17_port_memory.specs.Kept.{TalliesKept}
-use Rattle.m17_house.specs.declared.plan.Plan.{Plan}
+use Rattle.m17_plan.specs.declared.plan.Plan.{Plan}
 use Rattle.m17_house.specs.declared.run.Run.{Run}
-use Rattle.m17_house.specs.Replay.{EndsSomewhere, setup_of, verdicts_of, packet_verdict, packet_verdicts_of, said_to, IsReplayed}
+use Rattle.m17_house.specs.Replay.{EndsSomewhere, verdicts_of, packet_verdict, packet_verdicts_of, said_to, IsReplayed}
+use Rattle.m17_plan.specs.Planned.{setup_of}
 use Rattle.m17_house.specs.Tallied.{AreTalliesOf}
 use Rattle.m17_house.specs.Carried.{said_after}
 use Rattle.m17_house.specs.SoFar.{scene, AreCounts, IsOneMore, IsSoFar}
@@ -58,7 +59,7 @@ ends_before law ends plan entries e i below =
     ∙ ap (λ o. is_ended o.verdict) (law.heard (setup_of plan) (entries ++ e ∷ []) entries i (take-append-le i entries (e ∷ []) (omega arith)) (notice_before entries e i below))
     ∙ ends (setup_of plan) entries i
 
--- So many were heard, none of which ends the link, and these are their verdicts. This profile.
+-- So many were heard, none of which ends the link, and these are their verdicts.
 pub record IsPlayed (plan : Plan) (heard : List Heard) (index : ℕ) (run : Run) (mouth : TalliesKept) (verdicts : List LinkVerdict) (packets : List (Option Verdict)) : Type 0 where
   pub entries : List Entry
   pub count : length entries ≡ index

@@ -14,8 +14,8 @@ use Rattle.m17_directory.specs.Known.{Past}
 use Rattle.m17_directory.specs.Outcome.{Outcome}
 use Rattle.m17_directory.specs.Routed.{past_at, asks_at, unclaimed_at, others_at, settled_at, asked_before, both, comes_to, link_verdict, posts_at, posted, event_for, routed}
 use Rattle.m17_directory.specs.Laws.{OnlyServedAreRouted, EntriesBeforeDecide}
-use Rattle.m17_house.specs.declared.plan.Plan.{Plan}
-use Rattle.m17_house.specs.Replay.{setup_of}
+use Rattle.m17_plan.specs.declared.plan.Plan.{Plan}
+use Rattle.m17_plan.specs.Planned.{setup_of}
 use Rattle.m17_house.specs.Carried.{IsServed}
 use Rattle.m17_house.proofs.Lists.{slice_get_end, length_more}
 

@@ -11,9 +11,10 @@ use Rattle.m17_directory.specs.Laws.{EntriesBeforeDecide, EndedWhereItEnds, Each
 use Rattle.m17_directory.specs.Outcome.{Outcome, has_place}
 use Rattle.m17_directory.specs.Routed.{past_at, unclaimed_at, others_at, asks_at, is_asks}
 use Rattle.m17_directory.specs.StandsFor.{unclaimed}
-use Rattle.m17_house.specs.declared.plan.Plan.{Plan}
+use Rattle.m17_plan.specs.declared.plan.Plan.{Plan}
 use Rattle.m17_house.specs.Laws.{AReplayThereIs}
-use Rattle.m17_house.specs.Replay.{EndsSomewhere, IsLeastFree, IsFreeClaim, IsChosenAt, IsReplayOf, given_before, setup_of}
+use Rattle.m17_house.specs.Replay.{EndsSomewhere, IsLeastFree, IsFreeClaim, IsChosenAt, IsReplayOf, given_before}
+use Rattle.m17_plan.specs.Planned.{setup_of}
 use Rattle.m17_house.specs.SoFar.{AreChosen}
 use Rattle.m17_house.proofs.Chosen.{chosen_more, given_same}
 use Rattle.m17_house.proofs.Lists.{length_more}

@@ -6,8 +6,7 @@ use Rattle.m17_values.specs.declared.peer.Peer.{Peer}
 use Rattle.m17_control.specs.declared.packet.Packet.{Packet}
 use Rattle.m17_control.specs.Forms.{Spells}
 use Rattle.m17_ports.specs.declared.tally.Tally.{Tally}
-use Rattle.m17_ports.specs.Mouth.{Datagram}
-use Rattle.m17_ports.specs.Said.{AreTallied}
+use Rattle.m17_ports.specs.Mouth.{Datagram, AreTallied}
 use Rattle.m17_ports.specs.Tallies.{tally_then, no_tally, IsTallied}
 use Rattle.m17_directory.specs.Entries.{is_peer}
 use Rattle.m17_house.specs.Laws.{TalliesTellPackets}

@@ -1,4 +1,4 @@
--- What modules and mouth stand for when some dispatches of a link were carried out. This profile.
+-- What modules and mouth stand for when some dispatches of a link were carried out.
 use Rattle.std.specs.Prelude.{◌≡◌, ℕ, ◌-◌, true, false, List, [], ◌∷◌, ◌++◌, length, map, slice_get, Option, None, Some}
 use Rattle.std.specs.List.{filter_map, flat_map}
 use Rattle.m17_values.specs.declared.peer.Peer.{Peer}
@@ -10,13 +10,14 @@ use Rattle.m17_floor.specs.declared.verdict.Verdict.{Verdict}
 use Rattle.m17_floor.specs.Floor.{verdict_at}
 use Rattle.m17_module.specs.Events.{acts_of}
 use Rattle.m17_module.specs.Items.{items_given}
-use Rattle.m17_module.specs.StandsFor.{Kept, StandsFor}
+use Rattle.m17_module.specs.StandsFor.{ModuleKept, StandsFor}
 use Rattle.m17_directory.specs.declared.dispatch.Dispatch.{Dispatch}
 use Rattle.m17_directory.specs.declared.dispatch.Dispatch.TheVariants.{ToModule, ToDoor}
 use Rattle.m17_directory.specs.Routed.{event_for, reply_for}
 use Rattle.m17_port_memory.specs.Kept.{TalliesKept}
-use Rattle.m17_house.specs.declared.plan.Plan.{Plan}
-use Rattle.m17_house.specs.Replay.{module_setup, packet_to}
+use Rattle.m17_plan.specs.declared.plan.Plan.{Plan}
+use Rattle.m17_house.specs.Replay.{packet_to}
+use Rattle.m17_plan.specs.Planned.{module_setup}
 use Rattle.m17_house.specs.Tallied.{AreTalliesOf}
 
 -- the events for a module among dispatches
@@ -37,26 +38,26 @@ said_after plan done x = said_past_modules x done
     (letters_of plan.modules)
 
 -- what there is in the cell of a letter that was not made yet: nothing, or a new module
-abbrev pub IsNewRoom : Plan → ℕ → Option Kept → Type 0
+abbrev pub IsNewRoom : Plan → ℕ → Option ModuleKept → Type 0
 IsNewRoom plan letter None = serves plan.modules letter ≡ false
 IsNewRoom plan letter (Some kept) = (kept.setup ≡ module_setup plan letter) × StandsFor kept []
 
 -- the module with this letter stands for these events, in the cell of its letter
-pub record RoomStands (plan : Plan) (letter : ℕ) (events : List Event) (rooms : List (Option Kept))
+pub record RoomStands (plan : Plan) (letter : ℕ) (events : List Event) (rooms : List (Option ModuleKept))
     : Type 0 where
-  pub kept : Kept
+  pub kept : ModuleKept
   pub is_there : slice_get rooms (letter - 65) ≡ Some (Some kept)
   pub setup : kept.setup ≡ module_setup plan letter
   pub stands : StandsFor kept events
 
 -- the step of a module by one event more: where it then stands, and the verdict on it
 pub record IsRoomStep (plan : Plan) (letter : ℕ) (events : List Event) (event : Event)
-    (after : List (Option Kept) × Option Verdict) : Type 0 where
+    (after : List (Option ModuleKept) × Option Verdict) : Type 0 where
   pub stands : RoomStands plan letter (events ++ event ∷ []) after.0
   pub verdict : after.1 ≡ verdict_at plan.places (acts_of (events ++ event ∷ [])) (length events)
 
--- The modules stand for what these dispatches have for them, and the tallies are of what is said by then. This profile.
-pub record HasCarried (plan : Plan) (done : List Dispatch) (rooms : List (Option Kept))
+-- The modules stand for what these dispatches have for them, and the tallies are of what is said by then.
+pub record HasCarried (plan : Plan) (done : List Dispatch) (rooms : List (Option ModuleKept))
     (mouth : TalliesKept) : Type 0 where
   pub rooms_stand : (letter : ℕ) → serves plan.modules letter ≡ true →
       RoomStands plan letter (events_of letter done) rooms

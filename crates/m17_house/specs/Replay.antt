@@ -1,5 +1,4 @@
--- A replay: what one link heard, judged in one thread, with places given as a patient reflector gives them. This
--- profile.
+-- A replay: what one link heard, judged in one thread, with places given as a patient reflector gives them.
 use Rattle.std.specs.Prelude.{◌≡◌, ◌==◌, ◌&&◌, ℕ, ◌-◌, ◌^◌, ◌<◌, Bool, true, false, List, ◌++◌, length, map, min, count_by, nat_lt, slice_get, Option, None, Some, option_and_then, MatchBool, if◌then◌else◌}
 use Rattle.std.specs.List.{filter_map, flat_map, list_any, range_with_len}
 use Rattle.m17_values.specs.declared.heard.Heard.{Heard}
@@ -31,30 +30,15 @@ use Rattle.m17_directory.specs.Known.{is_of_place}
 use Rattle.m17_directory.specs.Laws.{EndsOnce}
 use Rattle.m17_directory.specs.Outcome.{has_place}
 use Rattle.m17_directory.specs.Routed.{past_at, asks_at, others_at, link_verdict, routed, direct_replies}
-use Rattle.m17_house.specs.declared.plan.Plan.{Plan}
+use Rattle.m17_plan.specs.declared.plan.Plan.{Plan}
+use Rattle.m17_plan.specs.Planned.{setup_of, module_setup}
 
--- What the directory of a replay's one link is made with, and what each of its modules. This profile.
-abbrev pub setup_of : Plan → Setup
-setup_of plan =
-    record { link = 0; name = plan.name; places = plan.places; modules = plan.modules }
-
-abbrev pub module_setup : Plan → ℕ → module_items.Setup
-module_setup plan letter =
-    record { places = plan.places; parrot = serves plan.parrots letter }
-
--- The plan can be run: 1 to 256 places, a module or more, and parrots among the modules. This profile.
-pub record IsPlan (plan : Plan) : Type 0 where
-  pub some_place : 0 < plan.places
-  pub at_most : plan.places < 257
-  pub some_module : 0 < length (letters_of plan.modules)
-  pub parrots : (letter : ℕ) → serves plan.parrots letter ≡ true → serves plan.modules letter ≡ true
-
--- What was heard has an entry that ends the link, whatever claims are given. This profile.
+-- What was heard has an entry that ends the link, whatever claims are given.
 abbrev pub EndsSomewhere : List Heard → Type 0
 EndsSomewhere heard = (entries : List Entry) → SaysEach heard entries →
     (n : ℕ) × (n < length entries) × (ends_at entries n ≡ true)
 
--- The place is the least that none of these has. This profile.
+-- The place is the least that none of these has.
 pub record IsLeastFree (rows : List Known) (place : ℕ) : Type 0 where
   pub free : list_any (has_place place) rows ≡ false
   pub least : (lower : ℕ) → lower < place → list_any (has_place lower) rows ≡ true
@@ -65,7 +49,7 @@ given_before entries place n =
     count_by (λ i. is_of_place place (claim_at entries i)) (range_with_len 0 n)
 
 -- The claim of an entry that asks where a place is free: the least that none of the others has, with the number of
--- earlier claims of it as generation; its peer is greeted at once. This profile.
+-- earlier claims of it as generation; its peer is greeted at once.
 pub record IsFreeClaim (others : List Known) (entries : List Entry) (n : ℕ)
     (claim : Option Claim) : Type 0 where
   pub it : Claim
@@ -75,7 +59,7 @@ pub record IsFreeClaim (others : List Known) (entries : List Entry) (n : ℕ)
   pub after : it.after ≡ 0
 
 -- The entry at position n has a claim exactly where it asks and the others that are still known are fewer than the
--- places, and then the claim of a free place. This profile.
+-- places, and then the claim of a free place.
 abbrev pub IsChosenAt : Setup → List Entry → ℕ → Type 0
 IsChosenAt setup entries n =
     MatchBool (asks_at (past_at setup entries n)
@@ -83,8 +67,7 @@ IsChosenAt setup entries n =
     (IsFreeClaim (others_at (past_at setup entries n)) entries n (claim_at entries n))
     (claim_at entries n ≡ None)
 
--- The entries of a replay: what was heard up to the first entry that ends the link, with the claims so chosen. This
--- profile.
+-- The entries of a replay: what was heard up to the first entry that ends the link, with the claims so chosen.
 pub record IsReplayOf (plan : Plan) (heard : List Heard) (entries : List Entry) : Type 0 where
   pub front : List Heard
   pub rest : List Heard
@@ -93,7 +76,7 @@ pub record IsReplayOf (plan : Plan) (heard : List Heard) (entries : List Entry) 
   pub ends : EndsOnce entries
   pub chosen : (n : ℕ) → n < length entries → IsChosenAt (setup_of plan) entries n
 
--- The verdict of each entry. This profile.
+-- The verdict of each entry.
 abbrev pub verdicts_of : Plan → List Entry → List LinkVerdict
 verdicts_of plan entries =
     map (link_verdict (setup_of plan) entries) (range_with_len 0 (length entries))
@@ -113,7 +96,7 @@ verdict_among places n events =
     option_and_then (verdict_at places (acts_of events))
     (last_below (λ i. is_packet_from n (slice_get events i)) (length events))
 
--- The floor rule's verdict on the packet of an entry, where it was routed to a module as one. This profile.
+-- The floor rule's verdict on the packet of an entry, where it was routed to a module as one.
 abbrev pub verdict_routed : Plan → List Entry → ℕ → LinkVerdict → Option Verdict
 verdict_routed plan entries n (Routed letter act.Packet) =
     verdict_among plan.places n (routed (setup_of plan) entries letter)
@@ -127,7 +110,7 @@ abbrev pub packet_verdicts_of : Plan → List Entry → List (Option Verdict)
 packet_verdicts_of plan entries =
     map (packet_verdict plan entries) (range_with_len 0 (length entries))
 
--- What a module says to a peer: the packets of the items that it gives to the peer's members. This profile.
+-- What a module says to a peer: the packets of the items that it gives to the peer's members.
 abbrev pub packet_to : Peer → ℕ → Item → Option Packet
 packet_to x name item = if is_peer x item.peer then packet_said item.body name else None
 
@@ -136,8 +119,7 @@ said_by_module plan entries x letter =
     filter_map (packet_to x plan.name) (module_items.items_given (module_setup plan letter)
     (routed (setup_of plan) entries letter))
 
--- All that is said to a peer: past all modules, and by each module; in a tally their order does not matter. This
--- profile.
+-- All that is said to a peer: past all modules, and by each module; in a tally their order does not matter.
 unfoldable pub said_to : Plan → List Entry → Peer → List Packet
 said_to plan entries x =
     map packets.Control (direct_replies (setup_of plan) entries x)
@@ -172,7 +154,7 @@ is_stream _ = false
 abbrev pub count_of : (Packet → Bool) → List Packet → ℕ
 count_of kind said = min (count_by kind said) (2 ^ 64 - 1)
 
--- The tally of what was said to a peer. This profile.
+-- The tally of what was said to a peer.
 abbrev pub tally_of : List Packet → Tally
 tally_of said = record {
   ackn = count_of is_ackn said;
@@ -183,13 +165,13 @@ tally_of said = record {
   frame = count_of is_stream said;
 }
 
--- Nothing was said by the mouth yet: each tally that it tells is 0. This profile.
+-- Nothing was said by the mouth yet: each tally that it tells is 0.
 abbrev pub HasNoTallies : TalliesKept → Type 0
 HasNoTallies mouth =
     (x : Peer) (tally : Tally) → tally_at mouth.entries x ≡ Some tally → tally ≡ no_tally
 
 -- These are the verdicts of the replay's entries, and this mouth said what it says: each tally that the mouth tells is
--- that of what is said to its peer. This profile.
+-- that of what is said to its peer.
 pub record IsReplayed (plan : Plan) (heard : List Heard) (verdicts : List LinkVerdict)
     (packets : List (Option Verdict)) (mouth : TalliesKept) : Type 0 where
   pub entries : List Entry

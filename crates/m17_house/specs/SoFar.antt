@@ -1,4 +1,4 @@
--- What a run stands for in the midst of a replay. This profile.
+-- What a run stands for in the midst of a replay.
 use Rattle.std.specs.Prelude.{◌≡◌, ℕ, ◌+◌, ◌*◌, ◌<◌, ◌≤◌, List, [], ◌∷◌, ◌++◌, length, slice_index, slice_set, nat_lt, Option, None, Some, option_map, MatchBool}
 use Rattle.std.specs.Option.{option_or}
 use Rattle.m17_values.specs.declared.heard.Heard.{Heard}
@@ -14,11 +14,12 @@ use Rattle.m17_directory.specs.Entries.{Notice, Claim, Entry, Says, ends_at}
 use Rattle.m17_directory.specs.Known.{Past}
 use Rattle.m17_directory.specs.Outcome.{Outcome}
 use Rattle.m17_directory.specs.Routed.{past_at, unclaimed_at, others_at, settled_at, link_verdict, posted}
-use Rattle.m17_directory.specs.StandsFor.{Kept, StandsFor, unclaimed, claimed, without_member}
+use Rattle.m17_directory.specs.StandsFor.{DirectoryKept, StandsFor, unclaimed, claimed, without_member}
 use Rattle.m17_port_memory.specs.Kept.{TalliesKept}
-use Rattle.m17_house.specs.declared.plan.Plan.{Plan}
+use Rattle.m17_plan.specs.declared.plan.Plan.{Plan}
 use Rattle.m17_house.specs.declared.run.Run.{Run}
-use Rattle.m17_house.specs.Replay.{IsPlan, IsLeastFree, IsChosenAt, setup_of, given_before, packet_verdict}
+use Rattle.m17_house.specs.Replay.{IsLeastFree, IsChosenAt, given_before, packet_verdict}
+use Rattle.m17_plan.specs.Planned.{IsPlan, setup_of}
 use Rattle.m17_house.specs.Carried.{HasCarried, answer_to}
 
 -- the departing when the leaving of these was noted, one after another, and the directory then
@@ -26,7 +27,7 @@ abbrev pub without_members : List Member → List Departed → List Departed
 without_members [] departing = departing
 without_members (m ∷ members) departing = without_members members (without_member m departing)
 
-abbrev pub noting : List Member → Kept → Kept
+abbrev pub noting : List Member → DirectoryKept → DirectoryKept
 noting members kept = record {
   setup = kept.setup;
   moment = kept.moment;
@@ -44,15 +45,15 @@ found_from plan before found (d ∷ more) =
     found_from plan (before ++ d ∷ []) (option_or (answer_to plan before d) found) more
 
 -- The dispatches were carried out after others, with this verdict on the last packet among them: so the modules and
--- the mouth are after that. This profile.
+-- the mouth are after that.
 pub record IsCarriedOut (plan : Plan) (before posts : List Dispatch)
-    (after : List (Option modules.Kept) × TalliesKept) (answer : Option Verdict)
+    (after : List (Option modules.ModuleKept) × TalliesKept) (answer : Option Verdict)
     : Type 0 where
   pub carried : HasCarried plan (before ++ posts) after.0 after.1
   pub found : answer ≡ found_from plan before None posts
 
 -- The choice of a member for a peer that asks, beside those that are known: of the least place that nobody has, counted
--- at that place; none where as many are known as there are places. This profile.
+-- at that place; none where as many are known as there are places.
 pub record IsFreeMember (known : List Known) (places : ℕ) (old : List ℕ) (result : Option Member)
     (new : List ℕ) : Type 0 where
   pub it : Member
@@ -81,7 +82,7 @@ abbrev pub AreChosen : Plan → List Entry → Type 0
 AreChosen plan entries =
     (n : ℕ) → n < length entries → IsChosenAt (setup_of plan) entries n
 
--- The run is one of this plan, and nobody's leaving is to be noted. This profile.
+-- The run is one of this plan, and nobody's leaving is to be noted.
 pub record IsIdle (plan : Plan) (run : Run) : Type 0 where
   pub is_plan : IsPlan plan
   pub name : run.stage.name ≡ plan.name
@@ -89,7 +90,7 @@ pub record IsIdle (plan : Plan) (run : Run) : Type 0 where
   pub departing : run.directory.departing ≡ []
   pub known : length run.directory.known ≤ plan.places
 
--- The run has come through these entries. This profile.
+-- The run has come through these entries.
 pub record IsSoFar (plan : Plan) (entries : List Entry) (run : Run) (mouth : TalliesKept)
     : Type 0 where
   pub idle : IsIdle plan run
@@ -110,7 +111,7 @@ abbrev pub scene : Run → TalliesKept → Scene
 scene run mouth = record { run = run; mouth = mouth }
 
 -- The run has come through these entries, and has heard one more that says this, but for its claim: it answered the
--- link's verdict, and the floor rule's on a packet. This profile.
+-- link's verdict, and the floor rule's on a packet.
 pub record IsTakenIn (plan : Plan) (entries : List Entry) (notice : Notice) (s : Scene)
     (answer : LinkVerdict × Option Verdict) : Type 0 where
   pub idle : IsIdle plan s.run
@@ -149,7 +150,7 @@ pub record Change : Type 0 where
 abbrev pub change : Run → Run → TalliesKept → Change
 change old run mouth = record { old = old; after = scene run mouth }
 
--- The same with its claim, where it asked. This profile.
+-- The same with its claim, where it asked.
 pub record IsGiven (plan : Plan) (entries : List Entry) (notice : Notice) (c : Change)
     (verdict : LinkVerdict) : Type 0 where
   pub member : Option Member
@@ -167,7 +168,7 @@ pub record IsGiven (plan : Plan) (entries : List Entry) (notice : Notice) (c : C
       + length c.after.run.directory.known ≤ 54 * length entries + 54
   pub choice : IsChoice c.old.directory.known plan.places c.old.given member c.after.run.given
 
--- One entry more was heard, and what became of it is in all that the run stands for. This profile.
+-- One entry more was heard, and what became of it is in all that the run stands for.
 pub record IsOneMore (plan : Plan) (entries : List Entry) (h : Heard) (s : Scene)
     (answer : LinkVerdict × Option Verdict) : Type 0 where
   pub entry : Entry

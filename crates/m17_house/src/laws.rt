@@ -1,5 +1,4 @@
-//! What the definitions promise of all that may be heard. Each function does nothing: its clause is the law. This
-//! profile.
+//! What the definitions promise of all that may be heard. Each function does nothing: its clause is the law.
 ghost use Rattle.m17_house.specs.Laws as law;
 
 use m17_directory::laws as directory_laws;

@@ -8,14 +8,12 @@
 
 mod choice;
 pub mod laws;
-mod plan;
 mod replay;
 mod rooms;
 mod run;
 mod stage;
 mod voice;
 
-pub use plan::Plan;
 pub use replay::replay_plain;
 
 #[cfg(test)]

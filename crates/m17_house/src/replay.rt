@@ -1,14 +1,15 @@
 ghost use Rattle.std.specs.Prelude.{◌≡◌, ◌^◌, ◌<◌, ◌≤◌, [], false, length, IfOk, OnErr, vec_capacity};
 ghost use Rattle.m17_directory.specs.Entries.{Entry};
-ghost use Rattle.m17_house.specs.Replay.{IsPlan, EndsSomewhere, IsReplayed, HasNoTallies};
+ghost use Rattle.m17_house.specs.Replay.{EndsSomewhere, IsReplayed, HasNoTallies};
+ghost use Rattle.m17_plan.specs.Planned.{IsPlan};
 ghost use Rattle.m17_house.specs.SoFar.{IsSoFar};
 ghost use Rattle.m17_house.specs.Tallied.{IsSameMouth};
 ghost use Rattle.m17_port_memory.specs.Peers.{named_in};
 
-use crate::Plan;
 use crate::run::Run;
 use m17_directory::{LinkVerdict, laws as directory_laws};
 use m17_floor::{Verdict, laws as floor_laws};
+use m17_plan::Plan;
 use m17_port_memory::TallyMouth;
 use m17_values::{Heard, NoMemory};
 use std::alloc::Global;
@@ -63,7 +64,6 @@ fn play(
 /// and what is answered past them is said on the mouth, which keeps its tallies. Answers of each entry heard the link's
 /// verdict, and the floor rule's verdict on its packet, if it was routed to a module as one. `NoMemory` where there is
 /// none for the modules or the verdicts; the mouth is as it was then. Nothing allocates once the first entry is heard.
-/// This profile.
 pub fn replay_plain(
     alloc: Global,
     plan: &Plan,

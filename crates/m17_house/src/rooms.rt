@@ -2,14 +2,14 @@ ghost use Rattle.std.specs.Prelude.{◌≡◌, ◌≢◌, ◌-◌, ◌+◌, ◌^
 ghost use Rattle.m17_control.specs.Modules.{serves};
 ghost use Rattle.m17_control.specs.declared.event.Event.{Event};
 ghost use Rattle.m17_module.specs.Items.{items_at};
-ghost use Rattle.m17_house.specs.declared.plan.Plan.{Plan};
-ghost use Rattle.m17_house.specs.Replay.{IsPlan, module_setup};
+ghost use Rattle.m17_plan.specs.declared.plan.Plan.{Plan};
+ghost use Rattle.m17_plan.specs.Planned.{IsPlan, module_setup};
 ghost use Rattle.m17_house.specs.Carried.{IsNewRoom, IsRoomStep, RoomStands};
 
-use crate::Plan;
 use m17_control::{Event, ModuleLetter};
 use m17_floor::Verdict;
 use m17_module::{Basket, Module};
+use m17_plan::Plan;
 use m17_values::NoMemory;
 use std::alloc::Global;
 use std::marker::Model;
@@ -25,9 +25,9 @@ pub(crate) struct Rooms {
 
 impl Model for Rooms {
     ghost use Rattle.std.specs.Prelude.{◌≡◌, List, Option, length};
-    ghost use Rattle.m17_module.specs.StandsFor.{Kept};
+    ghost use Rattle.m17_module.specs.StandsFor.{ModuleKept};
 
-    ghost Value = { List (Option Kept) };
+    ghost Value = { List (Option ModuleKept) };
 
     ghost view = { λ r. r.cells.items };
 

@@ -1,18 +1,18 @@
 ghost use Rattle.std.specs.Prelude.{◌≡◌, ◌-◌, ◌^◌, ◌<◌, ℕ, List, [], ◌∷◌, ◌++◌, length, IfOk};
 ghost use Rattle.m17_directory.specs.declared.dispatch.Dispatch.{Dispatch};
 ghost use Rattle.m17_port_memory.specs.Kept.{TalliesKept};
-ghost use Rattle.m17_house.specs.declared.plan.Plan.{Plan};
-ghost use Rattle.m17_house.specs.Replay.{IsPlan};
+ghost use Rattle.m17_plan.specs.declared.plan.Plan.{Plan};
+ghost use Rattle.m17_plan.specs.Planned.{IsPlan};
 ghost use Rattle.m17_house.specs.Tallied.{AreTalliesOf, IsSameMouth};
 ghost use Rattle.m17_house.specs.Carried.{HasCarried, IsServed, answer_to};
 
-use crate::Plan;
 use crate::rooms::Rooms;
 use crate::voice::{answer, say_all};
 use m17_callsign::CallAddress;
 use m17_directory::Dispatch;
 use m17_floor::{Verdict, laws as floor_laws};
 use m17_module::{Basket, laws as module_laws};
+use m17_plan::Plan;
 use m17_port_memory::TallyMouth;
 use m17_values::NoMemory;
 use std::alloc::Global;

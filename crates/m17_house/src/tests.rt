@@ -1,13 +1,14 @@
 //! What no clause says: worked evenings of the reflector in one thread. Each is data, what the peers say and what becomes
 //! of it; `expect` replays it.
 ghost use Rattle.std.specs.Prelude.{◌≡◌, ◌<◌, Ok};
-ghost use Rattle.m17_house.specs.Replay.{IsPlan};
+ghost use Rattle.m17_plan.specs.Planned.{IsPlan};
 
-use crate::{Plan, laws, replay_plain};
+use crate::{laws, replay_plain};
 use m17_callsign::{Address, CallAddress};
 use m17_control::{Control, ModuleLetter, Modules, write};
 use m17_directory::{Act, LinkVerdict};
 use m17_floor::Verdict;
+use m17_plan::Plan;
 use m17_port_memory::TallyMouth;
 use m17_samples::{ab1cd, frame, n0call};
 use m17_values::{Gram, Heard, Peer};

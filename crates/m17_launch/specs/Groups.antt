@@ -6,7 +6,6 @@ use Rattle.m17_crew.specs.declared.order.Order.{Order}
 use Rattle.m17_rows.specs.Rows.{push_each}
 
 -- The jobs of a group, and the ends of their orders.
--- This profile.
 pub record Staff (A : Type 0) : Type 0 where
   pub jobs : List A
   pub orders : List (PushEnd Order)
@@ -16,14 +15,12 @@ module _ {A : Type 0} where
   staff jobs orders = record { jobs = jobs; orders = orders }
 
   -- The jobs can be started: each is ready, none runs, and there is room for all of them to.
-  -- This profile.
   pub record CanStart (ready : A → Type 0) (jobs running : List A) (room : ℕ) : Type 0 where
     pub each : All ready jobs
     pub none : running ≡ []
     pub enough : length jobs ≤ room
 
   -- Each job came back in its place and was told these orders, and is to what it was as `does` says.
-  -- This profile.
   pub record WereTold (does : A → A → Type 0) (told : List Order) (before after : Staff A)
       : Type 0 where
     pub jobs : AllZip does before.jobs after.jobs

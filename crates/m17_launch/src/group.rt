@@ -15,7 +15,7 @@ use std::alloc::Global;
 use std::sync::Wait;
 use std::thread::Threads;
 
-/// Jobs of one kind, with the end of each one's orders, in the same order, and room for them to run. This profile.
+/// Jobs of one kind, with the end of each one's orders, in the same order, and room for them to run.
 #[derive(Drop)]
 pub struct Group<W: Work> {
     /// The jobs, while they do not run.

@@ -18,7 +18,7 @@ use std::thread::Threads;
 /// Starts all jobs of three groups, each in a thread of its own. Where that went well, each is told to go; those of the
 /// first two groups are joined, and then those of the third are told to stop, and joined. `Failed` where the crew refused
 /// a start: all are told to quit then, those that were started are joined, and each job is as it was or has only quit.
-/// Each job comes back in its place. It waits for the jobs, and for ever where one doesn't end. This profile.
+/// Each job comes back in its place. It waits for the jobs, and for ever where one doesn't end.
 pub fn launch<V: Work, W: Work, S: Work, C: Crew, R: Threads + Wait + Copy + Send + 'static>(
     rt: &R,
     alloc: Global,

@@ -2,11 +2,10 @@
 use Rattle.std.proofs.Common.{◌≡◌, ℕ, zero, suc, ◌<◌, ◌≤◌, ◌++◌, Bool, true, false, List, [], ◌∷◌, length, Option, None, Some, sym, refl, ap, ◌∙◌, arith}
 use Rattle.std.proofs.lemmas.Option.{same_Some, none-some, slice_get_within}
 use Rattle.m17_io.specs.Faults.{HasRisen}
+use Rattle.m17_ports.specs.Book.{BookTold, HasText}
 use Rattle.m17_ports.specs.Told.{told_then, StartsEmpty}
 use Rattle.m17_floor.specs.Legal.{book_places}
-use Rattle.m17_receiver.specs.Devices.{Tells}
 use Rattle.m17_worker.specs.BookLaws.{BooksAreLegal}
-use Rattle.m17_worker.specs.Written.{HasText}
 use Rattle.m17_reflect.specs.Links.{At, setup_at}
 use Rattle.m17_reflect.specs.Run.{Run}
 use Rattle.m17_reflect.specs.Trails.{events_of}
@@ -16,7 +15,7 @@ use Rattle.std.specs.Prelude.{slice_get}
 
 module _ {A : Type 0} where
   -- there is an item at each place below the length
-  at_below : (xs : List A) (i : ℕ) → i < length xs → (x : A) × (slice_get xs i ≡ Some x)
+  pub at_below : (xs : List A) (i : ℕ) → i < length xs → (x : A) × (slice_get xs i ≡ Some x)
   at_below [] i lt = absurd (omega arith)
   at_below (x ∷ xs) zero lt = (x, refl)
   at_below (x ∷ xs) (suc i) lt = at_below xs i (omega arith)
@@ -28,13 +27,14 @@ told_is (Some all) after text bytes new then is =
     sym (same_Some (all ++ text) bytes (sym then ∙ is)) ∙ ap (λ (l : List ℕ). l ++ text) (new all refl)
 
 -- a book whose count didn't rise has the whole text
-whole_text : (before after : Tells ℕ) (text bytes : List ℕ) (failed : Bool) → HasText before text failed after → StartsEmpty before.0 → after.0 ≡ Some bytes
-    → ¬ HasRisen before.1 after.1 → bytes ≡ text
+whole_text : {B : Type 0} (before after : BookTold B) (text bytes : List ℕ) (failed : Bool) → HasText before text failed after → StartsEmpty before.written → after.written ≡ Some bytes
+    → ¬ HasRisen before.faults after.faults → bytes ≡ text
 whole_text before after text bytes true has new is stands = absurd (stands (has.cut refl).2)
-whole_text before after text bytes false has new is stands = told_is before.0 after.0 text bytes new (has.whole refl).0 is
+whole_text before after text bytes false has new is stands = told_is before.written after.written text bytes new (has.whole refl).0 is
 
-pub books_of_runs_are_legal : BooksAreLegal → {L : Type 0} (run : Run L) (headline : Headline run) → run.plan.places ≤ book_places → (m : ℕ) (before after : Tells ℕ) (bytes : List ℕ)
-    → At run.before.books m before → At run.after.books m after → StartsEmpty before.0 → after.0 ≡ Some bytes → ¬ HasRisen before.1 after.1 → HaveLegalBook run m bytes
+pub books_of_runs_are_legal : BooksAreLegal → {E M B : Type 0} (run : Run E M B) (headline : Headline run) → run.plan.places ≤ book_places → (m : ℕ) (before after : BookTold B) (bytes : List ℕ)
+    → At run.before.books m before → At run.after.books m after → StartsEmpty before.written → after.written ≡ Some bytes → ¬ HasRisen before.faults after.faults
+    → HaveLegalBook run m bytes
 books_of_runs_are_legal legal run headline few m before after bytes at_b at_a new is stands =
     let written = headline.carried_out.judged.written in
     let trails = headline.carried_out.trails in

@@ -10,14 +10,16 @@ use Rattle.m17_directory.specs.declared.known.Departed.{Departed}
 use Rattle.m17_directory.specs.declared.verdict.LinkVerdict.{LinkVerdict}
 use Rattle.m17_directory.specs.Entries.{Notice, Setup, Says, ends_at}
 use Rattle.m17_receiver.specs.declared.receiver.Receiver.{Receiver}
-use Rattle.m17_receiver.specs.Devices.{Words, Tells, HasHeard, HasTrace}
+use Rattle.m17_ports.specs.Ear.{EarTold}
+use Rattle.m17_ports.specs.Book.{BookTold, HasText}
+use Rattle.m17_ports.specs.Laws.{NewEarsTell, EarsHearInTurn, BooksAreWrittenInTurn}
+use Rattle.m17_receiver.specs.Devices.{HearsToTheEnd, trace_text}
 use Rattle.m17_receiver.specs.Tape.{IsTaped}
 use Rattle.m17_receiver.specs.Ready.{IsFit}
 use Rattle.m17_receiver.specs.ReceiverDid.{IsSameReceiver, HasReceived, outlets_of}
-use Rattle.m17_receiver.specs.SoFar.{Laws, IsPlanOf, IsKept, IsThrough, HasCome, HasComeBy, plan_of, parts_of}
+use Rattle.m17_receiver.specs.SoFar.{Laws, IsPlanOf, IsKept, IsThrough, HasCome, HasComeBy, plan_of_job, parts_of}
 use Rattle.m17_receiver.proofs.Posted.{posted_none}
 use Rattle.m17_receiver.proofs.Heard.{heard_nothing}
-use Rattle.m17_receiver.proofs.Traced.{traced_none}
 use Rattle.m17_receiver.proofs.Greeted.{greeted_none, left_none}
 use Rattle.m17_receiver.proofs.Claimed.{at_end_or_before, claimed_none}
 use Rattle.m17_receiver.proofs.Ended.{length_says, says_more, ends_before, ends_once, lost_is}
@@ -41,18 +43,18 @@ module _ {E B : Type 0} where
   index_is j k heards noted index was is = omega (arith, is, length_says heards was.entries was.says)
 
   -- what is written and heard stays while the entry is worked on
-  pub trace_stays : (words : Words E B) (k s : Receiver E B) (start : Tells ℕ) (heards : List Heard) → IsKept k s → HasTrace start heards k.trace_failed (words.written k.trace, words.trace_faults k.trace) →
-      HasTrace start heards s.trace_failed (words.written s.trace, words.trace_faults s.trace)
-  trace_stays words k s start heards kept was =
-      subst (λ (r : Receiver E B). HasTrace start heards r.trace_failed (words.written r.trace, words.trace_faults r.trace)) (sym kept.rest) was
+  pub trace_stays : {L : Type 0} (writes : B → BookTold L) (k s : Receiver E B) (start : BookTold L) (text : List ℕ) → IsKept k s → HasText start text k.trace_failed (writes k.trace) →
+      HasText start text s.trace_failed (writes s.trace)
+  trace_stays writes k s start text kept was =
+      subst (λ (r : Receiver E B). HasText start text r.trace_failed (writes r.trace)) (sym kept.rest) was
 
-  pub ear_stays : (words : Words E B) (k s : Receiver E B) (start : Tells Heard) (heards : List Heard) → IsKept k s → HasHeard start heards (words.heard k.ear, words.ear_faults k.ear) →
-      HasHeard start heards (words.heard s.ear, words.ear_faults s.ear)
-  ear_stays words k s start heards kept was =
-      subst (λ (r : Receiver E B). HasHeard start heards (words.heard r.ear, words.ear_faults r.ear)) (sym kept.rest) was
+  pub ear_stays : {L : Type 0} (hears : E → EarTold L) (k s : Receiver E B) (start : EarTold L) (heards : List Heard) → IsKept k s → HearsToTheEnd start heards (hears k.ear) →
+      HearsToTheEnd start heards (hears s.ear)
+  ear_stays hears k s start heards kept was =
+      subst (λ (r : Receiver E B). HearsToTheEnd start heards (hears r.ear)) (sym kept.rest) was
 
-  pub faults_stay : (words : Words E B) (k s : Receiver E B) → IsKept k s → words.ear_faults s.ear ≡ words.ear_faults k.ear
-  faults_stay words k s kept = ap (λ (r : Receiver E B). words.ear_faults r.ear) kept.rest
+  pub faults_stay : {L : Type 0} (hears : E → EarTold L) (k s : Receiver E B) → IsKept k s → (hears s.ear).faults ≡ (hears k.ear).faults
+  faults_stay hears k s kept = ap (λ (r : Receiver E B). (hears r.ear).faults) kept.rest
 
   -- the tape with one cell more
   pub cell_put : (k s : Receiver E B) (cells : List (Option LinkVerdict)) (index n : ℕ) (verdict : LinkVerdict) → IsKept k s → cells ≡ set s.tape.items index (Some verdict) → index ≡ n → cells ≡ set k.tape.items n (Some verdict)
@@ -112,7 +114,7 @@ module _ {E B : Type 0} where
     lanes = record { inboxes = kept.lanes.inboxes ∙ same.lanes.inboxes; door = kept.lanes.door ∙ same.lanes.door };
   }
 
-  pub plan_is : (j k : Receiver E B) → j.directory.setup.places ≡ j.places → j.directory.setup.modules ≡ j.modules → IsSameReceiver j k → IsPlanOf (plan_of j) k
+  pub plan_is : (j k : Receiver E B) → j.directory.setup.places ≡ j.places → j.directory.setup.modules ≡ j.modules → IsSameReceiver j k → IsPlanOf (plan_of_job j) k
   plan_is j k places modules same = record {
     patient = sym same.patient;
     places = places ∙ sym same.places;
@@ -121,7 +123,7 @@ module _ {E B : Type 0} where
 
   -- one entry more, which goes on
   pub come_on : Laws → (j k s : Receiver E B) (heards : List Heard) (h : Heard) (notice : Notice) (noted noted' : ℕ) (verdict : LinkVerdict) →
-      (was : HasCome heards j k noted) → Says h notice → (t : IsThrough (plan_of j) was.entries notice (parts_of s noted') verdict) →
+      (was : HasCome heards j k noted) → Says h notice → (t : IsThrough (plan_of_job j) was.entries notice (parts_of s noted') verdict) →
       s.tape.items ≡ set k.tape.items (length was.entries) (Some verdict) → s.directory.ended ≡ false → HasCome (heards ++ h ∷ []) j s noted'
   come_on law j k s heards h notice noted noted' verdict was says t tape goes_on =
       let setup : Setup = j.directory.setup in
@@ -139,7 +141,7 @@ module _ {E B : Type 0} where
 
   -- one entry more, which ends the link
   pub come_end : Laws → (j k s : Receiver E B) (heards : List Heard) (h : Heard) (notice : Notice) (noted noted' : ℕ) (verdict : LinkVerdict) →
-      (was : HasCome heards j k noted) → Says h notice → (t : IsThrough (plan_of j) was.entries notice (parts_of s noted') verdict) →
+      (was : HasCome heards j k noted) → Says h notice → (t : IsThrough (plan_of_job j) was.entries notice (parts_of s noted') verdict) →
       s.tape.items ≡ set k.tape.items (length was.entries) (Some verdict) → s.directory.ended ≡ true → IsTrue s.lost ↔ (h ≡ heard.Fault) → HasReceived (heards ++ h ∷ []) j s
   come_end law j k s heards h notice noted noted' verdict was says t tape ended lost =
       let setup : Setup = j.directory.setup in
@@ -159,15 +161,15 @@ module _ {E B : Type 0} where
       }
 
   -- nothing was heard yet
-  pub come_none : Laws → (words : Words E B) (j : Receiver E B) → IsFit words j → HasComeBy words j j 0 0
-  come_none law words j fit =
+  pub come_none : {L K : Type 0} → Laws → NewEarsTell → EarsHearInTurn L → BooksAreWrittenInTurn K → (hears : E → EarTold L) (writes : B → BookTold K) (j : Receiver E B) →
+      IsFit hears writes j → HasComeBy hears writes j j 0 0
+  come_none law tell ears books hears writes j fit =
       let lists = fit.unused.seat in
       let none : j.notes.popped ≡ [] = fit.unused.notes in
       record {
         heard = [];
-        ear = heard_nothing (words.heard j.ear, words.ear_faults j.ear);
-        trace = subst (λ (b : Bool). HasTrace (words.written j.trace, words.trace_faults j.trace) [] b (words.written j.trace, words.trace_faults j.trace)) (sym fit.unused.trace_failed)
-            (traced_none (words.written j.trace, words.trace_faults j.trace));
+        ear = heard_nothing tell ears (hears j.ear) fit.unused.ear;
+        trace = subst (λ (b : Bool). HasText (writes j.trace) (trace_text []) b (writes j.trace)) (sym fit.unused.trace_failed) (books.nothing (writes j.trace));
         no_end = λ in_it. absurd (omega (arith, in_it.1));
         count = refl;
         come = record {

@@ -14,7 +14,7 @@ use Rattle.m17_directory.specs.Entries.{Notice, Entry, Setup, claim_at}
 use Rattle.m17_directory.specs.Known.{Past}
 use Rattle.m17_directory.specs.Outcome.{Outcome}
 use Rattle.m17_directory.specs.Routed.{past_at, asks_at, is_asks, unclaimed_at, others_at, outcome_at, link_verdict, posts_at}
-use Rattle.m17_directory.specs.StandsFor.{Kept, StandsFor, IsHeard, unclaimed, departed_of}
+use Rattle.m17_directory.specs.StandsFor.{DirectoryKept, StandsFor, IsHeard, unclaimed, departed_of}
 use Rattle.m17_directory.specs.Laws.{left_before, is_ended, is_full}
 use Rattle.m17_receiver.specs.Posting.{Outlets}
 use Rattle.m17_receiver.specs.SoFar.{Laws, Plan, Parts, HasNoted, AreGone, IsSoFar, IsAsking, IsThrough, past_with, posting}
@@ -28,12 +28,12 @@ use Rattle.m17_receiver.proofs.Noted.{noted_left, noted_stands}
 count_more : (n n' : ℕ) (notes more : List Member) → n ≡ min (length notes) (2 ^ 64 - 1) → n' ≡ min (length notes + length more) (2 ^ 64 - 1) → n' ≡ min (length (notes ++ more)) (2 ^ 64 - 1)
 count_more n n' notes more was is = omega (arith, is, length-append notes more)
 
-pub so_far_noted : (plan : Plan) (entries : List Entry) (p : Parts) (d : Kept) (notes more : List Member) (n : ℕ) → IsSoFar plan entries p →
+pub so_far_noted : (plan : Plan) (entries : List Entry) (p : Parts) (d : DirectoryKept) (notes more : List Member) (n : ℕ) → IsSoFar plan entries p →
     notes ≡ p.notes ++ more → HasNoted more (p.directory, p.noted) (d, n) →
     IsSoFar plan entries (record { directory = d; out = p.out; notes = notes; noted = n; seat = p.seat })
 so_far_noted plan entries p d notes more n was is noted =
     subst (λ (ms : List Member). IsSoFar plan entries (record { directory = d; out = p.out; notes = ms; noted = n; seat = p.seat })) (sym is) (record {
-      setup = ap (λ (k : Kept). k.setup) noted.same ∙ was.setup;
+      setup = ap (λ (k : DirectoryKept). k.setup) noted.same ∙ was.setup;
       stands = noted_stands more p.directory d p.noted n entries noted was.stands;
       posted = was.posted;
       claimed = was.claimed;
@@ -42,17 +42,17 @@ so_far_noted plan entries p d notes more n was is noted =
       count = count_more p.noted n p.notes more was.count (noted.count (length p.notes) was.count);
     })
 
-pub asking_noted : (plan : Plan) (entries : List Entry) (notice : Notice) (p : Parts) (d : Kept) (notes more : List Member) (n : ℕ) → IsAsking plan entries notice p →
+pub asking_noted : (plan : Plan) (entries : List Entry) (notice : Notice) (p : Parts) (d : DirectoryKept) (notes more : List Member) (n : ℕ) → IsAsking plan entries notice p →
     notes ≡ p.notes ++ more → HasNoted more (p.directory, p.noted) (d, n) →
     IsAsking plan entries notice (record { directory = d; out = p.out; notes = notes; noted = n; seat = p.seat })
 asking_noted plan entries notice p d notes more n was is noted =
     subst (λ (ms : List Member). IsAsking plan entries notice (record { directory = d; out = p.out; notes = ms; noted = n; seat = p.seat })) (sym is) (record {
-      setup = ap (λ (k : Kept). k.setup) noted.same ∙ was.setup;
+      setup = ap (λ (k : DirectoryKept). k.setup) noted.same ∙ was.setup;
       stands = noted_stands more p.directory d p.noted n (entries ++ unclaimed notice ∷ []) noted was.stands;
       asks = was.asks;
       posted = was.posted;
-      goes_on = ap (λ (k : Kept). k.ended) noted.same ∙ was.goes_on;
-      others = ap (λ (k : Kept). k.known) noted.same ∙ was.others;
+      goes_on = ap (λ (k : DirectoryKept). k.ended) noted.same ∙ was.goes_on;
+      others = ap (λ (k : DirectoryKept). k.known) noted.same ∙ was.others;
       claimed = was.claimed;
       greeted = greeted_notes entries p.notes more was.greeted;
       gone = gone_noted (left_before plan.setup entries (length entries) ++ map departed_of (unclaimed_at (past_with plan.setup entries (unclaimed notice))).left)
@@ -61,14 +61,14 @@ asking_noted plan entries notice p d notes more n was is noted =
     })
 
 -- An entry is heard.
-record IsHeardIn (setup : Setup) (entries : List Entry) (notice : Notice) (old new : Kept) (verdict : LinkVerdict) (posts : List Dispatch) : Type 0 where
+record IsHeardIn (setup : Setup) (entries : List Entry) (notice : Notice) (old new : DirectoryKept) (verdict : LinkVerdict) (posts : List Dispatch) : Type 0 where
   stands : StandsFor new (entries ++ unclaimed notice ∷ [])
   is_verdict : verdict ≡ (unclaimed_at (past_with setup entries (unclaimed notice))).verdict
   are_posts : posts ≡ (unclaimed_at (past_with setup entries (unclaimed notice))).posts
   departing : new.departing ≡ old.departing ++ map departed_of (unclaimed_at (past_with setup entries (unclaimed notice))).left
   others : verdict ≡ link.Asks → new.known ≡ others_at (past_with setup entries (unclaimed notice))
 
-heard_in : (setup : Setup) (entries : List Entry) (notice : Notice) (old new : Kept) (verdict : LinkVerdict) (posts : List Dispatch) → old.setup ≡ setup →
+heard_in : (setup : Setup) (entries : List Entry) (notice : Notice) (old new : DirectoryKept) (verdict : LinkVerdict) (posts : List Dispatch) → old.setup ≡ setup →
     IsHeard old new entries notice (record { verdict = verdict; posts = posts }) → IsHeardIn setup entries notice old new verdict posts
 heard_in setup entries notice old new verdict posts is heard =
     subst (λ (s : Setup). IsHeardIn s entries notice old new verdict posts) is (record {
@@ -117,7 +117,7 @@ full_unasked : Laws → (setup : Setup) (entries : List Entry) (n : ℕ) → ask
 full_unasked law setup entries n silent = law.askers.full setup entries n ∙ ap (λ b. b && not (is_some (claim_at entries n))) silent
 
 -- An entry that did not ask.
-pub through_unasked : Laws → (plan : Plan) (entries : List Entry) (notice : Notice) (p : Parts) (d : Kept) (verdict : LinkVerdict) (posts : List Dispatch) (out : Outlets) →
+pub through_unasked : Laws → (plan : Plan) (entries : List Entry) (notice : Notice) (p : Parts) (d : DirectoryKept) (verdict : LinkVerdict) (posts : List Dispatch) (out : Outlets) →
     IsSoFar plan entries p → IsHeard p.directory d entries notice (record { verdict = verdict; posts = posts }) → d.setup ≡ p.directory.setup →
     (d.ended ≡ true) ↔ (verdict ≡ link.Ended) → (verdict ≡ link.Asks → ⊥) → out ≡ posting plan.setup.modules posts p.out →
     IsThrough plan entries notice (record { directory = d; out = out; notes = p.notes; noted = p.noted; seat = p.seat }) verdict
@@ -159,7 +159,7 @@ not_ended v true iff asks = (let never : link.Ended ≡ link.Asks = sym (iff.0 r
 not_ended v false iff asks = refl
 
 -- An entry that asks.
-pub asks_now : Laws → (plan : Plan) (entries : List Entry) (notice : Notice) (p : Parts) (d : Kept) (verdict : LinkVerdict) (posts : List Dispatch) (out : Outlets) →
+pub asks_now : Laws → (plan : Plan) (entries : List Entry) (notice : Notice) (p : Parts) (d : DirectoryKept) (verdict : LinkVerdict) (posts : List Dispatch) (out : Outlets) →
     IsSoFar plan entries p → IsHeard p.directory d entries notice (record { verdict = verdict; posts = posts }) → d.setup ≡ p.directory.setup →
     (d.ended ≡ true) ↔ (verdict ≡ link.Ended) → verdict ≡ link.Asks → out ≡ posting plan.setup.modules posts p.out →
     IsAsking plan entries notice (record { directory = d; out = out; notes = p.notes; noted = p.noted; seat = p.seat })

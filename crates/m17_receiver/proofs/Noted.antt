@@ -10,7 +10,7 @@ use Rattle.m17_lane.specs.Ends.{PopEnd}
 use Rattle.m17_rows.specs.Rows.{pops}
 use Rattle.m17_directory.specs.declared.known.Departed.{Departed}
 use Rattle.m17_directory.specs.Entries.{Entry}
-use Rattle.m17_directory.specs.StandsFor.{Kept, StandsFor, must_wait, is_member, without_member}
+use Rattle.m17_directory.specs.StandsFor.{DirectoryKept, StandsFor, must_wait, is_member, without_member}
 use Rattle.m17_receiver.specs.SoFar.{HasNoted, HasNotedSome, without_noted}
 
 -- what stands in a list is its first, or stands in the rest
@@ -54,10 +54,10 @@ kept_or_noted notes (x ∷ ds) d h = elim (cons_by x d ds h.0 h.1 h.2) [
   ]
 ]
 
-pub noted_left : (notes : List Member) (old new : Kept) (n n' : ℕ) → HasNoted notes (old, n) (new, n') →
+pub noted_left : (notes : List Member) (old new : DirectoryKept) (n n' : ℕ) → HasNoted notes (old, n) (new, n') →
     (d : Departed) → Contains old.departing d → Contains new.departing d ⊎ Contains notes d.member
 noted_left notes old new n n' noted d in_it =
-    subst (λ (ds : List Departed). Contains ds d ⊎ Contains notes d.member) (sym (ap (λ (k : Kept). k.departing) noted.same))
+    subst (λ (ds : List Departed). Contains ds d ⊎ Contains notes d.member) (sym (ap (λ (k : DirectoryKept). k.departing) noted.same))
     (kept_or_noted notes old.departing d in_it)
 
 -- without the noted, one note after another
@@ -96,7 +96,7 @@ without_both a b ds =
     (λ d. ap not (list_any-append (λ m. is_member m d) a b) ∙ not_either (list_any (λ m. is_member m d) a) (list_any (λ m. is_member m d) b)) ds
     ∙ sym (filter_twice (λ d. not (list_any (λ m. is_member m d) a)) (λ d. not (list_any (λ m. is_member m d) b)) ds)
 
-pub noted_one : (m : Member) (old new : Kept) (noted noted' : ℕ) → new ≡ record old { departing = without_member m old.departing } →
+pub noted_one : (m : Member) (old new : DirectoryKept) (noted noted' : ℕ) → new ≡ record old { departing = without_member m old.departing } →
     (must_wait old ≡ false → must_wait new ≡ false) → noted' ≡ min (noted + 1) (2 ^ 64 - 1) → HasNoted (m ∷ []) (old, noted) (new, noted')
 noted_one m old new noted noted' is waits count = record {
   same = is ∙ ap (λ (ds : List Departed). record old { departing = ds }) (sym (without_one m old.departing));
@@ -104,7 +104,7 @@ noted_one m old new noted noted' is waits count = record {
   count = λ n was. omega (arith, count, was);
 }
 
-pub noted_nothing : (notes : PopEnd Member) (directory : Kept) (noted : ℕ) → HasNotedSome (notes, directory, noted) (notes, directory, noted)
+pub noted_nothing : (notes : PopEnd Member) (directory : DirectoryKept) (noted : ℕ) → HasNotedSome (notes, directory, noted) (notes, directory, noted)
 noted_nothing notes directory noted = (
   [],
   ap (λ (ms : List Member). record notes { popped = ms }) (sym (append-nil notes.popped)),
@@ -115,16 +115,16 @@ noted_nothing notes directory noted = (
   },
 )
 
-noted_both : (a b : List Member) (d d' d'' : Kept) (n n' n'' : ℕ) → HasNoted a (d, n) (d', n') → HasNoted b (d', n') (d'', n'') → HasNoted (a ++ b) (d, n) (d'', n'')
+noted_both : (a b : List Member) (d d' d'' : DirectoryKept) (n n' n'' : ℕ) → HasNoted a (d, n) (d', n') → HasNoted b (d', n') (d'', n'') → HasNoted (a ++ b) (d, n) (d'', n'')
 noted_both a b d d' d'' n n' n'' first second = record {
-  same = second.same ∙ ap (λ (k : Kept). record k { departing = without_noted b k.departing }) first.same
+  same = second.same ∙ ap (λ (k : DirectoryKept). record k { departing = without_noted b k.departing }) first.same
       ∙ ap (λ (ds : List Departed). record d { departing = ds }) (sym (without_both a b d.departing));
   waits = λ w. second.waits (first.waits w);
   count = λ m was. (let e : n'' ≡ min (m + length a + length b) (2 ^ 64 - 1) = second.count (m + length a) (first.count m was) in omega (arith, e, length-append a b));
 }
 
 -- some, and then more
-pub noted_then : (p p' p'' : PopEnd Member) (d d' d'' : Kept) (n n' n'' : ℕ) → HasNotedSome (p, d, n) (p', d', n') → HasNotedSome (p', d', n') (p'', d'', n'') → HasNotedSome (p, d, n) (p'', d'', n'')
+pub noted_then : (p p' p'' : PopEnd Member) (d d' d'' : DirectoryKept) (n n' n'' : ℕ) → HasNotedSome (p, d, n) (p', d', n') → HasNotedSome (p', d', n') (p'', d'', n'') → HasNotedSome (p, d, n) (p'', d'', n'')
 noted_then p p' p'' d d' d'' n n' n'' first second = (
   first.0 ++ second.0,
   second.1 ∙ ap (λ (q : PopEnd Member). pops q second.0) first.1 ∙ ap (λ (ms : List Member). record p { popped = ms }) (append_assoc p.popped first.0 second.0),
@@ -132,10 +132,10 @@ noted_then p p' p'' d d' d'' n n' n'' first second = (
 )
 
 -- one that was popped
-pub noted_popped : (p p' : PopEnd Member) (d d' : Kept) (n n' : ℕ) (m : Member) → p' ≡ pops p (m ∷ []) → HasNoted (m ∷ []) (d, n) (d', n') → HasNotedSome (p, d, n) (p', d', n')
+pub noted_popped : (p p' : PopEnd Member) (d d' : DirectoryKept) (n n' : ℕ) (m : Member) → p' ≡ pops p (m ∷ []) → HasNoted (m ∷ []) (d, n) (d', n') → HasNotedSome (p, d, n) (p', d', n')
 noted_popped p p' d d' n n' m popped noted = (m ∷ [], popped, noted)
 
 -- what the directory may have come from stays
-pub noted_stands : (notes : List Member) (d d' : Kept) (n n' : ℕ) (entries : List Entry) → HasNoted notes (d, n) (d', n') → StandsFor d entries → StandsFor d' entries
+pub noted_stands : (notes : List Member) (d d' : DirectoryKept) (n n' : ℕ) (entries : List Entry) → HasNoted notes (d, n) (d', n') → StandsFor d entries → StandsFor d' entries
 noted_stands notes d d' n n' entries noted was =
-    subst (λ (k : Kept). StandsFor k entries) (sym noted.same) (record { moment = was.moment; known = was.known; asked = was.asked; faults = was.faults })
+    subst (λ (k : DirectoryKept). StandsFor k entries) (sym noted.same) (record { moment = was.moment; known = was.known; asked = was.asked; faults = was.faults })

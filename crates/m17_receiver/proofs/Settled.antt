@@ -17,7 +17,7 @@ use Rattle.m17_directory.specs.Entries.{Notice, Claim, Entry, Setup, notice_at, 
 use Rattle.m17_directory.specs.Known.{Past}
 use Rattle.m17_directory.specs.Outcome.{Outcome, has_place}
 use Rattle.m17_directory.specs.Routed.{asks_at, is_asks, unclaimed_at, others_at, settled_at, both, outcome_at, link_verdict, posts_at}
-use Rattle.m17_directory.specs.StandsFor.{Kept, StandsFor, IsSettled, IsAsked, unclaimed, claimed, departed_of, must_wait, has_departing, most_members}
+use Rattle.m17_directory.specs.StandsFor.{DirectoryKept, StandsFor, IsSettled, IsAsked, unclaimed, claimed, departed_of, must_wait, has_departing, most_members}
 use Rattle.m17_directory.specs.Laws.{left_before, is_ended, is_full}
 use Rattle.m17_receiver.specs.Devices.{IsCounted}
 use Rattle.m17_receiver.specs.Posting.{Outlets, posted_to}
@@ -34,13 +34,13 @@ abbrev pub claim_of : ℕ → Option Member → Option Claim
 claim_of after taken = option_map (λ m. record { member = m; after = after }) taken
 
 -- What is settled.
-record IsSettledIn (setup : Setup) (entries : List Entry) (e : Entry) (old new : Kept) (verdict : LinkVerdict) (posts : List Dispatch) : Type 0 where
+record IsSettledIn (setup : Setup) (entries : List Entry) (e : Entry) (old new : DirectoryKept) (verdict : LinkVerdict) (posts : List Dispatch) : Type 0 where
   stands : StandsFor new (entries ++ e ∷ [])
   is_verdict : verdict ≡ (settled_at (past_with setup entries e) e.claim).verdict
   are_posts : posts ≡ (settled_at (past_with setup entries e) e.claim).posts
   departing : new.departing ≡ old.departing ++ map departed_of (settled_at (past_with setup entries e) e.claim).left
 
-settled_in : (setup : Setup) (entries : List Entry) (e : Entry) (old new : Kept) (verdict : LinkVerdict) (posts : List Dispatch) → old.setup ≡ setup →
+settled_in : (setup : Setup) (entries : List Entry) (e : Entry) (old new : DirectoryKept) (verdict : LinkVerdict) (posts : List Dispatch) → old.setup ≡ setup →
     IsSettled old new entries e (record { verdict = verdict; posts = posts }) → IsSettledIn setup entries e old new verdict posts
 settled_in setup entries e old new verdict posts is settled =
     subst (λ (s : Setup). IsSettledIn s entries e old new verdict posts) is (record {
@@ -79,7 +79,7 @@ left_of : (a b : Bool) → (a || b) ≡ false → a ≡ false
 left_of true b e = e
 left_of false b e = refl
 
-nobody_departs : (k : Kept) (asked : Asked) → k.asked ≡ Some asked → must_wait k ≡ false → has_departing asked.peer k.departing ≡ false
+nobody_departs : (k : DirectoryKept) (asked : Asked) → k.asked ≡ Some asked → must_wait k ≡ false → has_departing asked.peer k.departing ≡ false
 nobody_departs k asked is free =
     let waits : Option Asked → Bool = λ o. option_map_or (λ (a : Asked). has_departing a.peer k.departing || (length k.known + length k.departing) == most_members) o false in
     let now : waits (Some asked) ≡ false = sym (ap waits is) ∙ free in
@@ -117,7 +117,7 @@ gone_settled law setup entries e first second before departing notes left_is dep
     (gone_left (old ++ map departed_of first) (map departed_of second) before notes was))
 
 -- The entry with its claim.
-pub through_asked : Laws → (plan : Plan) (entries : List Entry) (notice : Notice) (p : Parts) (d : Kept) (seat : RollView) (taken : Option Member) (verdict : LinkVerdict) (posts : List Dispatch) (out : Outlets) →
+pub through_asked : Laws → (plan : Plan) (entries : List Entry) (notice : Notice) (p : Parts) (d : DirectoryKept) (seat : RollView) (taken : Option Member) (verdict : LinkVerdict) (posts : List Dispatch) (out : Outlets) →
     IsAsking plan entries notice p → IsSome p.directory.asked → must_wait p.directory ≡ false →
     IsSettled p.directory d entries (claimed notice (claim_of p.noted taken)) (record { verdict = verdict; posts = posts }) → d.setup ≡ p.directory.setup → d.ended ≡ p.directory.ended →
     HasTaken plan.patient (length entries) taken p.directory.known p.seat seat →

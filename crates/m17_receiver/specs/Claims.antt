@@ -11,19 +11,17 @@ use Rattle.m17_directory.specs.Laws.{ClaimsAreAsked, claimed_members, is_full}
 use Rattle.m17_receiver.specs.Devices.{IsCounted}
 
 -- The indexes of the entries that are Full: those that ask for a place and have no claim, in order.
--- This profile.
 unfoldable pub turned_away : Setup → List Entry → List ℕ
 turned_away setup entries =
     filter (λ n. is_full (link_verdict setup entries n)) (range_with_len 0 (length entries))
 
 -- An entry that asks is without a claim exactly where as many other peers are still known as there
--- are places. This profile.
+-- are places.
 abbrev pub IsPatientAt : Setup → List Entry → ℕ → Type 0
 IsPatientAt setup entries n =
     (claim_at entries n ≡ None) ↔ (length (others_at (past_at setup entries n)) ≡ setup.places)
 
--- A claim of the entry is of a place that none of the other peers has that are still known. This
--- profile.
+-- A claim of the entry is of a place that none of the other peers has that are still known.
 abbrev pub HasFreePlaceAt : Setup → List Entry → ℕ → Type 0
 HasFreePlaceAt setup entries n =
     (claim : Claim) → claim_at entries n ≡ Some claim →
@@ -32,7 +30,7 @@ HasFreePlaceAt setup entries n =
 -- The members of the entries' claims are those that the seat claimed, in order, and entries that
 -- ask for a place have claims alone; the seat gave nothing back. A receiver that isn't patient
 -- claims once for each that asks: the seat's refused askers are the Full entries. A patient one
--- claims no place of another known peer. This profile.
+-- claims no place of another known peer.
 pub record HasClaimed (patient : Bool) (setup : Setup) (entries : List Entry) (seat : RollView)
     : Type 0 where
   pub asked : ClaimsAreAsked setup entries
@@ -48,7 +46,7 @@ abbrev pub AreOfOnePeer : Notice → Notice → Type 0
 AreOfOnePeer a b = (x : Peer) × (is_from x a ≡ true) × (is_from x b ≡ true)
 
 -- Each claim waits for at most as many notes as were popped, and the first so many of them name
--- each earlier member of its peer. This profile.
+-- each earlier member of its peer.
 pub record IsGreetedAfter (entries : List Entry) (notes : List Member) : Type 0 where
   pub enough : (n : ℕ) (claim : Claim) → claim_at entries n ≡ Some claim →
       claim.after ≤ length notes

@@ -11,7 +11,7 @@ use Rattle.m17_directory.specs.Routed.{routed}
 use Rattle.m17_directory.specs.Laws.{door_replies}
 
 -- The letter of the module that the inbox with this number is of: inboxes stand in order of
--- letters. This profile.
+-- letters.
 abbrev pub letter_at : Modules → ℕ → ℕ
 letter_at modules m = slice_index (letters_of modules) m
 
@@ -20,13 +20,13 @@ pub record Outlets : Type 0 where
   pub inboxes : List (PushEnd Event)
   pub door : PushEnd Direct
 
--- They are the same ends of the same lanes, whatever went through them. This profile.
+-- They are the same ends of the same lanes, whatever went through them.
 pub record AreSameOutlets (before after : Outlets) : Type 0 where
   pub inboxes : IsSameRow before.inboxes after.inboxes
   pub door : as_new after.door ≡ as_new before.door
 
 -- The outlets when each inbox got what the link routes to its module by these entries, and the door
--- the link's replies, in order, each once. This profile.
+-- the link's replies, in order, each once.
 abbrev pub posted_to : Setup → List Entry → Outlets → Outlets
 posted_to setup entries before = record {
   inboxes = push_each (λ m. routed setup entries (letter_at setup.modules m)) 0 before.inboxes;

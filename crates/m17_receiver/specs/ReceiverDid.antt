@@ -2,12 +2,14 @@
 use Rattle.std.specs.Prelude.{◌≡◌, ◌↔◌, Bool, true, false, IsTrue, List, vec_capacity}
 use Rattle.m17_values.specs.declared.heard.Heard.{Heard}
 use Rattle.m17_io.specs.Faults.{HasRisen}
+use Rattle.m17_ports.specs.Ear.{EarTold}
+use Rattle.m17_ports.specs.Book.{BookTold, HasText}
 use Rattle.m17_roll.specs.Seat.{IsSameSeat}
 use Rattle.m17_rows.specs.Starts.{HasStarted}
 use Rattle.m17_directory.specs.Entries.{Entry, SaysEach}
 use Rattle.m17_directory.specs.Laws.{EndsOnce}
 use Rattle.m17_receiver.specs.declared.receiver.Receiver.{Receiver}
-use Rattle.m17_receiver.specs.Devices.{Words, IsCounted, HasHeard, EndsInFaults, HasTrace}
+use Rattle.m17_receiver.specs.Devices.{IsCounted, HearsToTheEnd, EndsInFaults, trace_text}
 use Rattle.m17_receiver.specs.Posting.{Outlets, AreSameOutlets, posted_to}
 use Rattle.m17_receiver.specs.Claims.{HasClaimed, IsGreetedAfter}
 use Rattle.m17_receiver.specs.Tape.{IsTaped}
@@ -18,7 +20,7 @@ outlets_of j = record { inboxes = j.inboxes.items; door = j.door }
 
 -- It is the same receiver: what it was made with stays, its seat is of the same roll, its inboxes
 -- and its end of the door are the same ends and have the same room, and it popped notes and nothing
--- else of them. This profile.
+-- else of them.
 pub record IsSameReceiver {E B : Type 0} (j k : Receiver E B) : Type 0 where
   pub link : k.link ≡ j.link
   pub modules : k.modules ≡ j.modules
@@ -32,7 +34,6 @@ pub record IsSameReceiver {E B : Type 0} (j k : Receiver E B) : Type 0 where
 
 -- What became of all that was heard, entry by entry: each says what its entry is, and only the last
 -- ends the link; what was posted, claimed and taped is what the directory's rules make of them.
--- This profile.
 pub record HasReceived {E B : Type 0} (heard : List Heard) (j k : Receiver E B) : Type 0 where
   pub entries : List Entry
   pub says : SaysEach heard entries
@@ -43,24 +44,24 @@ pub record HasReceived {E B : Type 0} (heard : List Heard) (j k : Receiver E B) 
   pub greeted : IsGreetedAfter entries k.notes.popped
   pub taped : IsTaped j.directory.setup entries j.tape.items k.tape.items
 
--- The receiver went: its ear heard this, so much as is counted in 64 bits, its trace holds that, and
--- each entry became what it had to. It is lost, and its trace has failed, only where the count of
--- faults of the one or the other rose. This profile.
-pub record HasGone {E B : Type 0} (words : Words E B) (j k : Receiver E B) : Type 0 where
+-- The receiver went: its ear heard this, fewer than 2^64 entries, its trace holds the text
+-- of that, and each entry became what it had to. Ear and trace are the same devices. It is lost, and its trace has failed, only where the count of
+-- faults of the one or the other rose.
+pub record HasGone {E B L K : Type 0} (hears : E → EarTold L) (writes : B → BookTold K)
+    (j k : Receiver E B) : Type 0 where
   pub heard : List Heard
-  pub ear : HasHeard (words.heard j.ear, words.ear_faults j.ear) heard
-      (words.heard k.ear, words.ear_faults k.ear)
-  pub lost : IsTrue k.lost → HasRisen (words.ear_faults j.ear) (words.ear_faults k.ear)
-  pub trace : HasTrace (words.written j.trace, words.trace_faults j.trace) heard k.trace_failed
-      (words.written k.trace, words.trace_faults k.trace)
+  pub ear : HearsToTheEnd (hears j.ear) heard (hears k.ear)
+  pub lost : IsTrue k.lost → HasRisen (hears j.ear).faults (hears k.ear).faults
+  pub trace : HasText (writes j.trace) (trace_text heard) k.trace_failed (writes k.trace)
   pub counted : IsCounted heard
   pub received : HasReceived heard j k
 
 -- What a receiver did: it waited for its order; after Quit all but the popped order is as it was;
--- after Go it received. This profile.
-pub record ReceiverDid {E B : Type 0} (words : Words E B) (j k : Receiver E B) : Type 0 where
+-- after Go it received.
+pub record ReceiverDid {E B L K : Type 0} (hears : E → EarTold L) (writes : B → BookTold K)
+    (j k : Receiver E B) : Type 0 where
   pub goes : Bool
   pub order : HasStarted j.order goes k.order
   pub quit : goes ≡ false → k ≡ record j { order = k.order }
   pub same : IsSameReceiver j k
-  pub gone : goes ≡ true → HasGone words j k
+  pub gone : goes ≡ true → HasGone hears writes j k

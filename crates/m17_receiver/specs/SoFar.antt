@@ -20,11 +20,13 @@ use Rattle.m17_directory.specs.Entries.{Notice, Entry, Setup, SaysEach, ends_at}
 use Rattle.m17_directory.specs.Known.{Past}
 use Rattle.m17_directory.specs.Outcome.{has_place}
 use Rattle.m17_directory.specs.Routed.{past_at, unclaimed_at, others_at, event_for, link_verdict}
-use Rattle.m17_directory.specs.StandsFor.{Kept, StandsFor, is_member, must_wait, unclaimed, departed_of}
+use Rattle.m17_directory.specs.StandsFor.{DirectoryKept, StandsFor, is_member, must_wait, unclaimed, departed_of}
 use Rattle.m17_directory.specs.Laws.{LaterEntriesChangeNothing, OneEntryMore, EntriesBeforeDecide, ClaimsCompleteAskers, DoorCarriesReplies, EndedWhereItEnds, AskersJoinOrAreFull, PeersComeAndGo, PeersAreToldApart, direct_of, left_before}
 use Rattle.m17_receiver.specs.Posting.{Outlets, letter_at, posted_to, AreSameOutlets}
 use Rattle.m17_receiver.specs.declared.receiver.Receiver.{Receiver}
-use Rattle.m17_receiver.specs.Devices.{Words, HasHeard, HasTrace}
+use Rattle.m17_ports.specs.Ear.{EarTold}
+use Rattle.m17_ports.specs.Book.{BookTold, HasText}
+use Rattle.m17_receiver.specs.Devices.{HearsToTheEnd, trace_text}
 use Rattle.m17_receiver.specs.Tape.{IsTaped}
 use Rattle.m17_receiver.specs.ReceiverDid.{IsSameReceiver, outlets_of}
 use Rattle.m17_receiver.specs.Claims.{HasClaimed, IsGreetedAfter}
@@ -55,7 +57,7 @@ without_noted notes departing =
     filter (λ d. not (list_any (λ m. is_member m d) notes)) departing
 
 -- The directory was told of each of these notes and of nothing else, and they were counted.
-pub record HasNoted (notes : List Member) (before after : Kept × ℕ) : Type 0 where
+pub record HasNoted (notes : List Member) (before after : DirectoryKept × ℕ) : Type 0 where
   pub same : after.0
       ≡ record before.0 { departing = without_noted notes before.0.departing }
   pub waits : must_wait before.0 ≡ false → must_wait after.0 ≡ false
@@ -63,7 +65,7 @@ pub record HasNoted (notes : List Member) (before after : Kept × ℕ) : Type 0 
       after.1 ≡ min (n + length notes) (2 ^ 64 - 1)
 
 -- some notes were popped, and the directory was told of them
-abbrev pub HasNotedSome : PopEnd Member × Kept × ℕ → PopEnd Member × Kept × ℕ → Type 0
+abbrev pub HasNotedSome : PopEnd Member × DirectoryKept × ℕ → PopEnd Member × DirectoryKept × ℕ → Type 0
 HasNotedSome before after = (notes : List Member) × (after.0 ≡ pops before.0 notes)
     × HasNoted notes (before.1, before.2) (after.1, after.2)
 
@@ -93,7 +95,7 @@ pub record Plan : Type 0 where
 -- what a receiver works on, but for its devices and its tape: its directory, its outlets, the notes
 -- that it popped and their count, and its seat
 pub record Parts : Type 0 where
-  pub directory : Kept
+  pub directory : DirectoryKept
   pub out : Outlets
   pub notes : List Member
   pub noted : ℕ
@@ -178,8 +180,8 @@ pub record IsThrough (plan : Plan) (entries : List Entry) (notice : Notice) (p :
   pub is_verdict : verdict ≡ link_verdict plan.setup (entries ++ entry ∷ []) (length entries)
   pub ends : p.directory.ended ≡ ends_at (entries ++ entry ∷ []) (length entries)
 
-abbrev pub plan_of : {E B : Type 0} → Receiver E B → Plan
-plan_of j =
+abbrev pub plan_of_job : {E B : Type 0} → Receiver E B → Plan
+plan_of_job j =
     record { setup = j.directory.setup; patient = j.patient; start = outlets_of j }
 
 -- What became of all that was heard so far, and nothing of it ended the link.
@@ -188,17 +190,15 @@ pub record HasCome {E B : Type 0} (heard : List Heard) (j k : Receiver E B) (not
   pub entries : List Entry
   pub says : SaysEach heard entries
   pub goes_on : (n : ℕ) → n < length entries → ends_at entries n ≡ false
-  pub so_far : IsSoFar (plan_of j) entries (parts_of k noted)
+  pub so_far : IsSoFar (plan_of_job j) entries (parts_of k noted)
   pub taped : IsTaped j.directory.setup entries j.tape.items k.tape.items
 
 -- The receiver has heard so much, and counted it: what became of it.
-pub record HasComeBy {E B : Type 0} (words : Words E B) (j k : Receiver E B) (index noted : ℕ)
-    : Type 0 where
+pub record HasComeBy {E B L K : Type 0} (hears : E → EarTold L) (writes : B → BookTold K)
+    (j k : Receiver E B) (index noted : ℕ) : Type 0 where
   pub heard : List Heard
-  pub ear : HasHeard (words.heard j.ear, words.ear_faults j.ear) heard
-      (words.heard k.ear, words.ear_faults k.ear)
-  pub trace : HasTrace (words.written j.trace, words.trace_faults j.trace) heard k.trace_failed
-      (words.written k.trace, words.trace_faults k.trace)
+  pub ear : HearsToTheEnd (hears j.ear) heard (hears k.ear)
+  pub trace : HasText (writes j.trace) (trace_text heard) k.trace_failed (writes k.trace)
   pub no_end : Contains heard End → ⊥
   pub count : index ≡ length heard
   pub come : HasCome heard j k noted

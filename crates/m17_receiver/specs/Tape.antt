@@ -5,7 +5,6 @@ use Rattle.m17_directory.specs.Entries.{Entry, Setup}
 use Rattle.m17_directory.specs.Routed.{link_verdict}
 
 -- Cell n has the verdict of entry n, and where there is no entry n it is as it was.
--- This profile.
 pub record IsTaped (setup : Setup) (entries : List Entry) (before after : List (Option LinkVerdict))
     : Type 0 where
   pub cells : length after ≡ length before

@@ -160,17 +160,12 @@ pub(crate) fn make_bench<E: Ear + Drop, B: Book + Drop, R: Abort>(
     ear: E,
     trace: B,
 ) -> Bench<E, B>
-    requires ear { StartsEmpty (E.heard ear) }
-    requires trace { StartsEmpty (B.written trace) }
+    requires ear { StartsEmpty (E.told ear).heard }
+    requires trace { StartsEmpty (B.told trace).written }
     requires places { (0 < plan.now.places) × (plan.now.places ≤ 256) }
     requires room { 0 < plan.now.room }
     requires door { 0 < plan.now.door }
-    ensures { IsReady (record {
-      heard = E.heard;
-      ear_faults = E.faults;
-      written = B.written;
-      trace_faults = B.faults;
-    }) result.receiver }
+    ensures { IsReady E.told B.told result.receiver }
 {
     let modules = must(rt, Modules::read(plan.letters));
     let directory = directory_of(rt, alloc, plan, modules);
@@ -253,12 +248,7 @@ pub(crate) fn go<E: Ear + Drop + Send + 'static, B: Book + Drop + Send + 'static
     bench: Bench<E, B>,
     order: Order,
 ) -> Bench<E, B>
-    requires { IsReady (record {
-      heard = E.heard;
-      ear_faults = E.faults;
-      written = B.written;
-      trace_faults = B.faults;
-    }) bench.receiver }
+    requires { IsReady E.told B.told bench.receiver }
 {
     let mut bench = bench;
     bench.notes.push_waiting(rt, member(9, 9));

@@ -10,6 +10,7 @@ use m17_control::{Direct, Event, Modules};
 use m17_crew::{Order, Work};
 use m17_directory::{Directory, LinkVerdict, Post};
 use m17_lane::{Popper, Pusher};
+use m17_ports::laws::{books_are_written_in_turn, ears_hear_in_turn, ears_tell_up_to_the_end};
 use m17_ports::{Book, Ear};
 use m17_roll::RollSeat;
 use m17_rows::{count_one, starts};
@@ -23,7 +24,7 @@ use std::sync::Wait;
 /// told to the directory; the directory hears it, and what that posts is pushed, asleep while a lane is full; who asks
 /// for a place waits until the notes of all that its peer was have come, gets a place or none, and what that posts is
 /// pushed; and the verdict goes into its cell of the tape. It hears 2^64 - 1 entries at the most, and then waits for ever.
-/// After `Quit` nothing but the order is touched. This profile.
+/// After `Quit` nothing but the order is touched.
 #[derive(Drop)]
 pub struct Receiver<E, B> {
     /// The number of the link, from 0.
@@ -62,21 +63,9 @@ pub struct Receiver<E, B> {
 }
 
 impl<E: Ear + Drop + Send + 'static, B: Book + Drop + Send + 'static> Work for Receiver<E, B> {
-    ghost ready = { IsReady (record {
-      heard = E.heard;
-      ear_faults = E.faults;
-      written = B.written;
-      trace_faults = B.faults;
-    }) };
+    ghost ready = { IsReady E.told B.told };
 
-    ghost does = { λ j k. ReceiverDid (record {
-      heard = E.heard;
-      ear_faults = E.faults;
-      written = B.written;
-      trace_faults = B.faults;
-    }) j k
-        × (E.mark k.ear ≡ E.mark j.ear) × (E.label k.ear ≡ E.label j.ear)
-        × (B.mark k.trace ≡ B.mark j.trace) × (B.label k.trace ≡ B.label j.trace) };
+    ghost does = { ReceiverDid E.told B.told };
 
     fn go<R: Wait>(&mut self, rt: &R) {
         if starts(rt, &mut self.order) {
@@ -88,26 +77,15 @@ impl<E: Ear + Drop + Send + 'static, B: Book + Drop + Send + 'static> Work for R
 impl<E: Ear, B: Book> Receiver<E, B> {
     // Hears entry after entry, up to the one that ends the link.
     fn receive<R: Wait>(&mut self, rt: &R)
-        requires { IsFit (record {
-          heard = E.heard;
-          ear_faults = E.faults;
-          written = B.written;
-          trace_faults = B.faults;
-        }) self.old }
+        requires { IsFit E.told B.told self.old }
         ensures same { IsSameReceiver self.old self.new }
         ensures order { self.new.order ≡ self.old.order }
-        ensures gone { HasGone (record {
-          heard = E.heard;
-          ear_faults = E.faults;
-          written = B.written;
-          trace_faults = B.faults;
-        }) self.old self.new }
-        ensures same_ear { (E.mark self.new.ear ≡ E.mark self.old.ear)
-            × (E.label self.new.ear ≡ E.label self.old.ear) }
-        ensures same_trace { (B.mark self.new.trace ≡ B.mark self.old.trace)
-            × (B.label self.new.trace ≡ B.label self.old.trace) }
+        ensures gone { HasGone E.told B.told self.old self.new }
     {
         known_laws();
+        ears_tell_up_to_the_end();
+        ears_hear_in_turn::<E::Label>();
+        books_are_written_in_turn::<B::Label>();
         let mut index = 0u64;
         let mut noted = 0u64;
         for _ in rt.forever() {

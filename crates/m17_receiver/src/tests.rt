@@ -172,13 +172,11 @@ impl Book for UnkeptTrace {
 
     type Label = ();
 
-    ghost faults = { λ _. 0 };
-
-    ghost written = { λ _. None };
-
-    ghost mark = { λ _. None };
-
-    ghost label = { λ _. tt };
+    ghost told = { λ _. record {
+      written = None;
+      faults = 0;
+      device = record { mark = None; label = tt };
+    } };
 
     ghost faults_fit = { λ _. lit≤ tt };
 
@@ -200,7 +198,7 @@ fn run_into<B: Book + Drop + Send + 'static, R: Abort + Wait>(
     bell: &Bell,
     trace: B,
 ) -> Bench<ScriptEar, B>
-    requires { StartsEmpty (B.written trace) }
+    requires { StartsEmpty (B.told trace).written }
 {
     assert!(rt; is_plan(&ONE_MODULE));
     let ear = ScriptEar::new(heard);
@@ -214,7 +212,7 @@ fn shelved<B: Book + Drop + Send + 'static, R: Abort + Wait>(
     alloc: Global,
     trace: B,
 ) -> Bench<ScriptEar, Shelf<B>>
-    requires { StartsEmpty (B.written trace) }
+    requires { StartsEmpty (B.told trace).written }
 {
     let bell = must(rt, Bell::make_marked(alloc, 1));
     let inner = Some(trace);
@@ -271,13 +269,11 @@ impl Book for WatchingTrace {
 
     type Label = ();
 
-    ghost faults = { λ _. 0 };
-
-    ghost written = { λ _. None };
-
-    ghost mark = { λ _. None };
-
-    ghost label = { λ _. tt };
+    ghost told = { λ _. record {
+      written = None;
+      faults = 0;
+      device = record { mark = None; label = tt };
+    } };
 
     ghost faults_fit = { λ _. lit≤ tt };
 

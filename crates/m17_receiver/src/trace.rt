@@ -1,10 +1,11 @@
 //! What a receiver writes to its trace.
-ghost use Rattle.std.specs.Prelude.{◌≡◌, ◌↔◌, ◌+◌, ◌≤◌, true, ℕ, List, [], ◌∷◌, ◌++◌, length, if◌then◌else◌};
+ghost use Rattle.std.specs.Prelude.{◌≡◌, ◌↔◌, ◌+◌, ◌≤◌, true, List, [], ◌∷◌, ◌++◌, length, if◌then◌else◌};
 ghost use Rattle.arrayvec.specs.ArrayVec.{array_vec_len};
 ghost use Rattle.m17_values.specs.declared.heard.Heard.{Heard};
+ghost use Rattle.m17_ports.specs.Book.{BookTold, HasText};
 ghost use Rattle.m17_book.specs.Book.{trace_magic};
 ghost use Rattle.m17_book.specs.Entries.{entry_bytes};
-ghost use Rattle.m17_receiver.specs.Devices.{Tells, HasTrace};
+ghost use Rattle.m17_receiver.specs.Devices.{trace_text};
 
 use arrayvec::ArrayVec;
 use m17_book::{write_entry, write_trace_header};
@@ -17,13 +18,11 @@ const SPELLED_BYTES: usize = 101;
 // Writes what was heard to the trace, before the first entry its header, in one write. A trace that failed is written
 // no more, one that keeps nothing is never written, and nothing is spelled for them; the end has no bytes.
 pub(crate) fn write_trace<B: Book>(trace: &mut B, failed: &mut bool, first: bool, entry: &Heard)
-    ensures traced { (start : Tells ℕ) (heard : List Heard) → (first ≡ true) ↔ (heard ≡ []) →
-        HasTrace start heard failed.old (B.written trace.old, B.faults trace.old) →
-        HasTrace start (heard ++ entry.now ∷ []) failed.new
-        (B.written trace.new, B.faults trace.new) }
-    ensures same_device { (B.mark trace.new ≡ B.mark trace.old)
-        × (B.label trace.new ≡ B.label trace.old) }
+    ensures { (start : BookTold B.Label) (heard : List Heard) → (first ≡ true) ↔ (heard ≡ []) →
+        HasText start (trace_text heard) failed.old (B.told trace.old) →
+        HasText start (trace_text (heard ++ entry.now ∷ [])) failed.new (B.told trace.new) }
 {
+    m17_ports::laws::books_are_written_in_turn::<B::Label>();
     if *failed || !trace.is_kept() {
         return;
     }

@@ -2,23 +2,23 @@
 use Rattle.std.proofs.Common.{◌≡◌, ℕ, List, ◌++◌, map, length, Some}
 use Rattle.std.specs.Prelude.{slice_get, All}
 use Rattle.std.specs.List.{AllByRecursion}
+use Rattle.m17_ports.specs.Book.{BookTold}
+use Rattle.m17_ports.specs.Ear.{EarTold}
 use Rattle.m17_control.specs.declared.event.Event.{Event}
 use Rattle.m17_lane.specs.Ends.{TrailEnd}
 use Rattle.m17_directory.specs.Laws.{JoinsOfAllModules, EachClaimJoins}
 use Rattle.m17_receiver.specs.declared.receiver.Receiver.{Receiver}
-use Rattle.m17_receiver.specs.Devices as devices
 use Rattle.m17_roll.specs.Closing.{EndView, gifts_of}
 use Rattle.m17_roll.specs.Run.{IsRollRun}
 use Rattle.m17_roll.specs.Seat.{RollView}
 use Rattle.m17_roll.specs.Sightings.{RisesAtPlaces}
 use Rattle.m17_worker.specs.declared.worker.Worker.{Worker}
-use Rattle.m17_worker.specs.Ready.{Words}
 use Rattle.m17_worker.specs.WorkerDid.{HasServed}
-use Rattle.m17_house.specs.declared.plan.Plan.{Plan}
+use Rattle.m17_plan.specs.declared.plan.Plan.{Plan}
 use Rattle.m17_reflect.specs.Links.{Link, At}
 use Rattle.m17_reflect.specs.Trails.{events_of, AreTrails}
 use Rattle.m17_reflect.specs.Places.{ArePlacesBack}
-use Rattle.m17_wiring.specs.Jobs.{AreReceivers}
+use Rattle.m17_run_setup.specs.Jobs.{AreReceivers}
 use Rattle.m17_reflect.proofs.Came.{Came}
 use Rattle.m17_reflect.proofs.Gave.{worker_seat, GaveNone, gifts_given, given_is_gift, of_link}
 use Rattle.m17_reflect.proofs.GivenBack as back
@@ -47,21 +47,21 @@ pub record Laws : Type 0 where
   pub each : EachClaimJoins
 
 module _ {E B : Type 0} where
-  pub all_places : Laws → (words : devices.Words E B) (own : Words B) (plan : Plan) (js ks : List (Receiver E B)) (ws vs : List (Worker B)) (links : List Link) (trails : List (TrailEnd Event)) (roll : EndView)
-      → AreReceivers plan js → AllZip3 (Came words) js ks links → HaveWorked own plan (length links) ws vs
-      → ((m : ℕ) (j k : Worker B) (t : TrailEnd Event) → slice_get ws m ≡ Some j → slice_get vs m ≡ Some k → At trails m t → HasServed own (events_of t) j k)
+  pub all_places : {EL BL : Type 0} → Laws → (hears : E → EarTold EL) (writes : B → BookTold BL) (plan : Plan) (js ks : List (Receiver E B)) (ws vs : List (Worker B)) (links : List Link) (trails : List (TrailEnd Event)) (roll : EndView)
+      → AreReceivers plan js → AllZip3 (Came hears writes) js ks links → HaveWorked writes plan (length links) ws vs
+      → ((m : ℕ) (j k : Worker B) (t : TrailEnd Event) → slice_get ws m ≡ Some j → slice_get vs m ≡ Some k → At trails m t → HasServed writes (events_of t) j k)
       → AreTrails plan links trails → AllByRecursion GaveNone (map worker_seat ws) → IsClosed plan ks vs roll → ArePlacesBack plan.places trails roll
-  all_places laws words own plan js ks ws vs links trails roll receivers came worked did are new closed =
-      let each = of_link words plan js ks links (map worker_seat vs) receivers came closed.rises in
+  all_places laws hears writes plan js ks ws vs links trails roll receivers came worked did are new closed =
+      let each = of_link hears writes plan js ks links (map worker_seat vs) receivers came closed.rises in
       let h : AreSettled plan links trails roll = record {
         count = closed.places;
         run = closed.run;
-        claims = roll_claims words js ks links (map worker_seat vs) roll came closed.of_seats;
+        claims = roll_claims hears writes js ks links (map worker_seat vs) roll came closed.of_seats;
         joins = joins_are_claims laws.joins laws.each plan links trails are (λ i link e. (each i link e).asked);
         trails_are = are;
         links_are = each;
-        gifts_are = gifts_given own plan (length links) ws vs trails (map seat_of ks) roll worked did are.count closed.given;
+        gifts_are = gifts_given writes plan (length links) ws vs trails (map seat_of ks) roll worked did are.count closed.given;
       } in
       back.places_back laws.settled plan links trails roll h
       (nobody_is_replaced laws.stays laws.settled plan links trails roll h
-      (given_is_gift words own plan links js ks ws vs trails roll came worked did are.count new closed.given))
+      (given_is_gift hears writes plan links js ks ws vs trails roll came worked did are.count new closed.given))

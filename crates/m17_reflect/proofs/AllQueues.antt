@@ -6,6 +6,8 @@ use Rattle.std.proofs.lemmas.Option.{same_Some, none-some}
 use Rattle.std.proofs.lemmas.List.Elements.{recursion_from_All}
 use Rattle.std.proofs.lemmas.List.Sums.{sum_by-cons}
 use Rattle.m17_values.specs.declared.heard.Heard.{Heard}
+use Rattle.m17_ports.specs.Book.{BookTold}
+use Rattle.m17_ports.specs.Ear.{EarTold}
 use Rattle.m17_control.specs.declared.event.Event.{Event}
 use Rattle.m17_control.specs.declared.item.Item.{Item}
 use Rattle.m17_module.specs.Items.{items_at, items_given}
@@ -16,20 +18,18 @@ use Rattle.m17_lane.specs.Orders.{items_of}
 use Rattle.m17_rows.specs.Laws.{RowsGrow}
 use Rattle.m17_grid.specs.Trails.{AreTrailsOfOnes}
 use Rattle.m17_receiver.specs.declared.receiver.Receiver.{Receiver}
-use Rattle.m17_receiver.specs.Devices as devices
 use Rattle.m17_receiver.specs.Devices.{EndsInFaults}
 use Rattle.m17_worker.specs.declared.worker.Worker.{Worker}
-use Rattle.m17_worker.specs.Ready.{Words}
 use Rattle.m17_worker.specs.WorkerDid.{HasServed}
 use Rattle.m17_worker.specs.Offers.{Try, count_missed}
-use Rattle.m17_house.specs.declared.plan.Plan.{Plan}
+use Rattle.m17_plan.specs.declared.plan.Plan.{Plan}
 use Rattle.m17_reflect.specs.Links.{Link, At, setup_at}
 use Rattle.m17_reflect.specs.Trails.{events_of}
 use Rattle.m17_reflect.specs.Queues.{Carriers, Carry}
 use Rattle.m17_reflect.specs.Patience.{SomeLost, SomeRose}
 use Rattle.m17_reflect.proofs.Worked.{Rows, carries}
 use Rattle.m17_reflect.proofs.Modules.{HaveWorked}
-use Rattle.m17_reflect.proofs.Came.{Came, Heared, ear_tells}
+use Rattle.m17_reflect.proofs.Came.{Came, HasHeardAll, ear_tells}
 use Rattle.m17_reflect.proofs.Routes.{at_below, below_at}
 use Rattle.m17_reflect.proofs.Together.{AllZip3, zip3_at, zip3_length, unmapped, mapped_at}
 
@@ -58,14 +58,14 @@ pub record QueuesBack {B : Type 0} (plan : Plan) (k : Worker B) (rows : Rows) : 
 
 module _ {B : Type 0} where
   -- the queues of all modules
-  pub all_queues : (words : Words B) (law : RowsGrow Item) (placed : ItemsAreAtPlaces) (plan : Plan) (links : ℕ) (js ks : List (Worker B)) (rows : List Rows) (trails : List (TrailEnd Event)) → HaveWorked words plan links js ks → ((m : ℕ) (j k : Worker B) (t : TrailEnd Event) → slice_get js m ≡ Some j → slice_get ks m ≡ Some k → At trails m t → HasServed words (events_of t) j k) → ((m : ℕ) (k : Worker B) (r : Rows) → slice_get ks m ≡ Some k → At rows m r → QueuesBack plan k r) → length js ≡ length ks → (m : ℕ) (t : TrailEnd Event) (queues : List (TrailEnd Item)) (missed : ℕ) → At trails m t → At (map (λ (r : Rows). r.trails) rows) m queues → At (map (λ (k : Worker B). k.offers.missed) ks) m missed → Carry (events_of t) (record { setup = setup_at plan m; patient = plan.patient; queues = queues; missed = missed })
-  all_queues words law placed plan links js ks rows trails h did back same m t queues missed e eq em =
+  pub all_queues : {BL : Type 0} (writes : B → BookTold BL) (law : RowsGrow Item) (placed : ItemsAreAtPlaces) (plan : Plan) (links : ℕ) (js ks : List (Worker B)) (rows : List Rows) (trails : List (TrailEnd Event)) → HaveWorked writes plan links js ks → ((m : ℕ) (j k : Worker B) (t : TrailEnd Event) → slice_get js m ≡ Some j → slice_get ks m ≡ Some k → At trails m t → HasServed writes (events_of t) j k) → ((m : ℕ) (k : Worker B) (r : Rows) → slice_get ks m ≡ Some k → At rows m r → QueuesBack plan k r) → length js ≡ length ks → (m : ℕ) (t : TrailEnd Event) (queues : List (TrailEnd Item)) (missed : ℕ) → At trails m t → At (map (λ (r : Rows). r.trails) rows) m queues → At (map (λ (k : Worker B). k.offers.missed) ks) m missed → Carry (events_of t) (record { setup = setup_at plan m; patient = plan.patient; queues = queues; missed = missed })
+  all_queues writes law placed plan links js ks rows trails h did back same m t queues missed e eq em =
       let (r, at_r, is_r) = unmapped (λ (r : Rows). r.trails) rows m queues eq in
       let (k, at_k, is_k) = unmapped (λ (k : Worker B). k.offers.missed) ks m missed em in
       let inside = below_at ks m k at_k in
       let (j, at_j) = at_below js m (omega arith) in
       let b = back m k r at_k at_r in
-      let found = carries words law plan links m j k (events_of t) r (h.are m j at_j) (did m j k t at_j at_k e) b.trails b.count b.drained (given_placed placed (setup_at plan m) (events_of t)) in
+      let found = carries writes law plan links m j k (events_of t) r (h.are m j at_j) (did m j k t at_j at_k e) b.trails b.count b.drained (given_placed placed (setup_at plan m) (events_of t)) in
       subst (λ (n : ℕ). Carry (events_of t) (record { setup = setup_at plan m; patient = plan.patient; queues = queues; missed = n })) is_k
       (subst (λ (qs : List (TrailEnd Item)). Carry (events_of t) (record { setup = setup_at plan m; patient = plan.patient; queues = qs; missed = k.offers.missed })) is_r found)
 
@@ -119,33 +119,33 @@ lost_of k = k.lost
 
 module _ {E B : Type 0} where
   -- a run is lost exactly where some link's last 16 entries are faults
-  pub lost_where : (words : devices.Words E B) (js ks : List (Receiver E B)) (links : List Link) → AllZip3 (Came words) js ks links → IsTrue (list_any lost_of ks) ↔ SomeLost links
-  lost_where words js ks links h = let lens = zip3_length (Came words) js ks links h in (
+  pub lost_where : {EL BL : Type 0} (hears : E → EarTold EL) (writes : B → BookTold BL) (js ks : List (Receiver E B)) (links : List Link) → AllZip3 (Came hears writes) js ks links → IsTrue (list_any lost_of ks) ↔ SomeLost links
+  lost_where hears writes js ks links h = let lens = zip3_length (Came hears writes) js ks links h in (
     λ asked.
         let (i, k, at_k, lost) = any_at lost_of ks asked in
         let inside = below_at ks i k at_k in
         let (j, at_j) = at_below js i (omega (arith, lens.0)) in
         let (link, at_l) = at_below links i (omega (arith, lens.0, lens.1)) in
-        record { number = i; link = link; there = at_l; faults = (zip3_at (Came words) js ks links h i j k link at_j at_k at_l).lost.0 lost },
+        record { number = i; link = link; there = at_l; faults = (zip3_at (Came hears writes) js ks links h i j k link at_j at_k at_l).lost.0 lost },
     λ some.
         let inside = below_at links some.number some.link some.there in
         let (j, at_j) = at_below js some.number (omega (arith, lens.1)) in
         let (k, at_k) = at_below ks some.number (omega (arith, lens.0, lens.1)) in
-        at_any lost_of ks some.number k at_k ((zip3_at (Came words) js ks links h some.number j k some.link at_j at_k some.there).lost.1 some.faults),
+        at_any lost_of ks some.number k at_k ((zip3_at (Came hears writes) js ks links h some.number j k some.link at_j at_k some.there).lost.1 some.faults),
   )
 
   -- and only where the count of some ear rose
-  pub lost_only_where : (words : devices.Words E B) (js ks : List (Receiver E B)) (heards : List (List Heard)) → AllZip3 (Heared words) js ks heards → IsTrue (list_any lost_of ks) → SomeRose (map (ear_tells words) js) (map (ear_tells words) ks)
-  lost_only_where words js ks heards h asked =
-      let lens = zip3_length (Heared words) js ks heards h in
+  pub lost_only_where : {EL BL : Type 0} (hears : E → EarTold EL) (writes : B → BookTold BL) (js ks : List (Receiver E B)) (heards : List (List Heard)) → AllZip3 (HasHeardAll hears writes) js ks heards → IsTrue (list_any lost_of ks) → SomeRose (λ t. t.faults) (map (ear_tells hears) js) (map (ear_tells hears) ks)
+  lost_only_where hears writes js ks heards h asked =
+      let lens = zip3_length (HasHeardAll hears writes) js ks heards h in
       let (i, k, at_k, lost) = any_at lost_of ks asked in
       let inside = below_at ks i k at_k in
       let (j, at_j) = at_below js i (omega (arith, lens.0)) in
       let (heard, at_h) = at_below heards i (omega (arith, lens.0, lens.1)) in record {
         number = i;
-        was = ear_tells words j;
-        is = ear_tells words k;
-        was_there = mapped_at (ear_tells words) js i j at_j;
-        is_there = mapped_at (ear_tells words) ks i k at_k;
-        rose = (zip3_at (Heared words) js ks heards h i j k heard at_j at_k at_h).lost lost;
+        was = ear_tells hears j;
+        is = ear_tells hears k;
+        was_there = mapped_at (ear_tells hears) js i j at_j;
+        is_there = mapped_at (ear_tells hears) ks i k at_k;
+        rose = (zip3_at (HasHeardAll hears writes) js ks heards h i j k heard at_j at_k at_h).lost lost;
       }

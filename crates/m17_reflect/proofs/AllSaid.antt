@@ -6,14 +6,14 @@ use Rattle.std.specs.List.{AllByRecursion, flat_map}
 use Rattle.std.proofs.lemmas.Bool.{and_from, lt-ltb}
 use Rattle.std.proofs.lemmas.List.{append_assoc}
 use Rattle.std.proofs.lemmas.Option.{same_Some, none-some}
-use Rattle.m17_ports.specs.Said.{MouthTold}
+use Rattle.m17_ports.specs.Mouth.{MouthTold}
 use Rattle.m17_ports.specs.Laws.{MouthsSayInTurn}
 use Rattle.m17_control.specs.declared.item.Direct.{Direct}
 use Rattle.m17_control.specs.declared.item.Item.{Item}
-use Rattle.m17_turns.specs.Acts.{Act, Saying, answer_of, answers_of, thing_of, things_of, saying_of, sayings, AreSpelled}
-use Rattle.m17_turns.specs.Laws.{SpelledPartByPart}
+use Rattle.m17_send_order.specs.Acts.{Act, Saying, answer_of, answers_of, thing_of, things_of, saying_of, sayings, AreSpelled}
+use Rattle.m17_send_order.specs.Laws.{SpelledPartByPart}
 use Rattle.m17_sender.specs.Sent.{EachMouth, SaidByLink}
-use Rattle.m17_parting.specs.Rest.{has_link, has_link_too}
+use Rattle.m17_run_end.specs.Rest.{has_link, has_link_too}
 
 module _ {A B : Type 0} where
   -- what two lists of acts come to, one behind the other

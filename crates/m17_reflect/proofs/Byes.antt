@@ -12,8 +12,8 @@ use Rattle.m17_control.specs.declared.item.Said.{Said}
 use Rattle.m17_control.specs.declared.item.Said.TheVariants.{Hello, Frame, Echo, Reply, Ping, Bye}
 use Rattle.m17_floor.specs.Acts.{is_same}
 use Rattle.m17_module.specs.Laws.{is_bye}
-use Rattle.m17_turns.specs.Acts.{Act, thing_of, things_of}
-use Rattle.m17_turns.specs.Joined.{is_to, item_of, items_said}
+use Rattle.m17_send_order.specs.Acts.{Act, thing_of, things_of}
+use Rattle.m17_send_order.specs.Joined.{is_to, item_of, items_said}
 use Rattle.m17_sender.specs.Sent.{bye_to, bye_of, byes_of}
 use Rattle.m17_reflect.proofs.Once.{mine}
 use Rattle.m17_reflect.proofs.Standing.{IsIn, in_flat, from_flat}

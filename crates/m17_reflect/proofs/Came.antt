@@ -7,6 +7,8 @@ use Rattle.std.proofs.lemmas.Option.{same_Some, none-some}
 use Rattle.std.proofs.lemmas.List.{length-map}
 use Rattle.std.proofs.lemmas.List.Elements.{recursion_from_All}
 use Rattle.m17_values.specs.declared.heard.Heard.{Heard}
+use Rattle.m17_ports.specs.Book.{BookTold, HasText}
+use Rattle.m17_ports.specs.Ear.{EarTold}
 use Rattle.m17_io.specs.Faults.{HasRisen}
 use Rattle.m17_control.specs.declared.event.Event.{Event}
 use Rattle.m17_crew.specs.declared.order.Order.{Order}
@@ -20,13 +22,13 @@ use Rattle.m17_directory.specs.Entries.{Entry, Setup}
 use Rattle.m17_directory.specs.Routed.{routed}
 use Rattle.m17_directory.specs.declared.verdict.LinkVerdict.{LinkVerdict}
 use Rattle.m17_receiver.specs.declared.receiver.Receiver.{Receiver}
-use Rattle.m17_receiver.specs.Devices.{Words, Tells, IsCounted, HasHeard, EndsInFaults, HasTrace, trace_text}
+use Rattle.m17_receiver.specs.Devices.{IsCounted, HearsToTheEnd, EndsInFaults, trace_text}
 use Rattle.m17_receiver.specs.Posting.{letter_at, posted_to}
 use Rattle.m17_receiver.specs.Claims.{HasClaimed, IsGreetedAfter}
 use Rattle.m17_receiver.specs.Tape.{IsTaped}
 use Rattle.m17_receiver.specs.ReceiverDid.{HasGone, HasReceived, outlets_of}
-use Rattle.m17_house.specs.declared.plan.Plan.{Plan}
-use Rattle.m17_wiring.specs.Jobs.{AreReceivers}
+use Rattle.m17_plan.specs.declared.plan.Plan.{Plan}
+use Rattle.m17_run_setup.specs.Jobs.{AreReceivers}
 use Rattle.m17_reflect.specs.Links.{Link, IsLink, At, link_setup, letter_of}
 use Rattle.m17_reflect.specs.Judged.{IsLinkTape, IsWritten}
 use Rattle.m17_reflect.proofs.Routes.{at_below, below_at, route_by}
@@ -41,16 +43,16 @@ has_gone law before after true more rest new started e = refl
 has_gone law before after false more rest new started e =
     absurd (go_not_quit (law before after false Go more rest new started e (λ h. cc)).0)
 
-abbrev pub ear_tells : {E B : Type 0} → Words E B → Receiver E B → Tells Heard
-ear_tells words j = (words.heard j.ear, words.ear_faults j.ear)
+abbrev pub ear_tells : {E B EL : Type 0} → (E → EarTold EL) → Receiver E B → EarTold EL
+ear_tells hears j = hears j.ear
 
-abbrev pub trace_tells : {E B : Type 0} → Words E B → Receiver E B → Tells ℕ
-trace_tells words j = (words.written j.trace, words.trace_faults j.trace)
+abbrev pub trace_tells : {E B BL : Type 0} → (B → BookTold BL) → Receiver E B → BookTold BL
+trace_tells writes j = writes j.trace
 
 -- What a receiver that heard this link has done.
-pub record Came {E B : Type 0} (words : Words E B) (j k : Receiver E B) (link : Link) : Type 0 where
-  pub ear : HasHeard (ear_tells words j) link.heard (ear_tells words k)
-  pub trace : HasTrace (trace_tells words j) link.heard k.trace_failed (trace_tells words k)
+pub record Came {E B EL BL : Type 0} (hears : E → EarTold EL) (writes : B → BookTold BL) (j k : Receiver E B) (link : Link) : Type 0 where
+  pub ear : HearsToTheEnd (ear_tells hears j) link.heard (ear_tells hears k)
+  pub trace : HasText (trace_tells writes j) (trace_text link.heard) k.trace_failed (trace_tells writes k)
   pub is_link : IsLink link
   pub counted : IsCounted link.heard
   pub lost : IsTrue k.lost ↔ EndsInFaults link.heard
@@ -60,20 +62,20 @@ pub record Came {E B : Type 0} (words : Words E B) (j k : Receiver E B) (link : 
   pub taped : IsTaped j.directory.setup link.entries j.tape.items k.tape.items
 
 -- the receiver went, and its ear heard this
-pub record Heared {E B : Type 0} (words : Words E B) (j k : Receiver E B) (heard : List Heard)
+pub record HasHeardAll {E B EL BL : Type 0} (hears : E → EarTold EL) (writes : B → BookTold BL) (j k : Receiver E B) (heard : List Heard)
     : Type 0 where
-  pub ear : HasHeard (ear_tells words j) heard (ear_tells words k)
-  pub lost : IsTrue k.lost → HasRisen (words.ear_faults j.ear) (words.ear_faults k.ear)
-  pub trace : HasTrace (trace_tells words j) heard k.trace_failed (trace_tells words k)
+  pub ear : HearsToTheEnd (ear_tells hears j) heard (ear_tells hears k)
+  pub lost : IsTrue k.lost → HasRisen (hears j.ear).faults (hears k.ear).faults
+  pub trace : HasText (trace_tells writes j) (trace_text heard) k.trace_failed (trace_tells writes k)
   pub counted : IsCounted heard
   pub received : HasReceived heard j k
 
 module _ {E B : Type 0} where
-  pub heared : (words : Words E B) (j k : Receiver E B) → HasGone words j k → (heard : List Heard) × Heared words j k heard
-  heared words j k g = (g.heard, record { ear = g.ear; lost = g.lost; trace = g.trace; counted = g.counted; received = g.received })
+  pub heared : {EL BL : Type 0} (hears : E → EarTold EL) (writes : B → BookTold BL) (j k : Receiver E B) → HasGone hears writes j k → (heard : List Heard) × HasHeardAll hears writes j k heard
+  heared hears writes j k g = (g.heard, record { ear = g.ear; lost = g.lost; trace = g.trace; counted = g.counted; received = g.received })
 
-  came : (words : Words E B) (j k : Receiver E B) (heard : List Heard) → Heared words j k heard → (link : Link) × Came words j k link × (link.heard ≡ heard)
-  came words j k heard g =
+  came : {EL BL : Type 0} (hears : E → EarTold EL) (writes : B → BookTold BL) (j k : Receiver E B) (heard : List Heard) → HasHeardAll hears writes j k heard → (link : Link) × Came hears writes j k link × (link.heard ≡ heard)
+  came hears writes j k heard g =
       let h = g.received in
       let link : Link = record { heard = heard; entries = h.entries } in (
         link,
@@ -92,43 +94,43 @@ module _ {E B : Type 0} where
       )
 
   -- what each ear heard is counted
-  pub all_counted : (words : Words E B) (js ks : List (Receiver E B)) (heards : List (List Heard)) → AllZip3 (Heared words) js ks heards → AllByRecursion IsCounted heards
-  all_counted words [] [] [] h = tt
-  all_counted words [] [] (z ∷ zs) h = absurd h
-  all_counted words [] (y ∷ ys) zs h = absurd h
-  all_counted words (x ∷ xs) [] zs h = absurd h
-  all_counted words (x ∷ xs) (y ∷ ys) [] h = absurd h
-  all_counted words (x ∷ xs) (y ∷ ys) (z ∷ zs) h = (h.0.counted, all_counted words xs ys zs h.1)
+  pub all_counted : {EL BL : Type 0} (hears : E → EarTold EL) (writes : B → BookTold BL) (js ks : List (Receiver E B)) (heards : List (List Heard)) → AllZip3 (HasHeardAll hears writes) js ks heards → AllByRecursion IsCounted heards
+  all_counted hears writes [] [] [] h = tt
+  all_counted hears writes [] [] (z ∷ zs) h = absurd h
+  all_counted hears writes [] (y ∷ ys) zs h = absurd h
+  all_counted hears writes (x ∷ xs) [] zs h = absurd h
+  all_counted hears writes (x ∷ xs) (y ∷ ys) [] h = absurd h
+  all_counted hears writes (x ∷ xs) (y ∷ ys) (z ∷ zs) h = (h.0.counted, all_counted hears writes xs ys zs h.1)
 
   -- the links of a run
-  pub all_came : (words : Words E B) (js ks : List (Receiver E B)) (heards : List (List Heard)) → AllZip3 (Heared words) js ks heards → (links : List Link) × AllZip3 (Came words) js ks links × (map (λ (link : Link). link.heard) links ≡ heards)
-  all_came words [] [] [] h = ([], tt, refl)
-  all_came words [] [] (z ∷ zs) h = absurd h
-  all_came words [] (y ∷ ys) zs h = absurd h
-  all_came words (x ∷ xs) [] zs h = absurd h
-  all_came words (x ∷ xs) (y ∷ ys) [] h = absurd h
-  all_came words (x ∷ xs) (y ∷ ys) (z ∷ zs) h =
-      let (link, here, is) = came words x y z h.0 in
-      let (links, rest, are) = all_came words xs ys zs h.1 in
+  pub all_came : {EL BL : Type 0} (hears : E → EarTold EL) (writes : B → BookTold BL) (js ks : List (Receiver E B)) (heards : List (List Heard)) → AllZip3 (HasHeardAll hears writes) js ks heards → (links : List Link) × AllZip3 (Came hears writes) js ks links × (map (λ (link : Link). link.heard) links ≡ heards)
+  all_came hears writes [] [] [] h = ([], tt, refl)
+  all_came hears writes [] [] (z ∷ zs) h = absurd h
+  all_came hears writes [] (y ∷ ys) zs h = absurd h
+  all_came hears writes (x ∷ xs) [] zs h = absurd h
+  all_came hears writes (x ∷ xs) (y ∷ ys) [] h = absurd h
+  all_came hears writes (x ∷ xs) (y ∷ ys) (z ∷ zs) h =
+      let (link, here, is) = came hears writes x y z h.0 in
+      let (links, rest, are) = all_came hears writes xs ys zs h.1 in
       (link ∷ links, (here, rest), ap (λ (l : List Heard). l ∷ map (λ (link : Link). link.heard) links) is ∙ ap (λ (ls : List (List Heard)). z ∷ ls) are)
 
-  pub ears_heard : (words : Words E B) (js ks : List (Receiver E B)) (heards : List (List Heard)) → AllZip3 (Heared words) js ks heards → (i : ℕ) (entries : List Heard) (before after : Tells Heard) → At heards i entries → At (map (ear_tells words) js) i before → At (map (ear_tells words) ks) i after → HasHeard before entries after
-  ears_heard words js ks heards h i entries before after e eb ea =
-      let (j, at_j, is_j) = unmapped (ear_tells words) js i before eb in
-      let (k, at_k, is_k) = unmapped (ear_tells words) ks i after ea in
-      subst (λ (b : Tells Heard). HasHeard b entries after) is_j
-      (subst (λ (a : Tells Heard). HasHeard (ear_tells words j) entries a) is_k
-      (zip3_at (Heared words) js ks heards h i j k entries at_j at_k e).ear)
+  pub ears_heard : {EL BL : Type 0} (hears : E → EarTold EL) (writes : B → BookTold BL) (js ks : List (Receiver E B)) (heards : List (List Heard)) → AllZip3 (HasHeardAll hears writes) js ks heards → (i : ℕ) (entries : List Heard) (before after : EarTold EL) → At heards i entries → At (map (ear_tells hears) js) i before → At (map (ear_tells hears) ks) i after → HearsToTheEnd before entries after
+  ears_heard hears writes js ks heards h i entries before after e eb ea =
+      let (j, at_j, is_j) = unmapped (ear_tells hears) js i before eb in
+      let (k, at_k, is_k) = unmapped (ear_tells hears) ks i after ea in
+      subst (λ b. HearsToTheEnd b entries after) is_j
+      (subst (λ a. HearsToTheEnd (ear_tells hears j) entries a) is_k
+      (zip3_at (HasHeardAll hears writes) js ks heards h i j k entries at_j at_k e).ear)
 
   -- the traces
-  pub traces_written : (words : Words E B) (js ks : List (Receiver E B)) (links : List Link) (failed : Bool) → AllZip3 (Came words) js ks links → ((i : ℕ) (k : Receiver E B) → slice_get ks i ≡ Some k → k.trace_failed ≡ true → failed ≡ true) → (i : ℕ) (link : Link) (before after : Tells ℕ) → At links i link → At (map (trace_tells words) js) i before → At (map (trace_tells words) ks) i after → IsWritten failed before (trace_text link.heard) after
-  traces_written words js ks links failed h flags i link before after e eb ea =
-      let (j, at_j, is_j) = unmapped (trace_tells words) js i before eb in
-      let (k, at_k, is_k) = unmapped (trace_tells words) ks i after ea in
-      let t = (zip3_at (Came words) js ks links h i j k link at_j at_k e).trace in
-      subst (λ (b : Tells ℕ). IsWritten failed b (trace_text link.heard) after) is_j
-      (subst (λ (a : Tells ℕ). IsWritten failed (trace_tells words j) (trace_text link.heard) a) is_k
-      (k.trace_failed, record { whole = t.whole; cut = t.cut }, flags i k at_k))
+  pub traces_written : {EL BL : Type 0} (hears : E → EarTold EL) (writes : B → BookTold BL) (js ks : List (Receiver E B)) (links : List Link) (failed : Bool) → AllZip3 (Came hears writes) js ks links → ((i : ℕ) (k : Receiver E B) → slice_get ks i ≡ Some k → k.trace_failed ≡ true → failed ≡ true) → (i : ℕ) (link : Link) (before after : BookTold BL) → At links i link → At (map (trace_tells writes) js) i before → At (map (trace_tells writes) ks) i after → IsWritten failed before (trace_text link.heard) after
+  traces_written hears writes js ks links failed h flags i link before after e eb ea =
+      let (j, at_j, is_j) = unmapped (trace_tells writes) js i before eb in
+      let (k, at_k, is_k) = unmapped (trace_tells writes) ks i after ea in
+      let t = (zip3_at (Came hears writes) js ks links h i j k link at_j at_k e).trace in
+      subst (λ b. IsWritten failed b (trace_text link.heard) after) is_j
+      (subst (λ a. IsWritten failed (trace_tells writes j) (trace_text link.heard) a) is_k
+      (k.trace_failed, t, flags i k at_k))
 
 module _ {A : Type 0} where
   pub all_at : (P : A → Type 0) (xs : List A) → AllByRecursion P xs → (i : ℕ) (x : A) → slice_get xs i ≡ Some x → P x
@@ -166,21 +168,21 @@ module _ {T : Type 0} where
       ∙ ap (λ (ls : List (List (PushEnd T))). push_each (f k) 0 c ∷ ls) (grid_from f (suc k) cols now (omega arith) (λ i n c d is ec ed. h (suc i) n c d (omega arith) ec ed))
 
 module _ {E B : Type 0} where
-  pub link_tapes : (words : Words E B) (plan : Plan) (js ks : List (Receiver E B)) (links : List Link) → AreReceivers plan js → AllZip3 (Came words) js ks links → (i : ℕ) (link : Link) (tape : List (Option LinkVerdict)) → At links i link → At (map tape_of ks) i tape → IsLinkTape (link_setup plan i) link.entries plan.entries tape
-  link_tapes words plan js ks links are h i link tape e et =
+  pub link_tapes : {EL BL : Type 0} (hears : E → EarTold EL) (writes : B → BookTold BL) (plan : Plan) (js ks : List (Receiver E B)) (links : List Link) → AreReceivers plan js → AllZip3 (Came hears writes) js ks links → (i : ℕ) (link : Link) (tape : List (Option LinkVerdict)) → At links i link → At (map tape_of ks) i tape → IsLinkTape (link_setup plan i) link.entries plan.entries tape
+  link_tapes hears writes plan js ks links are h i link tape e et =
       let (k, at_k, is_k) = unmapped tape_of ks i tape et in
-      let lens = zip3_length (Came words) js ks links h in
+      let lens = zip3_length (Came hears writes) js ks links h in
       let (j, at_j) = at_below js i (omega (arith, lens.0, below_at ks i k at_k)) in
       let it = are i j at_j in
       subst (IsLinkTape (link_setup plan i) link.entries plan.entries) is_k
       (subst (λ (setup : Setup). IsLinkTape setup link.entries plan.entries k.tape.items) it.setup
       (link_tape j.directory.setup link.entries plan.entries j.tape.items k.tape.items
-      (zip3_at (Came words) js ks links h i j k link at_j at_k e).taped it.cells it.none))
+      (zip3_at (Came hears writes) js ks links h i j k link at_j at_k e).taped it.cells it.none))
 
   -- the columns of inboxes when the links have routed
-  pub columns_routed : (words : Words E B) (plan : Plan) (js ks : List (Receiver E B)) (links : List Link) → AreReceivers plan js → AllZip3 (Came words) js ks links → map column_of ks ≡ push_grid (λ i m. route_by plan links (letter_of plan m) i) 0 (map column_of js)
-  columns_routed words plan js ks links are h =
-      let lens = zip3_length (Came words) js ks links h in
+  pub columns_routed : {EL BL : Type 0} (hears : E → EarTold EL) (writes : B → BookTold BL) (plan : Plan) (js ks : List (Receiver E B)) (links : List Link) → AreReceivers plan js → AllZip3 (Came hears writes) js ks links → map column_of ks ≡ push_grid (λ i m. route_by plan links (letter_of plan m) i) 0 (map column_of js)
+  columns_routed hears writes plan js ks links are h =
+      let lens = zip3_length (Came hears writes) js ks links h in
       grid_from (λ i m. route_by plan links (letter_of plan m) i) 0 (map column_of js) (map column_of ks)
       (omega (arith, lens.0, length-map js column_of, length-map ks column_of))
       (λ i n c d is ec ed.
@@ -188,7 +190,7 @@ module _ {E B : Type 0} where
       let (k, at_k, is_k) = unmapped column_of ks i d ed in
       let (link, at_l) = at_below links i (omega (arith, lens.1, below_at js i j at_j)) in
       let at : i ≡ n = omega arith in
-      let went = ap (λ o. o.inboxes) (zip3_at (Came words) js ks links h i j k link at_j at_k at_l).posted in
+      let went = ap (λ o. o.inboxes) (zip3_at (Came hears writes) js ks links h i j k link at_j at_k at_l).posted in
       sym is_k ∙ went
       ∙ ap (λ (s : Setup). push_each (λ m. routed s link.entries (letter_at s.modules m)) 0 (column_of j)) (are i j at_j).setup
       ∙ ap (λ (x : ℕ). push_each (λ m. routed (link_setup plan x) link.entries (letter_of plan m)) 0 (column_of j)) at

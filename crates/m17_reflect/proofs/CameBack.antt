@@ -4,6 +4,8 @@ use Rattle.std.specs.Prelude.{slice_get}
 use Rattle.std.specs.List.{AllZip}
 use Rattle.std.proofs.lemmas.List.{length-map}
 use Rattle.std.proofs.lemmas.Slice.Zip.{AllZip-long}
+use Rattle.m17_ports.specs.Book.{BookTold}
+use Rattle.m17_ports.specs.Ear.{EarTold}
 use Rattle.m17_control.specs.declared.event.Event.{Event}
 use Rattle.m17_control.specs.declared.item.Item.{Item}
 use Rattle.m17_control.specs.declared.item.Direct.{Direct}
@@ -14,17 +16,15 @@ use Rattle.m17_rows.specs.Laws.{RowsPush, RowsGrow}
 use Rattle.m17_grid.specs.Columns.{IsGrid}
 use Rattle.m17_grid.specs.Laws.{GridsStand}
 use Rattle.m17_receiver.specs.declared.receiver.Receiver.{Receiver}
-use Rattle.m17_receiver.specs.Devices as devices
 use Rattle.m17_receiver.specs.ReceiverDid.{ReceiverDid}
 use Rattle.m17_worker.specs.declared.worker.Worker.{Worker}
-use Rattle.m17_worker.specs.Ready.{Words}
 use Rattle.m17_worker.specs.Offers.{queued_for, missed_for}
 use Rattle.m17_worker.specs.WorkerDid.{HasWorked}
 use Rattle.m17_sender.specs.declared.sender.Sender.{Sender}
 use Rattle.m17_sender.specs.Places.{queues_of}
 use Rattle.m17_sender.specs.Sent.{LanesUsed}
-use Rattle.m17_turns.specs.Acts.{Act, notes_of}
-use Rattle.m17_wiring.specs.Ends.{AreLaid, ends_of}
+use Rattle.m17_send_order.specs.Acts.{Act, notes_of}
+use Rattle.m17_run_setup.specs.Ends.{AreLaid, ends_of}
 use Rattle.m17_reflect.proofs.Came.{column_of}
 use Rattle.m17_reflect.proofs.Modules.{inbox_of}
 use Rattle.m17_reflect.proofs.Ends.{zip_parts, zip_same, map_twice, line_back, one_back, CanFinish, CanFinishOne}
@@ -48,10 +48,10 @@ abbrev pub notes_at : {E B : Type 0} → Receiver E B → PopEnd Member
 notes_at j = j.notes
 
 -- The jobs of a run, before they went and after.
-pub record HaveGone {E M B : Type 0} (ear_words : devices.Words E B) (book_words : Words B) (js ks : List (Receiver E B))
+pub record HaveGone {E M B EL BL : Type 0} (hears : E → EarTold EL) (writes : B → BookTold BL) (js ks : List (Receiver E B))
     (ws vs : List (Worker B)) (s t : Sender M) : Type 0 where
-  pub received : AllZip (ReceiverDid ear_words) js ks
-  pub worked : AllZip (HasWorked book_words) ws vs
+  pub received : AllZip (ReceiverDid hears writes) js ks
+  pub worked : AllZip (HasWorked writes) ws vs
   pub acts : List Act
   pub sent : LanesUsed s t acts
 
@@ -68,21 +68,21 @@ row_same (x ∷ before) (y ∷ after) e (suc m) row row' at at' =
 
 module _ {E M B : Type 0} where
   -- the inboxes
-  pub inboxes_back : (ew : devices.Words E B) (bw : Words B) → Laws → (js ks : List (Receiver E B)) (ws vs : List (Worker B)) (s t : Sender M) (modules places : ℕ) → AreLaid (length js) modules places (ends_of js ws s) → HaveGone ew bw js ks ws vs s t → IsGrid (map column_of ks) (map inbox_of vs)
-  inboxes_back ew bw laws js ks ws vs s t modules places laid h =
+  pub inboxes_back : {EL BL : Type 0} (hears : E → EarTold EL) (writes : B → BookTold BL) → Laws → (js ks : List (Receiver E B)) (ws vs : List (Worker B)) (s t : Sender M) (modules places : ℕ) → AreLaid (length js) modules places (ends_of js ws s) → HaveGone hears writes js ks ws vs s t → IsGrid (map column_of ks) (map inbox_of vs)
+  inboxes_back hears writes laws js ks ws vs s t modules places laid h =
       laws.grids.stays (map column_of js) (map column_of ks) (map inbox_of ws) (map inbox_of vs)
-      (zip_parts (ReceiverDid ew) IsSameRow column_of (λ j k did. did.same.lanes.inboxes) js ks h.received)
+      (zip_parts (ReceiverDid hears writes) IsSameRow column_of (λ j k did. did.same.lanes.inboxes) js ks h.received)
       (map_twice inbox_of as_new_popper vs
-      ∙ zip_same (HasWorked bw) (λ w. as_new_popper w.inbox) (λ j k did. ap as_new_popper did.same.inbox) ws vs h.worked
+      ∙ zip_same (HasWorked writes) (λ w. as_new_popper w.inbox) (λ j k did. ap as_new_popper did.same.inbox) ws vs h.worked
       ∙ sym (map_twice inbox_of as_new_popper ws))
       laid.inboxes.grid
 
   -- the queues, row by row
-  pub queues_back : (ew : devices.Words E B) (bw : Words B) → Laws → (js ks : List (Receiver E B)) (ws vs : List (Worker B)) (s t : Sender M) (modules places : ℕ) → AreLaid (length js) modules places (ends_of js ws s) → HaveGone ew bw js ks ws vs s t → AllZip CanFinish (map queues_at vs) (queues_of t)
-  queues_back ew bw laws js ks ws vs s t modules places laid h =
+  pub queues_back : {EL BL : Type 0} (hears : E → EarTold EL) (writes : B → BookTold BL) → Laws → (js ks : List (Receiver E B)) (ws vs : List (Worker B)) (s t : Sender M) (modules places : ℕ) → AreLaid (length js) modules places (ends_of js ws s) → HaveGone hears writes js ks ws vs s t → AllZip CanFinish (map queues_at vs) (queues_of t)
+  queues_back hears writes laws js ks ws vs s t modules places laid h =
       let same = h.sent.same_queues in
       let many : length (queues_of t) ≡ length (queues_of s) = sym (length-map (queues_of t) (map as_new_popper)) ∙ ap length same ∙ length-map (queues_of s) (map as_new_popper) in
-      let workers = AllZip-long (HasWorked bw) ws vs h.worked in
+      let workers = AllZip-long (HasWorked writes) ws vs h.worked in
       let counts = laid.queues.count in
       zip_from CanFinish (map queues_at vs) (queues_of t)
       (omega (arith, many, workers, counts.0, counts.1, length-map vs queues_at, length-map ws queues_at))
@@ -92,21 +92,21 @@ module _ {E M B : Type 0} where
       let (w, at_w) = at_below ws m (omega (arith, workers)) in
       let (first, at_first) = at_below (queues_of s) m (omega (arith, counts.0, counts.1, workers, length-map ws queues_at)) in
       let made = laid.queues.each m (queues_at w) first (mapped_at queues_at ws m w at_w) at_first in
-      let tried = (zip_at (HasWorked bw) ws vs h.worked m w v at_w at_v).served.offered in
+      let tried = (zip_at (HasWorked writes) ws vs h.worked m w v at_w at_v).served.offered in
       let kept : IsSameRow (queues_at w) (queues_at v) = ap (map as_new) tried.tried.queues ∙ laws.grow.kept (queued_for tried.tries) (missed_for tried.tries) 0 (queues_at w) in
       subst (λ (r : List (PushEnd Item)). CanFinish r head) is_v
       (line_back 64 (queues_at w) (queues_at v) first head made.0 kept (row_same (queues_of s) (queues_of t) same m first head at_first at_head)))
 
   -- the door
-  pub door_back : (ew : devices.Words E B) (bw : Words B) (js ks : List (Receiver E B)) (ws vs : List (Worker B)) (s t : Sender M) (modules places : ℕ) → AreLaid (length js) modules places (ends_of js ws s) → HaveGone ew bw js ks ws vs s t → CanFinishOne (map door_of ks) t.door
-  door_back ew bw js ks ws vs s t modules places laid h =
+  pub door_back : {EL BL : Type 0} (hears : E → EarTold EL) (writes : B → BookTold BL) (js ks : List (Receiver E B)) (ws vs : List (Worker B)) (s t : Sender M) (modules places : ℕ) → AreLaid (length js) modules places (ends_of js ws s) → HaveGone hears writes js ks ws vs s t → CanFinishOne (map door_of ks) t.door
+  door_back hears writes js ks ws vs s t modules places laid h =
       one_back 256 (length js) (map door_of js) (map door_of ks) s.door t.door laid.door.0 laid.door.1
-      (map_twice door_of as_new ks ∙ zip_same (ReceiverDid ew) (λ j. as_new j.door) (λ j k did. did.same.lanes.door) js ks h.received ∙ sym (map_twice door_of as_new js))
+      (map_twice door_of as_new ks ∙ zip_same (ReceiverDid hears writes) (λ j. as_new j.door) (λ j k did. did.same.lanes.door) js ks h.received ∙ sym (map_twice door_of as_new js))
       (ap as_new_popper h.sent.same_door)
 
   -- the notes
-  pub notes_back : (ew : devices.Words E B) (bw : Words B) → Laws → (js ks : List (Receiver E B)) (ws vs : List (Worker B)) (s t : Sender M) (modules places : ℕ) → AreLaid (length js) modules places (ends_of js ws s) → HaveGone ew bw js ks ws vs s t → CanFinish t.notes.items (map notes_at ks)
-  notes_back ew bw laws js ks ws vs s t modules places laid h =
+  pub notes_back : {EL BL : Type 0} (hears : E → EarTold EL) (writes : B → BookTold BL) → Laws → (js ks : List (Receiver E B)) (ws vs : List (Worker B)) (s t : Sender M) (modules places : ℕ) → AreLaid (length js) modules places (ends_of js ws s) → HaveGone hears writes js ks ws vs s t → CanFinish t.notes.items (map notes_at ks)
+  notes_back hears writes laws js ks ws vs s t modules places laid h =
       line_back 512 s.notes.items t.notes.items (map notes_at js) (map notes_at ks) laid.notes.0
       (ap (map as_new) h.sent.notes ∙ laws.notes.kept (λ i. notes_of i h.acts) 0 s.notes.items)
-      (map_twice notes_at as_new_popper ks ∙ zip_same (ReceiverDid ew) (λ j. as_new_popper j.notes) (λ j k did. ap as_new_popper did.same.notes) js ks h.received ∙ sym (map_twice notes_at as_new_popper js))
+      (map_twice notes_at as_new_popper ks ∙ zip_same (ReceiverDid hears writes) (λ j. as_new_popper j.notes) (λ j k did. ap as_new_popper did.same.notes) js ks h.received ∙ sym (map_twice notes_at as_new_popper js))

@@ -13,8 +13,8 @@ use Rattle.m17_lane.specs.Ends.{TrailEnd}
 use Rattle.m17_lane.specs.Orders as lane
 use Rattle.m17_module.specs.Items.{items_given, items_for}
 use Rattle.m17_module.specs.Laws.{JoinsOnce, ShareIsALife, FollowsJoin, ItemsFollowTheirJoins}
-use Rattle.m17_turns.specs.Joined.{is_to, IsLifeFrom}
-use Rattle.m17_turns.specs.Laws.{IsHello, LessOfALifeIsALife}
+use Rattle.m17_send_order.specs.Joined.{is_to, IsLifeFrom}
+use Rattle.m17_send_order.specs.Laws.{IsHello, LessOfALifeIsALife}
 use Rattle.m17_worker.specs.Offers.{Try, may_be_missed, queued_for}
 use Rattle.m17_reflect.specs.Links.{At}
 use Rattle.m17_reflect.specs.Queues.{Carriers, Carry}

@@ -26,15 +26,15 @@ use Rattle.m17_reflect.proofs.There.{is_at}
 use Rattle.m17_reflect.proofs.Waiting.{ClaimsDiffer}
 
 -- What the roll of a run shows: its claims are the links', and their members are those of the Joins of all trails.
-pub record IsRollOfRun {L : Type 0} (run : Run L) (links : List Link) : Type 0 where
+pub record IsRollOfRun {EL ML BL : Type 0} (run : Run EL ML BL) (links : List Link) : Type 0 where
   pub roll : IsRollRun run.handed.roll.words run.handed.roll.claimed run.handed.roll.given
   pub count : length run.handed.roll.words ≡ run.plan.places
   pub claims : run.handed.roll.claimed ≡ claims_in links
   pub joins : AreSame (flat_map (λ trail. joiners (events_of trail)) run.handed.trails) run.handed.roll.claimed
 
-module _ {L : Type 0} where
+module _ {EL ML BL : Type 0} where
   -- The members of a run.
-  pub are_members : (run : Run L) (links : List Link) → AreTrails run.plan links run.handed.trails → QueuesCarry run → IsRollOfRun run links → AreMembers run links
+  pub are_members : (run : Run EL ML BL) (links : List Link) → AreTrails run.plan links run.handed.trails → QueuesCarry run → IsRollOfRun run links → AreMembers run links
   are_members run links trails queues is =
       let roll = run.handed.roll in record {
         carried = record { trails = trails; queues = queues };
@@ -44,7 +44,7 @@ module _ {L : Type 0} where
       }
 
   -- No two claims of a link are of one member.
-  pub members_differ : NoMemberIsClaimedTwice → (run : Run L) (links : List Link) → IsRollOfRun run links → (i : ℕ) (link : Link) → At links i link → ClaimsDiffer link.entries
+  pub members_differ : NoMemberIsClaimedTwice → (run : Run EL ML BL) (links : List Link) → IsRollOfRun run links → (i : ℕ) (link : Link) → At links i link → ClaimsDiffer link.entries
   members_differ law run links is = links_differ law run.handed.roll links is.roll is.claims
 
 -- Claims of which no two are of one member.
@@ -58,7 +58,7 @@ claimed_apart entries differ i j a b ea eb same = elim (cases_lt i j) [
 ]
 
 -- What each link claims.
-pub are_claims : {L : Type 0} → NoMemberIsClaimedTwice → (run : Run L) (links : List Link) → IsRollOfRun run links → ((i : ℕ) (link : Link) → At links i link → ClaimsAreAsked (link_setup run.plan i) link.entries) → (i : ℕ) (link : Link) → At links i link → AreClaims (link_setup run.plan i) link.entries
+pub are_claims : {EL ML BL : Type 0} → NoMemberIsClaimedTwice → (run : Run EL ML BL) (links : List Link) → IsRollOfRun run links → ((i : ℕ) (link : Link) → At links i link → ClaimsAreAsked (link_setup run.plan i) link.entries) → (i : ℕ) (link : Link) → At links i link → AreClaims (link_setup run.plan i) link.entries
 are_claims law run links is asked i link at = record {
   asked = asked i link at;
   placed = placed run.plan.places (link_setup run.plan i) link.entries refl

@@ -4,6 +4,8 @@ use Rattle.std.specs.List.{AllByRecursion, range_with_len}
 use Rattle.std.specs.Option.{option_map_or}
 use Rattle.std.proofs.lemmas.List.{length-map}
 use Rattle.std.proofs.lemmas.List.Elements.{recursion_from_All, All-from_recursion}
+use Rattle.m17_ports.specs.Book.{BookTold}
+use Rattle.m17_ports.specs.Ear.{EarTold}
 use Rattle.m17_control.specs.declared.item.Direct.{Direct}
 use Rattle.m17_directory.specs.Entries.{Entry, Setup}
 use Rattle.m17_directory.specs.Laws.{DoorCarriesReplies, door_replies}
@@ -15,10 +17,9 @@ use Rattle.m17_grid.specs.Interleavings.{IsInterleaving}
 use Rattle.m17_grid.specs.Laws.{RowsStand, OrderIsInterleaving}
 use Rattle.m17_grid.specs.Trails.{IsTrailOf}
 use Rattle.m17_receiver.specs.declared.receiver.Receiver.{Receiver}
-use Rattle.m17_receiver.specs.Devices.{Words}
-use Rattle.m17_house.specs.declared.plan.Plan.{Plan}
+use Rattle.m17_plan.specs.declared.plan.Plan.{Plan}
 use Rattle.m17_reflect.specs.Links.{Link, At, link_setup}
-use Rattle.m17_wiring.specs.Jobs.{AreReceivers}
+use Rattle.m17_run_setup.specs.Jobs.{AreReceivers}
 use Rattle.m17_reflect.proofs.Came.{Came}
 use Rattle.m17_reflect.proofs.OneTrail.{pushed_row, pushed_at}
 use Rattle.m17_reflect.proofs.Routes.{at_below, below_at, entries_in}
@@ -53,16 +54,16 @@ range_length k (suc n) = ap suc (range_length (k + 1) n)
 
 module _ {E B : Type 0} where
   -- the pushers when the links have answered
-  doors_pushed : (law : RowsPush Direct) (words : Words E B) (plan : Plan) (js ks : List (Receiver E B)) (links : List Link) → AreReceivers plan js → AllZip3 (Came words) js ks links → map door_of ks ≡ push_each (answers_by plan links) 0 (map door_of js)
-  doors_pushed law words plan js ks links are h =
-      let lens = zip3_length (Came words) js ks links h in
+  doors_pushed : {EL BL : Type 0} (law : RowsPush Direct) (hears : E → EarTold EL) (writes : B → BookTold BL) (plan : Plan) (js ks : List (Receiver E B)) (links : List Link) → AreReceivers plan js → AllZip3 (Came hears writes) js ks links → map door_of ks ≡ push_each (answers_by plan links) 0 (map door_of js)
+  doors_pushed law hears writes plan js ks links are h =
+      let lens = zip3_length (Came hears writes) js ks links h in
       law.by_place (answers_by plan links) (map door_of js) (map door_of ks)
       (omega (arith, lens.0, length-map js door_of, length-map ks door_of))
       (λ m p q ep eq.
       let (j, at_j, is_j) = unmapped door_of js m p ep in
       let (k, at_k, is_k) = unmapped door_of ks m q eq in
       let (link, at_l) = at_below links m (omega (arith, lens.1, below_at js m j at_j)) in
-      let went = ap (λ o. o.door) (zip3_at (Came words) js ks links h m j k link at_j at_k at_l).posted in
+      let went = ap (λ o. o.door) (zip3_at (Came hears writes) js ks links h m j k link at_j at_k at_l).posted in
       sym is_k ∙ went
       ∙ ap (λ (s : Setup). pushes j.door (door_replies s link.entries)) (are m j at_j).setup
       ∙ ap (λ (es : List Entry). pushes j.door (door_replies (link_setup plan m) es))
@@ -70,10 +71,10 @@ module _ {E B : Type 0} where
       ∙ ap (λ (p : PushEnd Direct). pushes p (answers_by plan links m)) is_j)
 
   -- What the door carried.
-  pub is_door : (laws : Laws) (words : Words E B) (plan : Plan) (js ks : List (Receiver E B)) (links : List Link) (p end : PopEnd Direct) (t : TrailEnd Direct) → AreReceivers plan js → AllZip3 (Came words) js ks links → map door_of js ≡ new_pushers p (length links) → IsTrailOf (map door_of ks) end t → IsDoor plan links (items_of t.order)
-  is_door laws words plan js ks links p end t are h new trail =
+  pub is_door : {EL BL : Type 0} (laws : Laws) (hears : E → EarTold EL) (writes : B → BookTold BL) (plan : Plan) (js ks : List (Receiver E B)) (links : List Link) (p end : PopEnd Direct) (t : TrailEnd Direct) → AreReceivers plan js → AllZip3 (Came hears writes) js ks links → map door_of js ≡ new_pushers p (length links) → IsTrailOf (map door_of ks) end t → IsDoor plan links (items_of t.order)
+  is_door laws hears writes plan js ks links p end t are h new trail =
       let n = length links in let f = answers_by plan links in let row = push_each f 0 (new_pushers p n) in
-      let is_row : map door_of ks ≡ row = doors_pushed laws.push words plan js ks links are h ∙ ap (push_each f 0) new in
+      let is_row : map door_of ks ≡ row = doors_pushed laws.push hears writes plan js ks links are h ∙ ap (push_each f 0) new in
       let found = laws.order link_of_reply row end t (subst (λ (r : List (PushEnd Direct)). IsTrailOf r end t) is_row trail) (λ i q at.
       subst (All (λ (x : Direct). link_of_reply x ≡ i)) (sym (pushed_at laws.rows f p n i q at))
       (All-from_recursion (λ (x : Direct). link_of_reply x ≡ i) (f i) (laws.replies.link (link_setup plan i) (entries_in links i)))) in

@@ -10,9 +10,9 @@ use Rattle.m17_lane.specs.Orders.{items_of}
 use Rattle.m17_grid.specs.Trails.{IsTrailOfOne, AreTrailsOfOnes}
 use Rattle.m17_sender.specs.Places.{in_row, popped_by, popped_at}
 use Rattle.m17_worker.specs.declared.worker.Worker.{Worker}
-use Rattle.m17_house.specs.declared.plan.Plan.{Plan}
-use Rattle.m17_parting.specs.Left.{left, left_in, drained}
-use Rattle.m17_parting.specs.Rest.{left_at}
+use Rattle.m17_plan.specs.declared.plan.Plan.{Plan}
+use Rattle.m17_run_end.specs.Left.{left, left_in, drained}
+use Rattle.m17_run_end.specs.Rest.{left_at}
 use Rattle.m17_reflect.specs.Queues.{carried}
 use Rattle.m17_reflect.proofs.AllQueues.{QueuesBack}
 use Rattle.m17_reflect.proofs.Routes.{at_below, below_at}

@@ -8,7 +8,7 @@ use Rattle.atomic_table.specs.Seated.{TableId}
 use Rattle.m17_lane.specs.Ends.{PushEnd, PopEnd, AreOf, new_popper, new_pusher, new_pushers}
 use Rattle.m17_rows.specs.Rows.{as_new, as_new_popper, IsSameRow, IsSamePopRow}
 use Rattle.m17_grid.specs.Columns.{lanes_of, lanes_popped}
-use Rattle.m17_wiring.specs.Ends.{IsNewLine}
+use Rattle.m17_run_setup.specs.Ends.{IsNewLine}
 
 module _ {A B : Type 0} where
   -- a relation of jobs, as one of their parts

@@ -5,6 +5,9 @@ use Rattle.std.specs.Prelude.{All}
 use Rattle.std.proofs.lemmas.List.{length-map}
 use Rattle.std.proofs.lemmas.List.Elements.{recursion_from_All}
 use Rattle.atomic_table.specs.Seated.{TableId}
+use Rattle.m17_ports.specs.Book.{BookTold}
+use Rattle.m17_ports.specs.Ear.{EarTold}
+use Rattle.m17_ports.specs.Mouth.{MouthTold}
 use Rattle.m17_control.specs.declared.item.Item.{Item}
 use Rattle.m17_control.specs.declared.item.Direct.{Direct}
 use Rattle.m17_lane.specs.Ends.{PopEnd, AreOf}
@@ -15,16 +18,14 @@ use Rattle.m17_roll.specs.Seat.{AreNew}
 use Rattle.m17_receiver.specs.declared.receiver.Receiver.{Receiver}
 use Rattle.m17_worker.specs.declared.worker.Worker.{Worker}
 use Rattle.m17_sender.specs.Places.{queues_of, cells_of}
-use Rattle.m17_wiring.specs.Planned.{module_count}
-use Rattle.m17_wiring.specs.Rooms.{HasTrailRooms, IsRoom}
-use Rattle.m17_wiring.specs.declared.rooms.TrailRooms.{TrailRooms}
-use Rattle.m17_parting.specs.Rows.{AreOfOnes}
-use Rattle.m17_house.specs.declared.plan.Plan.{Plan}
+use Rattle.m17_plan.specs.Planned.{module_count}
+use Rattle.m17_run_setup.specs.Rooms.{HasTrailRooms, IsRoom}
+use Rattle.m17_run_setup.specs.declared.rooms.TrailRooms.{TrailRooms}
+use Rattle.m17_run_end.specs.Rows.{AreOfOnes}
+use Rattle.m17_plan.specs.declared.plan.Plan.{Plan}
 use Rattle.m17_reflect.specs.Gathered.{CanGather}
-use Rattle.m17_reflect.specs.Views.{Words}
 use Rattle.m17_reflect.specs.declared.parted.Parted.{Parted}
-use Rattle.m17_reflect.proofs.Assembled.{ear_words, book_words}
-use Rattle.m17_reflect.proofs.Calls.{Cast, Done, long_r, long_w}
+use Rattle.m17_reflect.proofs.Calls.{RunDevices, Done, long_r, long_w}
 use Rattle.m17_reflect.proofs.Came.{all_at}
 use Rattle.m17_reflect.proofs.CameBack as back
 use Rattle.m17_reflect.proofs.CameBack.{queues_at, notes_at, inboxes_back, queues_back, door_back, notes_back}
@@ -46,13 +47,13 @@ new_lengths (row ∷ rows) =
 rows_same : (before after : List (List (PopEnd Item))) → map (map as_new_popper) after ≡ map (map as_new_popper) before → map length after ≡ map length before
 rows_same before after e = sym (new_lengths after) ∙ ap (map length) e ∙ new_lengths before
 
-module _ {E M B L : Type 0} (words : Words E M B L) (plan : Plan) (k : Cast E M B) (rooms : TrailRooms) (p : Parted E M B) (d : Done words plan k rooms p) where
+module _ {E M B EL ML BL : Type 0} (hears : E → EarTold EL) (tells : M → MouthTold ML) (writes : B → BookTold BL) (plan : Plan) (k : RunDevices E M B) (rooms : TrailRooms) (p : Parted E M B) (d : Done hears tells writes plan k rooms p) where
   grid_ready : back.Laws → IsGrid (map (λ column. column.items) p.links.columns.items) p.modules.inboxes.items
   grid_ready laws =
       subst (IsGrid (map (λ column. column.items) p.links.columns.items)) (sym d.parted.modules.inboxes)
       (subst (λ cs. IsGrid cs (map inbox_of k.w'.jobs))
       (sym (ap (map (λ column. column.items)) d.parted.links.columns ∙ map_twice (λ (j : Receiver E B). j.inboxes) (λ column. column.items) k.r'.jobs))
-      (inboxes_back (ear_words words) (book_words words) laws k.r.jobs k.r'.jobs k.w.jobs k.w'.jobs k.s k.t (module_count plan) plan.places d.wired.jobs.laid d.gone))
+      (inboxes_back hears writes laws k.r.jobs k.r'.jobs k.w.jobs k.w'.jobs k.s k.t (module_count plan) plan.places d.wired.jobs.laid d.gone))
 
   pub queues_ready : back.Laws → AllZip AreOfOnes (map (λ row. row.items) p.modules.queues.items) (map (λ row. row.items) p.voice.queues.items)
   queues_ready laws =
@@ -60,18 +61,18 @@ module _ {E M B L : Type 0} (words : Words E M B L) (plan : Plan) (k : Cast E M 
       (subst (λ cs. AllZip AreOfOnes cs (queues_of k.t))
       (sym (ap (map (λ row. row.items)) d.parted.modules.queues ∙ map_twice (λ (w : Worker B). w.offers.queues) (λ row. row.items) k.w'.jobs))
       (zip_less CanFinish AreOfOnes as_ones (map queues_at k.w'.jobs) (queues_of k.t)
-      (queues_back (ear_words words) (book_words words) laws k.r.jobs k.r'.jobs k.w.jobs k.w'.jobs k.s k.t (module_count plan) plan.places d.wired.jobs.laid d.gone)))
+      (queues_back hears writes laws k.r.jobs k.r'.jobs k.w.jobs k.w'.jobs k.s k.t (module_count plan) plan.places d.wired.jobs.laid d.gone)))
 
   notes_ready : back.Laws → AreOfOnes p.voice.notes.items p.links.noted.items
   notes_ready laws =
       subst (AreOfOnes p.voice.notes.items) (sym d.parted.links.noted)
       (subst (λ qs. AreOfOnes qs (map notes_at k.r'.jobs)) (sym (ap (λ qs. qs.items) d.of_sender.notes))
       (as_ones k.t.notes.items (map notes_at k.r'.jobs)
-      (notes_back (ear_words words) (book_words words) laws k.r.jobs k.r'.jobs k.w.jobs k.w'.jobs k.s k.t (module_count plan) plan.places d.wired.jobs.laid d.gone)))
+      (notes_back hears writes laws k.r.jobs k.r'.jobs k.w.jobs k.w'.jobs k.s k.t (module_count plan) plan.places d.wired.jobs.laid d.gone)))
 
   door_ready : AreOf p.voice.door.lane p.links.doors.items × (length p.links.doors.items ≡ p.voice.door.producers)
   door_ready =
-      let can = door_back (ear_words words) (book_words words) k.r.jobs k.r'.jobs k.w.jobs k.w'.jobs k.s k.t (module_count plan) plan.places d.wired.jobs.laid d.gone in (
+      let can = door_back hears writes k.r.jobs k.r'.jobs k.w.jobs k.w'.jobs k.s k.t (module_count plan) plan.places d.wired.jobs.laid d.gone in (
         subst (λ (door : PopEnd Direct). AreOf door.lane p.links.doors.items) (sym d.of_sender.door)
             (subst (AreOf k.t.door.lane) (sym d.parted.links.doors) can.of_one_lane),
         ap length d.parted.links.doors ∙ can.all ∙ ap (λ (door : PopEnd Direct). door.producers) (sym d.of_sender.door),
@@ -95,22 +96,22 @@ module _ {E M B L : Type 0} (words : Words E M B L) (plan : Plan) (k : Cast E M 
   pub seats_all : 0 < length k.r.jobs → (roll : TableId) × AreAll roll plan.places p.seats.items
   seats_all some =
       let count = sym (length-map k.w.jobs inbox_of) ∙ d.wired.jobs.laid.inbox_count in
-      let (roll, all) = seats_back (ear_words words) (book_words words) k.r.jobs k.r'.jobs k.w.jobs k.w'.jobs plan.places some
+      let (roll, all) = seats_back hears writes k.r.jobs k.r'.jobs k.w.jobs k.w'.jobs plan.places some
       (subst (λ (n : ℕ). AreNew plan.places (length k.r.jobs + n) (map seat_of k.r.jobs ++ map worker_seat k.w.jobs)) (sym count) d.wired.jobs.seats)
       d.gone.received d.gone.worked in
       (roll, subst (AreAll roll plan.places) (sym d.parted.seats) all)
 
   columns_long : vec_len p.links.columns ≡ length k.r.jobs
   columns_long =
-      p.links.columns.ok.0 ∙ ap length d.parted.links.columns ∙ length-map k.r'.jobs (λ j. j.inboxes) ∙ long_r words plan k d.wired
+      p.links.columns.ok.0 ∙ ap length d.parted.links.columns ∙ length-map k.r'.jobs (λ j. j.inboxes) ∙ long_r hears tells writes plan k d.wired
 
   noted_long : vec_len p.links.noted ≡ length k.r.jobs
   noted_long =
-      p.links.noted.ok.0 ∙ ap length d.parted.links.noted ∙ length-map k.r'.jobs (λ j. j.notes) ∙ long_r words plan k d.wired
+      p.links.noted.ok.0 ∙ ap length d.parted.links.noted ∙ length-map k.r'.jobs (λ j. j.notes) ∙ long_r hears tells writes plan k d.wired
 
   inboxes_long : vec_len p.modules.inboxes ≡ module_count plan
   inboxes_long =
-      p.modules.inboxes.ok.0 ∙ ap length d.parted.modules.inboxes ∙ length-map k.w'.jobs (λ w. w.inbox) ∙ long_w words plan k d.wired
+      p.modules.inboxes.ok.0 ∙ ap length d.parted.modules.inboxes ∙ length-map k.w'.jobs (λ w. w.inbox) ∙ long_w hears tells writes plan k d.wired
 
   pub can_gather : back.Laws → 0 < length k.r.jobs → HasTrailRooms (length k.r.jobs) (module_count plan) plan.places rooms → CanGather p
   can_gather laws some room = record {
@@ -121,7 +122,7 @@ module _ {E M B L : Type 0} (words : Words E M B L) (plan : Plan) (k : Cast E M 
     trails = subst (λ vs. IsRoom (vec_len p.modules.inboxes) vs) (sym d.parted.inboxes) (subst (λ (n : ℕ). IsRoom n rooms.inboxes) (sym inboxes_long) room.inboxes);
     queues = queues_ready laws;
     queue_rooms = subst (λ vs. AllZip (λ row space. (space.items ≡ []) × (vec_len row ≤ vec_capacity space)) p.voice.queues.items vs.items) (sym d.parted.queues)
-        (rows_ready (module_count plan) plan.places p.voice.queues.items rooms.queues room.queues (heads_long words plan k rooms p d) (head_fits words plan k rooms p d));
+        (rows_ready (module_count plan) plan.places p.voice.queues.items rooms.queues room.queues (heads_long hears tells writes plan k rooms p d) (head_fits hears tells writes plan k rooms p d));
     notes = notes_ready laws;
     note_room = subst (λ vs. IsRoom (vec_len p.links.noted) vs) (sym d.parted.notes) (subst (λ (n : ℕ). IsRoom n rooms.notes) (sym noted_long) room.notes);
     door = door_ready;

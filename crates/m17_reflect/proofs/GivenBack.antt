@@ -31,7 +31,7 @@ use Rattle.m17_roll.specs.Closing.{EndView}
 use Rattle.m17_roll.specs.Laws.{GivenBackIsFree}
 use Rattle.m17_roll.specs.Run.{IsRollRun, count_at}
 use Rattle.m17_worker.specs.Gifts.{why_left, left_by, is_replaced, leaves_replaced, is_replacing, gifts_by, gifts_at, gifts}
-use Rattle.m17_house.specs.declared.plan.Plan.{Plan}
+use Rattle.m17_plan.specs.declared.plan.Plan.{Plan}
 use Rattle.m17_reflect.specs.Links.{Link, At, link_setup, letter_of, setup_at, routes, route_of}
 use Rattle.m17_reflect.specs.Trails.{events_of, AreTrails}
 use Rattle.m17_reflect.specs.Places.{AreSame, joiners, NobodyIsReplaced, ArePlacesBack}

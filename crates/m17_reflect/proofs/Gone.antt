@@ -4,6 +4,8 @@ use Rattle.std.specs.Prelude.{◌≢◌, slice_get, if◌then◌else◌}
 use Rattle.std.specs.List.{AllZip}
 use Rattle.std.proofs.lemmas.Slice.Zip.{AllZip-long}
 use Rattle.m17_values.specs.declared.heard.Heard.{Heard}
+use Rattle.m17_ports.specs.Book.{BookTold}
+use Rattle.m17_ports.specs.Ear.{EarTold}
 use Rattle.m17_crew.specs.declared.order.Order.{Order}
 use Rattle.m17_crew.specs.declared.order.Order.TheVariants.{Go, Quit, Stop}
 use Rattle.m17_crew.specs.Laws.{Ran}
@@ -11,12 +13,10 @@ use Rattle.m17_lane.specs.Ends.{PushEnd, PopEnd}
 use Rattle.m17_rows.specs.Starts.{HasStarted}
 use Rattle.m17_rows.specs.Laws.{RowsPush, FirstOrderDecides}
 use Rattle.m17_receiver.specs.declared.receiver.Receiver.{Receiver}
-use Rattle.m17_receiver.specs.Devices as devices
 use Rattle.m17_receiver.specs.ReceiverDid.{ReceiverDid}
 use Rattle.m17_worker.specs.declared.worker.Worker.{Worker}
-use Rattle.m17_worker.specs.Ready.{Words}
 use Rattle.m17_worker.specs.WorkerDid.{WorkerDid, HasWorked}
-use Rattle.m17_reflect.proofs.Came.{Heared, heared}
+use Rattle.m17_reflect.proofs.Came.{HasHeardAll, heared}
 use Rattle.m17_reflect.proofs.Orders.{OrdersCame, order_came}
 use Rattle.m17_reflect.proofs.Together.{AllZip3, choose, zip_at}
 
@@ -70,19 +70,19 @@ worker_order j = j.order
 
 module _ {E B : Type 0} where
   -- what each receiver's ear heard
-  pub all_heared : (words : devices.Words E B) (laws : Laws) (js ks : List (Receiver E B)) (lines : List (PushEnd Order)) → AllZip (ReceiverDid words) js ks → OrdersCame receiver_order (Go ∷ []) js ks lines → (heards : List (List Heard)) × AllZip3 (Heared words) js ks heards
-  all_heared words laws js ks lines did h =
-      choose (Heared words) js ks
-      (zip_from (λ j k. (heard : List Heard) × Heared words j k heard) js ks (AllZip-long (ReceiverDid words) js ks did)
-      (λ i j k at_j at_k. let it = zip_at (ReceiverDid words) js ks did i j k at_j at_k in
-      heared words j k (it.gone (told_go laws receiver_order [] js ks lines h i j k at_j at_k it.goes it.order))))
+  pub all_heared : {EL BL : Type 0} (hears : E → EarTold EL) (writes : B → BookTold BL) (laws : Laws) (js ks : List (Receiver E B)) (lines : List (PushEnd Order)) → AllZip (ReceiverDid hears writes) js ks → OrdersCame receiver_order (Go ∷ []) js ks lines → (heards : List (List Heard)) × AllZip3 (HasHeardAll hears writes) js ks heards
+  all_heared hears writes laws js ks lines did h =
+      choose (HasHeardAll hears writes) js ks
+      (zip_from (λ j k. (heard : List Heard) × HasHeardAll hears writes j k heard) js ks (AllZip-long (ReceiverDid hears writes) js ks did)
+      (λ i j k at_j at_k. let it = zip_at (ReceiverDid hears writes) js ks did i j k at_j at_k in
+      heared hears writes j k (it.gone (told_go laws receiver_order [] js ks lines h i j k at_j at_k it.goes it.order))))
 
 module _ {B : Type 0} where
   -- what each worker did
-  pub all_worked : (words : Words B) (laws : Laws) (js ks : List (Worker B)) (lines : List (PushEnd Order)) → AllZip (WorkerDid words) js ks → OrdersCame worker_order (Go ∷ []) js ks lines → AllZip (HasWorked words) js ks
-  all_worked words laws js ks lines did h =
-      zip_from (HasWorked words) js ks (AllZip-long (WorkerDid words) js ks did)
-      (λ i j k at_j at_k. let it = zip_at (WorkerDid words) js ks did i j k at_j at_k in
+  pub all_worked : {BL : Type 0} (writes : B → BookTold BL) (laws : Laws) (js ks : List (Worker B)) (lines : List (PushEnd Order)) → AllZip (WorkerDid writes) js ks → OrdersCame worker_order (Go ∷ []) js ks lines → AllZip (HasWorked writes) js ks
+  all_worked writes laws js ks lines did h =
+      zip_from (HasWorked writes) js ks (AllZip-long (WorkerDid writes) js ks did)
+      (λ i j k at_j at_k. let it = zip_at (WorkerDid writes) js ks did i j k at_j at_k in
       it.worked (told_go laws worker_order [] js ks lines h i j k at_j at_k it.goes it.order))
 
 module _ {J X : Type 0} where
@@ -97,24 +97,24 @@ module _ {J X : Type 0} where
 
 module _ {E B X : Type 0} where
   -- a receiver that only quit has all but its order
-  receiver_stayed : (words : devices.Words E B) (laws : Laws) (f : Receiver E B → X) (js ks : List (Receiver E B)) (lines : List (PushEnd Order)) → ((j : Receiver E B) (p : PopEnd Order) → f (record j { order = p }) ≡ f j) → OrdersCame receiver_order (Quit ∷ []) js ks lines → (i : ℕ) (j k : Receiver E B) → slice_get js i ≡ Some j → slice_get ks i ≡ Some k → Ran (ReceiverDid words) j k → f k ≡ f j
-  receiver_stayed words laws f js ks lines keeps h i j k at_j at_k (inl same) = ap f same
-  receiver_stayed words laws f js ks lines keeps h i j k at_j at_k (inr did) =
+  receiver_stayed : {EL BL : Type 0} (hears : E → EarTold EL) (writes : B → BookTold BL) (laws : Laws) (f : Receiver E B → X) (js ks : List (Receiver E B)) (lines : List (PushEnd Order)) → ((j : Receiver E B) (p : PopEnd Order) → f (record j { order = p }) ≡ f j) → OrdersCame receiver_order (Quit ∷ []) js ks lines → (i : ℕ) (j k : Receiver E B) → slice_get js i ≡ Some j → slice_get ks i ≡ Some k → Ran (ReceiverDid hears writes) j k → f k ≡ f j
+  receiver_stayed hears writes laws f js ks lines keeps h i j k at_j at_k (inl same) = ap f same
+  receiver_stayed hears writes laws f js ks lines keeps h i j k at_j at_k (inr did) =
       ap f (did.quit (told_quit laws receiver_order [] js ks lines h i j k at_j at_k did.goes did.order)) ∙ keeps j k.order
 
   -- and so have all receivers
-  pub receivers_stayed : (words : devices.Words E B) (laws : Laws) (f : Receiver E B → X) (js ks : List (Receiver E B)) (lines : List (PushEnd Order)) → ((j : Receiver E B) (p : PopEnd Order) → f (record j { order = p }) ≡ f j) → AllZip (Ran (ReceiverDid words)) js ks → OrdersCame receiver_order (Quit ∷ []) js ks lines → map f ks ≡ map f js
-  receivers_stayed words laws f js ks lines keeps ran h =
-      same_parts f js ks (AllZip-long (Ran (ReceiverDid words)) js ks ran)
-      (λ i j k at_j at_k. receiver_stayed words laws f js ks lines keeps h i j k at_j at_k (zip_at (Ran (ReceiverDid words)) js ks ran i j k at_j at_k))
+  pub receivers_stayed : {EL BL : Type 0} (hears : E → EarTold EL) (writes : B → BookTold BL) (laws : Laws) (f : Receiver E B → X) (js ks : List (Receiver E B)) (lines : List (PushEnd Order)) → ((j : Receiver E B) (p : PopEnd Order) → f (record j { order = p }) ≡ f j) → AllZip (Ran (ReceiverDid hears writes)) js ks → OrdersCame receiver_order (Quit ∷ []) js ks lines → map f ks ≡ map f js
+  receivers_stayed hears writes laws f js ks lines keeps ran h =
+      same_parts f js ks (AllZip-long (Ran (ReceiverDid hears writes)) js ks ran)
+      (λ i j k at_j at_k. receiver_stayed hears writes laws f js ks lines keeps h i j k at_j at_k (zip_at (Ran (ReceiverDid hears writes)) js ks ran i j k at_j at_k))
 
 module _ {B X : Type 0} where
-  worker_stayed : (words : Words B) (laws : Laws) (f : Worker B → X) (js ks : List (Worker B)) (lines : List (PushEnd Order)) → ((j : Worker B) (p : PopEnd Order) → f (record j { order = p }) ≡ f j) → OrdersCame worker_order (Quit ∷ []) js ks lines → (i : ℕ) (j k : Worker B) → slice_get js i ≡ Some j → slice_get ks i ≡ Some k → Ran (WorkerDid words) j k → f k ≡ f j
-  worker_stayed words laws f js ks lines keeps h i j k at_j at_k (inl same) = ap f same
-  worker_stayed words laws f js ks lines keeps h i j k at_j at_k (inr did) =
+  worker_stayed : {BL : Type 0} (writes : B → BookTold BL) (laws : Laws) (f : Worker B → X) (js ks : List (Worker B)) (lines : List (PushEnd Order)) → ((j : Worker B) (p : PopEnd Order) → f (record j { order = p }) ≡ f j) → OrdersCame worker_order (Quit ∷ []) js ks lines → (i : ℕ) (j k : Worker B) → slice_get js i ≡ Some j → slice_get ks i ≡ Some k → Ran (WorkerDid writes) j k → f k ≡ f j
+  worker_stayed writes laws f js ks lines keeps h i j k at_j at_k (inl same) = ap f same
+  worker_stayed writes laws f js ks lines keeps h i j k at_j at_k (inr did) =
       ap f (did.quit (told_quit laws worker_order [] js ks lines h i j k at_j at_k did.goes did.order)) ∙ keeps j k.order
 
-  pub workers_stayed : (words : Words B) (laws : Laws) (f : Worker B → X) (js ks : List (Worker B)) (lines : List (PushEnd Order)) → ((j : Worker B) (p : PopEnd Order) → f (record j { order = p }) ≡ f j) → AllZip (Ran (WorkerDid words)) js ks → OrdersCame worker_order (Quit ∷ []) js ks lines → map f ks ≡ map f js
-  workers_stayed words laws f js ks lines keeps ran h =
-      same_parts f js ks (AllZip-long (Ran (WorkerDid words)) js ks ran)
-      (λ i j k at_j at_k. worker_stayed words laws f js ks lines keeps h i j k at_j at_k (zip_at (Ran (WorkerDid words)) js ks ran i j k at_j at_k))
+  pub workers_stayed : {BL : Type 0} (writes : B → BookTold BL) (laws : Laws) (f : Worker B → X) (js ks : List (Worker B)) (lines : List (PushEnd Order)) → ((j : Worker B) (p : PopEnd Order) → f (record j { order = p }) ≡ f j) → AllZip (Ran (WorkerDid writes)) js ks → OrdersCame worker_order (Quit ∷ []) js ks lines → map f ks ≡ map f js
+  workers_stayed writes laws f js ks lines keeps ran h =
+      same_parts f js ks (AllZip-long (Ran (WorkerDid writes)) js ks ran)
+      (λ i j k at_j at_k. worker_stayed writes laws f js ks lines keeps h i j k at_j at_k (zip_at (Ran (WorkerDid writes)) js ks ran i j k at_j at_k))

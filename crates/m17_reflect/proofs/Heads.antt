@@ -3,7 +3,9 @@ use Rattle.std.proofs.Common.{◌≡◌, ℕ, ◌≤◌, List, [], ◌∷◌, ma
 use Rattle.std.specs.Prelude.{slice_get, Vec}
 use Rattle.std.specs.List.{AllZip}
 use Rattle.std.proofs.lemmas.List.{length-map}
-use Rattle.m17_ports.specs.Said.{MouthTold}
+use Rattle.m17_ports.specs.Book.{BookTold}
+use Rattle.m17_ports.specs.Ear.{EarTold}
+use Rattle.m17_ports.specs.Mouth.{MouthTold}
 use Rattle.m17_control.specs.declared.item.Item.{Item}
 use Rattle.m17_crew.specs.declared.order.Order.{Order}
 use Rattle.m17_crew.specs.declared.order.Order.TheVariants.{Quit}
@@ -14,12 +16,11 @@ use Rattle.m17_rows.specs.Rows.{as_new_popper}
 use Rattle.m17_sender.specs.declared.sender.Sender.{Sender}
 use Rattle.m17_sender.specs.Places.{queues_of}
 use Rattle.m17_sender.specs.Sent.{SenderDid}
-use Rattle.m17_wiring.specs.Planned.{module_count}
-use Rattle.m17_wiring.specs.declared.rooms.TrailRooms.{TrailRooms}
-use Rattle.m17_house.specs.declared.plan.Plan.{Plan}
-use Rattle.m17_reflect.specs.Views.{Words}
+use Rattle.m17_plan.specs.Planned.{module_count}
+use Rattle.m17_run_setup.specs.declared.rooms.TrailRooms.{TrailRooms}
+use Rattle.m17_plan.specs.declared.plan.Plan.{Plan}
 use Rattle.m17_reflect.specs.declared.parted.Parted.{Parted}
-use Rattle.m17_reflect.proofs.Calls.{Cast, Done}
+use Rattle.m17_reflect.proofs.Calls.{RunDevices, Done}
 use Rattle.m17_reflect.proofs.CameBack.{queues_at}
 use Rattle.m17_reflect.proofs.Gone as gone
 use Rattle.m17_reflect.proofs.Lines.{sender_order, sender_stayed}
@@ -28,7 +29,7 @@ use Rattle.m17_reflect.proofs.Routes.{at_below, below_at}
 use Rattle.m17_reflect.proofs.Together.{mapped_at}
 use Rattle.m17_reflect.proofs.Whole.{same_row_length}
 
-module _ {E M B L : Type 0} (words : Words E M B L) (plan : Plan) (k : Cast E M B) (rooms : TrailRooms) (p : Parted E M B) (d : Done words plan k rooms p) where
+module _ {E M B EL ML BL : Type 0} (hears : E → EarTold EL) (tells : M → MouthTold ML) (writes : B → BookTold BL) (plan : Plan) (k : RunDevices E M B) (rooms : TrailRooms) (p : Parted E M B) (d : Done hears tells writes plan k rooms p) where
   -- a row for each module
   pub heads_long : length p.voice.queues.items ≡ module_count plan
   heads_long =

@@ -68,17 +68,17 @@ placed tries q item h =
     ap (λ (i : Item). i.member.place) (sym is) ∙ sym (eqb-true q t.item.member.place here)
 
 -- What the trails and queues of a run are.
-pub record AreCarried {L : Type 0} (run : Run L) (links : List Link) : Type 0 where
+pub record AreCarried {EL ML BL : Type 0} (run : Run EL ML BL) (links : List Link) : Type 0 where
   pub trails : AreTrails run.plan links run.handed.trails
   pub queues : QueuesCarry run
 
 -- the queues of one module
-abbrev pub module_queues : {L : Type 0} → Run L → ℕ → List (TrailEnd Item) → ℕ → Carriers
+abbrev pub module_queues : {EL ML BL : Type 0} → Run EL ML BL → ℕ → List (TrailEnd Item) → ℕ → Carriers
 module_queues run m row missed =
     record { setup = setup_at run.plan m; patient = run.plan.patient; queues = row; missed = missed }
 
 -- The trail and the queues of a module.
-pub record OfModule {L : Type 0} (run : Run L) (m : ℕ) : Type 0 where
+pub record OfModule {EL ML BL : Type 0} (run : Run EL ML BL) (m : ℕ) : Type 0 where
   pub trail : TrailEnd Event
   pub row : List (TrailEnd Item)
   pub missed : ℕ
@@ -86,8 +86,8 @@ pub record OfModule {L : Type 0} (run : Run L) (m : ℕ) : Type 0 where
   pub row_there : At run.handed.queues m row
   pub carry : Carry (events_of trail) (module_queues run m row missed)
 
-module _ {L : Type 0} where
-  pub of_module : (run : Run L) (links : List Link) (m : ℕ) → AreCarried run links → m < module_count run.plan → OfModule run m
+module _ {EL ML BL : Type 0} where
+  pub of_module : (run : Run EL ML BL) (links : List Link) (m : ℕ) → AreCarried run links → m < module_count run.plan → OfModule run m
   of_module run links m h lt =
       let (trail, at_t) = at_below run.handed.trails m (omega (arith, h.trails.count)) in
       let (row, at_r) = at_below run.handed.queues m (omega (arith, h.queues.count)) in
@@ -101,7 +101,7 @@ module _ {L : Type 0} where
       }
 
   -- What is known of an item.
-  pub record IsOfRun (run : Run L) (m q : ℕ) (item : Item) : Type 0 where
+  pub record IsOfRun (run : Run EL ML BL) (m q : ℕ) (item : Item) : Type 0 where
     pub trail : TrailEnd Event
     pub trail_there : At run.handed.trails m trail
     pub module_there : m < module_count run.plan
@@ -109,7 +109,7 @@ module _ {L : Type 0} where
     pub place : item.member.place ≡ q
     pub within : q < run.plan.places
 
-  of_row : (laws : carriers.Laws) (run : Run L) (m q : ℕ) (item : Item) (o : OfModule run m) (row : List (TrailEnd Item)) (queue : TrailEnd Item) → m < module_count run.plan → slice_get o.row q ≡ Some queue → IsIn (items_of queue.order) item → IsOfRun run m q item
+  of_row : (laws : carriers.Laws) (run : Run EL ML BL) (m q : ℕ) (item : Item) (o : OfModule run m) (row : List (TrailEnd Item)) (queue : TrailEnd Item) → m < module_count run.plan → slice_get o.row q ≡ Some queue → IsIn (items_of queue.order) item → IsOfRun run m q item
   of_row laws run m q item o row queue lt e h =
       let c = module_queues run m o.row o.missed in
       let inside = below_at o.row q queue e in record {
@@ -121,7 +121,7 @@ module _ {L : Type 0} where
         within = omega (arith, o.carry.count);
       }
 
-  pub is_of_run : carriers.Laws → (run : Run L) (links : List Link) (m q : ℕ) (item : Item) → AreCarried run links → IsIn (carried run.handed.queues m q) item → IsOfRun run m q item
+  pub is_of_run : carriers.Laws → (run : Run EL ML BL) (links : List Link) (m q : ℕ) (item : Item) → AreCarried run links → IsIn (carried run.handed.queues m q) item → IsOfRun run m q item
   is_of_run laws run links m q item h there =
       let at = has_queue run.handed.queues m q item there in
       let inside = below_at run.handed.queues m at.row at.row_there in
@@ -132,7 +132,7 @@ module _ {L : Type 0} where
       of_row laws run m q item o at.row at.queue lt (ap (λ (l : List (TrailEnd Item)). slice_get l q) rows ∙ at.queue_there) at.its
 
   -- The link of an item is there.
-  pub link_is_there : (run : Run L) (links : List Link) (m q : ℕ) (item : Item) → AreCarried run links → IsOfRun run m q item → item.link < length links
+  pub link_is_there : (run : Run EL ML BL) (links : List Link) (m q : ℕ) (item : Item) → AreCarried run links → IsOfRun run m q item → item.link < length links
   link_is_there run links m q item h is =
       let letter = letter_of run.plan m in
       let known = (h.trails.each m is.trail is.trail_there).order.known in
@@ -142,7 +142,7 @@ module _ {L : Type 0} where
       let same = is.follows.link in omega arith
 
   -- The asker, of its link, whose Join it follows.
-  pub item_has_asker : JoinsAreTheClaims → (run : Run L) (links : List Link) (m q : ℕ) (item : Item) (i : ℕ) (link : Link) → AreCarried run links → (is : IsOfRun run m q item) → At links i link → item.link ≡ i → HasAsker (link_setup run.plan i) link.entries (letter_of run.plan m) item.member item.peer is.follows.after
+  pub item_has_asker : JoinsAreTheClaims → (run : Run EL ML BL) (links : List Link) (m q : ℕ) (item : Item) (i : ℕ) (link : Link) → AreCarried run links → (is : IsOfRun run m q item) → At links i link → item.link ≡ i → HasAsker (link_setup run.plan i) link.entries (letter_of run.plan m) item.member item.peer is.follows.after
   item_has_asker law run links m q item i link h is at by =
       let letter = letter_of run.plan m in let f = is.follows in
       let part : routed (link_setup run.plan i) link.entries letter ≡ picked link_of i (events_of is.trail) =

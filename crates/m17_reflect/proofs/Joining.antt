@@ -14,7 +14,7 @@ use Rattle.m17_directory.specs.Entries.{Entry}
 use Rattle.m17_directory.specs.Routed.{routed}
 use Rattle.m17_directory.specs.Laws.{JoinsOfAllModules, EachClaimJoins, ClaimsAreAsked, is_join, joiner_of, all_joins, claimed_members}
 use Rattle.m17_lane.specs.Ends.{TrailEnd}
-use Rattle.m17_house.specs.declared.plan.Plan.{Plan}
+use Rattle.m17_plan.specs.declared.plan.Plan.{Plan}
 use Rattle.m17_reflect.specs.Links.{Link, At, link_setup, letter_of, routes, route_of}
 use Rattle.m17_reflect.specs.Trails.{events_of, AreTrails}
 use Rattle.m17_reflect.specs.Places.{AreSame, joiners}

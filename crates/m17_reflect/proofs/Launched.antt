@@ -1,5 +1,5 @@
 -- What follows of jobs that were launched: their orders can be finished, and what they did is known then.
-use Rattle.std.proofs.Common.{◌≡◌, List, [], ◌∷◌, map, length, Result, Ok, Err, sym, subst, refl, ap, inl, inr, arith}
+use Rattle.std.proofs.Common.{◌≡◌, List, [], ◌∷◌, map, length, Result, Ok, Err, sym, subst, refl, ap, inr, arith}
 use Rattle.std.specs.Prelude.{MatchResult}
 use Rattle.std.specs.List.{AllZip}
 use Rattle.std.proofs.lemmas.Slice.Zip.{AllZip-long}
@@ -11,8 +11,8 @@ use Rattle.m17_rows.specs.Rows.{push_each}
 use Rattle.m17_rows.specs.Laws.{RowsPush}
 use Rattle.m17_grid.specs.Trails.{AreTrailsOfOnes}
 use Rattle.m17_launch.specs.Groups.{Staff, WereTold}
-use Rattle.m17_wiring.specs.Ends.{IsNewLine}
-use Rattle.m17_parting.specs.Rows.{AreOfOnes}
+use Rattle.m17_run_setup.specs.Ends.{IsNewLine}
+use Rattle.m17_run_end.specs.Rows.{AreOfOnes}
 use Rattle.m17_reflect.proofs.Ends.{CanFinish}
 use Rattle.m17_reflect.proofs.Lines.{KeepsOrder, orders_back, orders_came}
 use Rattle.m17_reflect.proofs.Orders.{OrdersCame}
@@ -46,22 +46,11 @@ module _ {J : Type 0} where
   pub told_long : (P : J → J → Type 0) (told : List Order) (before after : Staff J) → WereTold P told before after → length after.jobs ≡ length before.jobs
   told_long P told before after h = AllZip-long P before.jobs after.jobs h.jobs
 
-  -- what was told, of jobs of which less is said
-  pub told_less : (P Q : J → J → Type 0) → ((j k : J) → P j k → Q j k) → (told : List Order) (before after : Staff J) → WereTold P told before after → WereTold Q told before after
-  told_less P Q less told before after h = record { jobs = zip_less P Q less before.jobs after.jobs h.jobs; orders = h.orders }
-
-  ran_less : (P Q : J → J → Type 0) → ((j k : J) → P j k → Q j k) → (j k : J) → Ran P j k → Ran Q j k
-  ran_less P Q less j k (inl same) = inl same
-  ran_less P Q less j k (inr did) = inr (less j k did)
-
-  pub told_ran : (P Q : J → J → Type 0) → ((j k : J) → P j k → Q j k) → (told : List Order) (before after : Staff J) → WereTold (Ran P) told before after → WereTold (Ran Q) told before after
-  told_ran P Q less told before after h = told_less (Ran P) (Ran Q) (ran_less P Q less) told before after h
-
 module _ {J U V : Type 0} where
   -- Jobs that were launched ran, whether all went or all were told to quit.
-  pub launched : (P Q : J → J → Type 0) → ((j k : J) → P j k → Q j k) → (more : List Order) (before after : Staff J) (r : Result U V) → MatchResult r (λ _. WereTold P (Go ∷ more) before after) (λ _. WereTold (Ran P) (Quit ∷ []) before after) → (told : List Order) × WereTold (Ran Q) told before after
-  launched P Q less more before after (Ok _) h = (Go ∷ more, told_less P (Ran Q) (λ j k did. inr (less j k did)) (Go ∷ more) before after h)
-  launched P Q less more before after (Err _) h = (Quit ∷ [], told_ran P Q less (Quit ∷ []) before after h)
+  pub launched : (P : J → J → Type 0) (more : List Order) (before after : Staff J) (r : Result U V) → MatchResult r (λ _. WereTold P (Go ∷ more) before after) (λ _. WereTold (Ran P) (Quit ∷ []) before after) → (told : List Order) × WereTold (Ran P) told before after
+  launched P more before after (Ok _) h = (Go ∷ more, record { jobs = zip_less P (Ran P) (λ j k did. inr did) before.jobs after.jobs h.jobs; orders = h.orders })
+  launched P more before after (Err _) h = (Quit ∷ [], h)
 
 module _ {J : Type 0} where
   -- one job is one

@@ -3,7 +3,9 @@ use Rattle.std.proofs.Common.{◌≡◌, Bool, true, false, List, [], ◌∷◌,
 use Rattle.std.specs.List.{AllZip}
 use Rattle.std.proofs.lemmas.List.{append_assoc}
 use Rattle.std.proofs.lemmas.Slice.Zip.{AllZip-long}
-use Rattle.m17_ports.specs.Said.{MouthTold}
+use Rattle.m17_ports.specs.Book.{BookTold}
+use Rattle.m17_ports.specs.Ear.{EarTold}
+use Rattle.m17_ports.specs.Mouth.{MouthTold}
 use Rattle.m17_crew.specs.declared.order.Order.{Order}
 use Rattle.m17_crew.specs.declared.order.Order.TheVariants.{Go, Quit, Stop}
 use Rattle.m17_crew.specs.Laws.{Ran}
@@ -13,14 +15,12 @@ use Rattle.m17_rows.specs.Starts.{HasStarted}
 use Rattle.m17_rows.specs.Laws.{RowsPush}
 use Rattle.m17_grid.specs.Trails.{AreTrailsOfOnes}
 use Rattle.m17_receiver.specs.declared.receiver.Receiver.{Receiver}
-use Rattle.m17_receiver.specs.Devices as devices
 use Rattle.m17_receiver.specs.ReceiverDid.{ReceiverDid}
 use Rattle.m17_worker.specs.declared.worker.Worker.{Worker}
-use Rattle.m17_worker.specs.Ready.{Words}
 use Rattle.m17_worker.specs.WorkerDid.{WorkerDid}
 use Rattle.m17_sender.specs.declared.sender.Sender.{Sender}
 use Rattle.m17_sender.specs.Sent.{Sent, SenderDid}
-use Rattle.m17_wiring.specs.Ends.{IsNewLine}
+use Rattle.m17_run_setup.specs.Ends.{IsNewLine}
 use Rattle.m17_reflect.proofs.Orders.{OrdersCame, order_came}
 use Rattle.m17_reflect.proofs.Gone.{Laws, receiver_order, worker_order, told_go, stayed, quit_is_no_stop}
 use Rattle.m17_reflect.proofs.Ends.{zip_same, map_twice, line_back, CanFinish}
@@ -41,14 +41,14 @@ module _ {J : Type 0} where
       record { new = new; trails = trails; count = AllZip-long P js ks did; finished = finished }
 
 module _ {E B : Type 0} where
-  pub receiver_keeps : (words : devices.Words E B) → KeepsOrder receiver_order (Ran (ReceiverDid words))
-  receiver_keeps words j k (inl same) = ap (λ (r : Receiver E B). as_new_popper r.order) same
-  receiver_keeps words j k (inr did) = ap as_new_popper did.order.orders
+  pub receiver_keeps : {EL BL : Type 0} (hears : E → EarTold EL) (writes : B → BookTold BL) → KeepsOrder receiver_order (Ran (ReceiverDid hears writes))
+  receiver_keeps hears writes j k (inl same) = ap (λ (r : Receiver E B). as_new_popper r.order) same
+  receiver_keeps hears writes j k (inr did) = ap as_new_popper did.order.orders
 
 module _ {B : Type 0} where
-  pub worker_keeps : (words : Words B) → KeepsOrder worker_order (Ran (WorkerDid words))
-  worker_keeps words j k (inl same) = ap (λ (r : Worker B). as_new_popper r.order) same
-  worker_keeps words j k (inr did) = ap as_new_popper did.order.orders
+  pub worker_keeps : {BL : Type 0} (writes : B → BookTold BL) → KeepsOrder worker_order (Ran (WorkerDid writes))
+  worker_keeps writes j k (inl same) = ap (λ (r : Worker B). as_new_popper r.order) same
+  worker_keeps writes j k (inr did) = ap as_new_popper did.order.orders
 
 abbrev pub sender_order : {M : Type 0} → Sender M → PopEnd Order
 sender_order s = s.order

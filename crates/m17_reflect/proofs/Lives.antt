@@ -14,7 +14,7 @@ use Rattle.m17_floor.specs.Acts.{is_same, is_join_of, kind_at}
 use Rattle.m17_module.specs.Events.{kind_of, acts_of}
 use Rattle.m17_module.specs.Items.{Setup, items_given, is_for, items_for}
 use Rattle.m17_module.specs.Laws.{is_hello, is_bye, joins, JoinsOnce, IsLife, ShareIsALife, FollowsJoin, ItemsFollowTheirJoins}
-use Rattle.m17_turns.specs.Joined.{IsLifeFrom}
+use Rattle.m17_send_order.specs.Joined.{IsLifeFrom}
 
 is_a_hello : (what : Said) → is_hello what ≡ true → (n : ℕ) × (what ≡ said.Hello n)
 is_a_hello (said.Hello n) e = (n, refl)

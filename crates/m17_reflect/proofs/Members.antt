@@ -17,7 +17,7 @@ use Rattle.m17_directory.specs.Laws.{JoinsAreTheClaims, AskersAskForServedModule
 use Rattle.m17_lane.specs.Orders.{picked}
 use Rattle.m17_lane.specs.Orders as lane
 use Rattle.m17_module.specs.Laws.{joins}
-use Rattle.m17_turns.specs.Joined.{IsJoined, is_to, IsLifeFrom}
+use Rattle.m17_send_order.specs.Joined.{IsJoined, is_to, IsLifeFrom}
 use Rattle.m17_reflect.specs.Links.{Link, At, link_setup, letter_of}
 use Rattle.m17_reflect.specs.Queues.{carried}
 use Rattle.m17_reflect.specs.Run.{Run, module_count}
@@ -44,7 +44,7 @@ pub record Laws : Type 0 where
   pub carried : carriers.Laws
 
 -- The members that the links claimed are at places that are there, and each joins once.
-pub record AreMembers {L : Type 0} (run : Run L) (links : List Link) : Type 0 where
+pub record AreMembers {EL ML BL : Type 0} (run : Run EL ML BL) (links : List Link) : Type 0 where
   pub carried : AreCarried run links
   pub placed : (i : ℕ) (link : Link) → At links i link →
       AllByRecursion (λ k. is_at run.plan.places k ≡ true) (claimed_members link.entries)
@@ -54,15 +54,15 @@ by_links : (i : ℕ) (from : Peer) (items : List Item) → AllByRecursion (λ it
 by_links i from [] h = tt
 by_links i from (item ∷ items) h = (h.0.0, by_links i from items h.1)
 
-module _ {L : Type 0} where
+module _ {EL ML BL : Type 0} where
   -- the place of a claim is there
-  claim_placed : (run : Run L) (links : List Link) (i : ℕ) (link : Link) (letter n : ℕ) (from : Peer) (claim : Claim) → AreMembers run links → At links i link → IsAsker (link_setup run.plan i) link.entries letter n from claim → claim.member.place < run.plan.places
+  claim_placed : (run : Run EL ML BL) (links : List Link) (i : ℕ) (link : Link) (letter n : ℕ) (from : Peer) (claim : Claim) → AreMembers run links → At links i link → IsAsker (link_setup run.plan i) link.entries letter n from claim → claim.member.place < run.plan.places
   claim_placed run links i link letter n from claim h at a =
       ltb-true claim.member.place run.plan.places
       (claim_in (λ k. is_at run.plan.places k ≡ true) link.entries (h.placed i link at) n claim a.is_claim)
 
   -- the letter of an asker is served
-  asker_served : AskersAskForServedModules → (run : Run L) (i : ℕ) (link : Link) (letter n : ℕ) (from : Peer) (claim : Claim) → IsAsker (link_setup run.plan i) link.entries letter n from claim → serves run.plan.modules letter ≡ true
+  asker_served : AskersAskForServedModules → (run : Run EL ML BL) (i : ℕ) (link : Link) (letter n : ℕ) (from : Peer) (claim : Claim) → IsAsker (link_setup run.plan i) link.entries letter n from claim → serves run.plan.modules letter ≡ true
   asker_served law run i link letter n from claim a =
       let (request, is, served) = law (link_setup run.plan i) link.entries n a.asks in
       let both : Some request ≡ Some a.request = sym is ∙ a.requests in
@@ -70,12 +70,12 @@ module _ {L : Type 0} where
       subst (λ (l : ℕ). serves run.plan.modules l ≡ true) (ap (λ (r : Request). r.letter) same ∙ a.same_letter) served
 
   -- The Join of an asker, in the trail of its module.
-  pub record HasJoined (run : Run L) (i letter : ℕ) (from : Peer) (claim : Claim) : Type 0 where
+  pub record HasJoined (run : Run EL ML BL) (i letter : ℕ) (from : Peer) (claim : Claim) : Type 0 where
     pub there : number_of run.plan.modules letter < module_count run.plan
     pub its : OfModule run (number_of run.plan.modules letter)
     pub join : IsOnlyJoin (events_of its.trail) claim.member from i claim.after
 
-  joined_at : Laws → (run : Run L) (links : List Link) (i : ℕ) (link : Link) (letter n : ℕ) (from : Peer) (claim : Claim) → AreMembers run links → At links i link → (a : IsAsker (link_setup run.plan i) link.entries letter n from claim) → (m : ℕ) → letter_of run.plan m ≡ letter → (o : OfModule run m) → IsOnlyJoin (events_of o.trail) claim.member from i claim.after
+  joined_at : Laws → (run : Run EL ML BL) (links : List Link) (i : ℕ) (link : Link) (letter n : ℕ) (from : Peer) (claim : Claim) → AreMembers run links → At links i link → (a : IsAsker (link_setup run.plan i) link.entries letter n from claim) → (m : ℕ) → letter_of run.plan m ≡ letter → (o : OfModule run m) → IsOnlyJoin (events_of o.trail) claim.member from i claim.after
   joined_at laws run links i link letter n from claim h at a m e o =
       let setup = link_setup run.plan i in let event = its_event setup link.entries n from a.request claim in
       let part : routed setup link.entries (letter_of run.plan m) ≡ picked link_of i (events_of o.trail) =
@@ -92,14 +92,14 @@ module _ {L : Type 0} where
         once = (h.once claim.member (claim_placed run links i link letter n from claim h at a)).once m o.trail o.trail_there;
       }
 
-  pub has_joined : Laws → (run : Run L) (links : List Link) (i : ℕ) (link : Link) (letter n : ℕ) (from : Peer) (claim : Claim) → AreMembers run links → At links i link → IsAsker (link_setup run.plan i) link.entries letter n from claim → HasJoined run i letter from claim
+  pub has_joined : Laws → (run : Run EL ML BL) (links : List Link) (i : ℕ) (link : Link) (letter n : ℕ) (from : Peer) (claim : Claim) → AreMembers run links → At links i link → IsAsker (link_setup run.plan i) link.entries letter n from claim → HasJoined run i letter from claim
   has_joined laws run links i link letter n from claim h at a =
       let (lt, e) = number_there run.plan letter (asker_served laws.served run i link letter n from claim a) in
       let o = of_module run links (number_of run.plan.modules letter) h.carried lt in
       record { there = lt; its = o; join = joined_at laws run links i link letter n from claim h at a (number_of run.plan.modules letter) e o }
 
   -- no other queue has an item for its member
-  pub stands_alone : Laws → (run : Run L) (links : List Link) (i : ℕ) (link : Link) (letter n : ℕ) (from : Peer) (claim : Claim) → AreMembers run links → At links i link → IsAsker (link_setup run.plan i) link.entries letter n from claim → (j : HasJoined run i letter from claim) → (m q : ℕ) (item : Item) → IsOfRun run m q item → item.member ≡ claim.member → m ≡ number_of run.plan.modules letter
+  pub stands_alone : Laws → (run : Run EL ML BL) (links : List Link) (i : ℕ) (link : Link) (letter n : ℕ) (from : Peer) (claim : Claim) → AreMembers run links → At links i link → IsAsker (link_setup run.plan i) link.entries letter n from claim → (j : HasJoined run i letter from claim) → (m q : ℕ) (item : Item) → IsOfRun run m q item → item.member ≡ claim.member → m ≡ number_of run.plan.modules letter
   stands_alone laws run links i link letter n from claim h at a j m q item is same =
       let k = claim.member in let o = j.its in let f = is.follows in
       (h.once k (claim_placed run links i link letter n from claim h at a)).alone m (number_of run.plan.modules letter) f.position j.join.position is.trail o.trail is.trail_there o.trail_there
@@ -108,7 +108,7 @@ module _ {L : Type 0} where
       (joins_there (events_of o.trail) k j.join.position j.join.event from j.join.callsign j.join.listens claim.after j.join.there j.join.body)
 
   -- The membership that an asker began.
-  pub is_joined : Laws → (run : Run L) (links : List Link) (i : ℕ) (link : Link) (letter n : ℕ) (from : Peer) (claim : Claim) → AreMembers run links → At links i link → IsAsker (link_setup run.plan i) link.entries letter n from claim → IsJoined (carried run.handed.queues) i (begun run.plan.modules letter claim)
+  pub is_joined : Laws → (run : Run EL ML BL) (links : List Link) (i : ℕ) (link : Link) (letter n : ℕ) (from : Peer) (claim : Claim) → AreMembers run links → At links i link → IsAsker (link_setup run.plan i) link.entries letter n from claim → IsJoined (carried run.handed.queues) i (begun run.plan.modules letter claim)
   is_joined laws run links i link letter n from claim h at a =
       let k = claim.member in let m = number_of run.plan.modules letter in let j = has_joined laws run links i link letter n from claim h at a in
       let o = j.its in let c = module_queues run m o.row o.missed in let lt = claim_placed run links i link letter n from claim h at a in

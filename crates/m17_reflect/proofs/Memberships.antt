@@ -10,7 +10,7 @@ use Rattle.m17_directory.specs.declared.known.Request.{Request}
 use Rattle.m17_directory.specs.Entries.{Notice, Claim, Entry, Setup, notice_at, claim_at, is_peer}
 use Rattle.m17_directory.specs.Known.{request_in}
 use Rattle.m17_directory.specs.Routed.{past_at, asks_at}
-use Rattle.m17_turns.specs.Joined.{Joined}
+use Rattle.m17_send_order.specs.Joined.{Joined}
 use Rattle.m17_reflect.specs.Sendings.{number_of, joined_by, joined_at, memberships}
 use Rattle.m17_reflect.proofs.Standing.{IsIn, in_flat, from_flat, in_range, from_range}
 use Rattle.m17_reflect.proofs.Askers.{IsAsker}

@@ -14,9 +14,9 @@ use Rattle.m17_directory.specs.Laws.{claimed_members}
 use Rattle.m17_receiver.specs.Devices.{IsCounted}
 use Rattle.m17_receiver.specs.Claims.{IsGreetedAfter}
 use Rattle.m17_sender.specs.Sent.{byes_of}
-use Rattle.m17_turns.specs.Acts.{Act, notes_of, thing_of, things_of}
-use Rattle.m17_turns.specs.Joined.{Joined, SayAll, AreInTurn, IsJoined, WaitsFor, is_to, is_to_any, items_of, items_said}
-use Rattle.m17_turns.specs.Laws.{TurnsKeepEachMemberInOrder}
+use Rattle.m17_send_order.specs.Acts.{Act, notes_of, thing_of, things_of}
+use Rattle.m17_send_order.specs.Joined.{Joined, SayAll, AreInTurn, IsJoined, WaitsFor, is_to, is_to_any, items_of, items_said}
+use Rattle.m17_send_order.specs.Laws.{TurnsKeepEachMemberInOrder}
 use Rattle.m17_reflect.specs.Links.{Link, At, link_setup, letter_of}
 use Rattle.m17_reflect.specs.Queues.{carried}
 use Rattle.m17_reflect.specs.Run.{Run}
@@ -56,9 +56,9 @@ moved_counts : (k y : Member) (acts : List Act) (i : ℕ) (entries : List Entry)
 moved_counts k y acts i entries same (few, some) =
     subst (λ (m : Member). count_by (mine m) (byes_of i acts) ≤ count_by (mine m) (claimed_members entries)) same (omega arith)
 
-module _ {L : Type 0} where
+module _ {EL ML BL : Type 0} where
   -- all that was said to the member of an asker is a life
-  said_to : Laws → (run : Run L) (i : ℕ) (acts more : List Act) (j : Joined) → SayAll acts more (carried run.handed.queues) → IsJoined (carried run.handed.queues) i j → filter (is_to j.member) (items_said (acts ++ more)) ≡ items_of (carried run.handed.queues) j
+  said_to : Laws → (run : Run EL ML BL) (i : ℕ) (acts more : List Act) (j : Joined) → SayAll acts more (carried run.handed.queues) → IsJoined (carried run.handed.queues) i j → filter (is_to j.member) (items_said (acts ++ more)) ≡ items_of (carried run.handed.queues) j
   said_to laws run i acts more j say is =
       let queues = carried run.handed.queues in
       let turn : AreInTurn queues i (notes_of i acts) (j ∷ []) = record {
@@ -69,7 +69,7 @@ module _ {L : Type 0} where
       ∙ laws.order acts more queues i (j ∷ []) say turn ∙ append-nil (items_of queues j)
 
   -- a Bye on a link is to a member that an entry of the link claimed, and the only one to it
-  bye_claimed : Laws → (run : Run L) (links : List Link) (i : ℕ) (link : Link) (acts more : List Act) (k : Member) → AreMembers run links → At links i link → SayAll acts more (carried run.handed.queues) → IsIn (byes_of i acts) k → (count_by (mine k) (byes_of i acts) ≤ 1) × (1 ≤ count_by (mine k) (claimed_members link.entries))
+  bye_claimed : Laws → (run : Run EL ML BL) (links : List Link) (i : ℕ) (link : Link) (acts more : List Act) (k : Member) → AreMembers run links → At links i link → SayAll acts more (carried run.handed.queues) → IsIn (byes_of i acts) k → (count_by (mine k) (byes_of i acts) ≤ 1) × (1 ≤ count_by (mine k) (claimed_members link.entries))
   bye_claimed laws run links i link acts more k h at say there =
       let b = has_said_bye i acts k there in
       let stands : IsIn (carried run.handed.queues b.m b.q) b.item =
@@ -85,14 +85,14 @@ module _ {L : Type 0} where
         claim_counts k link.entries a.position a.claim a.asker.is_claim same,
       )
 
-  byes_by : Laws → (run : Run L) (links : List Link) (i : ℕ) (link : Link) (acts more : List Act) (k : Member) → AreMembers run links → At links i link → SayAll acts more (carried run.handed.queues) → (0 < count_by (mine k) (byes_of i acts)) ⊎ (count_by (mine k) (byes_of i acts) ≤ 0) → count_by (mine k) (byes_of i acts) ≤ count_by (mine k) (claimed_members link.entries)
+  byes_by : Laws → (run : Run EL ML BL) (links : List Link) (i : ℕ) (link : Link) (acts more : List Act) (k : Member) → AreMembers run links → At links i link → SayAll acts more (carried run.handed.queues) → (0 < count_by (mine k) (byes_of i acts)) ⊎ (count_by (mine k) (byes_of i acts) ≤ 0) → count_by (mine k) (byes_of i acts) ≤ count_by (mine k) (claimed_members link.entries)
   byes_by laws run links i link acts more k h at say (inl some) =
       let (y, there, is) = counted_in (mine k) (byes_of i acts) some in
       moved_counts k y acts i link.entries (same_member y k is) (bye_claimed laws run links i link acts more y h at say there)
   byes_by laws run links i link acts more k h at say (inr none) = omega arith
 
   -- No more Byes on a link than it has entries.
-  pub byes_long : Laws → (run : Run L) (links : List Link) (i : ℕ) (link : Link) (acts more : List Act) → AreMembers run links → At links i link → SayAll acts more (carried run.handed.queues) → length (byes_of i acts) ≤ length link.entries
+  pub byes_long : Laws → (run : Run EL ML BL) (links : List Link) (i : ℕ) (link : Link) (acts more : List Act) → AreMembers run links → At links i link → SayAll acts more (carried run.handed.queues) → length (byes_of i acts) ≤ length link.entries
   byes_long laws run links i link acts more h at say =
       let few = fewer (byes_of i acts) (claimed_members link.entries) (λ k. byes_by laws run links i link acts more k h at say (cases_lt 0 (count_by (mine k) (byes_of i acts)))) in
       let more_entries = claims_long link.entries in omega arith
@@ -115,8 +115,8 @@ pub record AreNoted (entries : List Entry) (acts : List Act) (i : ℕ) (popped :
   pub greeted : IsGreetedAfter entries popped
   pub differ : ClaimsDiffer entries
 
-module _ {L : Type 0} where
-  popped_counted : Laws → (run : Run L) (links : List Link) (i : ℕ) (link : Link) (acts more : List Act) (popped : List Member) → AreMembers run links → At links i link → SayAll acts more (carried run.handed.queues) → AreNoted link.entries acts i popped → SaysEach link.heard link.entries → IsCounted link.heard → IsCounted popped
+module _ {EL ML BL : Type 0} where
+  popped_counted : Laws → (run : Run EL ML BL) (links : List Link) (i : ℕ) (link : Link) (acts more : List Act) (popped : List Member) → AreMembers run links → At links i link → SayAll acts more (carried run.handed.queues) → AreNoted link.entries acts i popped → SaysEach link.heard link.entries → IsCounted link.heard → IsCounted popped
   popped_counted laws run links i link acts more popped h at say noted says counted =
       let a = byes_long laws run links i link acts more h at say in
       let b = says_length link.heard link.entries says in
@@ -124,7 +124,7 @@ module _ {L : Type 0} where
       let d = length-append popped noted.rest in omega arith
 
   -- The memberships of each peer on a link, and what goes to it.
-  pub are_its : Laws → (run : Run L) (links : List Link) (i : ℕ) (link : Link) (acts more : List Act) (popped : List Member) (x : Peer) → AreMembers run links → At links i link → SayAll acts more (carried run.handed.queues) → AreNoted link.entries acts i popped → SaysEach link.heard link.entries → IsCounted link.heard → AreItsMemberships acts (carried run.handed.queues) (link_setup run.plan i) link.entries x
+  pub are_its : Laws → (run : Run EL ML BL) (links : List Link) (i : ℕ) (link : Link) (acts more : List Act) (popped : List Member) (x : Peer) → AreMembers run links → At links i link → SayAll acts more (carried run.handed.queues) → AreNoted link.entries acts i popped → SaysEach link.heard link.entries → IsCounted link.heard → AreItsMemberships acts (carried run.handed.queues) (link_setup run.plan i) link.entries x
   are_its laws run links i link acts more popped x h at say noted says counted =
       let setup = link_setup run.plan i in let queues = carried run.handed.queues in record {
         in_turn = record {

@@ -8,7 +8,7 @@ use Rattle.std.proofs.lemmas.List.Sums.{passes_at_first}
 use Rattle.std.proofs.lemmas.Option.{same_Some, none-some, slice_get-get_or}
 use Rattle.m17_control.specs.declared.modules.Modules.{Modules}
 use Rattle.m17_control.specs.Modules.{serves, letters_of}
-use Rattle.m17_house.specs.declared.plan.Plan.{Plan}
+use Rattle.m17_plan.specs.declared.plan.Plan.{Plan}
 use Rattle.m17_reflect.specs.Links.{letter_of}
 use Rattle.m17_reflect.specs.Run.{module_count}
 use Rattle.m17_reflect.specs.Sendings.{number_of}

@@ -23,7 +23,7 @@ use Rattle.m17_grid.specs.Interleavings.{IsInterleaving}
 use Rattle.m17_grid.specs.Laws.{RowsStand, OrderIsInterleaving}
 use Rattle.m17_worker.specs.Taken as taken
 use Rattle.m17_worker.specs.Taken.{EndsWithStops}
-use Rattle.m17_house.specs.declared.plan.Plan.{Plan}
+use Rattle.m17_plan.specs.declared.plan.Plan.{Plan}
 use Rattle.m17_reflect.specs.Links.{Link, IsLink, At, link_setup, letter_of, routes, route_of}
 use Rattle.m17_reflect.specs.Run.{module_count}
 use Rattle.m17_reflect.specs.Trails.{IsTrail}

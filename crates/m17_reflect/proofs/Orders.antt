@@ -8,7 +8,7 @@ use Rattle.m17_lane.specs.Ends.{PushEnd, PopEnd, TrailEnd}
 use Rattle.m17_rows.specs.Rows.{pushes, push_each, IsNewPopper}
 use Rattle.m17_rows.specs.Laws.{RowsPush}
 use Rattle.m17_grid.specs.Trails.{AreTrailsOfOnes}
-use Rattle.m17_wiring.specs.Ends.{IsNewLine}
+use Rattle.m17_run_setup.specs.Ends.{IsNewLine}
 use Rattle.m17_reflect.proofs.Routes.{at_below, below_at}
 use Rattle.m17_reflect.proofs.Together.{mapped_at}
 

@@ -10,7 +10,7 @@ use Rattle.m17_floor.specs.Acts.{is_same}
 use Rattle.m17_lane.specs.Ends.{TrailEnd}
 use Rattle.m17_control.specs.declared.event.Event.{Event}
 use Rattle.m17_module.specs.Laws.{FollowsJoin}
-use Rattle.m17_turns.specs.Joined.{Joined, is_to, is_to_any, goes_to}
+use Rattle.m17_send_order.specs.Joined.{Joined, is_to, is_to_any, goes_to}
 use Rattle.m17_reflect.specs.Links.{Link, At, link_setup, letter_of}
 use Rattle.m17_reflect.specs.Queues.{carried}
 use Rattle.m17_reflect.specs.Run.{Run}
@@ -35,9 +35,9 @@ moved trails m n trail other item e at an f =
     let both : Some trail ≡ Some other = sym (subst (λ (k : ℕ). At trails k trail) e at) ∙ an in
     let same : trail ≡ other = cc in subst (λ (t : TrailEnd Event). FollowsJoin (events_of t) item) same f
 
-module _ {L : Type 0} where
+module _ {EL ML BL : Type 0} where
   -- what goes to the peer is for one of its memberships
-  to_one : Laws → (run : Run L) (links : List Link) (i : ℕ) (link : Link) (x : Peer) (m q : ℕ) (item : Item) → AreMembers run links → At links i link → IsOfRun run m q item → goes_to i (is_peer x) item ≡ true → is_to_any (memberships (link_setup run.plan i) link.entries x) item ≡ true
+  to_one : Laws → (run : Run EL ML BL) (links : List Link) (i : ℕ) (link : Link) (x : Peer) (m q : ℕ) (item : Item) → AreMembers run links → At links i link → IsOfRun run m q item → goes_to i (is_peer x) item ≡ true → is_to_any (memberships (link_setup run.plan i) link.entries x) item ≡ true
   to_one laws run links i link x m q item h at is goes =
       let setup = link_setup run.plan i in
       let (by, to) = and_parts (i == item.link) (is_peer x item.peer) goes in
@@ -46,7 +46,7 @@ module _ {L : Type 0} where
       at_any (λ (j : Joined). is_to j.member item) (memberships setup link.entries x) begins.0 (begun setup.modules (letter_of run.plan m) a.claim) begins.1
       (subst (λ (k : Member). is_same item.member k ≡ true) (sym a.member) (is_same_self item.member))
 
-  by_asker : Laws → (run : Run L) (links : List Link) (i : ℕ) (link : Link) (letter n : ℕ) (from : Peer) (claim : Claim) (m q : ℕ) (item : Item) → AreMembers run links → At links i link → IsAsker (link_setup run.plan i) link.entries letter n from claim → IsOfRun run m q item → item.member ≡ claim.member → (item.link ≡ i) × (item.peer ≡ from)
+  by_asker : Laws → (run : Run EL ML BL) (links : List Link) (i : ℕ) (link : Link) (letter n : ℕ) (from : Peer) (claim : Claim) (m q : ℕ) (item : Item) → AreMembers run links → At links i link → IsAsker (link_setup run.plan i) link.entries letter n from claim → IsOfRun run m q item → item.member ≡ claim.member → (item.link ≡ i) × (item.peer ≡ from)
   by_asker laws run links i link letter n from claim m q item h at a is same =
       let j = has_joined laws run links i link letter n from claim h at a in
       let f = moved run.handed.trails m (number_of run.plan.modules letter) is.trail j.its.trail item (stands_alone laws run links i link letter n from claim h at a j m q item is same) is.trail_there j.its.trail_there is.follows in
@@ -54,7 +54,7 @@ module _ {L : Type 0} where
       (of.by_link ∙ j.join.its_link, of.to_peer)
 
   -- and what is for one goes to it
-  from_one : Laws → (run : Run L) (links : List Link) (i : ℕ) (link : Link) (x : Peer) (m q : ℕ) (item : Item) → AreMembers run links → At links i link → IsOfRun run m q item → is_to_any (memberships (link_setup run.plan i) link.entries x) item ≡ true → goes_to i (is_peer x) item ≡ true
+  from_one : Laws → (run : Run EL ML BL) (links : List Link) (i : ℕ) (link : Link) (x : Peer) (m q : ℕ) (item : Item) → AreMembers run links → At links i link → IsOfRun run m q item → is_to_any (memberships (link_setup run.plan i) link.entries x) item ≡ true → goes_to i (is_peer x) item ≡ true
   from_one laws run links i link x m q item h at is to =
       let setup = link_setup run.plan i in
       let (k, one, there, mine) = any_at (λ (j : Joined). is_to j.member item) (memberships setup link.entries x) to in
@@ -64,7 +64,7 @@ module _ {L : Type 0} where
       (subst (λ (p : Peer). is_peer x p ≡ true) (sym peer) b.is)
 
   -- The items to a peer by a link are those of its memberships.
-  pub to_memberships : Laws → (run : Run L) (links : List Link) (i : ℕ) (link : Link) (x : Peer) → AreMembers run links → At links i link → (m q : ℕ) (item : Item) → Contains (carried run.handed.queues m q) item → goes_to i (is_peer x) item ≡ is_to_any (memberships (link_setup run.plan i) link.entries x) item
+  pub to_memberships : Laws → (run : Run EL ML BL) (links : List Link) (i : ℕ) (link : Link) (x : Peer) → AreMembers run links → At links i link → (m q : ℕ) (item : Item) → Contains (carried run.handed.queues m q) item → goes_to i (is_peer x) item ≡ is_to_any (memberships (link_setup run.plan i) link.entries x) item
   to_memberships laws run links i link x h at m q item there =
       let is = is_of_run laws.carried run links m q item h.carried (stands (carried run.handed.queues m q) item there) in
       same_answer (goes_to i (is_peer x) item) (is_to_any (memberships (link_setup run.plan i) link.entries x) item)

@@ -5,8 +5,8 @@ use Rattle.std.proofs.lemmas.Bool.{eq-eqb, cond-true, cond-false}
 use Rattle.std.proofs.lemmas.List.Elements.{All-filter, All-map}
 use Rattle.m17_values.specs.declared.member.Member.{Member}
 use Rattle.m17_control.specs.declared.item.Item.{Item}
-use Rattle.m17_turns.specs.Joined.{is_to, IsLifeFrom}
-use Rattle.m17_turns.specs.Laws.{IsHello, LessOfALifeIsALife}
+use Rattle.m17_send_order.specs.Joined.{is_to, IsLifeFrom}
+use Rattle.m17_send_order.specs.Laws.{IsHello, LessOfALifeIsALife}
 use Rattle.m17_worker.specs.Offers.{Try, queued_for}
 use Rattle.m17_reflect.proofs.Lives.{same_member}
 

@@ -7,7 +7,7 @@ use Rattle.std.proofs.lemmas.Option.{same_Some, none-some}
 use Rattle.m17_control.specs.declared.event.Event.{Event}
 use Rattle.m17_directory.specs.Entries.{Entry}
 use Rattle.m17_directory.specs.Routed.{routed}
-use Rattle.m17_house.specs.declared.plan.Plan.{Plan}
+use Rattle.m17_plan.specs.declared.plan.Plan.{Plan}
 use Rattle.m17_reflect.specs.Links.{Link, At, link_setup, routes, route_of}
 
 module _ {A B : Type 0} where

@@ -5,9 +5,9 @@ use Rattle.std.proofs.lemmas.Option.{none-some, same_Some}
 use Rattle.m17_control.specs.declared.item.Item.{Item}
 use Rattle.m17_lane.specs.Ends.{PopEnd, TrailEnd}
 use Rattle.m17_worker.specs.declared.worker.Worker.{Worker}
-use Rattle.m17_parting.specs.Left.{drained}
-use Rattle.m17_parting.specs.Rows.{AreRowsOfTrails}
-use Rattle.m17_house.specs.declared.plan.Plan.{Plan}
+use Rattle.m17_run_end.specs.Left.{drained}
+use Rattle.m17_run_end.specs.Rows.{AreRowsOfTrails}
+use Rattle.m17_plan.specs.declared.plan.Plan.{Plan}
 use Rattle.m17_reflect.specs.Links.{At}
 use Rattle.m17_reflect.proofs.AllQueues.{QueuesBack}
 use Rattle.m17_reflect.proofs.CameBack.{queues_at}

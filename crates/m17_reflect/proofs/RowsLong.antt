@@ -3,7 +3,7 @@ use Rattle.std.proofs.Common.{◌≡◌, List, map, length, arith}
 use Rattle.std.specs.List.{AllZip}
 use Rattle.std.proofs.lemmas.Slice.Zip.{AllZip-long}
 use Rattle.m17_lane.specs.Ends.{PushEnd, PopEnd, TrailEnd}
-use Rattle.m17_parting.specs.Rows.{AreOfOnes, AreRowsOfTrails}
+use Rattle.m17_run_end.specs.Rows.{AreOfOnes, AreRowsOfTrails}
 use Rattle.m17_reflect.proofs.Modules.{map_beside}
 use Rattle.m17_reflect.proofs.Routes.{at_below, below_at}
 

@@ -43,12 +43,12 @@ module _ {A : Type 0} where
         | inr past ↦ past
       ]
 
-module _ {L : Type 0} where
+module _ {EL ML BL : Type 0} where
   -- a module that is not there has no queue
-  no_queue : (run : Run L) (m q : ℕ) → slice_get run.handed.queues m ≡ None → carried run.handed.queues m q ≡ []
+  no_queue : (run : Run EL ML BL) (m q : ℕ) → slice_get run.handed.queues m ≡ None → carried run.handed.queues m q ≡ []
   no_queue run m q e = ap (λ (o : Option (List (TrailEnd Item))). in_queue (slice_get (row_in o) q)) e
 
-  without_trail : (run : Run L) (m : ℕ) → length run.handed.queues ≤ m → HoldsTrail (setup_at run.plan m) [] (carried run.handed.queues m)
+  without_trail : (run : Run EL ML BL) (m : ℕ) → length run.handed.queues ≤ m → HoldsTrail (setup_at run.plan m) [] (carried run.handed.queues m)
   unfolding items_given
   without_trail run m past = record {
     tries = [];
@@ -58,7 +58,7 @@ module _ {L : Type 0} where
   }
 
   -- the queue of a place, and none at a place that is not there
-  queue_of : ItemsAreAtPlaces → (run : Run L) (m : ℕ) (events : List Event) (row : List (TrailEnd Item)) (missed : ℕ) (c : Carry events (module_queues run m row missed)) → At run.handed.queues m row → (q : ℕ) (o : Option (TrailEnd Item)) → slice_get row q ≡ o → carried run.handed.queues m q ≡ queued_for c.tries q
+  queue_of : ItemsAreAtPlaces → (run : Run EL ML BL) (m : ℕ) (events : List Event) (row : List (TrailEnd Item)) (missed : ℕ) (c : Carry events (module_queues run m row missed)) → At run.handed.queues m row → (q : ℕ) (o : Option (TrailEnd Item)) → slice_get row q ≡ o → carried run.handed.queues m q ≡ queued_for c.tries q
   queue_of law run m events row missed c at q None e =
       let P : Item → Type 0 = λ item. item.member.place < run.plan.places in
       let all : AllByRecursion P (queued_for c.tries q) =
@@ -71,7 +71,7 @@ module _ {L : Type 0} where
   queue_of law run m events row missed c at q (Some queue) e =
       carried_at run.handed.queues m q row queue at e ∙ (c.each q queue e).order
 
-  with_trail : ItemsAreAtPlaces → (run : Run L) → QueuesCarry run → length run.handed.trails ≡ module_count run.plan → (m : ℕ) (trail : TrailEnd Event) → At run.handed.trails m trail → HoldsTrail (setup_at run.plan m) (events_of trail) (carried run.handed.queues m)
+  with_trail : ItemsAreAtPlaces → (run : Run EL ML BL) → QueuesCarry run → length run.handed.trails ≡ module_count run.plan → (m : ℕ) (trail : TrailEnd Event) → At run.handed.trails m trail → HoldsTrail (setup_at run.plan m) (events_of trail) (carried run.handed.queues m)
   with_trail law run h count m trail at =
       let inside = below_at run.handed.trails m trail at in
       let (row, at_r) = at_below run.handed.queues m (omega (arith, h.count, count)) in
@@ -85,7 +85,7 @@ module _ {L : Type 0} where
             (λ n t there not_queued. (c.left_out n t there not_queued).may_be));
       }
 
-  holds_at : ItemsAreAtPlaces → (run : Run L) → QueuesCarry run → length run.handed.trails ≡ module_count run.plan → (m : ℕ) (o : Option (TrailEnd Event)) → slice_get run.handed.trails m ≡ o → HoldsTrail (setup_at run.plan m) (option_map_or events_of o []) (carried run.handed.queues m)
+  holds_at : ItemsAreAtPlaces → (run : Run EL ML BL) → QueuesCarry run → length run.handed.trails ≡ module_count run.plan → (m : ℕ) (o : Option (TrailEnd Event)) → slice_get run.handed.trails m ≡ o → HoldsTrail (setup_at run.plan m) (option_map_or events_of o []) (carried run.handed.queues m)
   holds_at law run h count m None e =
       let past = past_none run.handed.trails m e in without_trail run m (omega (arith, h.count, count))
   holds_at law run h count m (Some trail) e = with_trail law run h count m trail e
@@ -107,9 +107,9 @@ joined_claimed trails claimed k same m p t at j =
     let (y, there, is) = counted_in (mine k) claimed (omega arith) in
     subst (Contains claimed) (same_member y k is) (contained claimed y there)
 
-module _ {L : Type 0} where
+module _ {EL ML BL : Type 0} where
   -- The queues of a run hold what its trails give.
-  pub runs_hold : ItemsAreAtPlaces → (run : Run L) → Headline run → HoldTrails (setup_at run.plan) (trail_in run) (carried run.handed.queues)
+  pub runs_hold : ItemsAreAtPlaces → (run : Run EL ML BL) → Headline run → HoldTrails (setup_at run.plan) (trail_in run) (carried run.handed.queues)
   runs_hold law run headline =
       let c = headline.carried_out in
       let p = c.places in

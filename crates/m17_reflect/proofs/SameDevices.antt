@@ -1,22 +1,36 @@
--- The devices that come back are those that were handed in, in their order.
-use Rattle.std.proofs.Common.{◌≡◌, ℕ, suc, List, [], ◌∷◌, map, sym, ap, refl, ◌∙◌}
-use Rattle.std.specs.List.{AllZip}
-use Rattle.m17_ports.specs.Said.{MouthTold}
-use Rattle.m17_turns.specs.Acts.{Act}
-use Rattle.m17_sender.specs.Sent.{EachMouth, SaidByLink}
-use Rattle.m17_reflect.proofs.Ends.{map_twice, zip_same}
+-- The devices that come back of a run are those that were handed in, in their order.
+use Rattle.std.proofs.Common.{◌≡◌, length, sym, ap, ◌∙◌, arith}
+use Rattle.std.proofs.lemmas.List.{length-map}
+use Rattle.m17_reflect.specs.Headline.{Headline}
+use Rattle.m17_reflect.specs.Laws.{AreSameDevices}
+use Rattle.m17_reflect.specs.Links.{Link}
+use Rattle.m17_reflect.specs.Run.{Run, module_count}
+use Rattle.m17_reflect.proofs.Gone.{same_parts}
+use Rattle.m17_reflect.proofs.Routes.{at_below, below_at}
 
-module _ {J D X : Type 0} where
-  -- what each job's device has the same
-  pub part_same : (P : J → J → Type 0) (part : J → D) (mark : D → X) → ((j k : J) → P j k → mark (part k) ≡ mark (part j)) → (js ks : List J) (before after : List D) → AllZip P js ks → map part js ≡ before → after ≡ map part ks → map mark after ≡ map mark before
-  part_same P part mark same js ks before after h was is =
-      ap (map mark) is ∙ map_twice part mark ks ∙ zip_same P (λ j. mark (part j)) same js ks h ∙ sym (map_twice part mark js) ∙ ap (map mark) was
+module _ {EL ML BL : Type 0} where
+  -- as many links as ears
+  links_long : (run : Run EL ML BL) (headline : Headline run) → length headline.carried_out.links ≡ length run.before.ears
+  links_long run h =
+      sym (length-map h.carried_out.links (λ (link : Link). link.heard)) ∙ ap length h.carried_out.of_heard ∙ h.ears.count
 
-module _ {M L X : Type 0} where
-  -- what each mouth has the same when it has said something
-  pub mouths_same : (tells : M → MouthTold L) (mark : M → X) (name : ℕ) (acts : List Act) → ((i : ℕ) (m n : M) → SaidByLink name acts i (tells m) (tells n) → mark n ≡ mark m) → (k : ℕ) (xs ys : List M) → EachMouth (λ i m n. SaidByLink name acts i (tells m) (tells n)) k xs ys → map mark ys ≡ map mark xs
-  mouths_same tells mark name acts same k [] [] h = refl
-  mouths_same tells mark name acts same k [] (y ∷ ys) h = absurd h
-  mouths_same tells mark name acts same k (x ∷ xs) [] h = absurd h
-  mouths_same tells mark name acts same k (x ∷ xs) (y ∷ ys) h =
-      ap (λ (m : X). m ∷ map mark ys) (same k x y h.0) ∙ ap (λ (ms : List X). mark x ∷ ms) (mouths_same tells mark name acts same (suc k) xs ys h.1)
+  pub devices_stay : (run : Run EL ML BL) → Headline run → length run.before.mouths ≡ length run.before.ears → length run.before.traces ≡ length run.before.ears → length run.before.books ≡ module_count run.plan → AreSameDevices run.before run.after
+  devices_stay run h mouths traces books =
+      let out = h.carried_out in let links = links_long run h in let written = out.judged.written in record {
+        ears = same_parts (λ ear. ear.device) run.before.ears run.after.ears h.ears.same_count (λ i a b at_a at_b.
+            let inside = below_at run.before.ears i a at_a in
+            let (entries, at) = at_below h.heard i (omega (arith, h.ears.count)) in
+            (h.ears.each i entries a b at at_a at_b).heard.same_device);
+        mouths = same_parts (λ mouth. mouth.device) run.before.mouths run.after.mouths (out.mouths.count ∙ links ∙ sym mouths) (λ i a b at_a at_b.
+            let inside = below_at run.before.mouths i a at_a in
+            let (link, at) = at_below out.links i (omega (arith, links, mouths)) in
+            (out.mouths.each i link a b at at_a at_b).said.same_device);
+        traces = same_parts (λ trace. trace.device) run.before.traces run.after.traces (written.trace_count ∙ links ∙ sym traces) (λ i a b at_a at_b.
+            let inside = below_at run.before.traces i a at_a in
+            let (link, at) = at_below out.links i (omega (arith, links, traces)) in
+            (written.traces i link a b at at_a at_b).1.same_device);
+        books = same_parts (λ book. book.device) run.before.books run.after.books (written.book_count ∙ sym books) (λ m a b at_a at_b.
+            let inside = below_at run.before.books m a at_a in
+            let (trail, at) = at_below run.handed.trails m (omega (arith, out.trails.count, books)) in
+            (written.books m trail a b at at_a at_b).1.same_device);
+      }

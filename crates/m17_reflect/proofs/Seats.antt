@@ -8,6 +8,8 @@ use Rattle.std.proofs.lemmas.List.{length-append, length-map}
 use Rattle.std.proofs.lemmas.Option.{same_Some, none-some}
 use Rattle.std.proofs.lemmas.List.Elements.{recursion_from_All, All-contains_itself}
 use Rattle.m17_values.specs.declared.member.Member.{Member}
+use Rattle.m17_ports.specs.Book.{BookTold}
+use Rattle.m17_ports.specs.Ear.{EarTold}
 use Rattle.m17_directory.specs.Entries.{Entry, Setup}
 use Rattle.m17_directory.specs.Routed.{link_verdict}
 use Rattle.m17_directory.specs.Laws.{claimed_members, is_full}
@@ -15,12 +17,11 @@ use Rattle.m17_roll.specs.Closing.{EndView, IsEnded, claims_of}
 use Rattle.m17_roll.specs.Run.{IsRollRun}
 use Rattle.m17_roll.specs.Seat.{RollView}
 use Rattle.m17_receiver.specs.declared.receiver.Receiver.{Receiver}
-use Rattle.m17_receiver.specs.Devices.{Words}
 use Rattle.m17_receiver.specs.Claims.{turned_away}
 use Rattle.m17_reflect.specs.Links.{Link, At, link_setup}
 use Rattle.m17_reflect.specs.Run.{Run, module_count}
 use Rattle.m17_reflect.specs.Patience.{AreSeats, AreTurnedAway, IsFullWhenTaken, PlacesAreFull}
-use Rattle.m17_wiring.specs.Jobs.{AreReceivers}
+use Rattle.m17_run_setup.specs.Jobs.{AreReceivers}
 use Rattle.m17_reflect.proofs.Came.{Came, all_at}
 use Rattle.m17_reflect.proofs.Found.{get_behind}
 use Rattle.m17_reflect.proofs.Joining.{claims_in}
@@ -52,15 +53,15 @@ no_claims : (seats : List RollView) → AllByRecursion TookNone seats → claims
 no_claims [] h = refl
 no_claims (s ∷ seats) h = ap (λ (l : List Member). l ++ claims_of seats) h.0.0 ∙ no_claims seats h.1
 
-seat_claims : {E B : Type 0} (words : Words E B) (js ks : List (Receiver E B)) (links : List Link) → AllZip3 (Came words) js ks links → claims_of (map seat_of ks) ≡ claims_in links
-seat_claims words [] [] [] h = refl
-seat_claims words [] [] (z ∷ zs) h = absurd h
-seat_claims words [] (y ∷ ys) zs h = absurd h
-seat_claims words (x ∷ xs) [] zs h = absurd h
-seat_claims words (x ∷ xs) (y ∷ ys) [] h = absurd h
-seat_claims words (x ∷ xs) (y ∷ ys) (z ∷ zs) h =
+seat_claims : {E B EL BL : Type 0} (hears : E → EarTold EL) (writes : B → BookTold BL) (js ks : List (Receiver E B)) (links : List Link) → AllZip3 (Came hears writes) js ks links → claims_of (map seat_of ks) ≡ claims_in links
+seat_claims hears writes [] [] [] h = refl
+seat_claims hears writes [] [] (z ∷ zs) h = absurd h
+seat_claims hears writes [] (y ∷ ys) zs h = absurd h
+seat_claims hears writes (x ∷ xs) [] zs h = absurd h
+seat_claims hears writes (x ∷ xs) (y ∷ ys) [] h = absurd h
+seat_claims hears writes (x ∷ xs) (y ∷ ys) (z ∷ zs) h =
     ap (λ (l : List Member). l ++ claims_of (map seat_of ys)) h.0.claimed.claims
-    ∙ ap (λ (l : List Member). claimed_members z.entries ++ l) (seat_claims words xs ys zs h.1)
+    ∙ ap (λ (l : List Member). claimed_members z.entries ++ l) (seat_claims hears writes xs ys zs h.1)
 
 -- The seats of a closed roll: those of the receivers, and behind them those of the workers.
 pub record IsRollOf {E B : Type 0} (ks : List (Receiver E B)) (others : List RollView) (roll : EndView)
@@ -71,10 +72,10 @@ pub record IsRollOf {E B : Type 0} (ks : List (Receiver E B)) (others : List Rol
 
 module _ {E B : Type 0} where
   -- all that was claimed are the links' claims
-  pub roll_claims : (words : Words E B) (js ks : List (Receiver E B)) (links : List Link) (others : List RollView) (roll : EndView) → AllZip3 (Came words) js ks links → IsRollOf ks others roll → roll.claimed ≡ claims_in links
-  roll_claims words js ks links others roll h is =
+  pub roll_claims : {EL BL : Type 0} (hears : E → EarTold EL) (writes : B → BookTold BL) (js ks : List (Receiver E B)) (links : List Link) (others : List RollView) (roll : EndView) → AllZip3 (Came hears writes) js ks links → IsRollOf ks others roll → roll.claimed ≡ claims_in links
+  roll_claims hears writes js ks links others roll h is =
       is.claimed ∙ claims_append (map seat_of ks) others ∙ ap (λ (l : List Member). claims_of (map seat_of ks) ++ l) (no_claims others is.no_other)
-      ∙ append_none (claims_of (map seat_of ks)) ∙ seat_claims words js ks links h
+      ∙ append_none (claims_of (map seat_of ks)) ∙ seat_claims hears writes js ks links h
 
 split_all : (P : Member → Type 0) (xs ys : List Member) → AllByRecursion P (xs ++ ys) → AllByRecursion P xs × AllByRecursion P ys
 split_all P [] ys h = (tt, h)
@@ -144,28 +145,28 @@ unfolding turned_away
 kept_full setup entries n lt full =
     some_kept (λ n. is_full (link_verdict setup entries n)) 0 (length entries) n (omega arith) (omega arith) full
 
-full_when_refused : {L : Type 0} (run : Run L) (links : List Link) → AreTurnedAway run links → IsEnded run.handed.roll → IsFullWhenTaken run links
+full_when_refused : {EL ML BL : Type 0} (run : Run EL ML BL) (links : List Link) → AreTurnedAway run links → IsEnded run.handed.roll → IsFullWhenTaken run links
 full_when_refused run links away ended i link n e lt full =
     let setup = link_setup run.plan i in
     let (asker, rest, is) = kept_full setup link.entries n lt full in
     ended.refused_when_full (asker, rest, contained run.handed.roll.refused i (asker ∷ rest) (away i link e ∙ ap Some is))
 
-module _ {L E B : Type 0} where
+module _ {EL ML BL E B : Type 0} where
   -- whom the receivers' seats refused, where they claim once
-  pub turned_away_are : (words : Words E B) (run : Run L) (js ks : List (Receiver E B)) (links : List Link) (others : List RollView) → AreReceivers run.plan js → AllZip3 (Came words) js ks links → IsRollOf ks others run.handed.roll → run.plan.patient ≡ false → AreTurnedAway run links
-  turned_away_are words run js ks links others are h is impatient i link e =
-      let lens = zip3_length (Came words) js ks links h in
+  pub turned_away_are : (hears : E → EarTold EL) (writes : B → BookTold BL) (run : Run EL ML BL) (js ks : List (Receiver E B)) (links : List Link) (others : List RollView) → AreReceivers run.plan js → AllZip3 (Came hears writes) js ks links → IsRollOf ks others run.handed.roll → run.plan.patient ≡ false → AreTurnedAway run links
+  turned_away_are hears writes run js ks links others are h is impatient i link e =
+      let lens = zip3_length (Came hears writes) js ks links h in
       let inside = below_at links i link e in
       let (j, at_j) = at_below js i (omega (arith, lens.1)) in
       let (k, at_k) = at_below ks i (omega (arith, lens.0, lens.1)) in
       let it = are i j at_j in
-      let c = zip3_at (Came words) js ks links h i j k link at_j at_k e in
+      let c = zip3_at (Came hears writes) js ks links h i j k link at_j at_k e in
       ap (λ (l : List (List ℕ)). slice_get l i) is.refused
       ∙ mapped_at (λ (s : RollView). s.refused) (map seat_of ks ++ others) i k.seat (at_front (map seat_of ks) others i k.seat (mapped_at seat_of ks i k at_k))
       ∙ ap Some (c.claimed.refused (it.patient ∙ impatient) ∙ ap (λ (s : Setup). turned_away s link.entries) it.setup)
 
   -- the seats behind those of the links
-  pub seats_are : (run : Run L) (links : List Link) (ks : List (Receiver E B)) (others : List RollView) → IsRollOf ks others run.handed.roll → length ks ≡ length links → length others ≡ module_count run.plan → AreSeats run links
+  pub seats_are : (run : Run EL ML BL) (links : List Link) (ks : List (Receiver E B)) (others : List RollView) → IsRollOf ks others run.handed.roll → length ks ≡ length links → length others ≡ module_count run.plan → AreSeats run links
   seats_are run links ks others is long count =
       let front = map seat_of ks in
       let first : length front ≡ length links = length-map ks seat_of ∙ long in record {
@@ -179,9 +180,9 @@ module _ {L E B : Type 0} where
       }
 
   -- who found no place in a run that isn't patient
-  pub impatient_full : (words : Words E B) (run : Run L) (js ks : List (Receiver E B)) (links : List Link) (others : List RollView) → AreReceivers run.plan js → AllZip3 (Came words) js ks links → IsRollOf ks others run.handed.roll → IsEnded run.handed.roll → AreSeats run links → run.plan.patient ≡ false → PlacesAreFull run links
-  impatient_full words run js ks links others are h is ended seats impatient =
-      let away = turned_away_are words run js ks links others are h is impatient in record {
+  pub impatient_full : (hears : E → EarTold EL) (writes : B → BookTold BL) (run : Run EL ML BL) (js ks : List (Receiver E B)) (links : List Link) (others : List RollView) → AreReceivers run.plan js → AllZip3 (Came hears writes) js ks links → IsRollOf ks others run.handed.roll → IsEnded run.handed.roll → AreSeats run links → run.plan.patient ≡ false → PlacesAreFull run links
+  impatient_full hears writes run js ks links others are h is ended seats impatient =
+      let away = turned_away_are hears writes run js ks links others are h is impatient in record {
         patient = λ yes. absurd (let wrong : true ≡ false = sym yes ∙ impatient in cc);
         impatient = λ _. away;
         any = full_when_refused run links away ended;

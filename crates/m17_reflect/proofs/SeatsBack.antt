@@ -6,13 +6,13 @@ use Rattle.std.proofs.lemmas.List.{length-map}
 use Rattle.std.proofs.lemmas.List.Elements.{All-from_recursion}
 use Rattle.std.proofs.lemmas.Slice.Zip.{AllZip-long}
 use Rattle.atomic_table.specs.Seated.{TableId}
+use Rattle.m17_ports.specs.Book.{BookTold}
+use Rattle.m17_ports.specs.Ear.{EarTold}
 use Rattle.m17_roll.specs.Seat.{RollView, AreNew, IsSameSeat, IsSeatOf, new_seat}
 use Rattle.m17_roll.specs.Closing.{AreAll}
 use Rattle.m17_receiver.specs.declared.receiver.Receiver.{Receiver}
-use Rattle.m17_receiver.specs.Devices as devices
 use Rattle.m17_receiver.specs.ReceiverDid.{ReceiverDid}
 use Rattle.m17_worker.specs.declared.worker.Worker.{Worker}
-use Rattle.m17_worker.specs.Ready.{Words}
 use Rattle.m17_worker.specs.WorkerDid.{HasWorked}
 use Rattle.m17_reflect.proofs.Seats.{seat_of, TookNone}
 use Rattle.m17_reflect.proofs.Gave.{worker_seat, GaveNone}
@@ -71,14 +71,14 @@ behind P (x ∷ xs) ys h = behind P xs ys h.1
 
 module _ {E B : Type 0} where
   -- all seats of the roll
-  pub seats_back : (ew : devices.Words E B) (bw : Words B) (js ks : List (Receiver E B)) (ws vs : List (Worker B)) (places : ℕ) → 0 < length js → AreNew places (length js + length ws) (map seat_of js ++ map worker_seat ws) → AllZip (ReceiverDid ew) js ks → AllZip (HasWorked bw) ws vs → (roll : TableId) × AreAll roll places (map seat_of ks ++ map worker_seat vs)
-  seats_back ew bw js ks ws vs places some new received worked =
+  pub seats_back : {EL BL : Type 0} (hears : E → EarTold EL) (writes : B → BookTold BL) (js ks : List (Receiver E B)) (ws vs : List (Worker B)) (places : ℕ) → 0 < length js → AreNew places (length js + length ws) (map seat_of js ++ map worker_seat ws) → AllZip (ReceiverDid hears writes) js ks → AllZip (HasWorked writes) ws vs → (roll : TableId) × AreAll roll places (map seat_of ks ++ map worker_seat vs)
+  seats_back hears writes js ks ws vs places some new received worked =
       let (roll, are) = new in
       let zipped = zip_append IsSameSeat (map seat_of js) (map seat_of ks) (map worker_seat ws) (map worker_seat vs)
-      (zip_parts (ReceiverDid ew) IsSameSeat seat_of (λ j k did. did.same.seat) js ks received)
-      (zip_parts (HasWorked bw) IsSameSeat worker_seat (λ j k did. did.served.gave_back.seat) ws vs worked) in
-      let first = AllZip-long (ReceiverDid ew) js ks received in
-      let second = AllZip-long (HasWorked bw) ws vs worked in
+      (zip_parts (ReceiverDid hears writes) IsSameSeat seat_of (λ j k did. did.same.seat) js ks received)
+      (zip_parts (HasWorked writes) IsSameSeat worker_seat (λ j k did. did.served.gave_back.seat) ws vs worked) in
+      let first = AllZip-long (ReceiverDid hears writes) js ks received in
+      let second = AllZip-long (HasWorked writes) ws vs worked in
       let many : length (map seat_of ks ++ map worker_seat vs) ≡ length js + length ws =
       long_append (map seat_of ks) (map worker_seat vs) ∙ both (length-map ks seat_of ∙ first) (length-map vs worker_seat ∙ second) in (
         roll,
@@ -91,17 +91,17 @@ module _ {E B : Type 0} where
       )
 
 module _ {B : Type 0} where
-  same_took : (bw : Words B) (ws vs : List (Worker B)) → AllZip (HasWorked bw) ws vs → AllByRecursion TookNone (map worker_seat ws) → AllByRecursion TookNone (map worker_seat vs)
-  same_took bw [] [] h none = tt
-  same_took bw [] (v ∷ vs) h none = absurd h
-  same_took bw (w ∷ ws) [] h none = absurd h
-  same_took bw (w ∷ ws) (v ∷ vs) h none = ((h.0.served.gave_back.lists.0 ∙ none.0.0, h.0.served.gave_back.lists.2 ∙ none.0.1), same_took bw ws vs h.1 none.1)
+  same_took : {BL : Type 0} (writes : B → BookTold BL) (ws vs : List (Worker B)) → AllZip (HasWorked writes) ws vs → AllByRecursion TookNone (map worker_seat ws) → AllByRecursion TookNone (map worker_seat vs)
+  same_took writes [] [] h none = tt
+  same_took writes [] (v ∷ vs) h none = absurd h
+  same_took writes (w ∷ ws) [] h none = absurd h
+  same_took writes (w ∷ ws) (v ∷ vs) h none = ((h.0.served.gave_back.lists.0 ∙ none.0.0, h.0.served.gave_back.lists.2 ∙ none.0.1), same_took writes ws vs h.1 none.1)
 
   -- no worker claimed a place or refused anyone
-  pub none_took : (bw : Words B) (others : List RollView) (ws vs : List (Worker B)) (places seats : ℕ) → AreNew places seats (others ++ map worker_seat ws) → AllZip (HasWorked bw) ws vs → AllByRecursion TookNone (map worker_seat vs)
-  none_took bw others ws vs places seats new worked =
+  pub none_took : {BL : Type 0} (writes : B → BookTold BL) (others : List RollView) (ws vs : List (Worker B)) (places seats : ℕ) → AreNew places seats (others ++ map worker_seat ws) → AllZip (HasWorked writes) ws vs → AllByRecursion TookNone (map worker_seat vs)
+  none_took writes others ws vs places seats new worked =
       let (roll, are) = new in
-      same_took bw ws vs worked
+      same_took writes ws vs worked
       (behind TookNone others (map worker_seat ws) (new_took roll seats places seats (others ++ map worker_seat ws) are))
 
   -- no worker has given a place back before it has begun

@@ -10,7 +10,7 @@ use Rattle.std.proofs.lemmas.List.Sums.{sum_by-cons, sum_by-append}
 use Rattle.m17_control.specs.declared.item.Item.{Item}
 use Rattle.m17_lane.specs.Ends.{TrailEnd}
 use Rattle.m17_lane.specs.Orders as lane
-use Rattle.m17_turns.specs.Joined.{Joined, items_of, is_to, is_to_any}
+use Rattle.m17_send_order.specs.Joined.{Joined, items_of, is_to, is_to_any}
 use Rattle.m17_reflect.specs.Places.{AreSame}
 use Rattle.m17_reflect.specs.Queues.{all_carried, carried}
 use Rattle.m17_reflect.proofs.AllQueues.{any_at}

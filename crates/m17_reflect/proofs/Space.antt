@@ -3,7 +3,7 @@ use Rattle.std.proofs.Common.{◌≡◌, ℕ, ◌≤◌, List, [], length, All, 
 use Rattle.std.specs.Prelude.{slice_get, Vec}
 use Rattle.std.specs.List.{AllZip}
 use Rattle.std.proofs.lemmas.List.Elements.{recursion_from_All}
-use Rattle.m17_wiring.specs.Rooms.{IsRoom, AreRooms}
+use Rattle.m17_run_setup.specs.Rooms.{IsRoom, AreRooms}
 use Rattle.m17_reflect.proofs.Came.{all_at}
 use Rattle.m17_reflect.proofs.Gone.{zip_from}
 

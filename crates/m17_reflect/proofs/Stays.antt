@@ -24,7 +24,7 @@ use Rattle.m17_lane.specs.Ends.{TrailEnd}
 use Rattle.m17_directory.specs.Routed.{routed}
 use Rattle.m17_roll.specs.Closing.{EndView}
 use Rattle.m17_worker.specs.Gifts.{why_left, left_by, leaves_replaced, is_replacing, gifts_by, gifts_at, gifts}
-use Rattle.m17_house.specs.declared.plan.Plan.{Plan}
+use Rattle.m17_plan.specs.declared.plan.Plan.{Plan}
 use Rattle.m17_reflect.specs.Links.{Link, At, link_setup, letter_of, setup_at}
 use Rattle.m17_reflect.specs.Places.{NobodyIsReplaced}
 use Rattle.m17_reflect.specs.Trails.{events_of}

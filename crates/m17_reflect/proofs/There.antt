@@ -17,7 +17,7 @@ use Rattle.m17_directory.specs.Laws.{RouteIsOfClaimed, claimed_members, member_o
 use Rattle.m17_lane.specs.Ends.{TrailEnd}
 use Rattle.m17_lane.specs.Orders.{picked}
 use Rattle.m17_worker.specs.Taken.{is_there, place_of}
-use Rattle.m17_house.specs.declared.plan.Plan.{Plan}
+use Rattle.m17_plan.specs.declared.plan.Plan.{Plan}
 use Rattle.m17_reflect.specs.Links.{Link, At, link_setup, letter_of, routes, route_of}
 use Rattle.m17_reflect.specs.Trails.{events_of, IsTrail}
 use Rattle.m17_reflect.proofs.OneTrail.{link_of}

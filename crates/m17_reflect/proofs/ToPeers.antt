@@ -4,8 +4,7 @@ use Rattle.std.specs.Prelude.{◌==◌, ◌&&◌, filter, Contains}
 use Rattle.std.specs.List.{flat_map, filter_map, cons_option}
 use Rattle.std.proofs.lemmas.Bool.Decides.{nat_tests}
 use Rattle.m17_values.specs.declared.peer.Peer.{Peer}
-use Rattle.m17_ports.specs.Mouth.{Datagram}
-use Rattle.m17_ports.specs.Said.{MouthTold, SaidOf}
+use Rattle.m17_ports.specs.Mouth.{Datagram, MouthTold, SaidOf}
 use Rattle.m17_control.specs.declared.item.Direct.{Direct}
 use Rattle.m17_control.specs.declared.item.Item.{Item}
 use Rattle.m17_control.specs.declared.packet.Control.{Control}
@@ -15,10 +14,10 @@ use Rattle.m17_directory.specs.Entries.{Entry, Setup, is_peer}
 use Rattle.m17_directory.specs.Routed.{direct_replies}
 use Rattle.m17_directory.specs.Laws.{DoorCarriesReplies, door_replies, told_to}
 use Rattle.m17_lane.specs.Orders.{picked}
-use Rattle.m17_turns.specs.Acts.{Act, answers_of, notes_of, sayings, AreSpelled}
-use Rattle.m17_turns.specs.Orders.{IsInterleaving}
-use Rattle.m17_turns.specs.Joined.{Queues, SayAll, items_of, AreInTurn, is_to_any, goes_to, replies_to, packets_to, packets_of}
-use Rattle.m17_turns.specs.Laws.{PeersAreToldInOrder, SpelledPartByPart}
+use Rattle.m17_send_order.specs.Acts.{Act, answers_of, notes_of, sayings, AreSpelled}
+use Rattle.m17_send_order.specs.Orders.{IsShuffle}
+use Rattle.m17_send_order.specs.Joined.{Queues, SayAll, items_of, AreInTurn, is_to_any, goes_to, replies_to, packets_to, packets_of}
+use Rattle.m17_send_order.specs.Laws.{PeersAreToldInOrder, SpelledPartByPart}
 use Rattle.m17_reflect.specs.Sendings.{memberships, IsToldAs, Sends}
 
 -- the number of a reply's link
@@ -79,7 +78,7 @@ pub told_as : Laws → (acts more : List Act) (queues : Queues) (directs : List 
 told_as laws acts more queues directs setup entries x attempts all part its spelled =
     let said = sayings setup.name setup.link (acts ++ more) in record {
       told = packets_to (is_peer x) said;
-      order = subst (λ (first : List Packet). IsInterleaving first (packets_of setup.name (flat_map (items_of queues) (memberships setup entries x))) (packets_to (is_peer x) said))
+      order = subst (λ (first : List Packet). IsShuffle first (packets_of setup.name (flat_map (items_of queues) (memberships setup entries x))) (packets_to (is_peer x) said))
           (ap (replies_to setup.link (is_peer x)) all.door ∙ replies_are laws.door setup entries x directs part)
           (laws.order acts more queues setup.link (memberships setup entries x) all.say its.in_turn setup.name (is_peer x) its.its_items);
       spelled = laws.spelled.to_each (is_peer x) said attempts spelled;

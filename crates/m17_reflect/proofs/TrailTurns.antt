@@ -11,10 +11,10 @@ use Rattle.m17_control.specs.declared.item.Item.{Item}
 use Rattle.m17_module.specs.Items.{Setup, items_given, items_for}
 use Rattle.m17_module.specs.Laws.{joins, JoinsOnce, ShareIsALife, FollowsJoin, ItemsFollowTheirJoins}
 use Rattle.m17_worker.specs.Offers.{Try, may_be_missed, queued_for}
-use Rattle.m17_turns.specs.Acts.{Act, answers_of, notes_of, sayings}
-use Rattle.m17_turns.specs.Joined.{Queues, SayAll, Joined, is_to, items_of, IsLifeFrom, IsJoined, AreInTurn, WaitsFor, items_said, is_to_any, goes_to, replies_to, packets_to, packets_of}
-use Rattle.m17_turns.specs.Laws.{IsHello, LessOfALifeIsALife, TurnsKeepEachMemberInOrder, PeersAreToldInOrder}
-use Rattle.m17_turns.specs.Orders.{IsInterleaving}
+use Rattle.m17_send_order.specs.Acts.{Act, answers_of, notes_of, sayings}
+use Rattle.m17_send_order.specs.Joined.{Queues, SayAll, Joined, is_to, items_of, IsLifeFrom, IsJoined, AreInTurn, WaitsFor, items_said, is_to_any, goes_to, replies_to, packets_to, packets_of}
+use Rattle.m17_send_order.specs.Laws.{IsHello, LessOfALifeIsALife, TurnsKeepEachMemberInOrder, PeersAreToldInOrder}
+use Rattle.m17_send_order.specs.Orders.{IsShuffle}
 use Rattle.m17_reflect.specs.Turns.{HoldTrails, JoinsBy, IsOfPeer, AreMemberships}
 use Rattle.m17_reflect.proofs.AllQueues.{any_at, at_any}
 use Rattle.m17_reflect.proofs.AllSaid.{all_also}
@@ -145,7 +145,7 @@ module _ (laws : Laws) (setups : ℕ → Setup) (trails : ℕ → List Event) (q
 
     -- What goes to the peer is the replies to it and what its memberships are told.
     pub peer_told_in_order : (acts more : List Act) (name : ℕ) → SayAll acts more queues → AllPairs (WaitsFor (notes_of link acts)) joined
-        → IsInterleaving (replies_to link x (answers_of (acts ++ more))) (packets_of name (flat_map (items_of queues) joined)) (packets_to x (sayings name link (acts ++ more)))
+        → IsShuffle (replies_to link x (answers_of (acts ++ more))) (packets_of name (flat_map (items_of queues) joined)) (packets_to x (sayings name link (acts ++ more)))
     peer_told_in_order acts more name say waits =
         let each = all_also (IsOfPeer trails link x) (JoinsBy trails link) (λ j h. h.0) joined (recursion_from_All (IsOfPeer trails link x) joined are.each) in
         laws.peers acts more queues link joined say (in_turn link (notes_of link acts) joined each waits) name x

@@ -14,7 +14,7 @@ use Rattle.m17_directory.specs.Known.{request_in}
 use Rattle.m17_directory.specs.Routed.{past_at, asks_at}
 use Rattle.m17_receiver.specs.Devices.{IsCounted}
 use Rattle.m17_receiver.specs.Claims.{IsGreetedAfter}
-use Rattle.m17_turns.specs.Joined.{Joined, WaitsFor}
+use Rattle.m17_send_order.specs.Joined.{Joined, WaitsFor}
 use Rattle.m17_reflect.specs.Sendings.{number_of, joined_by, joined_at, memberships}
 
 module _ {A : Type 0} where

@@ -22,10 +22,10 @@ use Rattle.m17_sender.specs.declared.sender.Sender.{Sender}
 use Rattle.m17_sender.specs.Places.{queues_of, cells_of}
 use Rattle.m17_sender.specs.Ready.{IsShaped}
 use Rattle.m17_sender.specs.Sent.{Sent, SenderDid}
-use Rattle.m17_wiring.specs.Jobs.{AreJobs}
-use Rattle.m17_wiring.specs.Planned.{module_count}
-use Rattle.m17_parting.specs.Rest.{SaysRest}
-use Rattle.m17_parting.specs.Rows.{AreOfOnes, AreRowsOfTrails}
+use Rattle.m17_run_setup.specs.Jobs.{AreJobs}
+use Rattle.m17_plan.specs.Planned.{module_count}
+use Rattle.m17_run_end.specs.Rest.{SaysRest}
+use Rattle.m17_run_end.specs.Rows.{AreOfOnes, AreRowsOfTrails}
 use Rattle.m17_reflect.specs.Gathered.{IsClosedOf}
 use Rattle.m17_reflect.specs.Headline.{Headline}
 use Rattle.m17_reflect.specs.Links.{Link, At}
@@ -33,11 +33,11 @@ use Rattle.m17_reflect.specs.Places.{ArePlacesBack}
 use Rattle.m17_reflect.specs.Queues.{QueuesCarry, carried}
 use Rattle.m17_reflect.specs.Sendings.{MouthsSay}
 use Rattle.m17_reflect.proofs.Assembled as assembled
-use Rattle.m17_reflect.proofs.Assembled.{Course, Facts, OfLinks, Rest, run_of, ear_words, book_words, headline}
+use Rattle.m17_reflect.proofs.Assembled.{Course, Facts, OfLinks, Rest, run_of, headline}
 use Rattle.m17_reflect.proofs.Gave.{worker_seat}
 use Rattle.m17_reflect.proofs.AllPlaces as places
 use Rattle.m17_reflect.proofs.AllPlaces.{IsClosed, all_places}
-use Rattle.m17_reflect.proofs.Came.{column_of, Heared}
+use Rattle.m17_reflect.proofs.Came.{column_of, HasHeardAll}
 use Rattle.m17_reflect.proofs.CameBack.{queues_at, door_of, notes_at}
 use Rattle.m17_reflect.proofs.Claimed.{IsRollOfRun, are_claims, are_members, members_differ, new_row}
 use Rattle.m17_reflect.proofs.Drained.{queues_back, carried_drained}
@@ -67,11 +67,11 @@ pub record Laws (L : Type 0) : Type 0 where
   pub claimed : NoMemberIsClaimedTwice
 
 -- A run whose calls have all returned. Its sender was the first, and came back as the second.
-pub record IsOver {E M B L : Type 0} (c : Course E M B L) (s t : Sender M) : Type 0 where
+pub record IsOver {E M B EL ML BL : Type 0} (c : Course E M B EL ML BL) (s t : Sender M) : Type 0 where
   pub jobs : AreJobs c.plan (length c.before.receivers) c.before.receivers c.before.workers s
-  pub received : AllZip (ReceiverDid (ear_words c.words)) c.before.receivers c.after.receivers
-  pub worked : AllZip (WorkerDid (book_words c.words)) c.before.workers c.after.workers
-  pub sent : SenderDid c.words.told s t
+  pub received : AllZip (ReceiverDid c.hears c.writes) c.before.receivers c.after.receivers
+  pub worked : AllZip (WorkerDid c.writes) c.before.workers c.after.workers
+  pub sent : SenderDid c.tells s t
   pub shaped : IsShaped s
   pub mouths : c.before.mouths ≡ s.mouths.items
   pub receiver_lines : List (PushEnd Order)
@@ -89,23 +89,23 @@ pub record IsOver {E M B L : Type 0} (c : Course E M B L) (s t : Sender M) : Typ
   pub door_trail : IsTrailOf (map door_of c.after.receivers) t.door door
   pub notes : List (TrailEnd Member)
   pub note_trails : AreTrailsOfOnes t.notes.items (map notes_at c.after.receivers) notes
-  pub rest : SaysRest c.words.told t.name (record { cells = cells_of t; queues = rows; door = door })
+  pub rest : SaysRest c.tells t.name (record { cells = cells_of t; queues = rows; door = door })
       t.mouths.items c.after.mouths
   pub roll : IsClosedOf (map seat_of c.after.receivers ++ map worker_seat c.after.workers) c.made.roll
   pub places : length c.made.roll.words ≡ c.plan.places
 
-module _ {E M B L : Type 0} where
-  have_worked : Laws L → (c : Course E M B L) (s t : Sender M) → IsOver c s t → HaveWorked (book_words c.words) c.plan (length c.before.receivers) c.before.workers c.after.workers
+module _ {E M B EL ML BL : Type 0} where
+  have_worked : Laws ML → (c : Course E M B EL ML BL) (s t : Sender M) → IsOver c s t → HaveWorked c.writes c.plan (length c.before.receivers) c.before.workers c.after.workers
   have_worked laws c s t h = record {
     are = h.jobs.workers;
     count = sym (length-map c.before.workers inbox_of) ∙ h.jobs.laid.inbox_count;
-    worked = all_worked (book_words c.words) laws.gone c.before.workers c.after.workers h.worker_lines h.worked h.to_workers;
+    worked = all_worked c.writes laws.gone c.before.workers c.after.workers h.worker_lines h.worked h.to_workers;
   }
 
-  its_sender : (laws : Laws L) (c : Course E M B L) (s t : Sender M) → (h : IsOver c s t) → Sent c.words.told s t h.sent.order
-  its_sender laws c s t h = sender_went laws.gone c.words.told (Stop ∷ []) s t h.sender_lines h.to_sender h.sent
+  its_sender : (laws : Laws ML) (c : Course E M B EL ML BL) (s t : Sender M) → (h : IsOver c s t) → Sent c.tells s t h.sent.order
+  its_sender laws c s t h = sender_went laws.gone c.tells (Stop ∷ []) s t h.sender_lines h.to_sender h.sent
 
-  head_count : (laws : Laws L) (c : Course E M B L) (s t : Sender M) → IsOver c s t → length (queues_of t) ≡ module_count c.plan
+  head_count : (laws : Laws ML) (c : Course E M B EL ML BL) (s t : Sender M) → IsOver c s t → length (queues_of t) ≡ module_count c.plan
   head_count laws c s t h =
       let same = (its_sender laws c s t h).lanes.same_queues in
       sym (length-map (queues_of t) (map as_new_popper)) ∙ ap length same ∙ length-map (queues_of s) (map as_new_popper) ∙ h.jobs.laid.queues.count.1
@@ -126,9 +126,9 @@ same_row_length (x ∷ before) (y ∷ after) e (suc m) row row' at at' =
 ones_long : (qs : List (PushEnd Item)) (ps : List (PopEnd Item)) → AreOfOnes qs ps → length qs ≡ length ps
 ones_long qs ps h = sym (length-map qs (λ (q : PushEnd Item). q.lane)) ∙ ap length h.lanes ∙ length-map ps (λ (p : PopEnd Item). p.lane)
 
-module _ {E M B L : Type 0} where
+module _ {E M B EL ML BL : Type 0} where
   -- each row of queues has one for each place
-  row_places : (laws : Laws L) (c : Course E M B L) (s t : Sender M) → IsOver c s t → (m : ℕ) (head : List (PopEnd Item)) → slice_get (queues_of t) m ≡ Some head → length head ≡ c.plan.places
+  row_places : (laws : Laws ML) (c : Course E M B EL ML BL) (s t : Sender M) → IsOver c s t → (m : ℕ) (head : List (PopEnd Item)) → slice_get (queues_of t) m ≡ Some head → length head ≡ c.plan.places
   row_places laws c s t h m head at =
       let inside = below_at (queues_of t) m head at in
       let many = head_count laws c s t h in
@@ -139,10 +139,10 @@ module _ {E M B L : Type 0} where
       ∙ (h.jobs.laid.queues.each m row first at_row at_first).1
 
   -- what the jobs, the lanes and the roll say of the run
-  pub facts : (laws : Laws L) (c : Course E M B L) (s t : Sender M) → IsOver c s t → (heards : List (List Heard)) → AllZip3 (Heared (ear_words c.words)) c.before.receivers c.after.receivers heards → Facts c heards
+  pub facts : (laws : Laws ML) (c : Course E M B EL ML BL) (s t : Sender M) → IsOver c s t → (heards : List (List Heard)) → AllZip3 (HasHeardAll c.hears c.writes) c.before.receivers c.after.receivers heards → Facts c heards
   facts laws c s t h heards heared =
       let worked = have_worked laws c s t h in
-      let back = AllZip-long (HasWorked (book_words c.words)) c.before.workers c.after.workers worked.worked in
+      let back = AllZip-long (HasWorked c.writes) c.before.workers c.after.workers worked.worked in
       let long : length h.rows ≡ length (queues_of t) = h.row_trails.count in record {
         are = h.jobs.receivers;
         heared = heared;
@@ -156,7 +156,7 @@ module _ {E M B L : Type 0} where
         roll = record {
           claimed = h.roll.claimed;
           refused = h.roll.refused;
-          no_other = none_took (book_words c.words) (map seat_of c.before.receivers) c.before.workers c.after.workers c.plan.places
+          no_other = none_took c.writes (map seat_of c.before.receivers) c.before.workers c.after.workers c.plan.places
               (length c.before.receivers + module_count c.plan) h.jobs.seats worked.worked;
         };
         ended = h.roll.ended;
@@ -164,15 +164,15 @@ module _ {E M B L : Type 0} where
       }
 
   -- the places of the run
-  its_places : (laws : Laws L) (c : Course E M B L) (s t : Sender M) → IsOver c s t → (heards : List (List Heard)) → Facts c heards → (links : List Link) → OfLinks c links → ArePlacesBack c.plan.places c.made.trails c.made.roll
+  its_places : (laws : Laws ML) (c : Course E M B EL ML BL) (s t : Sender M) → IsOver c s t → (heards : List (List Heard)) → Facts c heards → (links : List Link) → OfLinks c links → ArePlacesBack c.plan.places c.made.trails c.made.roll
   its_places laws c s t h heards f links o =
-      all_places laws.places (ear_words c.words) (book_words c.words) c.plan c.before.receivers c.after.receivers c.before.workers c.after.workers links c.made.trails c.made.roll
-      f.are o.came (subst (λ (n : ℕ). HaveWorked (book_words c.words) c.plan n c.before.workers c.after.workers) (sym o.same_count) f.worked) o.served o.trails
+      all_places laws.places c.hears c.writes c.plan c.before.receivers c.after.receivers c.before.workers c.after.workers links c.made.trails c.made.roll
+      f.are o.came (subst (λ (n : ℕ). HaveWorked c.writes c.plan n c.before.workers c.after.workers) (sym o.same_count) f.worked) o.served o.trails
       (none_gave (map seat_of c.before.receivers) c.before.workers c.plan.places (length c.before.receivers + module_count c.plan) h.jobs.seats)
       (record { of_seats = f.roll; given = h.roll.given; rises = h.roll.rising; run = h.roll.ended.run; places = h.places })
 
   -- what the mouths of the run say
-  its_mouths : (laws : Laws L) (c : Course E M B L) (s t : Sender M) → IsOver c s t → (heards : List (List Heard)) → Facts c heards → (links : List Link) → OfLinks c links → QueuesCarry (run_of c) → MouthsSay (run_of c) links
+  its_mouths : (laws : Laws ML) (c : Course E M B EL ML BL) (s t : Sender M) → IsOver c s t → (heards : List (List Heard)) → Facts c heards → (links : List Link) → OfLinks c links → QueuesCarry (run_of c) → MouthsSay (run_of c) links
   its_mouths laws c s t h heards f links o carry =
       let sent = its_sender laws c s t h in
       let laid = h.jobs.laid in
@@ -180,8 +180,8 @@ module _ {E M B L : Type 0} where
       let of_run : IsRollOfRun (run_of c) links = record { roll = h.roll.ended.run; count = h.places; claims = o.claims; joins = back.joins } in
       let long : length h.rows ≡ length (queues_of t) = h.row_trails.count in
       let name : t.name ≡ c.plan.name = sent.same_name ∙ h.jobs.sender.name in
-      let rest = subst (λ (n : ℕ). SaysRest c.words.told n (record { cells = cells_of t; queues = h.rows; door = h.door }) t.mouths.items c.after.mouths) name h.rest in
-      mouths_say laws.mouths (ear_words c.words) c.words.told (run_of c) links
+      let rest = subst (λ (n : ℕ). SaysRest c.tells n (record { cells = cells_of t; queues = h.rows; door = h.door }) t.mouths.items c.after.mouths) name h.rest in
+      mouths_say laws.mouths c.hears c.writes c.tells (run_of c) links
       (record { js = c.before.receivers; ks = c.after.receivers; first = s; last = t; order = h.sent.order; notes = h.notes; queues = h.rows; door = h.door; mouths = c.after.mouths })
       (record {
         members = are_members (run_of c) links o.trails carry of_run;
@@ -212,14 +212,14 @@ module _ {E M B L : Type 0} where
             ap (λ queues. carried queues m q) (ap (map (λ r. r.trails)) h.made_rows ∙ rows_trails (queues_of t) h.rows long)
             ∙ carried_drained h.rows m q;
         rest = record { acts = rest.acts; things = rest.things; answers = rest.answers; mouths = rest.mouths };
-        before = ap (map c.words.told) h.mouths;
+        before = ap (map c.tells) h.mouths;
         after = refl;
       })
 
   -- The headline.
-  pub whole : (laws : Laws L) (c : Course E M B L) (s t : Sender M) → IsOver c s t → Headline (run_of c)
+  pub whole : (laws : Laws ML) (c : Course E M B EL ML BL) (s t : Sender M) → IsOver c s t → Headline (run_of c)
   whole laws c s t h =
-      let (heards, heared) = all_heared (ear_words c.words) laws.gone c.before.receivers c.after.receivers h.receiver_lines h.received h.to_receivers in
+      let (heards, heared) = all_heared c.hears c.writes laws.gone c.before.receivers c.after.receivers h.receiver_lines h.received h.to_receivers in
       let f = facts laws c s t h heards heared in
       headline laws.assembled c heards f
       (λ links of_heard o carry. record {
@@ -227,7 +227,7 @@ module _ {E M B L : Type 0} where
             (record { roll = h.roll.ended.run; count = h.places; claims = o.claims; joins = (its_places laws c s t h heards f links o).joins }) o.asked;
         places = its_places laws c s t h heards f links o;
         mouths = its_mouths laws c s t h heards f links o carry;
-        full = who_is_full laws.patient (ear_words c.words) (run_of c) c.before.receivers c.after.receivers links (map worker_seat c.after.workers)
+        full = who_is_full laws.patient c.hears c.writes (run_of c) c.before.receivers c.after.receivers links (map worker_seat c.after.workers)
             (record { receivers = f.are; came = o.came; roll = f.roll; ended = h.roll.ended; places = h.places; workers = length-map c.after.workers worker_seat ∙ f.came_back ∙ f.worked.count }) carry o.trails.count;
       })
-      (failed_only_where (ear_words c.words) (book_words c.words) c.before.receivers c.after.receivers heards c.before.workers c.after.workers heared f.worked.worked)
+      (failed_only_where c.hears c.writes c.before.receivers c.after.receivers heards c.before.workers c.after.workers heared f.worked.worked)

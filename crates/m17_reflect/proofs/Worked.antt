@@ -4,6 +4,7 @@ use Rattle.std.specs.Prelude.{slice_get, IsSomeAnd}
 use Rattle.std.specs.List.{AllByRecursion}
 use Rattle.std.proofs.lemmas.Option.{same_Some, none-some}
 use Rattle.std.proofs.lemmas.List.Elements.{recursion_from_All}
+use Rattle.m17_ports.specs.Book.{BookTold}
 use Rattle.m17_control.specs.declared.event.Event.{Event}
 use Rattle.m17_control.specs.declared.item.Item.{Item}
 use Rattle.m17_floor.specs.Floor.{admitted_count}
@@ -18,21 +19,19 @@ use Rattle.m17_grid.specs.Trails.{IsTrailOfOne, AreTrailsOfOnes}
 use Rattle.m17_worker.specs.declared.worker.Worker.{Worker}
 use Rattle.m17_worker.specs.Offers.{Try, queued_for, missed_for, count_missed, counted_on}
 use Rattle.m17_worker.specs.Records.{book_text, records_of}
-use Rattle.m17_worker.specs.Ready.{Words}
 use Rattle.m17_worker.specs.Taken.{taken, is_there}
 use Rattle.m17_worker.specs.Tape.{verdict_on}
 use Rattle.m17_worker.specs.WorkerDid.{HasServed, HasWorked}
-use Rattle.m17_worker.specs.Written.{Tells}
-use Rattle.m17_house.specs.declared.plan.Plan.{Plan}
-use Rattle.m17_wiring.specs.Jobs.{IsWorkerOf}
+use Rattle.m17_plan.specs.declared.plan.Plan.{Plan}
+use Rattle.m17_run_setup.specs.Jobs.{IsWorkerOf}
 use Rattle.m17_reflect.specs.Links.{At, letter_of, setup_at}
 use Rattle.m17_reflect.specs.Judged.{IsModuleTape, IsWritten}
 use Rattle.m17_reflect.specs.Queues.{IsQueue, Carry}
 use Rattle.m17_reflect.proofs.Routes.{at_below, below_at}
 use Rattle.m17_reflect.proofs.Came.{all_at}
 
-abbrev pub book_tells : {B : Type 0} → Words B → Worker B → Tells
-book_tells words j = (words.written j.book, words.faults j.book)
+abbrev pub book_tells : {B BL : Type 0} → (B → BookTold BL) → Worker B → BookTold BL
+book_tells writes j = writes j.book
 
 -- all events are taken where each names a link and a place that are there
 all_taken_step : (b : Bool) (e : Event) (xs ys : List Event) → b ≡ true → xs ≡ ys → cond b (e ∷ xs) xs ≡ e ∷ ys
@@ -45,26 +44,26 @@ all_taken links places (e ∷ events) h =
     all_taken_step (is_there links places e) e (taken links places events) events h.0 (all_taken links places events h.1)
 
 -- What became of the events of a module, in the order of its trail.
-pub served : {B : Type 0} (words : Words B) (j k : Worker B) (events : List Event) → HasWorked words j k → k.inbox.popped ≡ events → AllByRecursion (λ event. is_there j.links j.module.setup.places event ≡ true) events → HasServed words events j k
-served words j k events h is there =
-    subst (λ (es : List Event). HasServed words es j k)
+pub served : {B BL : Type 0} (writes : B → BookTold BL) (j k : Worker B) (events : List Event) → HasWorked writes j k → k.inbox.popped ≡ events → AllByRecursion (λ event. is_there j.links j.module.setup.places event ≡ true) events → HasServed writes events j k
+served writes j k events h is there =
+    subst (λ (es : List Event). HasServed writes es j k)
     (ap (taken j.links j.module.setup.places) is ∙ all_taken j.links j.module.setup.places events there) h.served
 
 module _ {B : Type 0} where
-  pub admitted_of : (words : Words B) (plan : Plan) (links m : ℕ) (j k : Worker B) (events : List Event) → IsWorkerOf plan links m j → HasWorked words j k → HasServed words events j k → k.module.admitted ≡ admitted_count plan.places (acts_of events)
-  admitted_of words plan links m j k events is worked h =
+  pub admitted_of : {BL : Type 0} (writes : B → BookTold BL) (plan : Plan) (links m : ℕ) (j k : Worker B) (events : List Event) → IsWorkerOf plan links m j → HasWorked writes j k → HasServed writes events j k → k.module.admitted ≡ admitted_count plan.places (acts_of events)
+  admitted_of writes plan links m j k events is worked h =
       h.stands.admitted ∙ ap (λ (s : module_items.Setup). admitted_count s.places (acts_of events)) (worked.same.setup ∙ is.setup)
 
-  pub tape_is : (words : Words B) (plan : Plan) (links m : ℕ) (j k : Worker B) (events : List Event) → IsWorkerOf plan links m j → HasWorked words j k → HasServed words events j k → IsModuleTape plan.places events plan.entries k.tape.items
-  tape_is words plan links m j k events is worked h = record {
+  pub tape_is : {BL : Type 0} (writes : B → BookTold BL) (plan : Plan) (links m : ℕ) (j k : Worker B) (events : List Event) → IsWorkerOf plan links m j → HasWorked writes j k → HasServed writes events j k → IsModuleTape plan.places events plan.entries k.tape.items
+  tape_is writes plan links m j k events is worked h = record {
     length_is = worked.same.cells ∙ is.cells;
     verdicts = λ index lt. h.taped index lt ∙ ap (λ (s : module_items.Setup). Some (verdict_on s.places events index)) is.setup;
   }
 
-  pub book_is : (words : Words B) (plan : Plan) (links m : ℕ) (j k : Worker B) (events : List Event) (failed : Bool) → IsWorkerOf plan links m j → HasServed words events j k → (k.book_failed ≡ true → failed ≡ true) → IsWritten failed (book_tells words j) (book_text (letter_of plan m) (records_of (setup_at plan m) events)) (book_tells words k)
-  book_is words plan links m j k events failed is h flag =
-      subst (λ (letter : ℕ). IsWritten failed (book_tells words j) (book_text letter (records_of (setup_at plan m) events)) (book_tells words k)) is.letter
-      (subst (λ (s : module_items.Setup). IsWritten failed (book_tells words j) (book_text j.letter (records_of s events)) (book_tells words k)) is.setup
+  pub book_is : {BL : Type 0} (writes : B → BookTold BL) (plan : Plan) (links m : ℕ) (j k : Worker B) (events : List Event) (failed : Bool) → IsWorkerOf plan links m j → HasServed writes events j k → (k.book_failed ≡ true → failed ≡ true) → IsWritten failed (book_tells writes j) (book_text (letter_of plan m) (records_of (setup_at plan m) events)) (book_tells writes k)
+  book_is writes plan links m j k events failed is h flag =
+      subst (λ (letter : ℕ). IsWritten failed (book_tells writes j) (book_text letter (records_of (setup_at plan m) events)) (book_tells writes k)) is.letter
+      (subst (λ (s : module_items.Setup). IsWritten failed (book_tells writes j) (book_text j.letter (records_of s events)) (book_tells writes k)) is.setup
       (k.book_failed, h.booked, flag))
 
 -- a count from 0
@@ -102,8 +101,8 @@ queue_is law tries place before q p t new e h drained =
     }
 
 -- the queues of a module
-pub carries : {B : Type 0} (words : Words B) (law : RowsGrow Item) (plan : Plan) (links m : ℕ) (j k : Worker B) (events : List Event) (rows : Rows) → IsWorkerOf plan links m j → HasServed words events j k → AreTrailsOfOnes k.offers.queues.items rows.poppers rows.trails → length rows.poppers ≡ plan.places → ((q : ℕ) (t : TrailEnd Item) → At rows.trails q t → t.popped ≡ items_of t.order) → AllByRecursion (λ (item : Item). item.member.place < plan.places) (items_given (setup_at plan m) events) → Carry events (record { setup = setup_at plan m; patient = plan.patient; queues = rows.trails; missed = k.offers.missed })
-carries words law plan links m j k events rows is h ends count drained placed =
+pub carries : {B BL : Type 0} (writes : B → BookTold BL) (law : RowsGrow Item) (plan : Plan) (links m : ℕ) (j k : Worker B) (events : List Event) (rows : Rows) → IsWorkerOf plan links m j → HasServed writes events j k → AreTrailsOfOnes k.offers.queues.items rows.poppers rows.trails → length rows.poppers ≡ plan.places → ((q : ℕ) (t : TrailEnd Item) → At rows.trails q t → t.popped ≡ items_of t.order) → AllByRecursion (λ (item : Item). item.member.place < plan.places) (items_given (setup_at plan m) events) → Carry events (record { setup = setup_at plan m; patient = plan.patient; queues = rows.trails; missed = k.offers.missed })
+carries writes law plan links m j k events rows is h ends count drained placed =
     let tries = h.offered.tries in let tried = h.offered.tried in
     let all : map (λ (t : Try). t.item) tries ≡ items_given (setup_at plan m) events = h.offered.of_all ∙ ap (λ (s : module_items.Setup). items_given s events) is.setup in
     let places : AllByRecursion (λ (item : Item). item.member.place < plan.places) (map (λ (t : Try). t.item) tries) = subst (AllByRecursion (λ (item : Item). item.member.place < plan.places)) (sym all) placed in

@@ -3,7 +3,7 @@ use Rattle.std.specs.Prelude.{◌≡◌, ◌≤◌, ◌||◌, ℕ, List, [], len
 use Rattle.std.specs.List.{AllZip}
 use Rattle.atomic_table.specs.Seated.{TableId}
 use Rattle.m17_values.specs.declared.member.Member.{Member}
-use Rattle.m17_ports.specs.Said.{MouthTold}
+use Rattle.m17_ports.specs.Mouth.{MouthTold}
 use Rattle.m17_control.specs.declared.item.Direct.{Direct}
 use Rattle.m17_control.specs.declared.item.Item.{Item}
 use Rattle.m17_lane.specs.Ends.{AreOf, TrailEnd}
@@ -12,15 +12,15 @@ use Rattle.m17_grid.specs.Trails.{IsTrailOf, AreTrails, AreTrailsOfOnes}
 use Rattle.m17_roll.specs.Closing.{EndView, IsEnded, AreAll, claims_of, gifts_of}
 use Rattle.m17_roll.specs.Seat.{RollView}
 use Rattle.m17_roll.specs.Sightings.{RisesAtPlaces}
-use Rattle.m17_parting.specs.Left.{drained}
-use Rattle.m17_parting.specs.Rest.{SaysRest}
-use Rattle.m17_parting.specs.Rows.{AreOfOnes, AreRowsOfTrails}
-use Rattle.m17_wiring.specs.Rooms.{IsRoom}
+use Rattle.m17_run_end.specs.Left.{drained}
+use Rattle.m17_run_end.specs.Rest.{SaysRest}
+use Rattle.m17_run_end.specs.Rows.{AreOfOnes, AreRowsOfTrails}
+use Rattle.m17_run_setup.specs.Rooms.{IsRoom}
 use Rattle.m17_reflect.specs.declared.parted.Parted.{Parted}
 use Rattle.m17_reflect.specs.declared.returned.Returned.{Returned}
 
--- jobs that were taken apart can be gathered: their other lanes stand together, there is room for the
--- trails, a cell is there for each queue, and all seats of the roll
+-- jobs that were taken apart can be gathered: the ends of all their lanes but those of orders are there and match,
+-- there is room for the trails, each queue has a cell, and all seats of the roll are there
 pub record CanGather {E M B : Type 0} (p : Parted E M B) : Type 0 where
   pub inboxes : IsGrid (map (λ column. column.items) p.links.columns.items) p.modules.inboxes.items
   pub shells : All (λ shell. (shell.items ≡ []) × (vec_len p.links.columns ≤ vec_capacity shell))

@@ -1,6 +1,6 @@
--- What was decided, and what was written of it: admitted packets, tapes, traces and books. This
--- profile.
+-- What was decided, and what was written of it: admitted packets, tapes, traces and books.
 use Rattle.std.specs.Prelude.{◌≡◌, ℕ, ◌<◌, ◌≤◌, Bool, true, List, length, map, Option, None, Some}
+use Rattle.m17_ports.specs.Book.{BookTold, HasText}
 use Rattle.m17_control.specs.declared.event.Event.{Event}
 use Rattle.m17_floor.specs.Floor.{admitted_count}
 use Rattle.m17_floor.specs.declared.verdict.Verdict.{Verdict}
@@ -12,13 +12,12 @@ use Rattle.m17_directory.specs.declared.verdict.LinkVerdict.{LinkVerdict}
 use Rattle.m17_receiver.specs.Devices.{trace_text}
 use Rattle.m17_worker.specs.Records.{book_text, records_of}
 use Rattle.m17_worker.specs.Tape as worker_tape
-use Rattle.m17_worker.specs.Written.{Tells, HasText}
 use Rattle.m17_reflect.specs.Links.{Link, At, link_setup, letter_of, setup_at}
 use Rattle.m17_reflect.specs.Run.{Run, module_count}
 use Rattle.m17_reflect.specs.Trails.{events_of}
 
--- The tape of a link has so many cells: each has the verdict of the entry with its number, or
--- nothing where there is none. This profile.
+-- The tape of a link has as many cells as the plan has entries: each has the verdict of the entry with its number, or
+-- nothing where there is none.
 pub record IsLinkTape (setup : Setup) (entries : List Entry) (cells : ℕ)
     (tape : List (Option LinkVerdict)) : Type 0 where
   pub length_is : length tape ≡ cells
@@ -26,36 +25,36 @@ pub record IsLinkTape (setup : Setup) (entries : List Entry) (cells : ℕ)
       At tape n (Some (link_verdict setup entries n))
   pub empty : (n : ℕ) → n < cells → length entries ≤ n → At tape n None
 
--- The tape of a module has so many cells: each has the floor rule's verdict on the packet of link 0
--- from the entry with its number, or nothing where there is none. This profile.
+-- The tape of a module has as many cells as the plan has entries: each has the floor rule's verdict on the packet that
+-- came by the entry of link 0 with the cell's number, or nothing where none came.
 pub record IsModuleTape (places : ℕ) (events : List Event) (cells : ℕ)
     (tape : List (Option Verdict)) : Type 0 where
   pub length_is : length tape ≡ cells
   pub verdicts : worker_tape.IsTaped places events tape
 
 -- The text was written, all of it; or a write failed, which the run then says, its count rose, and
--- a beginning was written. This profile.
-abbrev pub IsWritten : Bool → Tells → List ℕ → Tells → Type 0
+-- a beginning was written.
+abbrev pub IsWritten : {L : Type 0} → Bool → BookTold L → List ℕ → BookTold L → Type 0
 IsWritten run_failed before text after =
     (failed : Bool) × HasText before text failed after × (failed ≡ true → run_failed ≡ true)
 
--- Each trace has the text of what its link heard, and each book that of its module's trail. This
--- profile.
-pub record AreWritten {L : Type 0} (run : Run L) (links : List Link) : Type 0 where
+-- Each trace has the text of what its link heard, and each book that of its module's trail.
+pub record AreWritten {E M B : Type 0} (run : Run E M B) (links : List Link) : Type 0 where
   pub trace_count : length run.after.traces ≡ length links
-  pub traces : (i : ℕ) (link : Link) (before after : Tells) → At links i link →
+  pub traces : (i : ℕ) (link : Link) (before after : BookTold B) → At links i link →
       At run.before.traces i before → At run.after.traces i after →
       IsWritten run.handed.book_failed before (trace_text link.heard) after
   pub book_count : length run.after.books ≡ module_count run.plan
-  pub books : (m : ℕ) (trail : TrailEnd Event) (before after : Tells) →
+  pub books : (m : ℕ) (trail : TrailEnd Event) (before after : BookTold B) →
       At run.handed.trails m trail →
       At run.before.books m before → At run.after.books m after →
       IsWritten run.handed.book_failed before
       (book_text (letter_of run.plan m) (records_of (setup_at run.plan m) (events_of trail))) after
 
--- A packet is admitted exactly where the floor rule of its module's trail says so: so many were,
--- and the tapes show each verdict; traces and books have all of it. This profile.
-pub record IsJudged {L : Type 0} (run : Run L) (links : List Link) : Type 0 where
+-- A packet is admitted exactly where the floor rule of its module's trail says so: the number of packets that each
+-- module admitted is the number by that rule, and the tapes show each verdict. Traces and books are written from what
+-- was heard and decided (`AreWritten`).
+pub record IsJudged {E M B : Type 0} (run : Run E M B) (links : List Link) : Type 0 where
   pub admitted : run.handed.admitted
       ≡ map (λ trail. admitted_count run.plan.places (acts_of (events_of trail))) run.handed.trails
   pub link_tape_count : length run.handed.link_tapes ≡ length links

@@ -10,7 +10,7 @@ use Rattle.m17_directory.specs.Laws.{RouteCarriesLink, RouteEndsInOneStop, Route
 use Rattle.m17_rows.specs.Laws.{RowsPush, RowsGrow, FirstOrderDecides}
 use Rattle.m17_grid.specs.Laws.{GridsStand, RowsStand, OrderIsInterleaving}
 use Rattle.m17_roll.specs.Laws.{NoMemberIsClaimedTwice, GivenBackIsFree}
-use Rattle.m17_turns.specs.Laws.{LessOfALifeIsALife, TurnsKeepEachMemberInOrder, PeersAreToldInOrder, SpelledPartByPart}
+use Rattle.m17_send_order.specs.Laws.{LessOfALifeIsALife, TurnsKeepEachMemberInOrder, PeersAreToldInOrder, SpelledPartByPart}
 
 -- of lanes, rows, grids and the roll
 pub record OfLanes : Type 0 where

@@ -6,12 +6,12 @@ use Rattle.m17_grid.specs.Trails.{AreTrailsOfOnes}
 use Rattle.m17_receiver.specs.declared.receiver.Receiver.{Receiver}
 use Rattle.m17_worker.specs.declared.worker.Worker.{Worker}
 use Rattle.m17_sender.specs.declared.sender.Sender.{Sender}
-use Rattle.m17_parting.specs.Rows.{AreOfOnes}
-use Rattle.m17_parting.specs.declared.receivers.ReceiverParts.{ReceiverParts}
-use Rattle.m17_parting.specs.declared.workers.WorkerParts.{WorkerParts}
-use Rattle.m17_wiring.specs.declared.rooms.Rooms.{Rooms}
-use Rattle.m17_wiring.specs.declared.rooms.TrailRooms.{TrailRooms}
-use Rattle.m17_wiring.specs.Rooms.{IsRoom, HasRooms}
+use Rattle.m17_run_end.specs.Rows.{AreOfOnes}
+use Rattle.m17_run_end.specs.declared.receivers.ReceiverParts.{ReceiverParts}
+use Rattle.m17_run_end.specs.declared.workers.WorkerParts.{WorkerParts}
+use Rattle.m17_run_setup.specs.declared.rooms.Rooms.{Rooms}
+use Rattle.m17_run_setup.specs.declared.rooms.TrailRooms.{TrailRooms}
+use Rattle.m17_run_setup.specs.Rooms.{IsRoom, HasRooms}
 use Rattle.m17_reflect.specs.declared.parted.Parted.{Parted}
 use Rattle.m17_reflect.specs.declared.parted.Voice.{Voice}
 

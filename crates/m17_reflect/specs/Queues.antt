@@ -1,5 +1,5 @@
 -- What each queue carries: what its module gives for its place, but for what was left out and
--- counted. This profile.
+-- counted.
 use Rattle.std.specs.Prelude.{◌≡◌, ℕ, ◌-◌, ◌^◌, ◌≤◌, min, Bool, true, false, List, [], ◌∷◌, length, map, take, slice_get}
 use Rattle.std.specs.List.{flat_map}
 use Rattle.std.specs.Option.{option_map_or}
@@ -14,21 +14,21 @@ use Rattle.m17_reflect.specs.Run.{Run, module_count}
 use Rattle.m17_reflect.specs.Trails.{events_of}
 
 -- A queue's order is what it took of the items that were tried there, and each of it was popped;
--- what was left out came back refused, in order. This profile.
+-- what was left out came back refused, in order.
 pub record IsQueue (tries : List Try) (place : ℕ) (queue : TrailEnd Item) : Type 0 where
   pub order : items_of queue.order ≡ queued_for tries place
   pub popped : queue.popped ≡ items_of queue.order
   pub refused : queue.refused ≡ missed_for tries place ∷ []
 
--- An item was left out behind these: it is a Frame, an Echo or a Ping, the run isn't patient, and
--- its queue had taken 64 items or more. This profile.
+-- The item was left out after the `earlier` tries: it is a Frame, an Echo or a Ping, the run isn't patient, and by then
+-- its queue had taken 64 items or more in all.
 pub record IsLeftOut (patient : Bool) (earlier : List Try) (item : Item) : Type 0 where
   pub may_be : may_be_missed item.body ≡ true
   pub impatient : patient ≡ false
   pub full : 64 ≤ length (queued_for earlier item.member.place)
 
 -- What is known of the queues of one module: how it is made, whether the run is patient, the queues
--- by place, and how many items were left out at all of them. This profile.
+-- by place, and how many items were left out at all of them.
 pub record Carriers : Type 0 where
   pub setup : module_items.Setup
   pub patient : Bool
@@ -36,7 +36,7 @@ pub record Carriers : Type 0 where
   pub missed : ℕ
 
 -- All items that the module's events give were tried, in order: each is in the queue of its place,
--- or was left out and counted. A count that has come to 2^64 - 1 stays there. This profile.
+-- or was left out and counted. A count that has come to 2^64 - 1 stays there.
 pub record Carry (events : List Event) (c : Carriers) : Type 0 where
   pub tries : List Try
   pub all_items : map (λ (t : Try). t.item) tries ≡ module_items.items_given c.setup events
@@ -46,8 +46,8 @@ pub record Carry (events : List Event) (c : Carriers) : Type 0 where
       IsLeftOut c.patient (take n tries) t.item
   pub missed : c.missed ≡ min (count_missed tries) (2 ^ 64 - 1)
 
--- The queues of each module carry what its trail gives. This profile.
-pub record QueuesCarry {L : Type 0} (run : Run L) : Type 0 where
+-- The queues of each module carry what its trail gives.
+pub record QueuesCarry {E M B : Type 0} (run : Run E M B) : Type 0 where
   pub count : length run.handed.queues ≡ module_count run.plan
   pub missed_count : length run.handed.missed ≡ module_count run.plan
   pub each : (m : ℕ) (trail : TrailEnd Event) (queues : List (TrailEnd Item)) (missed : ℕ) →
@@ -59,7 +59,7 @@ pub record QueuesCarry {L : Type 0} (run : Run L) : Type 0 where
         missed = missed;
       })
 
--- What queue q of module m carried, in order; nothing where there is no such queue. This profile.
+-- What queue q of module m carried, in order; nothing where there is no such queue.
 abbrev pub row_at : List (List (TrailEnd Item)) → ℕ → List (TrailEnd Item)
 row_at queues m = option_map_or (λ row. row) (slice_get queues m) []
 
@@ -68,7 +68,7 @@ carried queues m q =
     option_map_or (λ (queue : TrailEnd Item). items_of queue.order)
     (slice_get (row_at queues m) q) []
 
--- All that the queues carried, queue by queue. This profile.
+-- All that the queues carried, queue by queue.
 abbrev pub all_carried : List (List (TrailEnd Item)) → List Item
 all_carried queues =
     flat_map (λ row. flat_map (λ (queue : TrailEnd Item). items_of queue.order) row) queues

@@ -1,42 +1,34 @@
--- How a run is read off what was handed in and what came back. This profile.
-use Rattle.std.specs.Prelude.{◌≡◌, ℕ, List, map, Option}
-use Rattle.m17_values.specs.declared.heard.Heard.{Heard}
-use Rattle.m17_ports.specs.Said.{MouthTold}
+-- How a run is read off what was handed in and what came back.
+use Rattle.std.specs.Prelude.{◌≡◌, ℕ, List, map}
+use Rattle.m17_ports.specs.Book.{BookTold}
+use Rattle.m17_ports.specs.Ear.{EarTold}
+use Rattle.m17_ports.specs.Mouth.{MouthTold}
 use Rattle.m17_reflect.specs.declared.returned.Returned.{Returned}
 use Rattle.m17_reflect.specs.declared.returned.Refused.{Refused}
 use Rattle.m17_io.specs.Faults.{HasRisen}
-use Rattle.m17_house.specs.declared.plan.Plan.{Plan}
+use Rattle.m17_plan.specs.declared.plan.Plan.{Plan}
 use Rattle.m17_reflect.specs.declared.returned.HouseRefusal.{HouseRefusal}
 use Rattle.m17_reflect.specs.declared.returned.HouseRefusal.TheVariants.{Crew, NoMemory}
 use Rattle.m17_reflect.specs.Run.{Run, Devices, Handed}
 
--- What is said of the devices of these kinds: what each has heard, said and written, as far as it
--- is told, and how often it has failed. This profile.
-pub record Words (E M B L : Type 0) : Type 0 where
-  pub heard : E → Option (List Heard)
-  pub ear_faults : E → ℕ
-  pub told : M → MouthTold L
-  pub written : B → Option (List ℕ)
-  pub book_faults : B → ℕ
-
 -- The devices, kind by kind.
--- This profile.
 pub record Kinds (E M B : Type 0) : Type 0 where
   pub ears : List E
   pub mouths : List M
   pub traces : List B
   pub books : List B
 
-module _ {E M B : Type 0} where
-  -- What the devices tell. This profile.
-  abbrev pub devices_of : {L : Type 0} → Words E M B L → Kinds E M B → Devices L
-  devices_of words d = record {
-    ears = map (λ ear. (words.heard ear, words.ear_faults ear)) d.ears;
-    mouths = map words.told d.mouths;
-    traces = map (λ trace. (words.written trace, words.book_faults trace)) d.traces;
-    books = map (λ book. (words.written book, words.book_faults book)) d.books;
-  }
+-- What the devices tell, by what is told of each kind.
+abbrev pub devices_of : {E M B EL ML BL : Type 0} → (E → EarTold EL) → (M → MouthTold ML)
+    → (B → BookTold BL) → Kinds E M B → Devices EL ML BL
+devices_of ear mouth book d = record {
+  ears = map ear d.ears;
+  mouths = map mouth d.mouths;
+  traces = map book d.traces;
+  books = map book d.books;
+}
 
+module _ {E M B : Type 0} where
   abbrev pub kinds_back : Returned E M B → Kinds E M B
   kinds_back r = record {
     ears = r.ears.items;
@@ -53,7 +45,7 @@ module _ {E M B : Type 0} where
     books = r.books.items;
   }
 
-  -- What came back beside the devices. This profile.
+  -- What came back beside the devices.
   abbrev pub handed_of : Returned E M B → Handed
   handed_of r = record {
     trails = r.trails.items;
@@ -67,17 +59,18 @@ module _ {E M B : Type 0} where
     book_failed = r.book_failed;
   }
 
--- The run of this plan over these devices, as it shows itself in what came back. This profile.
-abbrev pub run_of : {E M B L : Type 0} → Words E M B L → Plan → Kinds E M B → Returned E M B → Run L
-run_of words plan d r = record {
+-- The run of this plan over these devices, as it shows itself in what came back.
+abbrev pub run_of : {E M B EL ML BL : Type 0} → (E → EarTold EL) → (M → MouthTold ML)
+    → (B → BookTold BL) → Plan → Kinds E M B → Returned E M B → Run EL ML BL
+run_of ear mouth book plan d r = record {
   plan = plan;
-  before = devices_of words d;
-  after = devices_of words (kinds_back r);
+  before = devices_of ear mouth book d;
+  after = devices_of ear mouth book (kinds_back r);
   handed = handed_of r;
 }
 
 -- Why nothing was run, as the crew's count of refusals tells it before and after: it rose where the crew refused a start,
--- and stands where there was no memory. This profile.
+-- and stands where there was no memory.
 pub record IsRefusedFor (why : HouseRefusal) (before after : ℕ) : Type 0 where
   pub crew : why ≡ Crew → HasRisen before after
   pub no_memory : why ≡ NoMemory → after ≡ before

@@ -1,20 +1,19 @@
 //! What comes back of a run whose jobs have ended.
-ghost use Rattle.m17_sender.specs.Sent.{told_by};
 ghost use Rattle.m17_reflect.specs.Gathered.{CanGather, Gathered};
 
 use crate::Returned;
 use crate::parted::Parted;
 use m17_grid::{finish_each, finish_row};
 use m17_lane::finish;
-use m17_parting::{finish_rows, say_rest};
 use m17_ports::Mouth;
 use m17_roll::close;
+use m17_run_end::{finish_rows, say_rest};
 use std::sync::Wait;
 
 // Finishes all other lanes, says what is left of them, and closes the roll.
 pub(crate) fn gather<E, M: Mouth, B, R: Wait>(rt: &R, parted: Parted<E, M, B>) -> Returned<E, M, B>
     requires { CanGather parted }
-    ensures { Gathered (told_by M.said M.tallies M.faults M.mark M.label) parted result }
+    ensures { Gathered M.told parted result }
 {
     let Parted {
         mut links,

@@ -1,8 +1,8 @@
-//! What follows from the headline (`headline_tells`, `runs_hold_their_trails`) and from trails alone
+//! What follows from the headline (`headline_tells`, `devices_stay`, `runs_hold_their_trails`) and from trails alone
 //! (`trails_are_told_in_order`): each call does nothing, its clause is the law. And the laws of the crates below that a
-//! run rests on. This profile.
+//! run rests on.
 ghost use Rattle.m17_reflect.specs.Known.{OfLanes, OfLinks, OfModules};
-ghost use Rattle.m17_reflect.specs.Laws.{HeadlineTells};
+ghost use Rattle.m17_reflect.specs.Laws.{DevicesStay, HeadlineTells};
 ghost use Rattle.m17_reflect.specs.Turns.{TrailsAreToldInOrder, PeersOfTrailsAreToldInOrder, RunsHoldTheirTrails};
 
 use m17_control::{Direct, Event, Item};
@@ -12,20 +12,25 @@ use m17_grid::laws as grid;
 use m17_module::laws as module;
 use m17_roll::laws as roll;
 use m17_rows::laws as rows;
-use m17_turns::laws as turns;
+use m17_send_order::laws as turns;
 use m17_values::Member;
 
 /// What a link heard is what its ear tells, where it tells anything and told nothing before. So what the headline says of
-/// links is said of that list. This profile.
-pub fn headline_tells<L>()
-    ensures { HeadlineTells L }
+/// links is said of that list.
+pub fn headline_tells<E, M, B>()
+    ensures { HeadlineTells E M B }
+{}
+
+/// The devices that a run hands back are those that were handed in, in their order: each has its mark and its label.
+pub fn devices_stay<E, M, B>()
+    ensures { DevicesStay E M B }
 {}
 
 /// The law on turns, of trails. The sender's acts are in turn, and with more behind them they say what the queues hold
 /// of the modules' trails, of which frames, echoes and pings alone may be left out; no two Joins of all trails are of
 /// one member. Then memberships on a link, of which each waits for the notes of all before it, are told their items one
 /// after another, each in the order of its queue; and the packets to a peer, where these are all its memberships on the
-/// link, are one order of that and of the replies to it past all modules. This profile.
+/// link, are one order of that and of the replies to it past all modules.
 pub fn trails_are_told_in_order()
     ensures members { TrailsAreToldInOrder }
     ensures peers { PeersOfTrailsAreToldInOrder }
@@ -38,9 +43,8 @@ pub fn trails_are_told_in_order()
 }
 
 /// The queues of every run hold what the run's trails give: what that law asks of trails and queues is met by each run.
-/// This profile.
-pub fn runs_hold_their_trails<L>()
-    ensures { RunsHoldTheirTrails L }
+pub fn runs_hold_their_trails<E, M, B>()
+    ensures { RunsHoldTheirTrails E M B }
 {
     module::items_are_at_places();
 }

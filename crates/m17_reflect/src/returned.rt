@@ -7,7 +7,7 @@ use m17_lane::Trail;
 use m17_roll::RollEnd;
 
 /// What a run that was carried out hands back: the devices, in the order handed in, and what went through the threads.
-/// Links and modules are numbered from 0, modules in order of their letters. This profile.
+/// Links and modules are numbered from 0, modules in order of their letters.
 #[derive(Drop)]
 pub struct Returned<E, M, B> {
     /// The receiving half of each link.
@@ -38,7 +38,7 @@ pub struct Returned<E, M, B> {
     pub book_failed: bool,
 }
 
-/// Why nothing was run. This profile.
+/// Why nothing was run.
 #[derive(Clone, Copy, Debug, PartialEq, Eq)]
 pub enum HouseRefusal {
     /// A job could not be started.
@@ -47,7 +47,7 @@ pub enum HouseRefusal {
     NoMemory,
 }
 
-/// What comes back where nothing was run: the devices as they were handed in, in their order. This profile.
+/// What comes back where nothing was run: the devices as they were handed in, in their order.
 #[derive(Drop)]
 pub struct Refused<E, M, B> {
     /// Why nothing was run.

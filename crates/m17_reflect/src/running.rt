@@ -1,8 +1,7 @@
 //! The run of the reflector over threads.
-ghost use Rattle.std.specs.Prelude.{◌≡◌, ◌<◌, ◌≤◌, true, All, map, IfOk, IfErr, MatchResult, vec_len};
+ghost use Rattle.std.specs.Prelude.{◌≡◌, ◌<◌, ◌≤◌, true, All, IfOk, IfErr, MatchResult, vec_len};
 ghost use Rattle.m17_ports.specs.Told.{StartsEmpty};
-ghost use Rattle.m17_sender.specs.Sent.{told_by};
-ghost use Rattle.m17_house.specs.Replay.{IsPlan};
+ghost use Rattle.m17_plan.specs.Planned.{IsPlan};
 ghost use Rattle.m17_reflect.specs.Headline.{Headline};
 ghost use Rattle.m17_reflect.specs.declared.returned.HouseRefusal.TheVariants as refusals;
 ghost use Rattle.m17_reflect.specs.Run.{module_count};
@@ -14,10 +13,10 @@ use crate::laws::{of_lanes, of_links, of_modules};
 use crate::parted::Parted;
 use crate::{HouseRefusal, Refused, Returned};
 use m17_crew::Crew;
-use m17_house::Plan;
 use m17_launch::launch;
+use m17_plan::Plan;
 use m17_ports::{Book, Ear, Mouth};
-use m17_wiring::{prepare, staff};
+use m17_run_setup::{prepare, staff};
 use std::alloc::Global;
 use std::sync::Wait;
 use std::thread::Threads;
@@ -29,7 +28,7 @@ use std::thread::Threads;
 ///
 /// `Crew` where the crew refused a start, and whoever was started has quit; `NoMemory` where there is none for the lanes and
 /// the tables, before anything was heard. Both times all devices come back as they were. It waits for the threads, and
-/// for ever where an ear goes on for ever. From the first thing heard on it takes no memory. This profile.
+/// for ever where an ear goes on for ever. From the first thing heard on it takes no memory.
 pub fn reflect<
     E: Ear + Drop + Send + 'static,
     M: Mouth + Drop + Send + 'static,
@@ -52,29 +51,16 @@ pub fn reflect<
     requires mouths { vec_len mouths ≡ vec_len ears }
     requires traces { vec_len traces ≡ vec_len ears }
     requires books { vec_len books ≡ module_count plan.now }
-    requires new_ears { All (λ ear. StartsEmpty (E.heard ear)) ears.items }
-    requires new_traces { All (λ trace. StartsEmpty (B.written trace)) traces.items }
-    requires new_books { All (λ book. StartsEmpty (B.written book)) books.items }
-    ensures headline { IfOk result (λ r. Headline (run_of (record {
-      heard = E.heard;
-      ear_faults = E.faults;
-      told = told_by M.said M.tallies M.faults M.mark M.label;
-      written = B.written;
-      book_faults = B.faults;
-    }) plan.now (record {
-      ears = ears.items;
-      mouths = mouths.items;
-      traces = traces.items;
-      books = books.items;
-    }) r)) }
-    ensures same_ears { IfOk result (λ r. (map E.mark r.ears.items ≡ map E.mark ears.items)
-        × (map E.label r.ears.items ≡ map E.label ears.items)) }
-    ensures same_mouths { IfOk result (λ r. (map M.mark r.mouths.items ≡ map M.mark mouths.items)
-        × (map M.label r.mouths.items ≡ map M.label mouths.items)) }
-    ensures same_traces { IfOk result (λ r. (map B.mark r.traces.items ≡ map B.mark traces.items)
-        × (map B.label r.traces.items ≡ map B.label traces.items)) }
-    ensures same_books { IfOk result (λ r. (map B.mark r.books.items ≡ map B.mark books.items)
-        × (map B.label r.books.items ≡ map B.label books.items)) }
+    requires new_ears { All (λ ear. StartsEmpty (E.told ear).heard) ears.items }
+    requires new_traces { All (λ trace. StartsEmpty (B.told trace).written) traces.items }
+    requires new_books { All (λ book. StartsEmpty (B.told book).written) books.items }
+    ensures headline { IfOk result (λ r.
+        Headline (run_of E.told M.told B.told plan.now (record {
+          ears = ears.items;
+          mouths = mouths.items;
+          traces = traces.items;
+          books = books.items;
+        }) r)) }
     ensures refused { IfErr result (λ r. (r.ears.items ≡ ears.items)
         × (r.mouths.items ≡ mouths.items) × (r.traces.items ≡ traces.items)
         × (r.books.items ≡ books.items)) }

@@ -8,9 +8,9 @@ use Rattle.m17_values.specs.declared.peer.Peer.{Peer}
 use Rattle.m17_values.specs.declared.heard.Heard.{Heard}
 use Rattle.m17_book.specs.Book.{IsTrace}
 use Rattle.m17_directory.specs.Entries.{Entry, peers_named}
-use Rattle.m17_house.specs.declared.plan.Plan.{Plan}
+use Rattle.m17_plan.specs.declared.plan.Plan.{Plan}
 use Rattle.m17_house.specs.Laws.{AReplayThereIs}
-use Rattle.m17_report.specs.Summary.{counts_text, peers_text}
+use Rattle.m17_replay.specs.Summary.{counts_text, peers_text}
 use Rattle.m17_replay.specs.declared.judging.Replayed.{Replayed}
 use Rattle.m17_replay.specs.Laws.{TextIsFreeOfPlaces}
 use Rattle.m17_replay.specs.Replay.{failed_device, heard_count, line_of, lines_text, outcome_of, replay_text, streams, summary_text, tally_at, ComesToReplay, EndsBeforeText, IsReplayText}

@@ -16,14 +16,15 @@ use Rattle.m17_directory.specs.declared.verdict.Act.TheVariants as act
 use Rattle.m17_directory.specs.Entries.{Notice, Entry, notice_of, notice_at, is_fault, with_sender, peers_named}
 use Rattle.m17_directory.specs.Given.{SayTheSame}
 use Rattle.m17_directory.specs.Routed.{link_verdict}
-use Rattle.m17_house.specs.declared.plan.Plan.{Plan}
+use Rattle.m17_plan.specs.declared.plan.Plan.{Plan}
 use Rattle.m17_house.specs.Free.{IsFreeReplayOf, ComeToTheSame}
 use Rattle.m17_house.specs.Laws.{ReplaysGiveFreely, FreeReplaysComeToTheSame}
-use Rattle.m17_house.specs.Replay.{setup_of, packet_verdict, tally_of}
+use Rattle.m17_house.specs.Replay.{packet_verdict, tally_of}
+use Rattle.m17_plan.specs.Planned.{setup_of}
 use Rattle.m17_print.specs.declared.kind.Kind.{Kind}
 use Rattle.m17_print.specs.Kinds.{kinds, kind_word, kind_place}
-use Rattle.m17_report.specs.Lines.{link_text, line_with, verdict_line}
-use Rattle.m17_report.specs.Summary.{Outcome, kind_of, is_kind_at, count_at, count_line, peer_line, peers_text}
+use Rattle.m17_replay.specs.Lines.{link_text, line_with, verdict_line}
+use Rattle.m17_replay.specs.Summary.{Outcome, kind_of, is_kind_at, count_at, count_line, peer_line, peers_text}
 use Rattle.m17_replay.specs.Laws.{TextIsFreeOfPlaces}
 use Rattle.m17_replay.specs.Replay.{is_lost, heard_count, outcome_of, line_of, lines_text, tally_at, summary_text, replay_text}
 use Rattle.m17_replay.proofs.OneText.{heard_bytes}

@@ -13,9 +13,10 @@ use Rattle.m17_directory.specs.Laws.{EndsOnce}
 use Rattle.m17_directory.specs.Routed.{link_verdict}
 use Rattle.m17_port_memory.specs.Kept.{TalliesKept}
 use Rattle.m17_port_memory.specs.Peers.{named_in}
-use Rattle.m17_house.specs.declared.plan.Plan.{Plan}
+use Rattle.m17_plan.specs.declared.plan.Plan.{Plan}
 use Rattle.m17_house.specs.Free.{IsFreelyReplayed}
-use Rattle.m17_house.specs.Replay.{setup_of, packet_verdict}
+use Rattle.m17_house.specs.Replay.{packet_verdict}
+use Rattle.m17_plan.specs.Planned.{setup_of}
 use Rattle.m17_replay.specs.declared.judging.Replayed.{Replayed}
 use Rattle.m17_replay.specs.Replay.{is_lost}
 use Rattle.m17_replay.specs.Run.{is_fault_heard, AreNamed, CanPrint, IsJudged}

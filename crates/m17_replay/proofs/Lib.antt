@@ -8,3 +8,5 @@ mod Lost
 mod FreeText
 mod PlainText
 mod ToEnd
+mod Joined
+mod CountedMore

@@ -11,7 +11,7 @@ use Rattle.m17_book.specs.Entries.{FitsEntry, SpellsEntry}
 use Rattle.m17_book.specs.Laws.{TracesAreExact}
 use Rattle.m17_book.specs.Limits.{SpellsEach}
 use Rattle.m17_directory.specs.Entries.{Entry, Notice, Says, SaysEach, notice_at, ends_at, is_end, is_fault, most_faults}
-use Rattle.m17_house.specs.declared.plan.Plan.{Plan}
+use Rattle.m17_plan.specs.declared.plan.Plan.{Plan}
 use Rattle.m17_house.specs.Laws.{FaultsEndIt, sixteen_faults}
 use Rattle.m17_house.specs.Replay.{IsReplayOf}
 use Rattle.m17_replay.specs.Laws.{HasSixteenFaults, LostBySixteenFaults}

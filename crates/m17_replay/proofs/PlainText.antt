@@ -3,7 +3,7 @@ use Rattle.std.proofs.Common.{◌≡◌, ℕ, Bool, List, refl, sym, subst}
 use Rattle.m17_values.specs.declared.heard.Heard.{Heard}
 use Rattle.m17_book.specs.Book.{IsTrace}
 use Rattle.m17_directory.specs.Entries.{Entry}
-use Rattle.m17_house.specs.declared.plan.Plan.{Plan}
+use Rattle.m17_plan.specs.declared.plan.Plan.{Plan}
 use Rattle.m17_house.specs.Free.{IsFreeReplayOf}
 use Rattle.m17_house.specs.Laws.{AReplayThereIs}
 use Rattle.m17_replay.specs.Laws.{IsFreeReplayText, TextIsFreeOfPlaces}

@@ -10,9 +10,10 @@ use Rattle.m17_floor.specs.declared.verdict.Verdict.{Verdict}
 use Rattle.m17_directory.specs.declared.verdict.LinkVerdict.{LinkVerdict}
 use Rattle.m17_directory.specs.Entries.{Entry}
 use Rattle.m17_directory.specs.Routed.{link_verdict}
-use Rattle.m17_house.specs.declared.plan.Plan.{Plan}
-use Rattle.m17_house.specs.Replay.{setup_of, packet_verdict}
-use Rattle.m17_report.specs.Summary.{Outcome}
+use Rattle.m17_plan.specs.declared.plan.Plan.{Plan}
+use Rattle.m17_house.specs.Replay.{packet_verdict}
+use Rattle.m17_plan.specs.Planned.{setup_of}
+use Rattle.m17_replay.specs.Summary.{Outcome}
 use Rattle.m17_replay.specs.Replay.{outcome_of}
 use Rattle.m17_replay.specs.Run.{AreVerdicts, Writes}
 use Rattle.m17_replay.proofs.Writing.{writes_then, writes_part, writes_same}

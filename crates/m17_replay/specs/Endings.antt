@@ -1,4 +1,4 @@
--- How `replay` ends, among all the ways that a run may. This profile.
+-- How `replay` ends, among all the ways that a run may.
 use Rattle.m17_print.specs.declared.ending.Ending.{Ending}
 use Rattle.m17_print.specs.declared.ending.Ending.TheVariants as endings
 use Rattle.m17_replay.specs.declared.ending.ReplayEnding.{ReplayEnding}

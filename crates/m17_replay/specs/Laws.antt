@@ -1,14 +1,14 @@
--- What follows from the definitions for all bytes. This profile.
+-- What follows from the definitions for all bytes.
 use Rattle.std.specs.Prelude.{◌≡◌, ◌↔◌, ℕ, Bool, true, List, ◌++◌}
 use Rattle.m17_values.specs.declared.heard.Heard.{Heard}
 use Rattle.m17_book.specs.Book.{IsTrace}
-use Rattle.m17_house.specs.declared.plan.Plan.{Plan}
+use Rattle.m17_plan.specs.declared.plan.Plan.{Plan}
 use Rattle.m17_directory.specs.Entries.{Entry}
 use Rattle.m17_house.specs.Free.{IsFreeReplayOf}
 use Rattle.m17_house.specs.Laws.{sixteen_faults}
 use Rattle.m17_replay.specs.Replay.{is_lost, replay_text, IsReplayText}
 
--- An input has one text at most, and says in one way whether its link was lost. This profile.
+-- An input has one text at most, and says in one way whether its link was lost.
 abbrev pub OneReplayText : Type 0
 OneReplayText =
     (plan : Plan) (summary lost lost' : Bool) (bytes text text' : List ℕ) →
@@ -20,7 +20,7 @@ abbrev pub HasSixteenFaults : List Heard → Type 0
 HasSixteenFaults heard =
     (front : List Heard) × (rest : List Heard) × (heard ≡ front ++ sixteen_faults ++ rest)
 
--- The link of a trace was lost exactly where 16 faults in a row stand in it. This profile.
+-- The link of a trace was lost exactly where 16 faults in a row stand in it.
 abbrev pub LostBySixteenFaults : Type 0
 LostBySixteenFaults =
     (plan : Plan) (summary lost : Bool) (bytes text : List ℕ) (heard : List Heard) →
@@ -28,7 +28,7 @@ LostBySixteenFaults =
     (lost ≡ true) ↔ HasSixteenFaults heard
 
 -- The text of the trace that these bytes are, lines or summary, where each entry that asks while the others are fewer
--- than the places is given some place that none of the others has, and no member is given twice. This profile.
+-- than the places is given some place that none of the others has, and no member is given twice.
 pub record IsFreeReplayText (plan : Plan) (summary lost : Bool) (bytes text : List ℕ) : Type 0 where
   pub heard : List Heard
   pub entries : List Entry
@@ -38,7 +38,7 @@ pub record IsFreeReplayText (plan : Plan) (summary lost : Bool) (bytes text : Li
   pub text_is : text ≡ replay_text plan summary entries
 
 -- The text of a replay is one with places so given; and they all are one text, whichever places are given, with whatever
--- generations, and however many departed members a greeting waits for. This profile.
+-- generations, and however many departed members a greeting waits for.
 pub record TextIsFreeOfPlaces : Type 0 where
   pub given : (plan : Plan) (summary lost : Bool) (bytes text : List ℕ) →
       IsReplayText plan summary lost bytes text → IsFreeReplayText plan summary lost bytes text

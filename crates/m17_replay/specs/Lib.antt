@@ -5,3 +5,7 @@ pub mod Replay
 pub mod Endings
 pub mod Laws
 pub mod Run
+-- the line of an entry, and the lines of a summary
+pub mod Lines
+pub mod Summary
+pub mod Counted

@@ -1,4 +1,4 @@
--- The words of the reasons for which a trace is refused, and how they are told. This profile.
+-- The words of the reasons for which a trace is refused, and how they are told.
 use Rattle.std.specs.Prelude.{ℕ, List, [], ◌∷◌, ◌++◌, codes}
 use Rattle.m17_print.specs.Line.{hex_of}
 use Rattle.m17_book.specs.declared.refusal.FormRefusal.{FormRefusal}

@@ -1,4 +1,4 @@
--- What `replay` prints: a line for each entry that was heard, or a summary. This profile.
+-- What `replay` prints: a line for each entry that was heard, or a summary.
 use Rattle.std.specs.Prelude.{◌≡◌, ◌≢◌, ◌⊎◌, ℕ, ◌-◌, Bool, true, false, List, [], ◌++◌, length, map, Option, None, Some, if◌then◌else◌}
 use Rattle.std.specs.List.{flat_map, range_with_len}
 use Rattle.m17_io.specs.Faults.{HasRisen}
@@ -10,15 +10,16 @@ use Rattle.m17_ports.specs.declared.tally.Tally.{Tally}
 use Rattle.m17_book.specs.Book.{IsTrace, RefusesTrace}
 use Rattle.m17_directory.specs.Entries.{Entry, notice_at, is_fault, peers_named}
 use Rattle.m17_directory.specs.Routed.{link_verdict}
-use Rattle.m17_house.specs.declared.plan.Plan.{Plan}
-use Rattle.m17_house.specs.Replay.{IsReplayOf, setup_of, packet_verdict, said_to, tally_of}
-use Rattle.m17_report.specs.Lines.{verdict_line}
-use Rattle.m17_report.specs.Summary.{Outcome, counts_text, peers_text}
+use Rattle.m17_plan.specs.declared.plan.Plan.{Plan}
+use Rattle.m17_house.specs.Replay.{IsReplayOf, packet_verdict, said_to, tally_of}
+use Rattle.m17_plan.specs.Planned.{setup_of}
+use Rattle.m17_replay.specs.Lines.{verdict_line}
+use Rattle.m17_replay.specs.Summary.{Outcome, counts_text, peers_text}
 use Rattle.m17_replay.specs.declared.ending.ReplayEnding.{ReplayEnding}
 use Rattle.m17_replay.specs.declared.ending.ReplayEnding.TheVariants.{Finished, LinkLost, Refused, CrewRefused, ReadFailed, WriteFailed}
 use Rattle.m17_replay.specs.Reasons.{refusal_told}
 
--- The link was lost: the entry that ended it is a fault. This profile.
+-- The link was lost: the entry that ended it is a fault.
 abbrev pub is_lost : List Entry → Bool
 is_lost entries = is_fault (notice_at entries (length entries - 1))
 
@@ -31,7 +32,7 @@ abbrev pub outcome_of : Plan → List Entry → ℕ → Outcome
 outcome_of plan entries n =
     (link_verdict (setup_of plan) entries n, packet_verdict plan entries n)
 
--- The lines of the entries, in order. This profile.
+-- The lines of the entries, in order.
 abbrev pub line_of : Plan → List Entry → ℕ → List ℕ
 line_of plan entries n =
     verdict_line n (link_verdict (setup_of plan) entries n) (packet_verdict plan entries n)
@@ -44,19 +45,19 @@ abbrev pub tally_at : Plan → List Entry → Peer → Tally
 tally_at plan entries x = tally_of (said_to plan entries x)
 
 -- The summary: how many entries came to what, and what was said to each peer that an entry names, in the order of
--- peers. This profile.
+-- peers.
 unfoldable pub summary_text : Plan → List Entry → List ℕ
 summary_text plan entries =
     counts_text (heard_count entries)
     (map (outcome_of plan entries) (range_with_len 0 (heard_count entries)))
     ++ peers_text (tally_at plan entries) (peers_named entries (length entries))
 
--- What is printed of the entries of a replay: the summary, where that is asked for, or else their lines. This profile.
+-- What is printed of the entries of a replay: the summary, where that is asked for, or else their lines.
 abbrev pub replay_text : Plan → Bool → List Entry → List ℕ
 replay_text plan summary entries =
     if summary then summary_text plan entries else lines_text plan entries
 
--- The text is that of the trace that these bytes are, and says whether its link was lost. This profile.
+-- The text is that of the trace that these bytes are, and says whether its link was lost.
 pub record IsReplayText (plan : Plan) (summary : Bool) (lost : Bool) (bytes text : List ℕ) : Type 0
   where
     pub heard : List Heard
@@ -91,8 +92,7 @@ PrintsReplay plan summary WriteFailed input text = (text ≡ [])
     ⊎ ((lost : Bool) × (whole after : List ℕ) × IsReplayText plan summary lost input whole
     × (whole ≡ text ++ after))
 
--- The ending comes before any text: the input is refused, the crew refused a start, or the source failed. This
--- profile.
+-- The ending comes before any text: the input is refused, the crew refused a start, or the source failed.
 abbrev pub EndsBeforeText : ReplayEnding → Type 0
 EndsBeforeText Finished = ⊥
 EndsBeforeText LinkLost = ⊥
@@ -111,7 +111,7 @@ failed_device ReadFailed = Some Read
 failed_device WriteFailed = Some Write
 
 -- What an ending tells of the crew's count of refused starts: it rose where a start was refused, and stands in any other
--- run. This profile.
+-- run.
 pub record TellsCrew (ending : ReplayEnding) (before after : ℕ) : Type 0 where
   pub refused : ending ≡ CrewRefused → HasRisen before after
   pub others : ending ≢ CrewRefused → after ≡ before
@@ -128,7 +128,7 @@ streams input left first written =
     record { input = input; left = left; first = first; written = written }
 
 -- `replay` came to this ending: what it says of the input and of what is left of it holds, and what it prints was
--- appended to what was written before. This profile.
+-- appended to what was written before.
 pub record ComesToReplay (plan : Plan) (summary : Bool) (ending : ReplayEnding)
     (tell : Streams) : Type 0 where
   pub said : SaysReplay plan summary ending tell.input tell.left

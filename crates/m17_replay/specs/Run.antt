@@ -11,13 +11,13 @@ use Rattle.m17_directory.specs.declared.verdict.LinkVerdict.{LinkVerdict}
 use Rattle.m17_directory.specs.Entries.{Entry, peers_named, with_peer}
 use Rattle.m17_port_memory.specs.Kept.{TalliesKept}
 use Rattle.m17_port_memory.specs.Peers as mouth
-use Rattle.m17_house.specs.declared.plan.Plan.{Plan}
+use Rattle.m17_plan.specs.declared.plan.Plan.{Plan}
 use Rattle.m17_house.specs.Free.{IsFreeReplayOf}
 use Rattle.m17_house.specs.Replay.{verdicts_of, packet_verdicts_of}
 use Rattle.m17_io.specs.declared.fault.Fault.{Fault}
 use Rattle.m17_print.specs.declared.kind.Kind.{Kind}
 use Rattle.m17_print.specs.Kinds.{kind_place, kind_word}
-use Rattle.m17_report.specs.Summary.{count_at, count_line, Outcome}
+use Rattle.m17_replay.specs.Summary.{count_at, count_line, Outcome}
 use Rattle.m17_replay.specs.declared.ending.ReplayEnding.{ReplayEnding}
 use Rattle.m17_replay.specs.declared.ending.ReplayEnding.TheVariants.{Finished, LinkLost, WriteFailed}
 use Rattle.m17_replay.specs.declared.judging.Replayed.{Replayed}

@@ -1,7 +1,7 @@
 use crate::TraceReason;
 use m17_print::Ending;
 
-/// How `replay` came to its end. This profile.
+/// How `replay` came to its end.
 #[derive(Clone, Copy, Debug, PartialEq, Eq)]
 pub enum ReplayEnding {
     /// The trace was heard to its end, and all that it came to was written.
@@ -22,7 +22,7 @@ impl ReplayEnding {
     ghost use Rattle.std.specs.Prelude.{◌≡◌};
     ghost use Rattle.m17_replay.specs.Endings.{replay_ending};
 
-    /// The same among all the ways that a run may end. This profile.
+    /// The same among all the ways that a run may end.
     pub fn into_ending(self) -> Ending<TraceReason>
         ensures { result ≡ replay_ending self }
     {

@@ -1,4 +1,4 @@
-//! What the definitions promise of all bytes. Each function does nothing: its clause is the law. This profile.
+//! What the definitions promise of all bytes. Each function does nothing: its clause is the law.
 ghost use Rattle.m17_replay.specs.Laws as law;
 
 use m17_book::laws as book_laws;

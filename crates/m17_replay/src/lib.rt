@@ -4,9 +4,11 @@
 //! device failed. The last line of the run and its status are left to the program.
 #![tactic(auto)]
 
+mod counts;
 mod ending;
 mod hearing;
 mod judging;
+mod kind;
 pub mod laws;
 mod lines;
 mod peers;
@@ -14,10 +16,18 @@ mod reading;
 mod reason;
 mod replay_command;
 mod summary;
+mod summary_lines;
+mod verdict_line;
 
+pub use counts::Counts;
 pub use ending::ReplayEnding;
+pub use kind::kind_of;
 pub use reason::TraceReason;
 pub use replay_command::replay;
+pub use summary_lines::{make_entries_line, make_kind_line, make_peer_line};
+pub use verdict_line::make_verdict_line;
 
+#[cfg(test)]
+mod lines_tests;
 #[cfg(test)]
 mod tests;

@@ -2,20 +2,20 @@ ghost use Rattle.std.specs.Prelude.{◌≡◌, ◌<◌, ◌≤◌, List, length}
 ghost use Rattle.std.specs.List.{flat_map, range_with_len};
 ghost use Rattle.m17_io.specs.Faults.{HasCause};
 ghost use Rattle.m17_directory.specs.Entries.{Entry};
-ghost use Rattle.m17_house.specs.declared.plan.Plan.{Plan};
+ghost use Rattle.m17_plan.specs.declared.plan.Plan.{Plan};
 ghost use Rattle.m17_replay.specs.Replay.{line_of};
 ghost use Rattle.m17_replay.specs.Run.{AreVerdicts, Writes};
 
+use crate::verdict_line::make_verdict_line;
 use m17_io::Sink;
-use m17_patient::Outcomes;
 use m17_print::Line;
-use m17_report::make_verdict_line;
+use m17_replay_run::Outcomes;
 use m17_values::Failed;
 
 // Writes a line that was made.
 pub(crate) fn write_line<K: Sink>(line: &Line, out: &mut K) -> Result<(), Failed>
-    ensures cause { HasCause (K.faults out.old) (K.faults out.new) result }
-    ensures writes { Writes result line.now (K.written out.old) (K.written out.new) }
+    ensures cause { HasCause (K.told out.old).faults (K.told out.new).faults result }
+    ensures writes { Writes result line.now (K.told out.old).written (K.told out.new).written }
 {
     out.write(line.bytes())
 }
@@ -28,10 +28,10 @@ fn print_entry<K: Sink>(
     out: &mut K,
 ) -> Result<(), Failed>
     requires there { (n < length outcomes.now.verdicts) × (n < length outcomes.now.packets) }
-    ensures cause { HasCause (K.faults out.old) (K.faults out.new) result }
+    ensures cause { HasCause (K.told out.old).faults (K.told out.new).faults result }
     ensures writes { (plan : Plan) → (entries : List Entry) →
         AreVerdicts plan entries outcomes.now.verdicts outcomes.now.packets →
-        Writes result (line_of plan entries n) (K.written out.old) (K.written out.new) }
+        Writes result (line_of plan entries n) (K.told out.old).written (K.told out.new).written }
 {
     make_verdict_line(line, n as u64, outcomes.verdict(n), &outcomes.packet(n));
     write_line(line, out)
@@ -45,11 +45,11 @@ pub(crate) fn print_lines<K: Sink>(
 ) -> Result<(), Failed>
     requires there { (count ≤ length outcomes.now.verdicts)
         × (count ≤ length outcomes.now.packets) }
-    ensures cause { HasCause (K.faults out.old) (K.faults out.new) result }
+    ensures cause { HasCause (K.told out.old).faults (K.told out.new).faults result }
     ensures writes { (plan : Plan) → (entries : List Entry) →
         AreVerdicts plan entries outcomes.now.verdicts outcomes.now.packets →
         Writes result (flat_map (line_of plan entries) (range_with_len 0 count))
-        (K.written out.old) (K.written out.new) }
+        (K.told out.old).written (K.told out.new).written }
 {
     let mut line = Line::new();
     for n in 0..count {

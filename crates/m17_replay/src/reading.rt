@@ -2,7 +2,7 @@ ghost use Rattle.std.specs.Prelude.{◌≡◌, ◌≢◌, ℕ, Bool, List, [], S
 ghost use Rattle.m17_io.specs.Faults.{HasCauses};
 ghost use Rattle.m17_book.specs.Answers.{HasEnd};
 ghost use Rattle.m17_book.specs.Book.{IsTrace};
-ghost use Rattle.m17_house.specs.declared.plan.Plan.{Plan};
+ghost use Rattle.m17_plan.specs.declared.plan.Plan.{Plan};
 ghost use Rattle.m17_replay.specs.declared.ending.ReplayEnding.TheVariants.{Refused, CrewRefused};
 ghost use Rattle.m17_replay.specs.Replay.{streams, ComesToReplay};
 ghost use Rattle.m17_replay.specs.Run.{stopped_by};
@@ -19,17 +19,17 @@ pub(crate) fn read_heard<S: Input<K>, K: Sink>(
     input: &mut S,
     out: &mut K,
 ) -> Result<Result<Vec<Heard>, ReplayEnding>, NoMemory>
-    ensures causes { IfOk result (λ read. HasCauses (S.faults input.old, K.faults out.old)
-        (S.faults input.new, K.faults out.new) (stopped_by read)) }
+    ensures causes { IfOk result (λ read. HasCauses ((S.told input.old).faults, (K.told out.old).faults)
+        ((S.told input.new).faults, (K.told out.new).faults) (stopped_by read)) }
     ensures ends { IfOk result (λ read. IfOk read (λ heard. HasEnd heard.items)) }
-    ensures read { IfOk result (λ read. (bytes : List ℕ) → S.left input.old ≡ Some bytes →
-        MatchResult read (λ heard. IsTrace bytes heard.items × (S.left input.new ≡ Some []))
+    ensures read { IfOk result (λ read. (bytes : List ℕ) → (S.told input.old).left ≡ Some bytes →
+        MatchResult read (λ heard. IsTrace bytes heard.items × ((S.told input.new).left ≡ Some []))
         (λ ending. (plan : Plan) → (summary : Bool) → ComesToReplay plan summary ending
-        (streams bytes (S.left input.new) (K.written out.old) (K.written out.new)))) }
+        (streams bytes (S.told input.new).left (K.told out.old).written (K.told out.new).written))) }
     ensures no_crew { IfOk result (λ read. IfErr read (λ ending. ending ≢ CrewRefused)) }
-    ensures nothing_written { K.written out.new ≡ K.written out.old }
-    ensures no_fault { OnErr result ((S.faults input.new ≡ S.faults input.old)
-        × (K.faults out.new ≡ K.faults out.old)) }
+    ensures nothing_written { (K.told out.new).written ≡ (K.told out.old).written }
+    ensures no_fault { OnErr result (((S.told input.new).faults ≡ (S.told input.old).faults)
+        × ((K.told out.new).faults ≡ (K.told out.old).faults)) }
 {
     let Ok(()) = out.flush() else {
         return Ok(Err(ReplayEnding::WriteFailed));

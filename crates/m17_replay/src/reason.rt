@@ -1,6 +1,6 @@
 use m17_print::{Line, Reason};
 
-/// Why `replay` refuses its input: it is no trace. This profile.
+/// Why `replay` refuses its input: it is no trace.
 #[derive(Clone, Copy, Debug, PartialEq, Eq)]
 pub enum TraceReason {
     /// The input ends inside the header, an entry or a field.

@@ -1,9 +1,9 @@
 ghost use Rattle.std.specs.Prelude.{◌≡◌, ℕ, true, List, Some, IfOk, OnErr, MatchResult};
 ghost use Rattle.m17_io.specs.Faults.{HasCause, HasCauses};
 ghost use Rattle.m17_print.specs.Endings.{Grows};
-ghost use Rattle.m17_house.specs.Replay.{IsPlan};
+ghost use Rattle.m17_plan.specs.Planned.{IsPlan};
 ghost use Rattle.m17_directory.specs.Entries.{Entry};
-ghost use Rattle.m17_house.specs.declared.plan.Plan.{Plan};
+ghost use Rattle.m17_plan.specs.declared.plan.Plan.{Plan};
 ghost use Rattle.m17_replay.specs.Replay.{failed_device, replay_text, streams, summary_text, ComesToReplay, EndsBeforeText, TellsCrew};
 ghost use Rattle.m17_replay.specs.Run.{judged_ending, CanPrint, StandsFor, Writes};
 
@@ -14,8 +14,9 @@ use crate::lines::print_lines;
 use crate::reading::read_heard;
 use crate::summary::{print_counts, print_peers};
 use m17_crew::Crew;
-use m17_house::{Plan, laws as house_laws};
+use m17_house::laws as house_laws;
 use m17_io::{Input, Sink};
+use m17_plan::Plan;
 use m17_reflect::HouseRefusal;
 use m17_values::{Failed, NoMemory};
 use std::alloc::Global;
@@ -25,7 +26,7 @@ use std::thread::Threads;
 /// Replays a trace: reads it whole, has the reflector of this plan hear it again over threads, patiently, and writes a
 /// line for each entry, or with `summary` one page of counts. Nothing is written before the input was read to its end.
 /// The input is refused with the place and reason of the form of traces; the answer says how the run ended, and the last
-/// line is the caller's to write. `NoMemory` where there is none, before an entry is heard. This profile.
+/// line is the caller's to write. `NoMemory` where there is none, before an entry is heard.
 pub fn replay<S: Input<K>, K: Sink, C: Crew, R: Threads + Wait + Copy + Send + 'static>(
     rt: &R,
     alloc: Global,
@@ -37,16 +38,16 @@ pub fn replay<S: Input<K>, K: Sink, C: Crew, R: Threads + Wait + Copy + Send + '
 ) -> Result<ReplayEnding, NoMemory>
     requires { IsPlan plan.now }
     // A device is told to have failed exactly where its count of faults rose.
-    ensures causes { IfOk result (λ ending. HasCauses (S.faults input.old, K.faults out.old)
-        (S.faults input.new, K.faults out.new) (failed_device ending)) }
+    ensures causes { IfOk result (λ ending. HasCauses ((S.told input.old).faults, (K.told out.old).faults)
+        ((S.told input.new).faults, (K.told out.new).faults) (failed_device ending)) }
     // What the ending says of the input holds, and what it prints stands written.
-    ensures ended { IfOk result (λ ending. (bytes : List ℕ) → S.left input.old ≡ Some bytes →
+    ensures ended { IfOk result (λ ending. (bytes : List ℕ) → (S.told input.old).left ≡ Some bytes →
         ComesToReplay plan.now summary ending
-        (streams bytes (S.left input.new) (K.written out.old) (K.written out.new))) }
-    ensures appended { Grows (K.written out.old) (K.written out.new) }
+        (streams bytes (S.told input.new).left (K.told out.old).written (K.told out.new).written)) }
+    ensures appended { Grows (K.told out.old).written (K.told out.new).written }
     // Nothing was written of an input that is refused, or where the source failed, whatever the source tells.
     ensures unwritten { IfOk result (λ ending. EndsBeforeText ending →
-        K.written out.new ≡ K.written out.old) }
+        (K.told out.new).written ≡ (K.told out.old).written) }
     // A refused start is told exactly where the crew's count of refusals rose.
     ensures crew { MatchResult result
         (λ ending. TellsCrew ending (C.refusals crew.old) (C.refusals crew.new))
@@ -54,9 +55,9 @@ pub fn replay<S: Input<K>, K: Sink, C: Crew, R: Threads + Wait + Copy + Send + '
     // Want of memory comes before the crew is asked for anything: no thread was started, and no entry was heard.
     ensures unasked { OnErr result (crew.new ≡ crew.old) }
     // Nor was anything written, and no device has failed then.
-    ensures untouched { OnErr result (K.written out.new ≡ K.written out.old) }
-    ensures no_fault { OnErr result ((S.faults input.new ≡ S.faults input.old)
-        × (K.faults out.new ≡ K.faults out.old)) }
+    ensures untouched { OnErr result ((K.told out.new).written ≡ (K.told out.old).written) }
+    ensures no_fault { OnErr result (((S.told input.new).faults ≡ (S.told input.old).faults)
+        × ((K.told out.new).faults ≡ (K.told out.old).faults)) }
 {
     house_laws::a_replay_there_is();
     replay_text_is_free_of_places();
@@ -94,10 +95,10 @@ fn ending_of(printed: Result<(), Failed>, lost: bool) -> ReplayEnding
 // Writes the summary, where one is asked for, or else the lines of the entries.
 fn print_replayed<K: Sink>(summary: bool, replayed: &Replayed, out: &mut K) -> Result<(), Failed>
     requires can { CanPrint replayed.now }
-    ensures cause { HasCause (K.faults out.old) (K.faults out.new) result }
+    ensures cause { HasCause (K.told out.old).faults (K.told out.new).faults result }
     ensures writes { (plan : Plan) → (entries : List Entry) →
         StandsFor plan summary entries replayed.now →
-        Writes result (replay_text plan summary entries) (K.written out.old) (K.written out.new) }
+        Writes result (replay_text plan summary entries) (K.told out.old).written (K.told out.new).written }
 {
     if summary {
         return print_summary(replayed, out);
@@ -108,10 +109,10 @@ fn print_replayed<K: Sink>(summary: bool, replayed: &Replayed, out: &mut K) -> R
 // Writes the summary.
 fn print_summary<K: Sink>(replayed: &Replayed, out: &mut K) -> Result<(), Failed>
     requires can { CanPrint replayed.now }
-    ensures cause { HasCause (K.faults out.old) (K.faults out.new) result }
+    ensures cause { HasCause (K.told out.old).faults (K.told out.new).faults result }
     ensures writes { (plan : Plan) → (entries : List Entry) →
         StandsFor plan true entries replayed.now →
-        Writes result (summary_text plan entries) (K.written out.old) (K.written out.new) }
+        Writes result (summary_text plan entries) (K.told out.old).written (K.told out.new).written }
 {
     match print_counts(&replayed.outcomes, replayed.count, out) {
         Ok(()) => print_peers(&replayed.named, &replayed.mouth, out),

@@ -5,18 +5,19 @@ ghost use Rattle.m17_values.specs.declared.peer.Peer.{Peer};
 ghost use Rattle.m17_ports.specs.declared.tally.Tally.{Tally};
 ghost use Rattle.m17_port_memory.specs.Peers.{named_in};
 ghost use Rattle.m17_directory.specs.Entries.{Entry};
-ghost use Rattle.m17_house.specs.declared.plan.Plan.{Plan};
-ghost use Rattle.m17_report.specs.Counted.{CountsAre};
-ghost use Rattle.m17_report.specs.Summary.{counts_text, peer_line, peers_text, Outcome};
+ghost use Rattle.m17_plan.specs.declared.plan.Plan.{Plan};
+ghost use Rattle.m17_replay.specs.Counted.{CountsAre};
+ghost use Rattle.m17_replay.specs.Summary.{counts_text, peer_line, peers_text, Outcome};
 ghost use Rattle.m17_replay.specs.Replay.{outcome_of};
 ghost use Rattle.m17_replay.specs.Run.{kind_line, kinds_text, AreNamed, AreVerdicts, TalliesAre, Writes};
 
+use crate::counts::Counts;
 use crate::lines::write_line;
+use crate::summary_lines::{make_entries_line, make_kind_line, make_peer_line};
 use m17_io::Sink;
-use m17_patient::Outcomes;
 use m17_port_memory::TallyMouth;
 use m17_print::{Kind, Line};
-use m17_report::{Counts, make_entries_line, make_kind_line, make_peer_line};
+use m17_replay_run::Outcomes;
 use m17_values::{Failed, Peer};
 
 // Counts the first `count` entries by their kinds.
@@ -41,9 +42,9 @@ fn print_kind<K: Sink>(
     counts: &Counts,
     out: &mut K,
 ) -> Result<(), Failed>
-    ensures cause { HasCause (K.faults out.old) (K.faults out.new) result }
+    ensures cause { HasCause (K.told out.old).faults (K.told out.new).faults result }
     ensures writes { (outcomes : List Outcome) → CountsAre counts.now outcomes →
-        Writes result (kind_line outcomes kind) (K.written out.old) (K.written out.new) }
+        Writes result (kind_line outcomes kind) (K.told out.old).written (K.told out.new).written }
 {
     make_kind_line(line, kind, counts.of(kind));
     write_line(line, out)
@@ -56,9 +57,9 @@ fn print_kinds<K: Sink>(
     counts: &Counts,
     out: &mut K,
 ) -> Result<(), Failed>
-    ensures cause { HasCause (K.faults out.old) (K.faults out.new) result }
+    ensures cause { HasCause (K.told out.old).faults (K.told out.new).faults result }
     ensures writes { (outcomes : List Outcome) → CountsAre counts.now outcomes →
-        Writes result (kinds_text outcomes kinds.now) (K.written out.old) (K.written out.new) }
+        Writes result (kinds_text outcomes kinds.now) (K.told out.old).written (K.told out.new).written }
 {
     for kind in kinds {
         match print_kind(line, *kind, counts, out) {
@@ -77,11 +78,11 @@ pub(crate) fn print_counts<K: Sink>(
 ) -> Result<(), Failed>
     requires there { (count ≤ length outcomes.now.verdicts)
         × (count ≤ length outcomes.now.packets) }
-    ensures cause { HasCause (K.faults out.old) (K.faults out.new) result }
+    ensures cause { HasCause (K.told out.old).faults (K.told out.new).faults result }
     ensures writes { (plan : Plan) → (entries : List Entry) →
         AreVerdicts plan entries outcomes.now.verdicts outcomes.now.packets →
         Writes result (counts_text count (map (outcome_of plan entries) (range_with_len 0 count)))
-        (K.written out.old) (K.written out.new) }
+        (K.told out.old).written (K.told out.new).written }
 {
     let counts = count_entries(outcomes, count);
     let mut line = Line::new();
@@ -100,10 +101,10 @@ fn print_peer<K: Sink>(
     out: &mut K,
 ) -> Result<(), Failed>
     requires named { Contains (named_in mouth.now.entries) peer.now }
-    ensures cause { HasCause (K.faults out.old) (K.faults out.new) result }
+    ensures cause { HasCause (K.told out.old).faults (K.told out.new).faults result }
     ensures writes { (tally : Peer → Tally) → TalliesAre tally mouth.now →
         Writes result (peer_line peer.now (tally peer.now))
-        (K.written out.old) (K.written out.new) }
+        (K.told out.old).written (K.told out.new).written }
 {
     let tally = mouth.tally(peer).unwrap();
     make_peer_line(line, peer, &tally);
@@ -117,9 +118,9 @@ pub(crate) fn print_peers<K: Sink>(
     out: &mut K,
 ) -> Result<(), Failed>
     requires named { AreNamed named.now mouth.now }
-    ensures cause { HasCause (K.faults out.old) (K.faults out.new) result }
+    ensures cause { HasCause (K.told out.old).faults (K.told out.new).faults result }
     ensures writes { (tally : Peer → Tally) → TalliesAre tally mouth.now →
-        Writes result (peers_text tally named.now) (K.written out.old) (K.written out.new) }
+        Writes result (peers_text tally named.now) (K.told out.old).written (K.told out.new).written }
 {
     let mut line = Line::new();
     for peer in named {

@@ -1,13 +1,13 @@
 ghost use Rattle.std.specs.Prelude.{◌<◌, IfOk};
-ghost use Rattle.m17_house.specs.Replay.{IsPlan};
+ghost use Rattle.m17_plan.specs.Planned.{IsPlan};
 
 use crate::{ReplayEnding, TraceReason, replay};
 use m17_book::write_entry;
 use m17_callsign::{CallAddress, encode};
 use m17_control::Modules;
 use m17_crew::{RefusingCrew, StdCrew};
-use m17_house::Plan;
 use m17_memory::{BytesSink, BytesSource};
+use m17_plan::Plan;
 use m17_values::{Gram, Heard, NoMemory, Peer};
 use std::alloc::Global;
 use std::process::Abort;

@@ -5,7 +5,7 @@ use Rattle.std.proofs.lemmas.List.{append-nil, append_assoc}
 use Rattle.std.proofs.lemmas.List.Elements.{All-append}
 use Rattle.std.proofs.lemmas.Option.{get_or_from_slice_get, slice_get_within}
 use Rattle.m17_values.specs.declared.member.Member.{Member}
-use Rattle.m17_ports.specs.Said.{MouthTold}
+use Rattle.m17_ports.specs.Mouth.{MouthTold}
 use Rattle.m17_ports.specs.Laws.{MouthsSayInTurn}
 use Rattle.m17_crew.specs.declared.order.Order.{Order}
 use Rattle.m17_crew.specs.declared.order.Order.TheVariants.{Stop}
@@ -14,8 +14,8 @@ use Rattle.m17_control.specs.declared.item.Item.{Item}
 use Rattle.m17_rows.specs.Grids.{IsNewGrid}
 use Rattle.m17_rows.specs.Laws.{RowsPush}
 use Rattle.m17_rows.specs.Rows.{IsNewPopper, IsNewPopRow, pops}
-use Rattle.m17_turns.specs.Acts.{Act, answers_of, notes_of, things_of}
-use Rattle.m17_turns.specs.Laws.{TurnsGrow}
+use Rattle.m17_send_order.specs.Acts.{Act, answers_of, notes_of, things_of}
+use Rattle.m17_send_order.specs.Laws.{TurnsGrow}
 use Rattle.m17_sender.specs.declared.sender.Sender.{Sender}
 use Rattle.m17_sender.specs.declared.hint.Hint.{Hint}
 use Rattle.m17_sender.specs.Places.{cells_of, held_at, held_in, in_row, is_answered, is_said, popped_at, popped_by, queues_of}

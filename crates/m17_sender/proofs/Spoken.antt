@@ -6,7 +6,7 @@ use Rattle.std.proofs.lemmas.List.Elements.{filter-append}
 use Rattle.std.proofs.lemmas.Grind.{flat_map-append}
 use Rattle.m17_lane.specs.Ends.{PopEnd, popped_from}
 use Rattle.m17_values.specs.declared.member.Member.{Member}
-use Rattle.m17_ports.specs.Said.{MouthTold}
+use Rattle.m17_ports.specs.Mouth.{MouthTold}
 use Rattle.m17_ports.specs.Laws.{MouthsSayInTurn}
 use Rattle.m17_control.specs.declared.item.Item.{Item}
 use Rattle.m17_control.specs.declared.item.Direct.{Direct}
@@ -19,8 +19,8 @@ use Rattle.m17_control.specs.Spelled.{packet_said}
 use Rattle.m17_rows.specs.Grids.{IsSameGrid, only_in}
 use Rattle.m17_rows.specs.Rows.{push_each}
 use Rattle.m17_rows.specs.Laws.{RowsPush}
-use Rattle.m17_turns.specs.Acts.{Act, Saying, answer_of, answers_of, notes_of, note_of, saying_of, sayings, thing_of, things_of, to_peer, AreSpelled}
-use Rattle.m17_turns.specs.Laws.{SpelledPartByPart, TurnsGrow}
+use Rattle.m17_send_order.specs.Acts.{Act, Saying, answer_of, answers_of, notes_of, note_of, saying_of, sayings, thing_of, things_of, to_peer, AreSpelled}
+use Rattle.m17_send_order.specs.Laws.{SpelledPartByPart, TurnsGrow}
 use Rattle.m17_sender.specs.declared.sender.Sender.{Sender}
 use Rattle.m17_sender.specs.Places.{cells_of, held_at, is_answered, is_said, popped_at, queues_of}
 use Rattle.m17_sender.specs.Ready.{IsShaped}

@@ -8,12 +8,10 @@ use Rattle.m17_sender.specs.declared.sender.Sender.{Sender}
 
 module _ {M : Type 0} where
   -- The ends of the queues: a row for each module, in it one for each place.
-  -- This profile.
   abbrev pub queues_of : Sender M → List (List (PopEnd Item))
   queues_of s = map (λ row. row.items) s.queues.items
 
   -- The cells for Hellos that are held back: a row for each module, in it one for each place.
-  -- This profile.
   abbrev pub cells_of : Sender M → List (List (Option Item))
   cells_of s = map (λ row. row.items) s.held.items
 
@@ -30,7 +28,6 @@ popped_by None = []
 popped_by (Some end) = end.popped
 
 -- What was popped of queue q of module m, in order; nothing where there is no such queue.
--- This profile.
 abbrev pub popped_at : List (List (PopEnd Item)) → ℕ → ℕ → List Item
 popped_at queues m q = popped_by (at_place queues m q)
 
@@ -40,17 +37,15 @@ held_in (Some None) = []
 held_in (Some (Some item)) = item ∷ []
 
 -- The item of queue q of module m that is held back, if one is.
--- This profile.
 abbrev pub held_at : List (List (Option Item)) → ℕ → ℕ → List Item
 held_at cells m q = held_in (at_place cells m q)
 
 module _ {M : Type 0} where
   -- The item is said: its link is one of the sender's, and its member's place is one of a module's.
-  -- Any other is passed over. This profile.
+  -- Any other is passed over.
   abbrev pub is_said : Sender M → Item → Bool
   is_said s item = nat_lt item.link (length s.mouths.items) && nat_lt item.member.place s.places
 
   -- The reply is said: its link is one of the sender's. Any other is passed over.
-  -- This profile.
   abbrev pub is_answered : Sender M → Direct → Bool
   is_answered s direct = nat_lt direct.link (length s.mouths.items)

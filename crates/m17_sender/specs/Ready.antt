@@ -1,4 +1,4 @@
--- What has to hold of a sender before it goes. This profile.
+-- What has to hold of a sender before it goes.
 use Rattle.std.specs.Prelude.{◌≡◌, [], length, None}
 use Rattle.std.specs.List.{All}
 use Rattle.m17_rows.specs.Grids.{IsNewGrid}
@@ -6,7 +6,7 @@ use Rattle.m17_sender.specs.declared.sender.Sender.{Sender}
 use Rattle.m17_sender.specs.Places.{cells_of, queues_of}
 
 -- It has a mouth and a pusher of notes for each link, and for each module as many queues as there
--- are places, and as many cells. This profile.
+-- are places, and as many cells.
 pub record IsShaped {M : Type 0} (s : Sender M) : Type 0 where
   pub links : length s.notes.items ≡ length s.mouths.items
   pub modules : length s.held.items ≡ length s.queues.items
@@ -14,7 +14,6 @@ pub record IsShaped {M : Type 0} (s : Sender M) : Type 0 where
   pub cells : All (λ row. length row ≡ s.places) (cells_of s)
 
 -- It has its shape, it has popped nothing of its queues and its door, and it holds nothing back.
--- This profile.
 pub record IsReady {M : Type 0} (s : Sender M) : Type 0 where
   pub shaped : IsShaped s
   pub queues : IsNewGrid (queues_of s)

@@ -1,11 +1,10 @@
--- What was said on one mouth of a row. This profile.
+-- What was said on one mouth of a row.
 use Rattle.std.specs.Prelude.{◌≡◌, ℕ, List, slice_get, slice_set, Some}
-use Rattle.m17_ports.specs.Mouth.{Datagram}
-use Rattle.m17_ports.specs.Said.{MouthTold, SaidOf}
-use Rattle.m17_turns.specs.Acts.{AreSpelled, Saying}
+use Rattle.m17_ports.specs.Mouth.{Datagram, MouthTold, SaidOf}
+use Rattle.m17_send_order.specs.Acts.{AreSpelled, Saying}
 
 -- On the mouth of this link datagrams that spell these were said, or lost, and the others are as
--- they were. This profile.
+-- they were.
 pub record SaysOn {M L : Type 0} (tells : M → MouthTold L) (link : ℕ) (sayings : List Saying)
     (before after : List M) : Type 0 where
   pub mouth : M

@@ -1,12 +1,8 @@
--- What a sender did. This profile.
-use Rattle.std.specs.Prelude.{◌≡◌, ◌≢◌, ℕ, suc, ◌==◌, ◌<◌, Bool, true, false, if◌then◌else◌, List, [], ◌∷◌, ◌++◌, length, map, filter, Option}
+-- What a sender did.
+use Rattle.std.specs.Prelude.{◌≡◌, ◌≢◌, ℕ, suc, ◌==◌, ◌<◌, Bool, true, false, if◌then◌else◌, List, [], ◌∷◌, ◌++◌, length, map, filter}
 use Rattle.std.specs.List.{All, flat_map}
 use Rattle.m17_values.specs.declared.member.Member.{Member}
-use Rattle.m17_values.specs.declared.peer.Peer.{Peer}
-use Rattle.m17_ports.specs.Marks.{MouthMark}
-use Rattle.m17_ports.specs.Mouth.{Datagram}
-use Rattle.m17_ports.specs.Said.{MouthTold, SaidOf}
-use Rattle.m17_ports.specs.declared.tally.Tally.{Tally}
+use Rattle.m17_ports.specs.Mouth.{Datagram, MouthTold, SaidOf}
 use Rattle.m17_crew.specs.declared.order.Order.{Order}
 use Rattle.m17_crew.specs.declared.order.Order.TheVariants.{Stop}
 use Rattle.m17_lane.specs.Ends.{PopEnd}
@@ -16,25 +12,12 @@ use Rattle.m17_control.specs.declared.item.Said.TheVariants.{Hello, Bye}
 use Rattle.m17_rows.specs.Rows.{pops, push_each}
 use Rattle.m17_rows.specs.Grids.{IsSameGrid}
 use Rattle.m17_rows.specs.Starts.{HasStarted}
-use Rattle.m17_turns.specs.Acts.{Act, answers_of, notes_of, sayings, things_of, AreSpelled}
-use Rattle.m17_turns.specs.Turns.{Turns}
+use Rattle.m17_send_order.specs.Acts.{Act, answers_of, notes_of, sayings, things_of, AreSpelled}
+use Rattle.m17_send_order.specs.Turns.{Turns}
 use Rattle.m17_sender.specs.declared.sender.Sender.{Sender}
 use Rattle.m17_sender.specs.Places.{cells_of, held_at, is_answered, is_said, popped_at, queues_of}
 
--- All that a mouth tells, by the words of its kind.
--- This profile.
-abbrev pub told_by : {M L : Type 0} → (M → Option (List Datagram)) → (M → Peer → Option Tally) → (M → ℕ)
-    → (M → Option MouthMark) → (M → L) → M → MouthTold L
-told_by said tallies faults mark label mouth = record {
-  said = said mouth;
-  tallies = tallies mouth;
-  faults = faults mouth;
-  mark = mark mouth;
-  label = label mouth;
-}
-
 -- The members to which a Bye was said on link i, in order: by an act, and by all.
--- This profile.
 abbrev pub bye_to : Member → Said → List Member
 bye_to member (Bye why) = member ∷ []
 bye_to member _ = []
@@ -51,7 +34,7 @@ abbrev pub byes_of : ℕ → List Act → List Member
 byes_of i acts = flat_map (bye_of i) acts
 
 -- P holds of each mouth before and after, with its link's number, counted from k; and there are as
--- many. This profile.
+-- many.
 abbrev pub EachMouth : {M : Type 0} → (ℕ → M → M → Type 0) → ℕ → List M → List M → Type 0
 EachMouth P k [] [] = Unit {0}
 EachMouth P k [] (n ∷ ns) = ⊥
@@ -59,7 +42,7 @@ EachMouth P k (m ∷ ms) [] = ⊥
 EachMouth P k (m ∷ ms) (n ∷ ns) = P k m n × EachMouth P (suc k) ms ns
 
 -- What the mouth of link i has said: the datagrams of the acts' items and replies for the link, in
--- order, each of them, or it was lost and the mouth's count of faults rose. This profile.
+-- order, each of them, or it was lost and the mouth's count of faults rose.
 pub record SaidByLink {L : Type 0} (name : ℕ) (acts : List Act) (i : ℕ) (before after : MouthTold L)
     : Type 0 where
   pub datagrams : List Datagram
@@ -67,14 +50,12 @@ pub record SaidByLink {L : Type 0} (name : ℕ) (acts : List Act) (i : ℕ) (bef
   pub said : SaidOf before datagrams after
 
 -- The item is a Hello that waits for more notes than went to its link.
--- This profile.
 pub record StillWaits (acts : List Act) (item : Item) : Type 0 where
   pub after : ℕ
   pub hello : item.body ≡ Hello after
   pub waits : length (notes_of item.link acts) < after
 
 -- After the order to go it popped orders up to the first Stop, which ended it.
--- This profile.
 pub record HasStopped (before after : PopEnd Order) : Type 0 where
   pub others : List Order
   pub no_stop : All (λ order. order ≢ Stop) others
@@ -82,7 +63,7 @@ pub record HasStopped (before after : PopEnd Order) : Type 0 where
 
 -- What a sender has done with its lanes, when these are its acts: of each queue it popped what it
 -- said and then the item that it holds back, and of the door what it answered, but for what it
--- passed over; and it pushed the notes. This profile.
+-- passed over; and it pushed the notes.
 pub record LanesUsed {M : Type 0} (j k : Sender M) (acts : List Act) : Type 0 where
   pub same_queues : IsSameGrid (queues_of j) (queues_of k)
   pub queues : (m q : ℕ) → filter (is_said j) (popped_at (queues_of k) m q)
@@ -93,7 +74,7 @@ pub record LanesUsed {M : Type 0} (j k : Sender M) (acts : List Act) : Type 0 wh
 
 -- What a sender did that went: a list of acts in the order of turns, with a note to its link right
 -- for each Bye, what its lanes and mouths show of them, and the order that ended it. What it still
--- holds back are Hellos that wait. This profile.
+-- holds back are Hellos that wait.
 pub record Sent {M L : Type 0} (tells : M → MouthTold L) (j k : Sender M) (order : PopEnd Order)
     : Type 0 where
   pub acts : List Act
@@ -110,7 +91,7 @@ pub record Sent {M L : Type 0} (tells : M → MouthTold L) (j k : Sender M) (ord
   pub same_cells : map length (cells_of k) ≡ map length (cells_of j)
 
 -- What a sender did: it waited for its order, and after Go it sent; after Quit all but its orders
--- is as it was. This profile.
+-- is as it was.
 pub record SenderDid {M L : Type 0} (tells : M → MouthTold L) (j k : Sender M) : Type 0 where
   pub goes : Bool
   pub order : PopEnd Order

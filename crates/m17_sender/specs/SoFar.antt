@@ -1,7 +1,7 @@
 -- For proofs: what a sender has done so far.
 use Rattle.std.specs.Prelude.{◌≡◌, ◌≢◌, ℕ, ◌<◌, ◌-◌, ◌^◌, min, List, [], ◌∷◌, ◌++◌, length, map, filter, slice_index, ◌+◌, ◌≤◌, Bool, true, false, Option, None, Some}
 use Rattle.std.specs.List.{All}
-use Rattle.m17_ports.specs.Said.{MouthTold}
+use Rattle.m17_ports.specs.Mouth.{MouthTold}
 use Rattle.m17_control.specs.declared.item.Item.{Item}
 use Rattle.m17_control.specs.declared.item.Said.TheVariants.{Hello}
 use Rattle.m17_control.specs.declared.item.Direct.{Direct}
@@ -10,8 +10,8 @@ use Rattle.m17_crew.specs.declared.order.Order.TheVariants.{Stop}
 use Rattle.m17_lane.specs.Ends.{PopEnd}
 use Rattle.m17_rows.specs.Rows.{pops, push_each}
 use Rattle.m17_rows.specs.Grids.{IsSameGrid, only_in}
-use Rattle.m17_turns.specs.Acts.{Act, answers_of, notes_of, things_of}
-use Rattle.m17_turns.specs.Turns.{Turns}
+use Rattle.m17_send_order.specs.Acts.{Act, answers_of, notes_of, things_of}
+use Rattle.m17_send_order.specs.Turns.{Turns}
 use Rattle.m17_sender.specs.declared.sender.Sender.{Sender}
 use Rattle.m17_sender.specs.declared.queue.Tried.{Tried}
 use Rattle.m17_sender.specs.declared.queue.Tried.TheVariants.{Did, Empty, Waiting}

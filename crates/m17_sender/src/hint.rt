@@ -12,7 +12,7 @@ const WORD_BITS: u32 = 64;
 
 /// Where a sender looks: the bell that its door, its orders and all its queues ring, and which queues were pushed to
 /// and not found empty since. So a turn costs by what there is to send, and not by the number of queues. It is a hint:
-/// no clause of the sender rests on it, and at its end the sender tries all queues. This profile.
+/// no clause of the sender rests on it, and at its end the sender tries all queues.
 #[derive(Drop)]
 pub struct Hint {
     bell: Bell,
@@ -24,7 +24,7 @@ pub struct Hint {
 impl Hint {
     /// A hint for so many queues of this bell, in which nothing is. The lane of queue q of module m is to have the mark
     /// `m * places + q`, and the door and the orders any other mark of the bell, so that a push on any of them ends the
-    /// sender's sleep. `NoMemory` where there is none for it. This profile.
+    /// sender's sleep. `NoMemory` where there is none for it.
     pub fn make(alloc: Global, bell: Bell, queues: u32) -> Result<Hint, NoMemory> {
         let words = queues.div_ceil(WORD_BITS);
         let groups = words.div_ceil(WORD_BITS);

@@ -5,7 +5,7 @@ ghost use Rattle.m17_control.specs.declared.item.Said.TheVariants.{Hello};
 ghost use Rattle.m17_rows.specs.Rows.{push_each};
 ghost use Rattle.m17_sender.specs.Ready.{IsShaped};
 ghost use Rattle.m17_sender.specs.Places.{cells_of, held_at, is_said, queues_of};
-ghost use Rattle.m17_sender.specs.Sent.{bye_on, told_by};
+ghost use Rattle.m17_sender.specs.Sent.{bye_on};
 ghost use Rattle.m17_sender.specs.SoFar.{at_rest, GoesOn, IsHeldBack, IsIdle, IsNoted, is_did, OnVain, RestsAt, with_item};
 
 use crate::Sender;
@@ -51,7 +51,7 @@ impl<M: Mouth> Sender<M> {
         requires shaped { IsShaped self.old }
         requires row { row < vec_len self.old.queues }
         requires at { at < self.old.places }
-        ensures goes_on { GoesOn (told_by M.said M.tallies M.faults M.mark M.label)
+        ensures goes_on { GoesOn M.told
             (at_rest self.old kept.old.noted) (at_rest self.new kept.new.noted) }
         ensures vain { OnVain result (IsIdle self.old self.new kept.old.noted kept.new.noted
             × RestsAt self.new kept.new.noted row at) }
@@ -88,7 +88,7 @@ impl<M: Mouth> Sender<M> {
         requires row { row < vec_len self.old.queues }
         requires at { at < self.old.places }
         ensures goes_on { (noted : List ℕ)
-            → GoesOn (told_by M.said M.tallies M.faults M.mark M.label) (at_rest self.old noted)
+            → GoesOn M.told (at_rest self.old noted)
             (with_item self.new noted row at result) }
         ensures free { held_at (cells_of self.new) row at ≡ [] }
         ensures none { IfNone result (cells_of self.new ≡ cells_of self.old) }
@@ -109,7 +109,7 @@ impl<M: Mouth> Sender<M> {
         requires row { row < vec_len self.old.queues }
         requires at { at < self.old.places }
         requires free { held_at (cells_of self.old) row at ≡ [] }
-        ensures goes_on { GoesOn (told_by M.said M.tallies M.faults M.mark M.label)
+        ensures goes_on { GoesOn M.told
             (with_item self.old kept.old.noted row at (Some item.now))
             (at_rest self.new kept.new.noted) }
     {
@@ -131,14 +131,14 @@ impl<M: Mouth> Sender<M> {
         requires in_turn { (after : ℕ) → item.now.body ≡ Hello after
             → after ≤ slice_index kept.old.noted item.now.link }
         ensures goes_on { (m q : ℕ) → held_at (cells_of self.old) m q ≡ []
-            → GoesOn (told_by M.said M.tallies M.faults M.mark M.label)
+            → GoesOn M.told
             (with_item self.old kept.old.noted m q (Some item.now))
             (at_rest self.new kept.new.noted) }
     {
         m17_rows::laws::rows_push::<Member>();
         m17_ports::laws::mouths_say_in_turn::<M::Label>();
-        m17_turns::laws::turns_grow();
-        m17_turns::laws::spelled_part_by_part();
+        m17_send_order::laws::turns_grow();
+        m17_send_order::laws::spelled_part_by_part();
         say_kept(&mut self.mouths, self.name, item, &mut kept.last);
         note(rt, &mut self.notes, &mut kept.noted, item);
     }

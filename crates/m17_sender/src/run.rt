@@ -1,7 +1,7 @@
 //! What the sender does from its order to go to its end.
 ghost use Rattle.std.specs.Prelude.{◌≡◌, ℕ, List, [], ◌∷◌, replicate, MatchBool};
 ghost use Rattle.m17_sender.specs.Ready.{IsReady, IsShaped};
-ghost use Rattle.m17_sender.specs.Sent.{HasStopped, Sent, told_by};
+ghost use Rattle.m17_sender.specs.Sent.{HasStopped, Sent};
 ghost use Rattle.m17_sender.specs.SoFar.{at_rest, GoesOn, Grows, HasPassed, RestsAt};
 
 use crate::Sender;
@@ -16,12 +16,12 @@ impl<M: Mouth> Sender<M> {
     /// Says all that comes until the stop order, and after it all that is left.
     pub(crate) fn send<R: Wait>(&mut self, rt: &R)
         requires { IsReady self.old }
-        ensures { Sent (told_by M.said M.tallies M.faults M.mark M.label) self.old self.new
+        ensures { Sent M.told self.old self.new
             self.old.order }
     {
         m17_rows::laws::rows_push::<Member>();
         m17_ports::laws::mouths_say_in_turn::<M::Label>();
-        m17_turns::laws::turns_grow();
+        m17_send_order::laws::turns_grow();
         let mut kept = Kept {
             noted: [0; LINKS],
             last: None,
@@ -33,7 +33,7 @@ impl<M: Mouth> Sender<M> {
     // Turn by turn until the stop order; it sleeps where a turn found nothing.
     fn serve<R: Wait>(&mut self, rt: &R, kept: &mut Kept)
         requires shaped { IsShaped self.old }
-        ensures grows { Grows (told_by M.said M.tallies M.faults M.mark M.label)
+        ensures grows { Grows M.told
             (at_rest self.old kept.old.noted) (at_rest self.new kept.new.noted) }
         ensures stopped { HasStopped self.old.order self.new.order }
     {
@@ -52,7 +52,7 @@ impl<M: Mouth> Sender<M> {
     // Turns over all queues until one finds nothing.
     fn finish<R: Wait>(&mut self, rt: &R, kept: &mut Kept)
         requires shaped { IsShaped self.old }
-        ensures goes_on { GoesOn (told_by M.said M.tallies M.faults M.mark M.label)
+        ensures goes_on { GoesOn M.told
             (at_rest self.old kept.old.noted) (at_rest self.new kept.new.noted) }
         ensures rests { (m q : ℕ) → RestsAt self.new kept.new.noted m q }
     {

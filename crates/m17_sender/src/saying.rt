@@ -2,9 +2,8 @@
 ghost use Rattle.std.specs.Prelude.{◌≡◌, ◌<◌, ◌∷◌, [], map, slice_get, slice_set, Some, vec_len};
 ghost use Rattle.m17_control.specs.declared.packet.Packet.TheVariants as packets;
 ghost use Rattle.m17_control.specs.Spelled.{packet_said};
-ghost use Rattle.m17_ports.specs.Said.{SaidOf};
-ghost use Rattle.m17_turns.specs.Acts.{AreSpelled, to_peer};
-ghost use Rattle.m17_sender.specs.Sent.{told_by};
+ghost use Rattle.m17_ports.specs.Mouth.{SaidOf};
+ghost use Rattle.m17_send_order.specs.Acts.{AreSpelled, to_peer};
 ghost use Rattle.m17_sender.specs.Saying.{SaysOn};
 
 use crate::kept::SpelledFrame;
@@ -15,10 +14,10 @@ use m17_stream::StreamPacket;
 use m17_values::Peer;
 
 /// Says an item on the mouth of its link, in the name of the reflector, unless it spells nothing. There has to be such
-/// a link. Where the mouth fails it is lost, and nothing else. This profile.
+/// a link. Where the mouth fails it is lost, and nothing else.
 pub fn say_item<M: Mouth>(mouths: &mut Vec<M>, name: CallAddress, item: &Item)
     requires { item.now.link < vec_len mouths.old }
-    ensures { SaysOn (told_by M.said M.tallies M.faults M.mark M.label) item.now.link
+    ensures { SaysOn M.told item.now.link
         (to_peer item.now.peer (packet_said item.now.body name))
         mouths.old.items mouths.new.items }
 {
@@ -40,7 +39,7 @@ pub(crate) fn say_kept<M: Mouth>(
     last: &mut Option<SpelledFrame>,
 )
     requires { item.now.link < vec_len mouths.old }
-    ensures { SaysOn (told_by M.said M.tallies M.faults M.mark M.label) item.now.link
+    ensures { SaysOn M.told item.now.link
         (to_peer item.now.peer (packet_said item.now.body name))
         mouths.old.items mouths.new.items }
 {
@@ -60,7 +59,7 @@ fn say_frame<M: Mouth>(
     last: &mut Option<SpelledFrame>,
 )
     requires { item.now.link < vec_len mouths.old }
-    ensures { SaysOn (told_by M.said M.tallies M.faults M.mark M.label) item.now.link
+    ensures { SaysOn M.told item.now.link
         ((item.now.peer, packets.Stream packet.now) ∷ [])
         mouths.old.items mouths.new.items }
 {
@@ -82,7 +81,7 @@ fn say_anew<M: Mouth>(
     last: &mut Option<SpelledFrame>,
 )
     requires { item.now.link < vec_len mouths.old }
-    ensures { SaysOn (told_by M.said M.tallies M.faults M.mark M.label) item.now.link
+    ensures { SaysOn M.told item.now.link
         ((item.now.peer, packets.Stream packet.now) ∷ [])
         mouths.old.items mouths.new.items }
 {
@@ -92,10 +91,10 @@ fn say_anew<M: Mouth>(
 }
 
 /// Says a reply on the mouth of its link. There has to be such a link. Where the mouth fails it is lost, and nothing
-/// else. This profile.
+/// else.
 pub fn say_reply<M: Mouth>(mouths: &mut Vec<M>, reply: &Direct)
     requires { reply.now.link < vec_len mouths.old }
-    ensures { SaysOn (told_by M.said M.tallies M.faults M.mark M.label) reply.now.link
+    ensures { SaysOn M.told reply.now.link
         ((reply.now.peer, packets.Control reply.now.control) ∷ [])
         mouths.old.items mouths.new.items }
 {
@@ -109,9 +108,9 @@ pub fn say_reply<M: Mouth>(mouths: &mut Vec<M>, reply: &Direct)
 
 // Says one datagram; where the mouth fails it is lost.
 fn say<M: Mouth>(mouth: &mut M, to: &Peer, bytes: &[u8])
-    ensures { SaidOf (told_by M.said M.tallies M.faults M.mark M.label mouth.old)
+    ensures { SaidOf (M.told mouth.old)
         ((to.now, bytes.now) ∷ [])
-        (told_by M.said M.tallies M.faults M.mark M.label mouth.new) }
+        (M.told mouth.new) }
 {
     m17_ports::laws::mouths_say_in_turn::<M::Label>();
     let _ = mouth.say(to, bytes);

@@ -16,7 +16,7 @@ use std::sync::Wait;
 /// Bye the member is pushed to its link's notes. What names a link or a place that is not there is passed over. A
 /// datagram that a mouth fails to say is lost, and nothing else. After `Stop` it ends with the first turn over all
 /// queues in which it neither popped nor said anything, and holds the Hellos that still wait. While there is nothing to
-/// do it sleeps until a lane of its bell is pushed to. After `Quit` it ends with all as it was. This profile.
+/// do it sleeps until a lane of its bell is pushed to. After `Quit` it ends with all as it was.
 #[derive(Drop)]
 pub struct Sender<M> {
     /// The address in whose name it says PING, PONG and DISC.
@@ -41,12 +41,12 @@ pub struct Sender<M> {
 
 impl<M: Mouth + Drop + Send + 'static> Work for Sender<M> {
     ghost use Rattle.m17_sender.specs.Ready.{IsReady};
-    ghost use Rattle.m17_sender.specs.Sent.{SenderDid, told_by};
+    ghost use Rattle.m17_sender.specs.Sent.{SenderDid};
 
     ghost ready = { λ j. IsReady j };
 
     ghost does = { λ j k.
-        SenderDid (told_by M.said M.tallies M.faults M.mark M.label) j k };
+        SenderDid M.told j k };
 
     fn go<R: Wait>(&mut self, rt: &R) {
         if starts(rt, &mut self.order) {

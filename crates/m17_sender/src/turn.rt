@@ -2,7 +2,6 @@
 ghost use Rattle.std.specs.Prelude.{◌≡◌, ◌<◌, ℕ, List, [], false, vec_len};
 ghost use Rattle.m17_sender.specs.Ready.{IsShaped};
 ghost use Rattle.m17_sender.specs.Places.{cells_of};
-ghost use Rattle.m17_sender.specs.Sent.{told_by};
 ghost use Rattle.m17_sender.specs.SoFar.{at_rest, GoesOn, IsIdle, RestsAt, with_reply};
 
 use crate::Sender;
@@ -22,7 +21,7 @@ impl<M: Mouth> Sender<M> {
     /// was popped or said.
     pub(crate) fn turn<R: Wait>(&mut self, rt: &R, kept: &mut Kept) -> bool
         requires shaped { IsShaped self.old }
-        ensures goes_on { GoesOn (told_by M.said M.tallies M.faults M.mark M.label)
+        ensures goes_on { GoesOn M.told
             (at_rest self.old kept.old.noted) (at_rest self.new kept.new.noted) }
     {
         let answered = self.pass_door(rt);
@@ -33,7 +32,7 @@ impl<M: Mouth> Sender<M> {
     /// A turn over all queues. Says whether anything was popped or said; where not, each Hello that is held back waits.
     pub(crate) fn whole_turn<R: Wait>(&mut self, rt: &R, kept: &mut Kept) -> bool
         requires shaped { IsShaped self.old }
-        ensures goes_on { GoesOn (told_by M.said M.tallies M.faults M.mark M.label)
+        ensures goes_on { GoesOn M.told
             (at_rest self.old kept.old.noted) (at_rest self.new kept.new.noted) }
         ensures vain { result ≡ false
             → (m q : ℕ) → RestsAt self.new kept.new.noted m q }
@@ -47,7 +46,7 @@ impl<M: Mouth> Sender<M> {
     fn pass_door<R: Wait>(&mut self, rt: &R) -> bool
         requires shaped { IsShaped self.old }
         ensures goes_on { (noted : List ℕ)
-            → GoesOn (told_by M.said M.tallies M.faults M.mark M.label)
+            → GoesOn M.told
             (at_rest self.old noted) (at_rest self.new noted) }
     {
         for taken in 0..DOOR_CAPACITY {
@@ -62,7 +61,7 @@ impl<M: Mouth> Sender<M> {
     fn take_reply<R: Wait>(&mut self, rt: &R) -> bool
         requires shaped { IsShaped self.old }
         ensures goes_on { (noted : List ℕ)
-            → GoesOn (told_by M.said M.tallies M.faults M.mark M.label)
+            → GoesOn M.told
             (at_rest self.old noted) (at_rest self.new noted) }
     {
         match self.door.try_pop(rt) {
@@ -77,7 +76,7 @@ impl<M: Mouth> Sender<M> {
     // The turns of the queues that may have something.
     fn pass_marked<R: Wait>(&mut self, rt: &R, kept: &mut Kept) -> bool
         requires shaped { IsShaped self.old }
-        ensures goes_on { GoesOn (told_by M.said M.tallies M.faults M.mark M.label)
+        ensures goes_on { GoesOn M.told
             (at_rest self.old kept.old.noted) (at_rest self.new kept.new.noted) }
     {
         let mut did = false;
@@ -97,7 +96,7 @@ impl<M: Mouth> Sender<M> {
     // The turn of the queue with this number, counted module by module; one that is not there has nothing.
     fn try_number<R: Wait>(&mut self, rt: &R, kept: &mut Kept, number: u32) -> bool
         requires shaped { IsShaped self.old }
-        ensures goes_on { GoesOn (told_by M.said M.tallies M.faults M.mark M.label)
+        ensures goes_on { GoesOn M.told
             (at_rest self.old kept.old.noted) (at_rest self.new kept.new.noted) }
     {
         match self.try_there(rt, kept, number) {
@@ -112,7 +111,7 @@ impl<M: Mouth> Sender<M> {
 
     fn try_there<R: Wait>(&mut self, rt: &R, kept: &mut Kept, number: u32) -> Tried
         requires shaped { IsShaped self.old }
-        ensures goes_on { GoesOn (told_by M.said M.tallies M.faults M.mark M.label)
+        ensures goes_on { GoesOn M.told
             (at_rest self.old kept.old.noted) (at_rest self.new kept.new.noted) }
     {
         if self.places == 0 {
@@ -130,7 +129,7 @@ impl<M: Mouth> Sender<M> {
     // The turns of all queues.
     fn pass_all<R: Wait>(&mut self, rt: &R, kept: &mut Kept) -> bool
         requires shaped { IsShaped self.old }
-        ensures goes_on { GoesOn (told_by M.said M.tallies M.faults M.mark M.label)
+        ensures goes_on { GoesOn M.told
             (at_rest self.old kept.old.noted) (at_rest self.new kept.new.noted) }
         ensures vain { result ≡ false
             → (m q : ℕ) → RestsAt self.new kept.new.noted m q }
@@ -148,7 +147,7 @@ impl<M: Mouth> Sender<M> {
     fn pass_row<R: Wait>(&mut self, rt: &R, kept: &mut Kept, row: usize) -> bool
         requires shaped { IsShaped self.old }
         requires row { row < vec_len self.old.queues }
-        ensures goes_on { GoesOn (told_by M.said M.tallies M.faults M.mark M.label)
+        ensures goes_on { GoesOn M.told
             (at_rest self.old kept.old.noted) (at_rest self.new kept.new.noted) }
         ensures vain { result ≡ false → IsIdle self.old self.new kept.old.noted kept.new.noted
             × ((q : ℕ) → q < self.old.places → RestsAt self.new kept.new.noted row q) }
@@ -166,13 +165,13 @@ impl<M: Mouth> Sender<M> {
     fn answer(&mut self, reply: &Direct)
         requires shaped { IsShaped self.old }
         ensures goes_on { (noted : List ℕ)
-            → GoesOn (told_by M.said M.tallies M.faults M.mark M.label)
+            → GoesOn M.told
             (with_reply self.old noted reply.now) (at_rest self.new noted) }
     {
         m17_rows::laws::rows_push::<Member>();
         m17_ports::laws::mouths_say_in_turn::<M::Label>();
-        m17_turns::laws::turns_grow();
-        m17_turns::laws::spelled_part_by_part();
+        m17_send_order::laws::turns_grow();
+        m17_send_order::laws::spelled_part_by_part();
         if (reply.link as usize) < self.mouths.len() {
             say_reply(&mut self.mouths, reply);
         }

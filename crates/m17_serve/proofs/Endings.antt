@@ -3,12 +3,11 @@ use Rattle.std.proofs.Common.{◌≡◌, ℕ, Bool, true, false, List, Option, R
 use Rattle.m17_io.specs.Faults.{HasCause, HasRisen}
 use Rattle.m17_reflect.specs.declared.returned.HouseRefusal.{HouseRefusal}
 use Rattle.m17_reflect.specs.declared.returned.HouseRefusal.TheVariants as refusals
-use Rattle.m17_reflect.specs.Run.{Handed}
+use Rattle.m17_reflect.specs.Run.{Devices, Handed}
 use Rattle.m17_reflect.specs.Views.{IsRefusedFor}
 use Rattle.m17_words.specs.declared.order.ServeOrder.{ServeOrder}
 use Rattle.m17_serve.specs.declared.served.ServeEnding.{ServeEnding}
 use Rattle.m17_serve.specs.declared.served.ServeEnding.TheVariants.{WriteFailed, PortFailed, CrewRefused, NoMemory}
-use Rattle.m17_serve.specs.Devices.{HouseTold}
 use Rattle.m17_serve.specs.Served.{Around, AsksNothing, ComesToServe, EndsServe, FailsAtPort, HasCauses, Refuses, RoseWhere, Serves, counts, ending_by, lines_of, NeverAsked, NeverRan}
 use Rattle.m17_serve.specs.Steps.{Prints}
 
@@ -99,8 +98,8 @@ asked_nothing refusals.Crew e old new crew memory (inl port) = let bad : CrewRef
 asked_nothing refusals.Crew e old new crew memory (inr none) = let bad : CrewRefused ≡ NoMemory = sym (crew refl) ∙ none in cc
 asked_nothing refusals.NoMemory e old new crew memory never = memory refl
 
-module _ {L : Type 0} where
-  by_flags : (order : ServeOrder) (e : ServeEnding) (run : Around L) (first written : Option (List ℕ)) (lost failed : Bool) → e ≡ ending_by lost failed
+module _ {E M B : Type 0} where
+  by_flags : (order : ServeOrder) (e : ServeEnding) (run : Around E M B) (first written : Option (List ℕ)) (lost failed : Bool) → e ≡ ending_by lost failed
       → EndsServe order e run first written → ComesToServe order e run first written
   by_flags order e run first written true failed is ends =
       subst (λ (x : ServeEnding). EndsServe order x run first written → ComesToServe order x run first written) (sym is) (λ h. h) ends
@@ -109,7 +108,7 @@ module _ {L : Type 0} where
   by_flags order e run first written false false is ends =
       subst (λ (x : ServeEnding). EndsServe order x run first written → ComesToServe order x run first written) (sym is) (λ h. h) ends
 
-  pub comes_run : {T E : Type 0} (printed : Result T E) (order : ServeOrder) (e : ServeEnding) (run : Around L) (devices : HouseTold L) (handed : Handed) (first written : Option (List ℕ))
+  pub comes_run : {T F : Type 0} (printed : Result T F) (order : ServeOrder) (e : ServeEnding) (run : Around E M B) (devices : Devices E M (Option B)) (handed : Handed) (first written : Option (List ℕ))
       → OnOk printed (e ≡ ending_by handed.lost handed.book_failed) → OnErr printed (e ≡ WriteFailed) → Serves order run devices handed
       → Prints printed (lines_of order handed) first written → ComesToServe order e run first written
   comes_run (Ok v) order e run devices handed first written ok err serves prints =
@@ -117,17 +116,17 @@ module _ {L : Type 0} where
   comes_run (Err v) order e run devices handed first written ok err serves prints =
       subst (λ (x : ServeEnding). ComesToServe order x run first written) (sym err) (devices, handed, serves, prints.part_of_it)
 
-  pub comes_refusal : (why : HouseRefusal) (order : ServeOrder) (e : ServeEnding) (run : Around L) (first : Option (List ℕ)) → (why ≡ refusals.Crew → e ≡ CrewRefused)
+  pub comes_refusal : (why : HouseRefusal) (order : ServeOrder) (e : ServeEnding) (run : Around E M B) (first : Option (List ℕ)) → (why ≡ refusals.Crew → e ≡ CrewRefused)
       → (why ≡ refusals.NoMemory → e ≡ NoMemory) → Refuses order why run → ComesToServe order e run first first
   comes_refusal refusals.Crew order e run first crew memory refuses =
       subst (λ (x : ServeEnding). ComesToServe order x run first first) (sym (crew refl)) (refuses, refl)
   comes_refusal refusals.NoMemory order e run first crew memory refuses =
       subst (λ (x : ServeEnding). ComesToServe order x run first first) (sym (memory refl)) (inr refuses, refl)
 
-  pub comes_memory : (order : ServeOrder) (e : ServeEnding) (run : Around L) (first : Option (List ℕ)) → e ≡ NoMemory → AsksNothing run → ComesToServe order e run first first
+  pub comes_memory : (order : ServeOrder) (e : ServeEnding) (run : Around E M B) (first : Option (List ℕ)) → e ≡ NoMemory → AsksNothing run → ComesToServe order e run first first
   comes_memory order e run first is nothing =
       subst (λ (x : ServeEnding). ComesToServe order x run first first) (sym is) (inl nothing, refl)
 
-  pub comes_port : (order : ServeOrder) (e : ServeEnding) (run : Around L) (first : Option (List ℕ)) → e ≡ PortFailed → FailsAtPort order run → ComesToServe order e run first first
+  pub comes_port : (order : ServeOrder) (e : ServeEnding) (run : Around E M B) (first : Option (List ℕ)) → e ≡ PortFailed → FailsAtPort order run → ComesToServe order e run first first
   comes_port order e run first is fails =
       subst (λ (x : ServeEnding). ComesToServe order x run first first) (sym is) (fails, refl)

@@ -11,10 +11,6 @@ module _ {A B C : Type 0} where
   map_twice g f (x ∷ xs) = ap (λ (l : List C). g (f x) ∷ l) (map_twice g f xs)
 
 module _ {A B : Type 0} where
-  pub map_same : (f g : A → B) → ((x : A) → f x ≡ g x) → (xs : List A) → map f xs ≡ map g xs
-  map_same f g same [] = refl
-  map_same f g same (x ∷ xs) = ap₂ (λ (y : B) (l : List B). y ∷ l) (same x) (map_same f g same xs)
-
   pub map_push : (f : A → B) (xs : List A) (x : A) → map f (xs ++ x ∷ []) ≡ map f xs ++ f x ∷ []
   map_push f [] x = refl
   map_push f (y ∷ xs) x = ap (λ (l : List B). f y ∷ l) (map_push f xs x)
@@ -25,6 +21,11 @@ module _ {A B : Type 0} where
   all_images f P (x ∷ xs) h = All-cons (λ x. P (f x)) x xs (All-head P (f x) (map f xs) h) (all_images f P xs (λ k d lt. h (suc k) d (omega arith)))
 
 module _ {A : Type 0} where
+  -- what holds at each place holds of all
+  pub all_of : (P : A → Type 0) (xs : List A) → ((i : ℕ) (x : A) → slice_get xs i ≡ Some x → P x) → All P xs
+  all_of P [] h = All-nil P
+  all_of P (x ∷ xs) h = All-cons P x xs (h 0 x refl) (all_of P xs (λ i y e. h (suc i) y e))
+
   -- what holds of each by its place, and of one more at the end
   pub each_push : (P : ℕ → A → Type 0) (xs : List A) (x : A) → ((i : ℕ) (y : A) → slice_get xs i ≡ Some y → P i y) → P (length xs) x
       → (i : ℕ) (y : A) → slice_get (xs ++ x ∷ []) i ≡ Some y → P i y

@@ -3,78 +3,72 @@ use Rattle.std.proofs.Common.{◌≡◌, ℕ, zero, suc, ◌+◌, List, [], ◌�
 use Rattle.std.specs.Prelude.{◌↔◌, IsSome, slice_get}
 use Rattle.std.specs.Option.{option_map}
 use Rattle.std.proofs.lemmas.List.{length-append, length-map}
-use Rattle.std.proofs.lemmas.List.Elements.{All-head, All-map, All-nil, All-push, All-weaker}
+use Rattle.std.proofs.lemmas.List.Elements.{All-head, All-map, All-push, All-weaker}
 use Rattle.std.proofs.lemmas.Option.{none-some, same_Some}
 use Rattle.m17_ports.specs.declared.shelf.Shelf.{Shelf}
-use Rattle.m17_ports.specs.Marks.{IsNumbered}
-use Rattle.m17_talk.specs.Devices.{BookTold, shelf_mark}
+use Rattle.m17_ports.specs.Book.{BookTold, IsNewBook, shelf_told}
 use Rattle.m17_serve.specs.Asked.{call_after}
-use Rattle.m17_serve.specs.Devices.{AreNewOnes, AreNumbered, AreThere, IsNewShelf}
+use Rattle.m17_serve.specs.Devices.{AreNewOnes, AreThere, told_of_shelf}
 use Rattle.m17_serve.proofs.Lists.{each_push, map_push}
 
 module _ {T : Type 0} where
-  pub new_none : (IsNew : T → Type 0) (number : T → Option ℕ) (first : ℕ) → AreNewOnes IsNew number first 0 []
-  new_none IsNew number first = record {
-    count_is = refl;
-    new = All-nil IsNew;
-    numbered = λ i n e. absurd (none-some n e);
-  }
+  pub new_none : (IsNew : ℕ → T → Type 0) (first : ℕ) → AreNewOnes IsNew first 0 []
+  new_none IsNew first = record { count_is = refl; each = λ i one e. absurd (none-some one e) }
 
-  new_more : (IsNew : T → Type 0) (number : T → Option ℕ) (first n : ℕ) (xs : List T) (x : T) → AreNewOnes IsNew number first n xs → IsNew x
-      → IsNumbered (number x) (call_after first n) → AreNewOnes IsNew number first (n + 1) (xs ++ x ∷ [])
-  new_more IsNew number first n xs x old new is = record {
+  new_more : (IsNew : ℕ → T → Type 0) (first n : ℕ) (xs : List T) (x : T) → AreNewOnes IsNew first n xs → IsNew (call_after first n) x
+      → AreNewOnes IsNew first (n + 1) (xs ++ x ∷ [])
+  new_more IsNew first n xs x old new = record {
     count_is = length-append xs (x ∷ []) ∙ ap (λ (k : ℕ). k + 1) old.count_is;
-    new = All-push IsNew xs x old.new new;
-    numbered = subst (AreNumbered first) (sym (map_push number xs x))
-        (each_push (λ i m. IsNumbered m (call_after first i)) (map number xs) (number x) old.numbered
-        (subst (λ (k : ℕ). IsNumbered (number x) (call_after first k)) (sym (length-map xs number ∙ old.count_is)) is));
+    each = each_push (λ i one. IsNew (call_after first i) one) xs x old.each (subst (λ (k : ℕ). IsNew (call_after first k) x) (sym old.count_is) new);
   }
 
 module _ {A T : Type 0} where
   -- one more was pushed
-  pub new_pushed : (f : A → T) (IsNew : T → Type 0) (number : T → Option ℕ) (first n : ℕ) (was is : List A) (x : A) → is ≡ was ++ x ∷ []
-      → AreNewOnes IsNew number first n (map f was) → IsNew (f x) → IsNumbered (number (f x)) (call_after first n) → AreNewOnes IsNew number first (n + 1) (map f is)
-  new_pushed f IsNew number first n was is x e old new at =
-      subst (AreNewOnes IsNew number first (n + 1)) (sym (ap (map f) e ∙ map_push f was x)) (new_more IsNew number first n (map f was) (f x) old new at)
+  pub new_pushed : (f : A → T) (IsNew : ℕ → T → Type 0) (first n : ℕ) (was is : List A) (x : A) → is ≡ was ++ x ∷ []
+      → AreNewOnes IsNew first n (map f was) → IsNew (call_after first n) (f x) → AreNewOnes IsNew first (n + 1) (map f is)
+  new_pushed f IsNew first n was is x e old new =
+      subst (AreNewOnes IsNew first (n + 1)) (sym (ap (map f) e ∙ map_push f was x)) (new_more IsNew first n (map f was) (f x) old new)
 
--- numbers that are not told are those of any calls
-none_at : (xs : List (Option ℕ)) → All (λ x. x ≡ None) xs → (i : ℕ) (m : Option ℕ) → slice_get xs i ≡ Some m → m ≡ None
-none_at [] h i m e = absurd (none-some m e)
-none_at (x ∷ xs) h zero m e = sym (same_Some x m e) ∙ All-head (λ x. x ≡ None) x xs h
-none_at (x ∷ xs) h (suc i) m e = none_at xs (λ k d lt. h (suc k) d (omega arith)) i m e
+module _ {T : Type 0} where
+  each_of : (P : T → Type 0) (xs : List T) → All P xs → (i : ℕ) (x : T) → slice_get xs i ≡ Some x → P x
+  each_of P [] h i x e = absurd (none-some x e)
+  each_of P (y ∷ xs) h zero x e = subst P (same_Some y x e) (All-head P y xs h)
+  each_of P (y ∷ xs) h (suc i) x e = each_of P xs (λ k d lt. h (suc k) d (omega arith)) i x e
 
-none_numbered : (first : ℕ) (xs : List (Option ℕ)) → All (λ x. x ≡ None) xs → AreNumbered first xs
-none_numbered first xs h i m e n told = absurd (none-some n (sym (none_at xs h i m e) ∙ told))
+module _ {B Z : Type 0} where
+  -- a shelf without a book is new, by any call
+  no_book : (book : B → BookTold Z) (s : Shelf B) → s.inner ≡ None → (call : ℕ) → IsNewBook call (told_of_shelf book s)
+  no_book book s e call = subst (λ (o : Option B). IsNewBook call (shelf_told (option_map book o))) (sym e)
+      (record { written = λ all told. absurd (none-some all told); faults = refl; numbered = λ n told. absurd (none-some n told) })
 
-module _ {B : Type 0} where
-  none_new : (f : B → BookTold) (o : Option B) → o ≡ None → IsNewShelf (option_map f o)
-  none_new f o e = subst (λ (x : Option B). IsNewShelf (option_map f x)) (sym e) ((λ all told. absurd (none-some all told)), refl)
+  -- a new book stands on a shelf as a new one
+  pub on_shelf : (book : B → BookTold Z) (b : B) (call : ℕ) → IsNewBook call (book b) → IsNewBook call (told_of_shelf book (record { inner = Some b }))
+  on_shelf book b call new = record { written = new.written; faults = new.faults; numbered = new.numbered }
 
-  -- shelves without a book are new ones
-  pub empty_new : (f : B → BookTold) (first count : ℕ) (ss : List (Shelf B)) → length ss ≡ count → All (λ s. s.inner ≡ None) ss
-      → AreNewOnes IsNewShelf shelf_mark first count (map (λ s. option_map f s.inner) ss)
-  empty_new f first count ss long none = record {
-    count_is = length-map ss (λ s. option_map f s.inner) ∙ long;
-    new = All-map IsNewShelf (λ s. option_map f s.inner) ss (All-weaker (λ s. s.inner ≡ None) (λ s. IsNewShelf (option_map f s.inner)) (λ s e. none_new f s.inner e) ss none);
-    numbered = none_numbered first (map shelf_mark (map (λ s. option_map f s.inner) ss))
-        (All-map (λ x. x ≡ None) shelf_mark (map (λ s. option_map f s.inner) ss)
-        (All-map (λ o. shelf_mark o ≡ None) (λ s. option_map f s.inner) ss
-        (All-weaker (λ s. s.inner ≡ None) (λ s. shelf_mark (option_map f s.inner) ≡ None) (λ s e. ap (λ (x : Option B). shelf_mark (option_map f x)) e) ss none)));
+  pub empty_new : (book : B → BookTold Z) (first count : ℕ) (ss : List (Shelf B)) → length ss ≡ count → All (λ s. s.inner ≡ None) ss
+      → AreNewOnes IsNewBook first count (map (told_of_shelf book) ss)
+  empty_new book first count ss long none = record {
+    count_is = length-map ss (told_of_shelf book) ∙ long;
+    each = λ i one e. each_of (λ (told : BookTold (Option Z)). (call : ℕ) → IsNewBook call told) (map (told_of_shelf book) ss)
+        (All-map (λ (told : BookTold (Option Z)). (call : ℕ) → IsNewBook call told) (told_of_shelf book) ss
+        (All-weaker (λ s. s.inner ≡ None) (λ s. (call : ℕ) → IsNewBook call (told_of_shelf book s)) (λ s e. no_book book s e) ss none)) i one e (call_after first i);
   }
 
-  both_mapped : {X : Type 0} (f : B → BookTold) (g : X → List ℕ) (o : Option B) (folder : Option X) → IsSome o ↔ IsSome folder → IsSome (option_map f o) ↔ IsSome (option_map g folder)
-  both_mapped f g None None h = h
-  both_mapped f g None (Some x) h = h
-  both_mapped f g (Some b) None h = h
-  both_mapped f g (Some b) (Some x) h = h
+  both_mapped : {X : Type 0} (book : B → BookTold Z) (g : X → List ℕ) (o : Option B) (folder : Option X) → IsSome o ↔ IsSome folder
+      → IsSome (shelf_told (option_map book o)).device.label ↔ IsSome (option_map g folder)
+  both_mapped book g None None h = h
+  both_mapped book g None (Some x) h = h
+  both_mapped book g (Some b) None h = h
+  both_mapped book g (Some b) (Some x) h = h
 
   -- there is a book on a shelf as told
-  pub there_told : {X : Type 0} (f : B → BookTold) (g : X → List ℕ) (folder : Option X) (ss : List (Shelf B)) → All (λ s. IsSome s.inner ↔ IsSome folder) ss
-      → AreThere (option_map g folder) (map (λ s. option_map f s.inner) ss)
-  there_told f g folder ss there =
-      All-map (λ shelf. IsSome shelf ↔ IsSome (option_map g folder)) (λ s. option_map f s.inner) ss
-      (All-weaker (λ s. IsSome s.inner ↔ IsSome folder) (λ s. IsSome (option_map f s.inner) ↔ IsSome (option_map g folder)) (λ s h. both_mapped f g s.inner folder h) ss there)
+  pub there_told : {X : Type 0} (book : B → BookTold Z) (g : X → List ℕ) (folder : Option X) (ss : List (Shelf B)) → All (λ s. IsSome s.inner ↔ IsSome folder) ss
+      → AreThere (option_map g folder) (map (told_of_shelf book) ss)
+  there_told book g folder ss there =
+      All-map (λ (told : BookTold (Option Z)). IsSome told.device.label ↔ IsSome (option_map g folder)) (told_of_shelf book) ss
+      (All-weaker (λ s. IsSome s.inner ↔ IsSome folder) (λ s. IsSome (told_of_shelf book s).device.label ↔ IsSome (option_map g folder)) (λ s h. both_mapped book g s.inner folder h) ss there)
 
+module _ {B : Type 0} where
   -- one more shelf with a book
   pub there_pushed : (was is : List (Shelf B)) (b : B) → is ≡ was ++ record { inner = Some b } ∷ [] → All (λ s. IsSome s.inner) was → All (λ s. IsSome s.inner) is
   there_pushed was is b e h =

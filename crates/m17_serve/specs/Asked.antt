@@ -1,17 +1,14 @@
--- What `serve` asks the ports for. This profile.
-use Rattle.std.specs.Prelude.{◌≡◌, ℕ, zero, suc, ◌*◌, ◌<◌, ◌≤◌, List, [], ◌∷◌, ◌++◌, length, map, take, codes, decimal, string_bytes, vec_len, Option, None, Some}
+-- What `serve` asks the ports for.
+use Rattle.std.specs.Prelude.{ℕ, zero, suc, ◌*◌, List, [], ◌∷◌, ◌++◌, map, codes, decimal, string_bytes, vec_len, Option, None, Some}
 use Rattle.std.specs.List.{range_with_len}
 use Rattle.std.specs.Option.{option_map}
-use Rattle.m17_io.specs.Faults.{HasRisen}
 use Rattle.m17_control.specs.Modules.{letters_of}
 use Rattle.m17_ports.specs.Ports.{next_number}
-use Rattle.m17_ports.specs.Told.{told_then}
 use Rattle.m17_ports.specs.declared.question.Question.{Question}
 use Rattle.m17_ports.specs.declared.question.Question.TheVariants.{Link, Book}
 use Rattle.m17_words.specs.declared.order.ServeOrder.{ServeOrder}
-use Rattle.m17_talk.specs.Devices.{PortsTold}
 
--- the moment in milliseconds at which links end that serve for so many seconds; none where they serve until they are
+-- the moment in milliseconds at which links end that serve for this number of seconds; none where they serve until they are
 -- stopped
 abbrev pub until_of : Option ℕ → Option ℕ
 until_of seconds = option_map (λ s. 1000 * s) seconds
@@ -40,27 +37,13 @@ shelf_questions order (Some folder) =
     map Book (trace_names order folder) ++ map Book (book_names order folder)
 
 -- All that is asked, in order: the links, and then, where a folder is named, the trace of each link and the book of each
--- module. This profile.
+-- module.
 abbrev pub questions_of : ServeOrder → List Question
 questions_of order =
     link_questions (map string_bytes order.binds.items) (until_of order.seconds)
     ++ shelf_questions order (option_map string_bytes order.book)
 
--- The number of the call that comes so many calls after this one: one that has come to 2^64 - 1 stays there.
+-- The number of the call that comes `more` calls after this one: one that has come to 2^64 - 1 stays there.
 abbrev pub call_after : ℕ → ℕ → ℕ
 call_after first zero = first
 call_after first (suc more) = next_number (call_after first more)
-
--- These questions were asked, in order: each was appended, as far as the ports tell it, and each is a call. This profile.
-pub record AreAsked (questions : List Question) (before after : PortsTold) : Type 0 where
-  pub told : (all : List Question) → after.asked ≡ Some all
-      → told_then before.asked questions ≡ Some all
-  pub counted : after.calls ≡ call_after before.calls (length questions)
-
--- The first of these questions were asked, up to one at which the ports failed. This profile.
-pub record FailsAmong (questions : List Question) (before after : PortsTold) : Type 0 where
-  pub count : ℕ
-  pub some : 0 < count
-  pub few : count ≤ length questions
-  pub asked : AreAsked (take count questions) before after
-  pub risen : HasRisen before.faults after.faults

@@ -1,4 +1,4 @@
--- How `serve` ends, among all the ways that a run may. It refuses no input. This profile.
+-- How `serve` ends, among all the ways that a run may. It refuses no input.
 use Rattle.m17_print.specs.declared.ending.Ending.{Ending}
 use Rattle.m17_print.specs.declared.ending.Ending.TheVariants as endings
 use Rattle.m17_print.specs.declared.ending.NoReason.{NoReason}

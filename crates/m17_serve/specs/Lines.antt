@@ -1,4 +1,4 @@
--- The lines that `serve` prints. This profile.
+-- The lines that `serve` prints.
 use Rattle.std.specs.Prelude.{ℕ, List, [], ◌∷◌, ◌++◌, codes, decimal, length, slice_index}
 use Rattle.std.specs.List.{flat_map, range_with_len}
 
@@ -7,7 +7,7 @@ abbrev pub module_line : ℕ → ℕ → ℕ → List ℕ
 module_line letter admitted missed = letter ∷ codes " admitted " ++ decimal admitted
     ++ codes " missed " ++ decimal missed ++ 10 ∷ []
 
--- The line of each module, in order of letters, with its own counts. This profile.
+-- The line of each module, in order of letters, with its own counts.
 abbrev pub module_lines : List ℕ → List ℕ → List ℕ → List ℕ
 module_lines letters admitted missed =
     flat_map (λ m. module_line (slice_index letters m) (slice_index admitted m)

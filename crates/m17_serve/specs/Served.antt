@@ -1,26 +1,32 @@
--- What `serve` does, and how it ends. This profile.
+-- What `serve` does, and how it ends.
 use Rattle.std.specs.Prelude.{◌≡◌, ◌⊎◌, ℕ, ◌<◌, ◌≤◌, Bool, List, ◌++◌, vec_len, Option, None, Some, IfSome, if◌then◌else◌}
 use Rattle.m17_io.specs.Faults.{HasRisen}
 use Rattle.m17_io.specs.Sink.{AppendsPrefix}
+use Rattle.m17_ports.specs.Book.{BookTold}
+use Rattle.m17_ports.specs.Ear.{EarTold}
+use Rattle.m17_ports.specs.Mouth.{MouthTold}
+use Rattle.m17_ports.specs.Ports.{HasAsked, PortsTold}
 use Rattle.m17_control.specs.Modules.{letters_of}
-use Rattle.m17_house.specs.declared.plan.Plan.{Plan}
-use Rattle.m17_house.specs.Replay.{IsPlan}
+use Rattle.m17_plan.specs.declared.plan.Plan.{Plan}
+use Rattle.m17_plan.specs.Planned.{IsPlan}
 use Rattle.m17_words.specs.declared.order.ServeOrder.{ServeOrder}
-use Rattle.m17_talk.specs.Devices.{PortsTold}
+use Rattle.m17_talk.specs.Devices.{FailsAmong}
 use Rattle.m17_reflect.specs.declared.returned.HouseRefusal.{HouseRefusal}
 use Rattle.m17_reflect.specs.declared.returned.HouseRefusal.TheVariants as refusals
 use Rattle.m17_reflect.specs.Headline.{Headline}
 use Rattle.m17_reflect.specs.Patience.{SomeLost, SomeRose}
-use Rattle.m17_reflect.specs.Run.{Run, Handed}
+use Rattle.m17_reflect.specs.Laws.{AreSameDevices}
+use Rattle.m17_reflect.specs.Run.{Devices, Run, Handed}
 use Rattle.m17_serve.specs.declared.served.ServeEnding.{ServeEnding}
 use Rattle.m17_serve.specs.declared.served.ServeEnding.TheVariants.{Finished, LinkLost, BookFailed, WriteFailed, PortFailed, CrewRefused, NoMemory}
-use Rattle.m17_serve.specs.Asked.{AreAsked, FailsAmong, questions_of}
-use Rattle.m17_serve.specs.Devices.{AreNew, AreOfQuestions, HaveSameMarks, HouseTold, tells_of}
+use Rattle.m17_serve.specs.declared.served.Served.{Served}
+use Rattle.m17_serve.specs.Asked.{questions_of}
+use Rattle.m17_serve.specs.Devices.{AreNew, house_back, refused_back}
 use Rattle.m17_serve.specs.Lines.{module_lines}
 
 -- the plan of the words: nothing waits for room, and no tapes are kept
-abbrev pub plan_of : ServeOrder → Plan
-plan_of order = record {
+abbrev pub serve_plan : ServeOrder → Plan
+serve_plan order = record {
   name = order.call;
   modules = order.modules;
   parrots = order.parrots;
@@ -29,9 +35,9 @@ plan_of order = record {
   entries = 0;
 }
 
--- The values of the words are within their bounds. This profile.
+-- The values of the words are within their bounds.
 pub record IsServable (order : ServeOrder) : Type 0 where
-  pub plan : IsPlan (plan_of order)
+  pub plan : IsPlan (serve_plan order)
   pub some_link : 0 < vec_len order.binds
   pub few_links : vec_len order.binds ≤ 4
   pub few_seconds : IfSome order.seconds (λ seconds. seconds ≤ 1000000)
@@ -39,61 +45,62 @@ pub record IsServable (order : ServeOrder) : Type 0 where
 -- What is told of a run of the command beside its lines: of the ports before it and after it, and what it hands back.
 -- That is the devices with what went through the threads, where the reflector ran, and the devices with the reason, where
 -- it refused to.
-pub record Around (L : Type 0) : Type 0 where
+pub record Around (E M B : Type 0) : Type 0 where
   pub before : PortsTold
   pub after : PortsTold
-  pub house : Option (HouseTold L × Handed)
-  pub refused : Option (HouseTold L × HouseRefusal)
+  pub house : Option (Devices E M (Option B) × Handed)
+  pub refused : Option (Devices E M (Option B) × HouseRefusal)
 
-abbrev pub around : {L : Type 0} → PortsTold → PortsTold → Option (HouseTold L × Handed)
-    → Option (HouseTold L × HouseRefusal) → Around L
-around before after house refused =
-    record { before = before; after = after; house = house; refused = refused }
-
--- what a run of the reflector over these devices shows
-abbrev pub run_told : {L : Type 0} → ServeOrder → HouseTold L → HouseTold L → Handed → Run L
-run_told order before after handed = record {
-  plan = plan_of order;
-  before = tells_of before;
-  after = tells_of after;
-  handed = handed;
+-- what is told of the run that came to `served`; `ear`, `mouth` and `book` say what each kind of device tells
+abbrev pub around : {E M B X Y Z : Type 0} → (E → EarTold X) → (M → MouthTold Y)
+    → (B → BookTold Z) → PortsTold → PortsTold → Served E M B → Around X Y Z
+around ear mouth book before after served = record {
+  before = before;
+  after = after;
+  house = house_back ear mouth book served.house;
+  refused = refused_back ear mouth book served.refused;
 }
 
--- nothing is handed back
-abbrev pub HandsNothing : {L : Type 0} → Around L → Type 0
-HandsNothing run = (run.house ≡ None) × (run.refused ≡ None)
+module _ {E M B : Type 0} where
+  -- what a run of the reflector over these devices shows
+  abbrev pub run_told : ServeOrder → Devices E M (Option B) → Devices E M (Option B) → Handed
+      → Run E M (Option B)
+  run_told order before after handed =
+      record { plan = serve_plan order; before = before; after = after; handed = handed }
 
--- no port was asked for anything, and nothing is handed back
-abbrev pub AsksNothing : {L : Type 0} → Around L → Type 0
-AsksNothing run = (run.after ≡ run.before) × HandsNothing run
+  -- nothing is handed back
+  abbrev pub HandsNothing : Around E M B → Type 0
+  HandsNothing run = (run.house ≡ None) × (run.refused ≡ None)
 
--- The ports failed at the last of the questions that were asked, which are the first of those of the words. Nothing is
--- handed back. This profile.
-abbrev pub FailsAtPort : {L : Type 0} → ServeOrder → Around L → Type 0
-FailsAtPort order run =
-    FailsAmong (questions_of order) run.before run.after × HandsNothing run
+  -- no port was asked for anything, and nothing is handed back
+  abbrev pub AsksNothing : Around E M B → Type 0
+  AsksNothing run = (run.after ≡ run.before) × HandsNothing run
 
--- The reflector ran over the devices that the ports handed out, which were new, and they are handed back: the headline
--- holds of that run. This profile.
-pub record Serves {L : Type 0} (order : ServeOrder) (run : Around L) (devices : HouseTold L)
-    (handed : Handed) : Type 0 where
-  pub asked : AreAsked (questions_of order) run.before run.after
-  pub no_fault : run.after.faults ≡ run.before.faults
-  pub new : HouseTold L
-  pub are_new : AreNew order run.before.calls new
-  pub headline : Headline (run_told order new devices handed)
-  pub same_devices : AreOfQuestions order run.before.calls devices
-  pub same_marks : HaveSameMarks new devices
-  pub handed_back : run.house ≡ Some (devices, handed)
-  pub none : run.refused ≡ None
+  -- The ports failed at the last of the questions that were asked, which are the first of those of the words. Nothing is
+  -- handed back.
+  abbrev pub FailsAtPort : ServeOrder → Around E M B → Type 0
+  FailsAtPort order run =
+      FailsAmong (questions_of order) run.before run.after × HandsNothing run
 
--- The reflector refused to run over the devices that the ports handed out, for this reason. They are handed back, still
--- new. This profile.
-pub record Refuses {L : Type 0} (order : ServeOrder) (why : HouseRefusal) (run : Around L) : Type 0
-  where
-    pub asked : AreAsked (questions_of order) run.before run.after
+  -- The reflector ran over the devices that the ports handed out, which were new, and the same devices are handed back:
+  -- the headline holds of that run.
+  pub record Serves (order : ServeOrder) (run : Around E M B) (devices : Devices E M (Option B))
+      (handed : Handed) : Type 0 where
+    pub asked : HasAsked (questions_of order) run.before run.after
     pub no_fault : run.after.faults ≡ run.before.faults
-    pub devices : HouseTold L
+    pub new : Devices E M (Option B)
+    pub are_new : AreNew order run.before.calls new
+    pub headline : Headline (run_told order new devices handed)
+    pub same_devices : AreSameDevices new devices
+    pub handed_back : run.house ≡ Some (devices, handed)
+    pub none : run.refused ≡ None
+
+  -- The reflector refused to run over the devices that the ports handed out, for this reason. They are handed back, still
+  -- new.
+  pub record Refuses (order : ServeOrder) (why : HouseRefusal) (run : Around E M B) : Type 0 where
+    pub asked : HasAsked (questions_of order) run.before run.after
+    pub no_fault : run.after.faults ≡ run.before.faults
+    pub devices : Devices E M (Option B)
     pub are_new : AreNew order run.before.calls devices
     pub handed_back : run.refused ≡ Some (devices, why)
     pub none : run.house ≡ None
@@ -110,37 +117,37 @@ ending_of handed = ending_by handed.lost handed.book_failed
 abbrev pub lines_of : ServeOrder → Handed → List ℕ
 lines_of order handed = module_lines (letters_of order.modules) handed.admitted handed.missed
 
--- The reflector ran, its lines were appended to what stood written, and this is how the command ends then. This profile.
-abbrev pub EndsServe : {L : Type 0} → ServeOrder → ServeEnding → Around L → Option (List ℕ)
-    → Option (List ℕ) → Type 0
-EndsServe {L} order ending run first written =
-    (devices : HouseTold L) × (handed : Handed) × Serves order run devices handed
-    × (ending ≡ ending_of handed) × ((before : List ℕ) → first ≡ Some before
-    → written ≡ Some (before ++ lines_of order handed))
+module _ {E M B : Type 0} where
+  -- The reflector ran, its lines were appended to what stood written, and this is how the command ends then.
+  abbrev pub EndsServe : ServeOrder → ServeEnding → Around E M B → Option (List ℕ)
+      → Option (List ℕ) → Type 0
+  EndsServe order ending run first written =
+      (devices : Devices E M (Option B)) × (handed : Handed) × Serves order run devices handed
+      × (ending ≡ ending_of handed) × ((before : List ℕ) → first ≡ Some before
+      → written ≡ Some (before ++ lines_of order handed))
 
--- The reflector ran, and a first part of its lines was appended. This profile.
-abbrev pub CutsServe : {L : Type 0} → ServeOrder → Around L → Option (List ℕ) → Option (List ℕ)
-    → Type 0
-CutsServe {L} order run first written =
-    (devices : HouseTold L) × (handed : Handed) × Serves order run devices handed
-    × ((before : List ℕ) → first ≡ Some before
-    → AppendsPrefix before (lines_of order handed) written)
+  -- The reflector ran, and a first part of its lines was appended.
+  abbrev pub CutsServe : ServeOrder → Around E M B → Option (List ℕ) → Option (List ℕ) → Type 0
+  CutsServe order run first written =
+      (devices : Devices E M (Option B)) × (handed : Handed) × Serves order run devices handed
+      × ((before : List ℕ) → first ≡ Some before
+      → AppendsPrefix before (lines_of order handed) written)
 
--- What each ending of `serve` says. Nothing is written before the reflector has run. Want of memory comes before the ports
--- are asked for anything, or before anything was heard. This profile.
-abbrev pub ComesToServe : {L : Type 0} → ServeOrder → ServeEnding → Around L → Option (List ℕ)
-    → Option (List ℕ) → Type 0
-ComesToServe order Finished run first written = EndsServe order Finished run first written
-ComesToServe order LinkLost run first written = EndsServe order LinkLost run first written
-ComesToServe order BookFailed run first written = EndsServe order BookFailed run first written
-ComesToServe order WriteFailed run first written = CutsServe order run first written
-ComesToServe order PortFailed run first written = FailsAtPort order run × (written ≡ first)
-ComesToServe order CrewRefused run first written =
-    Refuses order refusals.Crew run × (written ≡ first)
-ComesToServe order NoMemory run first written =
-    (AsksNothing run ⊎ Refuses order refusals.NoMemory run) × (written ≡ first)
+  -- What each ending of `serve` says. Nothing is written before the reflector has run. Want of memory comes before the
+  -- ports are asked for anything, or before anything was heard.
+  abbrev pub ComesToServe : ServeOrder → ServeEnding → Around E M B → Option (List ℕ)
+      → Option (List ℕ) → Type 0
+  ComesToServe order Finished run first written = EndsServe order Finished run first written
+  ComesToServe order LinkLost run first written = EndsServe order LinkLost run first written
+  ComesToServe order BookFailed run first written = EndsServe order BookFailed run first written
+  ComesToServe order WriteFailed run first written = CutsServe order run first written
+  ComesToServe order PortFailed run first written = FailsAtPort order run × (written ≡ first)
+  ComesToServe order CrewRefused run first written =
+      Refuses order refusals.Crew run × (written ≡ first)
+  ComesToServe order NoMemory run first written =
+      (AsksNothing run ⊎ Refuses order refusals.NoMemory run) × (written ≡ first)
 
--- The reflector never ran. This profile.
+-- The reflector never ran.
 abbrev pub NeverRan : ServeEnding → Type 0
 NeverRan Finished = ⊥
 NeverRan LinkLost = ⊥
@@ -150,7 +157,7 @@ NeverRan PortFailed = Unit {0}
 NeverRan CrewRefused = Unit {0}
 NeverRan NoMemory = Unit {0}
 
--- The crew was never asked for anything: the ports failed, or there was no memory. This profile.
+-- The crew was never asked for anything: the ports failed, or there was no memory.
 abbrev pub NeverAsked : ServeEnding → Type 0
 NeverAsked ending = (ending ≡ PortFailed) ⊎ (ending ≡ NoMemory)
 
@@ -168,7 +175,7 @@ pub record RoseWhere (cause : Type 0) (before after : ℕ) : Type 0 where
   pub rose : cause → HasRisen before after
   pub stands : (cause → ⊥) → after ≡ before
 
--- A failure is told exactly where the count of what failed rose. This profile.
+-- A failure is told exactly where the count of what failed rose.
 pub record HasCauses (ending : ServeEnding) (before after : Counts) : Type 0 where
   pub ports : RoseWhere (ending ≡ PortFailed) before.ports after.ports
   pub crew : RoseWhere (ending ≡ CrewRefused) before.crew after.crew
@@ -176,8 +183,8 @@ pub record HasCauses (ending : ServeEnding) (before after : Counts) : Type 0 whe
   pub sink_counted : before.sink ≤ after.sink
 
 -- Nothing stood against a run of the reflector: no link's list ended in 16 faults, and no count of a trace or a book rose.
--- This profile.
-pub record IsUntroubled {L : Type 0} (run : Run L) (headline : Headline run) : Type 0 where
-  pub no_link_lost : ¬ SomeLost headline.carried_out.links
-  pub no_trace_failed : ¬ SomeRose run.before.traces run.after.traces
-  pub no_book_failed : ¬ SomeRose run.before.books run.after.books
+pub record IsUntroubled {E M B : Type 0} (run : Run E M B) (headline : Headline run) : Type 0
+  where
+    pub no_link_lost : ¬ SomeLost headline.carried_out.links
+    pub no_trace_failed : ¬ SomeRose (λ book. book.faults) run.before.traces run.after.traces
+    pub no_book_failed : ¬ SomeRose (λ book. book.faults) run.before.books run.after.books

@@ -3,15 +3,17 @@ use Rattle.std.specs.Prelude.{◌≡◌, ◌≤◌, ℕ, List, [], ◌++◌, len
 use Rattle.std.specs.Option.{option_map}
 use Rattle.m17_io.specs.Sink.{AppendsPrefix}
 use Rattle.m17_control.specs.Modules.{letters_of}
+use Rattle.m17_ports.specs.Ports.{PortsTold}
+use Rattle.m17_ports.specs.Told.{told_then}
 use Rattle.m17_ports.specs.declared.question.Question.{Question}
 use Rattle.m17_ports.specs.declared.question.Question.TheVariants.{Book}
 use Rattle.m17_ports.specs.declared.shelf.Shelf.{Shelf}
 use Rattle.m17_words.specs.declared.order.ServeOrder.{ServeOrder}
-use Rattle.m17_talk.specs.Devices.{PortsTold}
+use Rattle.m17_talk.specs.Devices.{FailsAmong}
 use Rattle.m17_reflect.specs.Views.{Kinds}
 use Rattle.m17_serve.specs.declared.names.Names.{Names}
 use Rattle.m17_serve.specs.declared.opening.Opened.{Opened}
-use Rattle.m17_serve.specs.Asked.{AreAsked, FailsAmong, shelf_questions}
+use Rattle.m17_serve.specs.Asked.{call_after, shelf_questions}
 
 -- These are the names of the traces and of the books, where a folder is named.
 pub record AreNames (order : ServeOrder) (names : Names) : Type 0 where
@@ -21,7 +23,7 @@ pub record AreNames (order : ServeOrder) (names : Names) : Type 0 where
   pub traces : IsSome order.book → vec_len names.traces ≡ vec_len order.binds
   pub books : IsSome order.book → vec_len names.books ≡ length (letters_of order.modules)
 
--- there is room for the devices of so many links and modules, and nothing in it
+-- there is room for the devices of this number of links and of modules, and none is there yet
 pub record HasRooms {E M B : Type 0} (links modules : ℕ) (rooms : Opened E M B) : Type 0 where
   pub ears : (rooms.ears.items ≡ []) × (links ≤ vec_capacity rooms.ears)
   pub mouths : (rooms.mouths.items ≡ []) × (links ≤ vec_capacity rooms.mouths)
@@ -36,6 +38,13 @@ kinds_opened opened = record {
   traces = opened.traces.items;
   books = opened.books.items;
 }
+
+-- These questions were asked, in order, or there are none: each was appended, as far as the ports tell it, and each is a
+-- call.
+pub record AreAsked (questions : List Question) (before after : PortsTold) : Type 0 where
+  pub told : (all : List Question) → after.asked ≡ Some all
+      → told_then before.asked questions ≡ Some all
+  pub counted : after.calls ≡ call_after before.calls (length questions)
 
 -- these questions were asked, in order, and the ports failed at none, or failed at one of them
 pub record Asks {T E : Type 0} (result : Result T E) (questions : List Question)

@@ -38,9 +38,9 @@ pub(crate) fn print_modules<K: Sink>(
     missed: &[u64],
     out: &mut K,
 ) -> Result<(), Failed>
-    ensures cause { HasCause (K.faults out.old) (K.faults out.new) result }
+    ensures cause { HasCause (K.told out.old).faults (K.told out.new).faults result }
     ensures prints { Prints result (module_lines letters.now admitted.now missed.now)
-        (K.written out.old) (K.written out.new) }
+        (K.told out.old).written (K.told out.new).written }
 {
     let mut line = Line::new();
     for number in 0..letters.len() {

@@ -2,10 +2,12 @@
 ghost use Rattle.std.specs.Prelude.{◌≡◌, ◌↔◌, ◌≤◌, [], All, IfSome, IsSome, None, length, map, string_bytes, option_map, vec_len, vec_capacity, IfOk, OnOk};
 ghost use Rattle.m17_control.specs.Modules.{letters_of};
 ghost use Rattle.m17_ports.specs.declared.question.Question.TheVariants as questions;
-ghost use Rattle.m17_sender.specs.Sent.{told_by};
-ghost use Rattle.m17_talk.specs.Devices.{ports_told, ear_told, book_told, shelf_mark, FailsLast};
+ghost use Rattle.m17_ports.specs.Book.{IsNewBook};
+ghost use Rattle.m17_ports.specs.Ear.{IsNewEar};
+ghost use Rattle.m17_ports.specs.Mouth.{IsNewMouth};
+ghost use Rattle.m17_ports.specs.Ports.{FailsLast};
 ghost use Rattle.m17_serve.specs.Asked.{call_after, link_questions, questions_of, shelf_questions, until_of};
-ghost use Rattle.m17_serve.specs.Devices.{AreNew, AreNewOnes, eyes_by, house_told, IsNewEar, IsNewMouth, IsNewShelf, number_of_ear, number_of_mouth};
+ghost use Rattle.m17_serve.specs.Devices.{AreNew, AreNewOnes, house_told, told_of_shelf};
 ghost use Rattle.m17_serve.specs.Steps.{AreNames, Asks, HasRooms, kinds_opened};
 
 use crate::letters::room;
@@ -56,16 +58,12 @@ pub(crate) fn open_links<P: Ports>(
     requires no_mouths { mouths.old.items ≡ [] }
     requires room_for_mouths { length binds.now ≤ vec_capacity mouths.old }
     ensures asks { Asks result (link_questions (map string_bytes binds.now) until)
-        (ports_told (P.asked ports.old) (P.calls ports.old) (P.faults ports.old))
-        (ports_told (P.asked ports.new) (P.calls ports.new) (P.faults ports.new)) }
-    ensures ears { OnOk result (AreNewOnes IsNewEar number_of_ear (P.calls ports.old)
-        (length binds.now) (map (λ ear. ear_told (P.Ear.heard ear) (P.Ear.faults ear)
-        (P.Ear.mark ear)) ears.new.items)) }
-    ensures mouths { OnOk result (AreNewOnes IsNewMouth number_of_mouth (P.calls ports.old)
-        (length binds.now) (map (told_by P.Mouth.said P.Mouth.tallies P.Mouth.faults P.Mouth.mark
-        P.Mouth.label) mouths.new.items)) }
-    ensures fails_last { FailsLast (λ p. ports_told (P.asked p) (P.calls p) (P.faults p))
-        ports.old ports.new }
+        (P.told ports.old) (P.told ports.new) }
+    ensures ears { OnOk result (AreNewOnes IsNewEar (P.told ports.old).calls
+        (length binds.now) (map P.Ear.told ears.new.items)) }
+    ensures mouths { OnOk result (AreNewOnes IsNewMouth (P.told ports.old).calls
+        (length binds.now) (map P.Mouth.told mouths.new.items)) }
+    ensures fails_last { FailsLast P.told ports.old ports.new }
 {
     for bind in binds {
         let (ear, mouth) = match ports.link(bind.as_str(), until) {
@@ -87,14 +85,11 @@ pub(crate) fn open_books<P: Ports>(
     requires none { shelves.old.items ≡ [] }
     requires room { length names.now ≤ vec_capacity shelves.old }
     ensures asks { Asks result (map questions.Book (map string_bytes names.now))
-        (ports_told (P.asked ports.old) (P.calls ports.old) (P.faults ports.old))
-        (ports_told (P.asked ports.new) (P.calls ports.new) (P.faults ports.new)) }
-    ensures new { OnOk result (AreNewOnes IsNewShelf shelf_mark (P.calls ports.old)
-        (length names.now) (map (λ shelf. option_map (λ b. book_told (P.Book.written b)
-        (P.Book.faults b) (P.Book.mark b)) shelf.inner) shelves.new.items)) }
+        (P.told ports.old) (P.told ports.new) }
+    ensures new { OnOk result (AreNewOnes IsNewBook (P.told ports.old).calls
+        (length names.now) (map (told_of_shelf P.Book.told) shelves.new.items)) }
     ensures there { OnOk result (All (λ shelf. IsSome shelf.inner) shelves.new.items) }
-    ensures fails_last { FailsLast (λ p. ports_told (P.asked p) (P.calls p) (P.faults p))
-        ports.old ports.new }
+    ensures fails_last { FailsLast P.told ports.old ports.new }
 {
     for name in names {
         let book = match ports.book(name.as_str()) {
@@ -122,21 +117,17 @@ fn open_shelves<P: Ports>(
     requires no_books { books.old.items ≡ [] }
     requires room_for_books { modules ≤ vec_capacity books.old }
     ensures asks { Asks result (shelf_questions order.now (option_map string_bytes order.now.book))
-        (ports_told (P.asked ports.old) (P.calls ports.old) (P.faults ports.old))
-        (ports_told (P.asked ports.new) (P.calls ports.new) (P.faults ports.new)) }
-    ensures traces { OnOk result (AreNewOnes IsNewShelf shelf_mark (P.calls ports.old)
-        (vec_len order.now.binds) (map (λ shelf. option_map (λ b. book_told (P.Book.written b)
-        (P.Book.faults b) (P.Book.mark b)) shelf.inner) traces.new.items)) }
-    ensures books { OnOk result (AreNewOnes IsNewShelf shelf_mark
-        (call_after (P.calls ports.old) (vec_len order.now.binds))
-        modules (map (λ shelf. option_map (λ b. book_told (P.Book.written b)
-        (P.Book.faults b) (P.Book.mark b)) shelf.inner) books.new.items)) }
+        (P.told ports.old) (P.told ports.new) }
+    ensures traces { OnOk result (AreNewOnes IsNewBook (P.told ports.old).calls
+        (vec_len order.now.binds) (map (told_of_shelf P.Book.told) traces.new.items)) }
+    ensures books { OnOk result (AreNewOnes IsNewBook
+        (call_after (P.told ports.old).calls (vec_len order.now.binds))
+        modules (map (told_of_shelf P.Book.told) books.new.items)) }
     ensures traces_there { OnOk result (All (λ shelf.
         IsSome shelf.inner ↔ IsSome order.now.book) traces.new.items) }
     ensures books_there { OnOk result (All (λ shelf.
         IsSome shelf.inner ↔ IsSome order.now.book) books.new.items) }
-    ensures fails_last { FailsLast (λ p. ports_told (P.asked p) (P.calls p) (P.faults p))
-        ports.old ports.new }
+    ensures fails_last { FailsLast P.told ports.old ports.new }
 {
     match &order.book {
         Some(_) => match open_books(names.traces.as_slice(), ports, traces) {
@@ -164,14 +155,10 @@ pub(crate) fn open<P: Ports>(
     requires rooms { HasRooms (vec_len order.now.binds) modules rooms }
     requires seconds { IfSome order.now.seconds (λ seconds. seconds ≤ 1000000) }
     ensures asks { Asks result (questions_of order.now)
-        (ports_told (P.asked ports.old) (P.calls ports.old) (P.faults ports.old))
-        (ports_told (P.asked ports.new) (P.calls ports.new) (P.faults ports.new)) }
-    ensures new { IfOk result (λ opened. AreNew order.now (P.calls ports.old)
-        (house_told (eyes_by P.Ear.heard P.Ear.faults P.Ear.mark
-        (told_by P.Mouth.said P.Mouth.tallies P.Mouth.faults P.Mouth.mark P.Mouth.label)
-        P.Book.written P.Book.faults P.Book.mark) (kinds_opened opened))) }
-    ensures fails_last { FailsLast (λ p. ports_told (P.asked p) (P.calls p) (P.faults p))
-        ports.old ports.new }
+        (P.told ports.old) (P.told ports.new) }
+    ensures new { IfOk result (λ opened. AreNew order.now (P.told ports.old).calls
+        (house_told P.Ear.told P.Mouth.told P.Book.told (kinds_opened opened))) }
+    ensures fails_last { FailsLast P.told ports.old ports.new }
 {
     let mut rooms = rooms;
     let until = until_of(order.seconds);

@@ -1,11 +1,10 @@
-ghost use Rattle.std.specs.Prelude.{◌≡◌, ◌+◌, ◌≤◌, false, length, vec_len, None, IfOk, OnOk, OnErr};
+ghost use Rattle.std.specs.Prelude.{◌≡◌, ◌+◌, ◌≤◌, false, length, vec_len, None, Option, IfOk, OnOk, OnErr};
 ghost use Rattle.m17_control.specs.Modules.{letters_of};
 ghost use Rattle.m17_print.specs.Endings.{Grows};
+ghost use Rattle.m17_reflect.specs.Laws.{DevicesStay};
 ghost use Rattle.m17_reflect.specs.declared.returned.HouseRefusal.TheVariants as refusals;
-ghost use Rattle.m17_sender.specs.Sent.{told_by};
-ghost use Rattle.m17_talk.specs.Devices.{ports_told, FailsLast};
-ghost use Rattle.m17_serve.specs.Devices.{eyes_by, house_back, refused_back};
-ghost use Rattle.m17_serve.specs.Served.{around, counts, ending_by, plan_of, ComesToServe, HasCauses, IsServable, NeverAsked, NeverRan};
+ghost use Rattle.m17_ports.specs.Ports.{FailsLast};
+ghost use Rattle.m17_serve.specs.Served.{around, counts, ending_by, serve_plan, ComesToServe, HasCauses, IsServable, NeverAsked, NeverRan};
 ghost use Rattle.m17_serve.specs.Steps.{AreNames, HasRooms};
 
 use crate::letters::served_letters;
@@ -14,9 +13,10 @@ use crate::names::{Names, make_names};
 use crate::opening::{Opened, make_rooms, open};
 use crate::{ServeEnding, Served};
 use m17_crew::Crew;
-use m17_house::Plan;
 use m17_io::Sink;
-use m17_ports::Ports;
+use m17_plan::Plan;
+use m17_ports::{Book, Ear, Mouth, Ports};
+use m17_reflect::laws::devices_stay;
 use m17_reflect::{HouseRefusal, reflect};
 use m17_values::{Failed, NoMemory};
 use m17_words::ServeOrder;
@@ -36,7 +36,7 @@ struct Made<E, M, B> {
 /// Runs the reflector as its words say: asks the ports for its links, and, where a folder is named, for the trace of each
 /// link and the book of each module, runs the reflector over them, each job in a thread of its own, and writes a line for
 /// each module, in order of letters. The answer says how it ended, and hands the devices back; the last line is the
-/// caller's to write. It waits as long as the ears go on. Want of memory comes before anything was heard. This profile.
+/// caller's to write. It waits as long as the ears go on. Want of memory comes before anything was heard.
 pub fn serve<R: Threads + Wait + Copy + Send + 'static, P: Ports, C: Crew, K: Sink>(
     rt: &R,
     alloc: Global,
@@ -48,27 +48,20 @@ pub fn serve<R: Threads + Wait + Copy + Send + 'static, P: Ports, C: Crew, K: Si
     requires servable { IsServable order.now }
     // A failure is told exactly where the count of what failed rose.
     ensures causes { HasCauses result.ending
-        (counts (P.faults ports.old) (C.refusals crew.old) (K.faults out.old))
-        (counts (P.faults ports.new) (C.refusals crew.new) (K.faults out.new)) }
+        (counts (P.told ports.old).faults (C.refusals crew.old) (K.told out.old).faults)
+        (counts (P.told ports.new).faults (C.refusals crew.new) (K.told out.new).faults) }
     // What the ending says of the ports and of what is handed back holds, and what it prints stands written.
-    ensures ended { ComesToServe order.now result.ending (around
-        (ports_told (P.asked ports.old) (P.calls ports.old) (P.faults ports.old))
-        (ports_told (P.asked ports.new) (P.calls ports.new) (P.faults ports.new))
-        (house_back (eyes_by P.Ear.heard P.Ear.faults P.Ear.mark
-        (told_by P.Mouth.said P.Mouth.tallies P.Mouth.faults P.Mouth.mark P.Mouth.label)
-        P.Book.written P.Book.faults P.Book.mark) result.house)
-        (refused_back (eyes_by P.Ear.heard P.Ear.faults P.Ear.mark
-        (told_by P.Mouth.said P.Mouth.tallies P.Mouth.faults P.Mouth.mark P.Mouth.label)
-        P.Book.written P.Book.faults P.Book.mark) result.refused))
-        (K.written out.old) (K.written out.new) }
-    ensures appended { Grows (K.written out.old) (K.written out.new) }
+    ensures ended { ComesToServe order.now result.ending
+        (around P.Ear.told P.Mouth.told P.Book.told (P.told ports.old) (P.told ports.new) result)
+        (K.told out.old).written (K.told out.new).written }
+    ensures appended { Grows (K.told out.old).written (K.told out.new).written }
     // Where the ports fail, that was the last question: until then their count of faults stands.
-    ensures fails_last { FailsLast (λ p. ports_told (P.asked p) (P.calls p) (P.faults p))
-        ports.old ports.new }
+    ensures fails_last { FailsLast P.told ports.old ports.new }
     // Where the reflector never ran, the sink is as it was; and before the threads are started, so is the crew.
     ensures untouched { NeverRan result.ending → out.new ≡ out.old }
     ensures unasked { NeverAsked result.ending → crew.new ≡ crew.old }
 {
+    of_runs::<P::Ear, P::Mouth, P::Book>();
     let Ok(made) = make(alloc, order) else {
         return without(ServeEnding::NoMemory);
     };
@@ -110,6 +103,14 @@ pub fn serve<R: Threads + Wait + Copy + Send + 'static, P: Ports, C: Crew, K: Si
     }
 }
 
+// What becomes of the devices of a run.
+#[inline]
+fn of_runs<E: Ear, M: Mouth, B: Book>()
+    ensures { DevicesStay E.Label M.Label (Option B.Label) }
+{
+    devices_stay::<E::Label, M::Label, Option<B::Label>>();
+}
+
 // What is made first.
 fn make<E: Drop, M: Drop, B: Drop>(
     alloc: Global,
@@ -133,7 +134,7 @@ fn make<E: Drop, M: Drop, B: Drop>(
 
 // The plan of the words.
 fn plan_of(order: &ServeOrder) -> Plan
-    ensures { result ≡ plan_of order.now }
+    ensures { result ≡ serve_plan order.now }
 {
     Plan {
         name: order.call,

@@ -2,7 +2,7 @@ use m17_ports::Shelf;
 use m17_print::{Ending, NoReason};
 use m17_reflect::{Refused, Returned};
 
-/// How `serve` came to its end. This profile.
+/// How `serve` came to its end.
 #[derive(Clone, Copy, Debug, PartialEq, Eq)]
 pub enum ServeEnding {
     /// Each link came to its end. The lines were written.
@@ -25,7 +25,7 @@ impl ServeEnding {
     ghost use Rattle.std.specs.Prelude.{◌≡◌};
     ghost use Rattle.m17_serve.specs.Endings.{serve_ending};
 
-    /// The same among all the ways that a run may end. This profile.
+    /// The same among all the ways that a run may end.
     pub fn into_ending(self) -> Ending<NoReason>
         ensures { result ≡ serve_ending self }
     {
@@ -42,7 +42,7 @@ impl ServeEnding {
 }
 
 /// What `serve` came to: its ending, and the devices, with what went through the threads where the reflector ran, and with
-/// the reason where it refused to. This profile.
+/// the reason where it refused to.
 #[derive(Drop)]
 pub struct Served<E, M, B> {
     /// How it ended.

@@ -10,7 +10,7 @@ use Rattle.m17_stream.specs.declared.packet.StreamPacket.{StreamPacket}
 use Rattle.m17_talk.specs.declared.reason.ScriptReason.{ScriptReason}
 use Rattle.m17_talk.specs.declared.reason.ScriptReason.TheVariants.{Cut, Field, Large}
 use Rattle.m17_talk.specs.Laws.{IsReadOrRefused}
-use Rattle.m17_talk.specs.Script.{Due, most_records, from_record, last_moment, moment_of, packet_of, BeginsWith, IsEarly, RefusesNext, SpellsDue}
+use Rattle.m17_talk.specs.Script.{Due, most_records, from_record, last_moment, script_moment, packet_of, BeginsWith, IsEarly, RefusesNext, SpellsDue}
 use Rattle.m17_talk.proofs.Records.{at_start, begins_more, moment_front, packet_front}
 
 -- nothing is left
@@ -30,20 +30,20 @@ stops input script k reason begins few wrong = inr (62 * length script + k, reas
 early_or_not : (moment : ℕ) (rest : List ℕ) → IsEarly moment rest ⊎ (IsEarly moment rest → ⊥)
 early_or_not moment rest = elim (cases_lt (length rest) 8) [
   | inl short ↦ inr (λ (early : IsEarly moment rest). omega (arith, early.0))
-  | inr long ↦ elim (cases_lt (moment_of rest) moment) [
+  | inr long ↦ elim (cases_lt (script_moment rest) moment) [
     | inl below ↦ inl (long, below)
     | inr later ↦ inr (λ (early : IsEarly moment rest). omega (arith, early.1))
   ]
 ]
 
-not_early : (moment : ℕ) (rest : List ℕ) → (IsEarly moment rest → ⊥) → 62 ≤ length rest → moment ≤ moment_of rest
-not_early moment rest never room = elim (cases_lt (moment_of rest) moment) [
+not_early : (moment : ℕ) (rest : List ℕ) → (IsEarly moment rest → ⊥) → 62 ≤ length rest → moment ≤ script_moment rest
+not_early moment rest never room = elim (cases_lt (script_moment rest) moment) [
   | inl below ↦ absurd (never (omega arith, below))
   | inr later ↦ later
 ]
 
 -- the record that what is left begins with
-next_due : (rest : List ℕ) (packet : StreamPacket) → 62 ≤ length rest → SpellsStream packet (packet_of rest) → SpellsDue (moment_of rest, packet) (take 62 rest)
+next_due : (rest : List ℕ) (packet : StreamPacket) → 62 ≤ length rest → SpellsStream packet (packet_of rest) → SpellsDue (script_moment rest, packet) (take 62 rest)
 next_due rest packet room spells = record {
   size = length-take-le 62 rest room;
   moment_is = sym (moment_front rest);
@@ -68,8 +68,8 @@ reads law input bytes (suc more) script count begins =
           | inl short ↦ stops input script (length rest) Cut begins few (some, short, never, refl)
           | inr room ↦ elim (law (packet_of rest) part) [
             | inl found ↦
-                let due : Due = (moment_of rest, found.0) in
-                let later : last_moment script ≤ moment_of rest = not_early (last_moment script) rest never room in
+                let due : Due = (script_moment rest, found.0) in
+                let later : last_moment script ≤ script_moment rest = not_early (last_moment script) rest never room in
                 let longer : length (script ++ due ∷ []) ≡ length script + 1 = length_push script due in
                 reads law input bytes more (script ++ due ∷ []) (omega arith) (begins_more input script due few room begins (next_due rest found.0 room found.1.spelled) later)
             | inr refused ↦ stops input script 8 Field begins few (inr (room, never, refused.1.no_value, refl))

@@ -6,9 +6,9 @@ use Rattle.std.specs.Int.{w64, from_be_bytes}
 use Rattle.std.proofs.lemmas.Option.{slice_get_within, slice_get-get_or}
 use Rattle.std.proofs.lemmas.List.{drop-drop, drop-take, get_or_at, length-drop, length-take-le, length_push, nil_from_length, take-take, take_at}
 use Rattle.std.proofs.lemmas.Bool.{cases_lt}
-use Rattle.m17_fill.specs.Fill.{IsFilled}
+use Rattle.m17_io.specs.Fill.{IsFilled}
 use Rattle.m17_client.specs.Talk.{IsInOrder}
-use Rattle.m17_talk.specs.Script.{Due, most_records, from_record, record_at, last_moment, moment_of, packet_of, BeginsWith, IsScript, SpellsDue}
+use Rattle.m17_talk.specs.Script.{Due, most_records, from_record, record_at, last_moment, script_moment, packet_of, BeginsWith, IsScript, SpellsDue}
 
 -- These records were read, and the rest of the input is left.
 pub record IsAfter (bytes : List ℕ) (script : List Due) (left : Option (List ℕ)) : Type 0 where
@@ -74,7 +74,7 @@ pub filled_part : (rest buffer filled : List ℕ) (n : ℕ) (left : Option (List
 filled_part rest buffer filled n left is = ap (take n) is.front ∙ take_at (take n rest) (drop n buffer) n (length-take-le n rest is.no_more)
 
 -- the fields of a whole record are those that what is left begins with
-pub moment_front : (rest : List ℕ) → moment_of (take 62 rest) ≡ moment_of rest
+pub moment_front : (rest : List ℕ) → script_moment (take 62 rest) ≡ script_moment rest
 moment_front rest = ap (from_be_bytes w64) (take-take 8 62 rest (omega arith))
 
 pub packet_front : (rest : List ℕ) → packet_of (take 62 rest) ≡ packet_of rest

@@ -2,7 +2,7 @@
 use Rattle.std.proofs.Common.{◌≡◌, ℕ, ◌+◌, ◌*◌, ◌<◌, ◌≤◌, List, [], length, take, drop, Option, Some, Result, Ok, Err, IfOk, IfErr, sym, ap, subst, ◌∙◌, arith, inl, inr}
 use Rattle.std.proofs.lemmas.List.{length-take-le, nil_from_length, take_all}
 use Rattle.std.proofs.lemmas.Bool.{cases_lt}
-use Rattle.m17_fill.specs.Fill.{IsFilled}
+use Rattle.m17_io.specs.Fill.{IsFilled}
 use Rattle.m17_stream.specs.Stream.{SpellsStream}
 use Rattle.m17_stream.specs.declared.packet.StreamPacket.{StreamPacket}
 use Rattle.m17_talk.specs.declared.reason.ScriptFailure.{ScriptFailure}

@@ -3,6 +3,8 @@ use Rattle.std.proofs.Common.{◌≡◌, ℕ, Bool, true, false, List, take, Opt
 use Rattle.std.specs.Prelude.{IsSome, ◌↔◌, if◌then◌else◌}
 use Rattle.std.specs.Option.{option_map}
 use Rattle.m17_print.specs.Endings.{Grows}
+use Rattle.m17_ports.specs.Book.{BookTold, shelf_told}
+use Rattle.m17_ports.specs.Marks.{Device}
 use Rattle.m17_client.specs.declared.talking.TalkEnd.{TalkEnd}
 use Rattle.m17_words.specs.declared.order.TalkOrder.{TalkOrder}
 use Rattle.m17_talk.specs.declared.ending.TalkEnding.{TalkEnding}
@@ -15,7 +17,7 @@ use Rattle.m17_talk.specs.Talked.{ending_of, talk_line, AsksNothing, ComesToTalk
 use Rattle.m17_talk.specs.Walk.{Prints}
 
 -- the input is refused
-pub refused_told : (order : TalkOrder) (ending : TalkEnding) (failure : ScriptFailure) (place : ℕ) (reason : ScriptReason) (run : Handed) (s : Streams)
+pub refused_told : {E M B : Type 0} (order : TalkOrder) (ending : TalkEnding) (failure : ScriptFailure) (place : ℕ) (reason : ScriptReason) (run : Handed E M B) (s : Streams)
     → ending ≡ endings.Refused place reason → failure ≡ failures.Refused place reason → AsksNothing run → s.written ≡ s.first
     → ((input : List ℕ) → s.left ≡ Some input → SaysFailure failure input) → ComesToTalk order ending run s
 refused_told order ending failure place reason run s is failed nothing same says =
@@ -29,13 +31,13 @@ by_end true failed P a b c = a
 by_end false true P a b c = b
 by_end false false P a b c = c
 
-whole_told : (order : TalkOrder) (ending : TalkEnding) (end : TalkEnd) (run : Handed) (s : Streams) → ending ≡ ending_of end → EndsTalk order ending run s → ComesToTalk order ending run s
+whole_told : {E M B : Type 0} (order : TalkOrder) (ending : TalkEnding) (end : TalkEnd) (run : Handed E M B) (s : Streams) → ending ≡ ending_of end → EndsTalk order ending run s → ComesToTalk order ending run s
 whole_told order ending end run s is ends =
     subst (λ (e : TalkEnding). EndsTalk order e run s → ComesToTalk order e run s) (sym is)
     (by_end end.lost end.book_failed (λ (e : TalkEnding). EndsTalk order e run s → ComesToTalk order e run s) (λ h. h) (λ h. h) (λ h. h)) ends
 
 -- the talk ran, and its line was written or not
-pub talked_told : {T E : Type 0} (printed : Result T E) (order : TalkOrder) (ending : TalkEnding) (end : TalkEnd) (run : Handed) (s : Streams) → OnOk printed (ending ≡ ending_of end)
+pub talked_told : {T F E M B : Type 0} (printed : Result T F) (order : TalkOrder) (ending : TalkEnding) (end : TalkEnd) (run : Handed E M B) (s : Streams) → OnOk printed (ending ≡ ending_of end)
     → OnErr printed (ending ≡ endings.WriteFailed) → HasRun order end run s → Prints printed end s.first s.written → ComesToTalk order ending run s
 talked_told (Ok x) order ending end run s ok err ran prints = whole_told order ending end run s ok (end, ran, ok, prints.all_of_it)
 talked_told (Err x) order ending end run s ok err ran prints =
@@ -46,10 +48,11 @@ printed_grows (Ok x) end first written prints = λ before told. (talk_line end, 
 printed_grows (Err x) end first written prints = λ before told.
     let part = prints.part_of_it before told in (take part.0 (talk_line end), part.1)
 
--- a mapped option is there where the option is
-pub there_mapped : {X Y : Type 0} (f : X → Y) (o : Option X) {Z : Type 0} (p : Option Z) → (IsSome o ↔ IsSome p) → IsSome (option_map f o) ↔ IsSome p
-there_mapped f None p same = same
-there_mapped f (Some x) p same = same
+-- the label of a shelf is there where its book is
+pub label_there : {X L Z : Type 0} (f : X → BookTold L) (inner : Option X) (named : Option Z) → (IsSome inner ↔ IsSome named)
+    → IsSome (shelf_told (option_map f inner)).device.label ↔ IsSome named
+label_there f None named same = same
+label_there f (Some book) named same = same
 
-pub there_then : {X Y Z : Type 0} (a : Option X) (b : Option Y) (c : Option Z) → (IsSome a ↔ IsSome b) → (IsSome b ↔ IsSome c) → IsSome a ↔ IsSome c
-there_then a b c first next = ((λ h. next.0 (first.0 h)), (λ h. first.1 (next.1 h)))
+pub same_there : {L Z : Type 0} (old new : Device ℕ (Option L)) (named : Option Z) → new ≡ old → (IsSome old.label ↔ IsSome named) → IsSome new.label ↔ IsSome named
+same_there old new named same there = subst (λ (d : Device ℕ (Option _)). IsSome d.label ↔ IsSome named) (sym same) there

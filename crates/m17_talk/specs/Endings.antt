@@ -1,4 +1,4 @@
--- How `talk` ends, among all the ways that a run may. This profile.
+-- How `talk` ends, among all the ways that a run may.
 use Rattle.m17_print.specs.declared.ending.Ending.{Ending}
 use Rattle.m17_print.specs.declared.ending.Ending.TheVariants as endings
 use Rattle.m17_talk.specs.declared.ending.TalkEnding.{TalkEnding}

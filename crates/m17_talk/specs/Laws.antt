@@ -1,4 +1,4 @@
--- Each list of bytes is read as one script, or refused at one place for one reason, and never both. This profile.
+-- Each list of bytes is read as one script, or refused at one place for one reason, and never both.
 use Rattle.std.specs.Prelude.{◌≡◌, ◌⊎◌, ℕ, List}
 use Rattle.m17_fields.specs.Fields.{IsBytes}
 use Rattle.m17_talk.specs.declared.reason.ScriptReason.{ScriptReason}

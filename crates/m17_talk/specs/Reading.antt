@@ -1,4 +1,4 @@
--- What reading a script tells where it has none to give. This profile.
+-- What reading a script tells where it has none to give.
 use Rattle.std.specs.Prelude.{ℕ, List, Option, None, Some, Result, Ok, Err}
 use Rattle.m17_io.specs.declared.fault.Fault.{Fault}
 use Rattle.m17_talk.specs.declared.reason.ScriptFailure.{ScriptFailure}

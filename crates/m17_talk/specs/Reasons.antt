@@ -1,4 +1,4 @@
--- The words of the reasons for which a script is refused. This profile.
+-- The words of the reasons for which a script is refused.
 use Rattle.std.specs.Prelude.{ℕ, List, codes}
 use Rattle.m17_talk.specs.declared.reason.ScriptReason.{ScriptReason}
 use Rattle.m17_talk.specs.declared.reason.ScriptReason.TheVariants.{Cut, Field, Large}

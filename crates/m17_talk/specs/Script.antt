@@ -1,4 +1,4 @@
--- Scripts of `talk`: records of 62 bytes, each a moment and a packet, and why other bytes are none. This profile.
+-- Scripts of `talk`: records of 62 bytes, each a moment and a packet, and why other bytes are none.
 use Rattle.std.specs.Prelude.{◌≡◌, ◌⊎◌, ℕ, ◌+◌, ◌-◌, ◌*◌, ◌<◌, ◌≤◌, List, length, take, drop, Some, unwrap_or}
 use Rattle.std.specs.List.{slice_get}
 use Rattle.std.specs.Option.{option_map}
@@ -21,16 +21,16 @@ abbrev pub Due : Type 0
 Due = ℕ × StreamPacket
 
 -- the fields of the record that these bytes begin with
-abbrev pub moment_of : List ℕ → ℕ
-moment_of bytes = from_be_bytes w64 (take 8 bytes)
+abbrev pub script_moment : List ℕ → ℕ
+script_moment bytes = from_be_bytes w64 (take 8 bytes)
 
 abbrev pub packet_of : List ℕ → List ℕ
 packet_of bytes = take 54 (drop 8 bytes)
 
--- The bytes are the record of this packet and its moment. This profile.
+-- The bytes are the record of this packet and its moment.
 pub record SpellsDue (due : Due) (bytes : List ℕ) : Type 0 where
   pub size : length bytes ≡ record_size
-  pub moment_is : due.0 ≡ moment_of bytes
+  pub moment_is : due.0 ≡ script_moment bytes
   pub packet_is : SpellsStream due.1 (packet_of bytes)
 
 -- the input from record n on, and that record
@@ -40,14 +40,14 @@ from_record input n = drop (record_size * n) input
 abbrev pub record_at : List ℕ → ℕ → List ℕ
 record_at input n = take record_size (from_record input n)
 
--- These are the first records of the input, and no moment is below the one before it. This profile.
+-- These are the first records of the input, and no moment is below the one before it.
 pub record BeginsWith (input : List ℕ) (script : List Due) : Type 0 where
   pub not_large : length script ≤ most_records
   pub within : record_size * length script ≤ length input
   pub each : (n : ℕ) (due : Due) → slice_get script n ≡ Some due → SpellsDue due (record_at input n)
   pub in_order : IsInOrder script
 
--- The input is this script: these records, 16,384 at the most, and nothing else. This profile.
+-- The input is this script: these records, 16,384 at the most, and nothing else.
 pub record IsScript (input : List ℕ) (script : List Due) : Type 0 where
   pub begins : BeginsWith input script
   pub whole : length input ≡ record_size * length script
@@ -59,11 +59,10 @@ last_moment script =
 
 -- the moment that these bytes begin with is below this one before it
 abbrev pub IsEarly : ℕ → List ℕ → Type 0
-IsEarly moment rest = (8 ≤ length rest) × (moment_of rest < moment)
+IsEarly moment rest = (8 ≤ length rest) × (script_moment rest < moment)
 
 -- Why what is left of an input behind a record of this moment begins with no other, and at which of its bytes: its
 -- moment is below the one before it, which is told also where the packet is cut; it is cut; or its packet is none.
--- This profile.
 abbrev pub RefusesNext : ℕ → List ℕ → ℕ → ScriptReason → Type 0
 RefusesNext moment rest place Cut = (0 < length rest) × (length rest < record_size)
     × ¬ IsEarly moment rest × (place ≡ length rest)
@@ -79,7 +78,7 @@ RefusesMore rest Field = ⊥
 RefusesMore rest Large = 0 < length rest
 
 -- The input is refused as a script at this place, for this reason: behind these records it goes on, and not with a
--- record. This profile.
+-- record.
 pub record RefusesScript (input : List ℕ) (place : ℕ) (reason : ScriptReason) : Type 0 where
   pub script : List Due
   pub begins : BeginsWith input script

@@ -1,10 +1,10 @@
--- What `talk` asks, does and prints, and how it ends. This profile.
-use Rattle.std.specs.Prelude.{◌≡◌, ◌⊎◌, ◌↔◌, ℕ, ◌<◌, ◌≤◌, List, [], ◌∷◌, ◌++◌, length, take, codes, decimal, string_bytes, IsTrue, Option, None, Some, IsSome, if◌then◌else◌}
+-- What `talk` asks, does and prints, and how it ends.
+use Rattle.std.specs.Prelude.{◌≡◌, ◌⊎◌, ◌↔◌, ℕ, List, [], ◌∷◌, ◌++◌, codes, decimal, string_bytes, Option, None, Some, IsSome, if◌then◌else◌}
 use Rattle.std.specs.Option.{option_map}
-use Rattle.m17_io.specs.Faults.{HasRisen}
 use Rattle.m17_io.specs.Sink.{AppendsPrefix}
 use Rattle.m17_io.specs.declared.fault.Fault.{Fault}
 use Rattle.m17_io.specs.declared.fault.Fault.TheVariants.{Read, Write}
+use Rattle.m17_ports.specs.Ports.{HasAsked, PortsTold}
 use Rattle.m17_ports.specs.declared.question.Question.{Question}
 use Rattle.m17_ports.specs.declared.question.Question.TheVariants.{Link, Book}
 use Rattle.m17_client.specs.declared.state.Ending.{Ending}
@@ -13,16 +13,15 @@ use Rattle.m17_client.specs.declared.state.State.{State}
 use Rattle.m17_client.specs.declared.state.State.TheVariants.{Idle, Connecting, Connected, Leaving, Closed}
 use Rattle.m17_client.specs.declared.talking.TalkEnd.{TalkEnd}
 use Rattle.m17_client.specs.Standing.{new_client}
-use Rattle.m17_client.specs.Talk.{TalkPlan, Turn, IsInOrder, IsTalkRun, entries_of, steps_of}
-use Rattle.m17_client.specs.TalkDevices.{HasHeard, HasSaid, HasWritten, IsTalkEnd, records_of, says_of}
+use Rattle.m17_client.specs.Talk.{TalkPlan, IsInOrder}
+use Rattle.m17_client.specs.TalkDevices.{HasTalked}
 use Rattle.m17_words.specs.declared.order.TalkOrder.{TalkOrder}
 use Rattle.m17_talk.specs.declared.ending.TalkEnding.{TalkEnding}
 use Rattle.m17_talk.specs.declared.ending.TalkEnding.TheVariants as endings
-use Rattle.m17_talk.specs.Devices.{PortsTold, DevicesTold, HasAsked, AreNew, shelf_tells, shelf_mark}
+use Rattle.m17_talk.specs.Devices.{DevicesTold, AreNew, FailsAmong}
 use Rattle.m17_talk.specs.Script.{Due, IsScript, RefusesScript}
 
 -- What a talk asks of the ports, in order: its link, which never ends by itself, and then its book, where one is named.
--- This profile.
 abbrev pub book_questions : Option (List ℕ) → List Question
 book_questions None = []
 book_questions (Some name) = Book name ∷ []
@@ -32,64 +31,48 @@ questions_of order =
     Link (string_bytes order.bind) None ∷ book_questions (option_map string_bytes order.book)
 
 -- the run of the client: that which the words and the script ask for
-abbrev pub plan_of : TalkOrder → List Due → TalkPlan
-plan_of order script = record {
+abbrev pub talk_plan : TalkOrder → List Due → TalkPlan
+talk_plan order script = record {
   to = order.to;
   client = new_client order.call order.letter order.listen;
   script = script;
   stay = order.stay;
 }
 
--- The client talked over these devices and came to this end. They keep their marks. This profile.
-pub record HasTalked (plan : TalkPlan) (end : TalkEnd) (before after : DevicesTold) : Type 0 where
-  pub turns : List Turn
-  pub is_run : IsTalkRun plan turns
-  pub is_end : IsTalkEnd plan turns end
-  pub heard : HasHeard before.ear.tells (entries_of turns) after.ear.tells
-  pub said : HasSaid before.mouth.tells plan.to (says_of (steps_of turns)) after.mouth.tells
-  pub written : HasWritten (shelf_tells before.book) (records_of (steps_of turns)) end.book_failed
-      (shelf_tells after.book)
-  pub lost : IsTrue end.lost → HasRisen before.ear.tells.1 after.ear.tells.1
-  pub failed : IsTrue end.book_failed
-      → HasRisen (shelf_tells before.book).1 (shelf_tells after.book).1
-  pub same_link : (after.ear.mark ≡ before.ear.mark) × (after.mouth.mark ≡ before.mouth.mark)
-  pub same_book : shelf_mark after.book ≡ shelf_mark before.book
-
 -- What is told of a run of the command beside its streams: of the ports before it and after it, and of the devices that
--- it hands back, where it does.
-pub record Handed : Type 0 where
+-- it hands back, where it does. Its ear, its mouth and its book have labels of these kinds; the book may be missing, and
+-- then it has none.
+pub record Handed (E M B : Type 0) : Type 0 where
   pub before : PortsTold
   pub after : PortsTold
-  pub devices : Option DevicesTold
+  pub devices : Option (DevicesTold E M (Option B))
 
-abbrev pub handed : PortsTold → PortsTold → Option DevicesTold → Handed
-handed before after devices = record { before = before; after = after; devices = devices }
+module _ {E M B : Type 0} where
+  abbrev pub handed : PortsTold → PortsTold → Option (DevicesTold E M (Option B)) → Handed E M B
+  handed before after devices = record { before = before; after = after; devices = devices }
 
--- no port was asked for anything, and no device is handed back
-abbrev pub AsksNothing : Handed → Type 0
-AsksNothing run = (run.after ≡ run.before) × (run.devices ≡ None)
+  -- no port was asked for anything, and no device is handed back
+  abbrev pub AsksNothing : Handed E M B → Type 0
+  AsksNothing run = (run.after ≡ run.before) × (run.devices ≡ None)
 
--- The ports failed at the last of the questions that were asked, which are the first of those of the talk. No device is
--- handed back. This profile.
-pub record FailsAtPort (order : TalkOrder) (run : Handed) : Type 0 where
-  pub count : ℕ
-  pub some : (0 < count) × (count ≤ length (questions_of order))
-  pub asked : HasAsked (take count (questions_of order)) run.before run.after
-  pub risen : HasRisen run.before.faults run.after.faults
-  pub none : run.devices ≡ None
+  -- The ports failed at the last of the questions that were asked, which are the first of those of the talk. No device is
+  -- handed back.
+  abbrev pub FailsAtPort : TalkOrder → Handed E M B → Type 0
+  FailsAtPort order run = FailsAmong (questions_of order) run.before run.after
+      × (run.devices ≡ None)
 
--- The talk ran over the devices that the ports handed out, which were new, and they are handed back. There is a book
--- exactly where one is named. This profile.
-pub record Talks (order : TalkOrder) (script : List Due) (end : TalkEnd) (run : Handed) : Type 0
-  where
+  -- The talk ran over the devices that the ports handed out, which were new, and they are handed back. There is a book
+  -- exactly where one is named.
+  pub record Talks (order : TalkOrder) (script : List Due) (end : TalkEnd) (run : Handed E M B)
+      : Type 0 where
     pub asked : HasAsked (questions_of order) run.before run.after
     pub no_fault : run.after.faults ≡ run.before.faults
-    pub new : DevicesTold
+    pub new : DevicesTold E M (Option B)
     pub are_new : AreNew run.before.calls new
-    pub devices : DevicesTold
+    pub devices : DevicesTold E M (Option B)
     pub handed_back : run.devices ≡ Some devices
-    pub book_there : IsSome devices.book ↔ IsSome order.book
-    pub talked : HasTalked (plan_of order script) end new devices
+    pub book_there : IsSome devices.book.device.label ↔ IsSome order.book
+    pub talked : HasTalked (talk_plan order script) end new devices
 
 -- the word for why a client is closed
 abbrev pub ending_word : Ending → List ℕ
@@ -107,7 +90,7 @@ state_words (Connecting tries) = codes "ended"
 state_words (Connected heard_at) = codes "ended"
 state_words Leaving = codes "ended"
 
--- The line of a talk: what became of the client, and how many packets it kept. This profile.
+-- The line of a talk: what became of the client, and how many packets it kept.
 abbrev pub talk_line : TalkEnd → List ℕ
 talk_line end = state_words end.state ++ codes " kept " ++ decimal end.kept ++ 10 ∷ []
 
@@ -140,10 +123,6 @@ abbrev pub HasRead : List Due → Streams → Type 0
 HasRead script s = IsInOrder script × ((input : List ℕ) → s.left ≡ Some input
     → IsScript input script × (s.rest ≡ Some []))
 
--- The input was read to its end, and then the talk ran to this end. This profile.
-abbrev pub HasRun : TalkOrder → TalkEnd → Handed → Streams → Type 0
-HasRun order end run s = (script : List Due) × HasRead script s × Talks order script end run
-
 -- the whole line of this end was written, or where the sink failed a first part of it
 abbrev pub HasPrinted : TalkEnd → Streams → Type 0
 HasPrinted end s = (before : List ℕ) → s.first ≡ Some before
@@ -153,21 +132,26 @@ abbrev pub HasPrintedPart : TalkEnd → Streams → Type 0
 HasPrintedPart end s = (before : List ℕ) → s.first ≡ Some before
     → AppendsPrefix before (talk_line end) s.written
 
--- the talk ran, its line was written, and this is how the command ends then
-abbrev pub EndsTalk : TalkOrder → TalkEnding → Handed → Streams → Type 0
-EndsTalk order ending run s = (end : TalkEnd) × HasRun order end run s
-    × (ending ≡ ending_of end) × HasPrinted end s
+module _ {E M B : Type 0} where
+  -- The input was read to its end, and then the talk ran to this end.
+  abbrev pub HasRun : TalkOrder → TalkEnd → Handed E M B → Streams → Type 0
+  HasRun order end run s = (script : List Due) × HasRead script s × Talks order script end run
 
--- What each ending of `talk` says. It reads its input whole before it asks the ports for anything, and writes nothing
--- before the talk has run. This profile.
-abbrev pub ComesToTalk : TalkOrder → TalkEnding → Handed → Streams → Type 0
-ComesToTalk order endings.Finished run s = EndsTalk order endings.Finished run s
-ComesToTalk order endings.LinkLost run s = EndsTalk order endings.LinkLost run s
-ComesToTalk order endings.BookFailed run s = EndsTalk order endings.BookFailed run s
-ComesToTalk order (endings.Refused place reason) run s = AsksNothing run × (s.written ≡ s.first)
-    × ((input : List ℕ) → s.left ≡ Some input → RefusesScript input place reason)
-ComesToTalk order endings.ReadFailed run s = AsksNothing run × (s.written ≡ s.first)
-ComesToTalk order endings.PortFailed run s = FailsAtPort order run × (s.written ≡ s.first)
-    × ((script : List Due) × HasRead script s)
-ComesToTalk order endings.WriteFailed run s = (AsksNothing run × (s.written ≡ s.first))
-    ⊎ ((end : TalkEnd) × HasRun order end run s × HasPrintedPart end s)
+  -- the talk ran, its line was written, and this is how the command ends then
+  abbrev pub EndsTalk : TalkOrder → TalkEnding → Handed E M B → Streams → Type 0
+  EndsTalk order ending run s = (end : TalkEnd) × HasRun order end run s
+      × (ending ≡ ending_of end) × HasPrinted end s
+
+  -- What each ending of `talk` says. It reads its input whole before it asks the ports for anything, and writes nothing
+  -- before the talk has run.
+  abbrev pub ComesToTalk : TalkOrder → TalkEnding → Handed E M B → Streams → Type 0
+  ComesToTalk order endings.Finished run s = EndsTalk order endings.Finished run s
+  ComesToTalk order endings.LinkLost run s = EndsTalk order endings.LinkLost run s
+  ComesToTalk order endings.BookFailed run s = EndsTalk order endings.BookFailed run s
+  ComesToTalk order (endings.Refused place reason) run s = AsksNothing run × (s.written ≡ s.first)
+      × ((input : List ℕ) → s.left ≡ Some input → RefusesScript input place reason)
+  ComesToTalk order endings.ReadFailed run s = AsksNothing run × (s.written ≡ s.first)
+  ComesToTalk order endings.PortFailed run s = FailsAtPort order run × (s.written ≡ s.first)
+      × ((script : List Due) × HasRead script s)
+  ComesToTalk order endings.WriteFailed run s = (AsksNothing run × (s.written ≡ s.first))
+      ⊎ ((end : TalkEnd) × HasRun order end run s × HasPrintedPart end s)

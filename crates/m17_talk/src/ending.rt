@@ -2,7 +2,7 @@ use crate::ScriptReason;
 use m17_ports::Shelf;
 use m17_print::Ending;
 
-/// How `talk` came to its end. This profile.
+/// How `talk` came to its end.
 #[derive(Clone, Copy, Debug, PartialEq, Eq)]
 pub enum TalkEnding {
     /// The talk ran: the client closed, or its ear said End. Its line was written.
@@ -25,7 +25,7 @@ impl TalkEnding {
     ghost use Rattle.std.specs.Prelude.{◌≡◌};
     ghost use Rattle.m17_talk.specs.Endings.{talk_ending};
 
-    /// The same among all the ways that a run may end. This profile.
+    /// The same among all the ways that a run may end.
     pub fn into_ending(self) -> Ending<ScriptReason>
         ensures { result ≡ talk_ending self }
     {
@@ -41,7 +41,7 @@ impl TalkEnding {
     }
 }
 
-/// What `talk` came to: its ending, and its devices, where it ran. This profile.
+/// What `talk` came to: its ending, and its devices, where it ran.
 #[derive(Debug, Drop)]
 pub struct Talked<E, M, B> {
     /// How it ended.

@@ -1,7 +1,7 @@
 //! What holds of all bytes. It is a function without arguments, which does nothing and ensures the law.
 ghost use Rattle.m17_talk.specs.Laws.{ScriptsAreExact};
 
-/// Each byte list is read as one script, or refused at one place for one reason, and never both. This profile.
+/// Each byte list is read as one script, or refused at one place for one reason, and never both.
 #[inline]
 pub fn scripts_are_exact()
     ensures { ScriptsAreExact }

@@ -7,8 +7,7 @@ ghost use Rattle.m17_talk.specs.Walk.{LooksPast};
 
 use crate::record::{RECORD_BYTES, read_record};
 use crate::{ScriptFailure, ScriptReason};
-use m17_fill::fill;
-use m17_io::{Input, Sink};
+use m17_io::{Input, Sink, fill};
 use m17_stream::StreamPacket;
 use std::alloc::Global;
 
@@ -18,20 +17,20 @@ const RECORDS_MAX: u64 = 16_384;
 /// The records of a script, each with its moment: those that the bytes of the source are. It reads to the end of the
 /// source, record by record, and before it would wait for more, the sink hands on what it holds back; nothing is
 /// written. Else why there is no script: `Refused` with the first place at which the bytes are none, `Device` where one
-/// failed, `NoMemory` where there is none for the list. This profile.
+/// failed, `NoMemory` where there is none for the list.
 pub fn read_script<S: Input<K>, K: Sink>(
     alloc: Global,
     input: &mut S,
     out: &mut K,
 ) -> Result<Vec<(u64, StreamPacket)>, ScriptFailure>
-    ensures script { IfOk result (λ script. (bytes : List ℕ) → S.left input.old ≡ Some bytes
-        → IsScript bytes script.items × (S.left input.new ≡ Some [])) }
+    ensures script { IfOk result (λ script. (bytes : List ℕ) → (S.told input.old).left ≡ Some bytes
+        → IsScript bytes script.items × ((S.told input.new).left ≡ Some [])) }
     ensures in_order { IfOk result (λ script. IsInOrder script.items) }
-    ensures refused { IfErr result (λ failure. (bytes : List ℕ) → S.left input.old ≡ Some bytes
+    ensures refused { IfErr result (λ failure. (bytes : List ℕ) → (S.told input.old).left ≡ Some bytes
         → SaysFailure failure bytes) }
-    ensures causes { HasCauses (S.faults input.old, K.faults out.old)
-        (S.faults input.new, K.faults out.new) (fault_told result) }
-    ensures nothing_written { K.written out.new ≡ K.written out.old }
+    ensures causes { HasCauses ((S.told input.old).faults, (K.told out.old).faults)
+        ((S.told input.new).faults, (K.told out.new).faults) (fault_told result) }
+    ensures nothing_written { (K.told out.new).written ≡ (K.told out.old).written }
 {
     let mut script = Vec::new(alloc);
     let mut bytes = [0u8; RECORD_BYTES];
@@ -67,12 +66,12 @@ fn look_past<S: Input<K>, K: Sink>(
     input: &mut S,
     out: &mut K,
 ) -> Result<Vec<(u64, StreamPacket)>, ScriptFailure>
-    ensures causes { HasCauses (S.faults input.old, K.faults out.old)
-        (S.faults input.new, K.faults out.new) (fault_told result) }
-    ensures looks { (left : List ℕ) → S.left input.old ≡ Some left
-        → LooksPast result left (S.left input.new) }
+    ensures causes { HasCauses ((S.told input.old).faults, (K.told out.old).faults)
+        ((S.told input.new).faults, (K.told out.new).faults) (fault_told result) }
+    ensures looks { (left : List ℕ) → (S.told input.old).left ≡ Some left
+        → LooksPast result left (S.told input.new).left }
     ensures kept { IfOk result (λ all. all.items ≡ script.items) }
-    ensures nothing_written { K.written out.new ≡ K.written out.old }
+    ensures nothing_written { (K.told out.new).written ≡ (K.told out.old).written }
 {
     let mut next = [0u8; 1];
     match fill(input, out, &mut next) {

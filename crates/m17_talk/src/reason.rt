@@ -1,7 +1,7 @@
 use m17_io::Fault;
 use m17_print::{Line, Reason};
 
-/// Why `talk` refuses its input: it is no script. This profile.
+/// Why `talk` refuses its input: it is no script.
 #[derive(Clone, Copy, Debug, PartialEq, Eq)]
 pub enum ScriptReason {
     /// The input ends inside a record.
@@ -12,7 +12,7 @@ pub enum ScriptReason {
     Large,
 }
 
-/// Why there is no script. This profile.
+/// Why there is no script.
 #[derive(Clone, Copy, Debug, PartialEq, Eq)]
 pub enum ScriptFailure {
     /// The input is none: refused at this place, for this reason.

@@ -1,5 +1,5 @@
 ghost use Rattle.std.specs.Prelude.{◌≡◌, ◌<◌, ◌≤◌, length, MatchResult};
-ghost use Rattle.m17_talk.specs.Script.{moment_of, packet_of, record_size, RefusesNext, SpellsDue};
+ghost use Rattle.m17_talk.specs.Script.{script_moment, packet_of, record_size, RefusesNext, SpellsDue};
 
 use crate::ScriptReason;
 use m17_stream::StreamPacket;
@@ -37,7 +37,7 @@ pub(crate) fn read_record(b: &[u8], last: u64) -> Result<(u64, StreamPacket), (u
 #[inline]
 fn record_moment(b: &[u8]) -> u64
     requires { 8 ≤ length b.now }
-    ensures { result ≡ moment_of b.now }
+    ensures { result ≡ script_moment b.now }
 {
     u64::from_be_bytes(*b[..PACKET_AT].as_array().unwrap())
 }

@@ -1,9 +1,12 @@
-ghost use Rattle.std.specs.Prelude.{◌≡◌, ◌↔◌, ℕ, None, IsSome, IfOk, OnOk, OnErr, option_map};
+ghost use Rattle.std.specs.Prelude.{◌≡◌, ℕ, None, IfOk, OnOk, OnErr, option_map};
 ghost use Rattle.m17_io.specs.Faults.{HasCause, HasCauses};
 ghost use Rattle.m17_print.specs.Endings.{Grows};
+ghost use Rattle.m17_ports.specs.Book.{shelf_told};
+ghost use Rattle.m17_ports.specs.Ports.{FailsLast};
 ghost use Rattle.m17_client.specs.Talk.{IsInOrder};
-ghost use Rattle.m17_talk.specs.Devices.{ports_told, ear_told, mouth_told, book_told, devices_told, FailsLast};
-ghost use Rattle.m17_talk.specs.Talked.{failed_device, handed, plan_of, ending_of, ComesToTalk, HasPrinted, HasPrintedPart, HasTalked, Streams};
+ghost use Rattle.m17_client.specs.TalkDevices.{HasTalked};
+ghost use Rattle.m17_talk.specs.Devices.{devices_told};
+ghost use Rattle.m17_talk.specs.Talked.{failed_device, handed, talk_plan, ending_of, ComesToTalk, HasPrinted, HasPrintedPart, Streams};
 ghost use Rattle.m17_talk.specs.Walk.{Prints};
 
 use crate::line::make_talk_line;
@@ -22,7 +25,7 @@ use std::sync::Wait;
 /// Runs a client as its words and its script say: reads the script whole, asks the ports for the link and then for the
 /// book, where one is named, runs the client over them, and writes a line that says what became of it. The answer says
 /// how it ended, with the devices where the talk ran; the last line is the caller's to write. It may wait as long as the
-/// ear does. `NoMemory` where there is none for the script, before the ports are asked for anything. This profile.
+/// ear does. `NoMemory` where there is none for the script, before the ports are asked for anything.
 pub fn talk<R: Wait, P: Ports, S: Input<K>, K: Sink>(
     rt: &R,
     alloc: Global,
@@ -32,34 +35,27 @@ pub fn talk<R: Wait, P: Ports, S: Input<K>, K: Sink>(
     out: &mut K,
 ) -> Result<Talked<P::Ear, P::Mouth, P::Book>, NoMemory>
     // A device is told to have failed exactly where its count of faults rose.
-    ensures causes { IfOk result (λ done. HasCauses (S.faults input.old, K.faults out.old)
-        (S.faults input.new, K.faults out.new) (failed_device done.ending)) }
+    ensures causes { IfOk result (λ done. HasCauses ((S.told input.old).faults, (K.told out.old).faults)
+        ((S.told input.new).faults, (K.told out.new).faults) (failed_device done.ending)) }
     // What the ending says of the input, the ports and the devices holds, and what it prints stands written.
     ensures ended { IfOk result (λ done. ComesToTalk order.now done.ending (handed
-        (ports_told (P.asked ports.old) (P.calls ports.old) (P.faults ports.old))
-        (ports_told (P.asked ports.new) (P.calls ports.new) (P.faults ports.new))
-        (option_map (λ d. devices_told
-        (ear_told (P.Ear.heard d.0) (P.Ear.faults d.0) (P.Ear.mark d.0))
-        (mouth_told (P.Mouth.said d.1) (P.Mouth.tallies d.1)
-        (P.Mouth.faults d.1) (P.Mouth.mark d.1))
-        (option_map (λ b. book_told (P.Book.written b) (P.Book.faults b) (P.Book.mark b))
-        d.2.inner))
-        done.devices))
+        (P.told ports.old) (P.told ports.new)
+        (option_map (λ d. devices_told (P.Ear.told d.0) (P.Mouth.told d.1)
+        (shelf_told (option_map P.Book.told d.2.inner))) done.devices))
         (record {
-          left = S.left input.old;
-          rest = S.left input.new;
-          first = K.written out.old;
-          written = K.written out.new;
+          left = (S.told input.old).left;
+          rest = (S.told input.new).left;
+          first = (K.told out.old).written;
+          written = (K.told out.new).written;
         })) }
-    ensures appended { Grows (K.written out.old) (K.written out.new) }
+    ensures appended { Grows (K.told out.old).written (K.told out.new).written }
     // Where the ports fail, that was the last question: until then their count of faults stands.
-    ensures fails_last { FailsLast (λ p. ports_told (P.asked p) (P.calls p) (P.faults p))
-        ports.old ports.new }
+    ensures fails_last { FailsLast P.told ports.old ports.new }
     // Want of memory comes before the ports are asked and before anything is written, and no device has failed then.
     ensures untouched { OnErr result ((ports.new ≡ ports.old)
-        × (K.written out.new ≡ K.written out.old)) }
-    ensures no_fault { OnErr result ((S.faults input.new ≡ S.faults input.old)
-        × (K.faults out.new ≡ K.faults out.old)) }
+        × ((K.told out.new).written ≡ (K.told out.old).written)) }
+    ensures no_fault { OnErr result (((S.told input.new).faults ≡ (S.told input.old).faults)
+        × ((K.told out.new).faults ≡ (K.told out.old).faults)) }
 {
     let script = match read_script(alloc, input, out) {
         Ok(script) => script,
@@ -104,16 +100,11 @@ fn run_client<R: Wait, E: Ear, M: Mouth, B: Book>(
     shelf: &mut Shelf<B>,
 ) -> TalkEnd
     requires { IsInOrder script.now }
-    ensures talked { HasTalked (plan_of order.now script.now) result
-        (devices_told (ear_told (E.heard ear.old) (E.faults ear.old) (E.mark ear.old))
-        (mouth_told (M.said mouth.old) (M.tallies mouth.old)
-        (M.faults mouth.old) (M.mark mouth.old))
-        (option_map (λ b. book_told (B.written b) (B.faults b) (B.mark b)) shelf.old.inner))
-        (devices_told (ear_told (E.heard ear.new) (E.faults ear.new) (E.mark ear.new))
-        (mouth_told (M.said mouth.new) (M.tallies mouth.new)
-        (M.faults mouth.new) (M.mark mouth.new))
-        (option_map (λ b. book_told (B.written b) (B.faults b) (B.mark b)) shelf.new.inner)) }
-    ensures there { IsSome shelf.new.inner ↔ IsSome shelf.old.inner }
+    ensures { HasTalked (talk_plan order.now script.now) result
+        (devices_told (E.told ear.old) (M.told mouth.old)
+        (shelf_told (option_map B.told shelf.old.inner)))
+        (devices_told (E.told ear.new) (M.told mouth.new)
+        (shelf_told (option_map B.told shelf.new.inner))) }
 {
     let client = Client::new(order.call, order.letter, order.listen);
     m17_client::talk(rt, ear, mouth, shelf, &order.to, client, script, order.stay)
@@ -121,8 +112,8 @@ fn run_client<R: Wait, E: Ear, M: Mouth, B: Book>(
 
 // Writes the line of a talk.
 fn print_end<K: Sink>(end: &TalkEnd, out: &mut K) -> Result<(), Failed>
-    ensures cause { HasCause (K.faults out.old) (K.faults out.new) result }
-    ensures prints { Prints result end.now (K.written out.old) (K.written out.new) }
+    ensures cause { HasCause (K.told out.old).faults (K.told out.new).faults result }
+    ensures prints { Prints result end.now (K.told out.old).written (K.told out.new).written }
 {
     let mut line = Line::new();
     make_talk_line(&mut line, end);

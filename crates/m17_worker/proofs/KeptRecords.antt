@@ -1,5 +1,5 @@
 -- The records of an event, beside what a module's book keeps of it.
-use Rattle.std.proofs.Common.{◌≡◌, ℕ, ◌/◌, ◌≤◌, Bool, true, false, cond, List, [], ◌∷◌, ◌++◌, length, map, slice_get, nat_lt, Option, None, Some, refl, ap, sym, subst, ◌∙◌}
+use Rattle.std.proofs.Common.{◌≡◌, ℕ, ◌/◌, Bool, true, false, cond, List, [], ◌∷◌, ◌++◌, length, map, slice_get, nat_lt, Option, None, Some, refl, ap, sym, subst, ◌∙◌}
 use Rattle.std.specs.Option.{option_map, option_to_list}
 use Rattle.std.specs.List.{filter_map, flat_map, cons_option, range_with_len}
 use Rattle.std.proofs.lemmas.List.{append-nil, map-append}
@@ -32,7 +32,7 @@ use Rattle.m17_module.specs.Events.{kind_of, act_of, acts_of}
 use Rattle.m17_module.specs.Seats.{seat_at, seats_at, members_of, seat_in, seat_of, others_than}
 use Rattle.m17_module.specs.Echoes.{echo_at}
 use Rattle.m17_module.specs.Items.{Setup, Setting, item_to, to_one, says, pings_at, echo_items, echoes_at, said_by, said_at, setting_at, items_at, ping_every_ms}
-use Rattle.m17_book.specs.Checks.{kept_by, kept_of}
+use Rattle.m17_book.specs.Checks.{kept_by}
 use Rattle.m17_book.specs.declared.record.Record.{Record}
 use Rattle.m17_book.specs.declared.record.Record.TheVariants as records
 use Rattle.m17_worker.specs.BookLaws.{RecordsKeepTheActs, BooksAreLegal}

@@ -13,8 +13,10 @@ use Rattle.m17_book.specs.declared.record.Record.{Record}
 use Rattle.m17_book.specs.declared.record.Record.TheVariants.{Join, Packet}
 use Rattle.m17_worker.specs.Taken.{place_of}
 use Rattle.m17_worker.specs.Records.{leave_record, Noted, own_record}
-use Rattle.m17_worker.specs.Written.{Tells, HasText}
+use Rattle.m17_ports.specs.Book.{BookTold, HasText}
+use Rattle.m17_ports.specs.Laws.{BooksAreWrittenInTurn}
 use Rattle.m17_worker.specs.Underway.{Note, noted_text}
+use Rattle.m17_worker.proofs.Texts.{text_untold}
 
 -- a place below so many
 pub place_fits : (places : ℕ) (o : Option ℕ) → ForSome o (λ place. place < places) → option_map_or (λ place. nat_lt place places) o true ≡ true
@@ -47,7 +49,7 @@ writes_own now what own is link place low line at =
     let P : Option Record → Type 0 = λ o. IfSome o IsWritable in
     subst P (sym is ∙ at) (own_writable now what link place low)
 
-pub noted_is : (start book : Tells) (text : List ℕ) (moment told : ℕ) (note : Note) (leave own : Option Record) (failed : Bool) → told ≡ moment
+pub noted_is : {L : Type 0} (start book : BookTold L) (text : List ℕ) (moment told : ℕ) (note : Note) (leave own : Option Record) (failed : Bool) → told ≡ moment
     → leave ≡ option_and_then (leave_record note.event.tag told) note.bye
     → own ≡ own_record (record { tag = note.event.tag; moment = told; verdict = note.verdict; places = note.places }) note.event.body
     → HasText start ((text ++ flat_map record_bytes (option_to_list leave)) ++ flat_map record_bytes (option_to_list own)) failed book
@@ -58,3 +60,12 @@ noted_is start book text moment told note leave own failed same is_leave is_own 
     ap (λ o. (text ++ flat_map record_bytes (option_to_list o)) ++ flat_map record_bytes (option_to_list own)) is_leave
     ∙ ap (λ o. (text ++ flat_map record_bytes (option_to_list (option_and_then (leave_record note.event.tag told) note.bye))) ++ flat_map record_bytes (option_to_list o)) is_own in
     subst P (e ∙ ap (λ m. noted_text text m note) same) h
+
+-- a book that tells nothing tells nothing of the records
+pub noted_untold : {L : Type 0} → BooksAreWrittenInTurn L → (start book : BookTold L) (text : List ℕ) (moment : ℕ) (note : Note) (failed : Bool) → book.written ≡ None
+    → HasText start text failed book → HasText start (noted_text text moment note) failed book
+noted_untold law start book text moment note failed none h =
+    let now : Noted = record { tag = note.event.tag; moment = moment; verdict = note.verdict; places = note.places } in
+    let leave : List ℕ = flat_map record_bytes (option_to_list (option_and_then (leave_record note.event.tag moment) note.bye)) in
+    let own : List ℕ = flat_map record_bytes (option_to_list (own_record now note.event.body)) in
+    text_untold law start (text ++ leave) own book failed none (text_untold law start text leave book failed none h)

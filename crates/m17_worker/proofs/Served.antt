@@ -15,8 +15,9 @@ use Rattle.m17_floor.specs.Acts.{moment_at, greatest_moment, is_packet}
 use Rattle.m17_floor.specs.Laws.{LaterActsChangeNoVerdict, LaterActsChangeNoMoment}
 use Rattle.m17_module.specs.Events.{acts_of, kind_of}
 use Rattle.m17_module.specs.Items.{Setup, items_at, items_given}
-use Rattle.m17_module.specs.StandsFor.{Kept, IsStep, stepped}
+use Rattle.m17_module.specs.StandsFor.{ModuleKept, IsStep, stepped}
 use Rattle.m17_module.specs.Laws.{LaterEventsChangeNoItems, OneEventMoreGives, VerdictsFit, FitsIn, IsNumbered}
+use Rattle.m17_ports.specs.Book.{BookTold, HasText}
 use Rattle.m17_book.specs.Records.{record_bytes, IsLowVerdict}
 use Rattle.m17_rows.specs.Laws.{RowsGrow}
 use Rattle.m17_worker.specs.declared.worker.Worker.{Worker}
@@ -24,9 +25,7 @@ use Rattle.m17_worker.specs.Taken.{is_there, place_of}
 use Rattle.m17_worker.specs.Offers.{AreOffered}
 use Rattle.m17_worker.specs.Gifts.{is_bye, gifts_by, leaves_replaced, gifts, GaveBack}
 use Rattle.m17_worker.specs.Records.{Noted, noted_at, leave_record, own_record, records_of, book_text}
-use Rattle.m17_worker.specs.Written.{Tells, HasText}
 use Rattle.m17_worker.specs.Tape.{IsTaped}
-use Rattle.m17_worker.specs.Ready.{Words}
 use Rattle.m17_worker.specs.WorkerDid.{HasServed}
 use Rattle.m17_worker.specs.Underway.{noted_text, filled, HasRoom}
 use Rattle.m17_worker.specs.declared.offers.LaneOffers.{LaneOffers}
@@ -54,21 +53,21 @@ pub record Seen : Type 0 where
   pub bye : Option Item
 
 -- what became of it, in the worker before and after
-pub record IsSeen {B : Type 0} (words : Words B) (events : List Event) (s : Seen) (k n : Worker B) : Type 0 where
+pub record IsSeen {B L : Type 0} (told : B → BookTold L) (events : List Event) (s : Seen) (k n : Worker B) : Type 0 where
   pub step : IsStep k.module.setup events s.event (stepped s.verdict n.module s.items)
   pub answer : is_some s.verdict ≡ is_packet (kind_of s.event.body)
   pub offered : AreOffered s.items k.offers n.offers
   pub gave : GaveBack k.seat (gifts_by (not (leaves_replaced s.event.body)) s.items) n.seat
   pub the_bye : IsTheBye s.bye s.items
-  pub text : (start : Tells) (text : List ℕ) (places : ℕ)
+  pub text : (start : BookTold L) (text : List ℕ) (places : ℕ)
       → option_map_or (λ place. nat_lt place places) (place_of s.event.body) true ≡ true
-      → HasText start text k.book_failed (words.written k.book, words.faults k.book)
+      → HasText start text k.book_failed (told k.book)
       → HasText start (noted_text text n.module.moment (record { event = s.event; verdict = s.verdict; bye = s.bye; places = places }))
-      n.book_failed (words.written n.book, words.faults n.book)
+      n.book_failed (told n.book)
   pub tape : n.tape.items ≡ filled k.tape.items s.event s.verdict
 
 -- the records of the event are those that were written
-written_is : (laws : Laws) (setup : Setup) (events : List Event) (s : Seen) (kept : Kept) (letter : ℕ)
+written_is : (laws : Laws) (setup : Setup) (events : List Event) (s : Seen) (kept : ModuleKept) (letter : ℕ)
     → IsStep setup events s.event (stepped s.verdict kept s.items) → IsTheBye s.bye s.items
     → noted_text (book_text letter (records_of setup events)) kept.moment (record { event = s.event; verdict = s.verdict; bye = s.bye; places = setup.places })
     ≡ book_text letter (records_of setup (events ++ s.event ∷ []))
@@ -93,10 +92,10 @@ written_is laws setup events s kept letter step the_bye =
     ∙ sym (text_goes_on letter (records_of setup events) (filter_map (leave_record s.event.tag now.moment) (items_at setup longer (length events))) (option_to_list (own_record now s.event.body)))
     ∙ ap (book_text letter) (sym (records_more laws.items laws.verdicts laws.moments setup events s.event))
 
-pub served_more : {B : Type 0} (words : Words B) (laws : Laws) (events : List Event) (s : Seen) (j k n : Worker B)
+pub served_more : {B L : Type 0} (told : B → BookTold L) (laws : Laws) (events : List Event) (s : Seen) (j k n : Worker B)
     → k.module.setup ≡ j.module.setup → is_there k.links k.module.setup.places s.event ≡ true
-    → IsSeen words events s k n → HasServed words events j k → HasServed words (events ++ s.event ∷ []) j n
-served_more words laws events s j k n same there seen h =
+    → IsSeen told events s k n → HasServed told events j k → HasServed told (events ++ s.event ∷ []) j n
+served_more told laws events s j k n same there seen h =
     let setup : Setup = j.module.setup in
     let longer : List Event = events ++ s.event ∷ [] in
     let S : Setup → Type 0 = λ u. IsStep u events s.event (stepped s.verdict n.module s.items) in
@@ -107,7 +106,7 @@ served_more words laws events s j k n same there seen h =
     let O : List Item → Type 0 = λ l. AreOffered l j.offers n.offers in
     let G : List Member → Type 0 = λ l. GaveBack j.seat l n.seat in
     let C : List (Option Verdict) → Type 0 = λ l. IsTaped setup.places longer l in
-    let T : List ℕ → Type 0 = λ l. HasText (words.written j.book, words.faults j.book) l n.book_failed (words.written n.book, words.faults n.book) in
+    let T : List ℕ → Type 0 = λ l. HasText (told j.book) l n.book_failed (told n.book) in
     record {
       stands = step.stands;
       offered = subst O
@@ -117,29 +116,29 @@ served_more words laws events s j k n same there seen h =
           (ap (λ l. gifts setup events ++ gifts_by (not (leaves_replaced s.event.body)) l) step.items ∙ sym (gifts_more laws.items setup events s.event))
           (gave_then j.seat k.seat n.seat (gifts setup events) (gifts_by (not (leaves_replaced s.event.body)) s.items) h.gave_back seen.gave);
       booked = subst T (written_is laws setup events s n.module j.letter step seen.the_bye)
-          (seen.text (words.written j.book, words.faults j.book) (book_text j.letter (records_of setup events)) setup.places fits h.booked);
+          (seen.text (told j.book) (book_text j.letter (records_of setup events)) setup.places fits h.booked);
       taped = subst C (sym seen.tape)
           (taped_more laws.verdicts setup.places events s.event s.verdict k.tape.items seen.answer step.verdict h.taped);
     }
 
 -- what was seen of an event, where the last that was done wrote the book and the tape
-pub seen_after : {B : Type 0} (words : Words B) (events : List Event) (s : Seen) (k mid n : Worker B)
+pub seen_after : {B L : Type 0} (told : B → BookTold L) (events : List Event) (s : Seen) (k mid n : Worker B)
     → n ≡ record mid { book = n.book; book_failed = n.book_failed; tape = n.tape }
     → IsStep k.module.setup events s.event (stepped s.verdict mid.module s.items)
     → is_some s.verdict ≡ is_packet (kind_of s.event.body)
     → AreOffered s.items k.offers mid.offers
     → GaveBack k.seat (gifts_by (not (leaves_replaced s.event.body)) s.items) mid.seat
     → IsTheBye s.bye s.items
-    → ((start : Tells) (text : List ℕ) (places : ℕ)
+    → ((start : BookTold L) (text : List ℕ) (places : ℕ)
     → option_map_or (λ place. nat_lt place places) (place_of s.event.body) true ≡ true
-    → HasText start text k.book_failed (words.written k.book, words.faults k.book)
+    → HasText start text k.book_failed (told k.book)
     → HasText start (noted_text text mid.module.moment (record { event = s.event; verdict = s.verdict; bye = s.bye; places = places }))
-    n.book_failed (words.written n.book, words.faults n.book))
+    n.book_failed (told n.book))
     → n.tape.items ≡ filled k.tape.items s.event s.verdict
-    → IsSeen words events s k n
-seen_after {B} words events s k mid n rest step answer offered gave the_bye text tape =
+    → IsSeen told events s k n
+seen_after {B} told events s k mid n rest step answer offered gave the_bye text tape =
     let module_is : n.module ≡ mid.module = ap (λ (w : Worker B). w.module) rest in
-    let S : Kept → Type 0 = λ m. IsStep k.module.setup events s.event (stepped s.verdict m s.items) in
+    let S : ModuleKept → Type 0 = λ m. IsStep k.module.setup events s.event (stepped s.verdict m s.items) in
     let O : LaneOffers → Type 0 = λ o. AreOffered s.items k.offers o in
     let G : RollView → Type 0 = λ r. GaveBack k.seat (gifts_by (not (leaves_replaced s.event.body)) s.items) r in
     record {
@@ -150,8 +149,8 @@ seen_after {B} words events s k mid n rest step answer offered gave the_bye text
       the_bye = the_bye;
       text = λ start before places fits h.
           let T : ℕ → Type 0 = λ m. HasText start (noted_text before m (record { event = s.event; verdict = s.verdict; bye = s.bye; places = places }))
-          n.book_failed (words.written n.book, words.faults n.book) in
-          subst T (sym (ap (λ (m : Kept). m.moment) module_is)) (text start before places fits h);
+          n.book_failed (told n.book) in
+          subst T (sym (ap (λ (m : ModuleKept). m.moment) module_is)) (text start before places fits h);
       tape = tape;
     }
 
@@ -178,7 +177,7 @@ numbered body.Stop = tt
 all_numbered : (events : List Event) → All (λ e. IsNumbered e.body) events
 all_numbered events n d lt = numbered (slice_index_or events n d).body
 
-pub low_verdict : VerdictsFit → (setup : Setup) (events : List Event) (event : Event) (verdict : Option Verdict) (kept : Kept) (items : List Item)
+pub low_verdict : VerdictsFit → (setup : Setup) (events : List Event) (event : Event) (verdict : Option Verdict) (kept : ModuleKept) (items : List Item)
     → setup.places ≤ 256 → IsStep setup events event (stepped verdict kept items)
     → ForSome verdict IsLowVerdict
 low_verdict fit setup events event verdict kept items few step v is =

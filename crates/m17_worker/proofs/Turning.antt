@@ -7,7 +7,7 @@ use Rattle.m17_lane.specs.Ends.{PopEnd, popped_from}
 use Rattle.m17_module.specs.Items.{Setup}
 use Rattle.m17_worker.specs.declared.worker.Worker.{Worker}
 use Rattle.m17_worker.specs.Taken.{taken, is_there}
-use Rattle.m17_worker.specs.Ready.{Words}
+use Rattle.m17_ports.specs.Book.{BookTold}
 use Rattle.m17_worker.specs.WorkerDid.{IsSameWorker, HasServed}
 use Rattle.m17_worker.specs.Underway.{AreFlags, HasRoom, CanServe, IsAt, IsServing}
 
@@ -24,7 +24,7 @@ taken_not links places events event is = taken_more links places events event fa
 inbox_more : (first now : PopEnd Event) (event : Event) → now ≡ record first { popped = now.popped } → popped_from now event ≡ record first { popped = now.popped ++ event ∷ [] }
 inbox_more first now event is = ap (λ (q : PopEnd Event). popped_from q event) is
 
-module _ {B : Type 0} (words : Words B) (j k : Worker B) (event : Event) (there : is_there k.links k.module.setup.places event ≡ false) where
+module _ {B L : Type 0} (told : B → BookTold L) (j k : Worker B) (event : Event) (there : is_there k.links k.module.setup.places event ≡ false) where
   -- as the worker made it
   there_too : IsSameWorker j k → is_there j.links j.module.setup.places event ≡ false
   there_too same =
@@ -32,11 +32,11 @@ module _ {B : Type 0} (words : Words B) (j k : Worker B) (event : Event) (there 
       ∙ ap (λ (u : Setup). is_there k.links u.places event) (sym same.setup) ∙ there
 
   pub passed_over : (served : ℕ) (flags later : List Bool) → AreFlags later (k.inbox.popped ++ event ∷ [])
-      → IsAt words j served flags k → IsAt words j served later (record k { inbox = popped_from k.inbox event })
+      → IsAt told j served flags k → IsAt told j served later (record k { inbox = popped_from k.inbox event })
   passed_over served flags later flagged h =
       let e : taken j.links j.module.setup.places (k.inbox.popped ++ event ∷ []) ≡ taken j.links j.module.setup.places k.inbox.popped =
       taken_not j.links j.module.setup.places k.inbox.popped event (there_too h.same) in
-      let S : List Event → Type 0 = λ l. HasServed words l j (record k { inbox = popped_from k.inbox event }) in
+      let S : List Event → Type 0 = λ l. HasServed told l j (record k { inbox = popped_from k.inbox event }) in
       record {
         same = record {
           letter = h.same.letter;
@@ -59,13 +59,13 @@ module _ {B : Type 0} (words : Words B) (j k : Worker B) (event : Event) (there 
       }
 
 -- the event can be served
-module _ {B : Type 0} (words : Words B) (j k : Worker B) (event : Event) (there : is_there k.links k.module.setup.places event ≡ true) where
+module _ {B L : Type 0} (told : B → BookTold L) (j k : Worker B) (event : Event) (there : is_there k.links k.module.setup.places event ≡ true) where
   there_also : IsSameWorker j k → is_there j.links j.module.setup.places event ≡ true
   there_also same =
       ap (λ n. is_there n j.module.setup.places event) (sym same.links)
       ∙ ap (λ (u : Setup). is_there k.links u.places event) (sym same.setup) ∙ there
 
-  pub can_serve : (served : ℕ) (flags : List Bool) → served < 2 ^ 64 - 1 → IsAt words j served flags k
+  pub can_serve : (served : ℕ) (flags : List Bool) → served < 2 ^ 64 - 1 → IsAt told j served flags k
       → CanServe (taken j.links j.module.setup.places k.inbox.popped) event (record k { inbox = popped_from k.inbox event })
   can_serve served flags few h = record {
     room = record { links = h.room.links; places = h.room.places; queues = h.room.queues; basket = h.room.basket };
@@ -74,8 +74,8 @@ module _ {B : Type 0} (words : Words B) (j k : Worker B) (event : Event) (there 
     there = there;
   }
 
-  pub was_served : (served : ℕ) (flags : List Bool) → IsAt words j served flags k
-      → HasServed words (taken j.links j.module.setup.places k.inbox.popped) j (record k { inbox = popped_from k.inbox event })
+  pub was_served : (served : ℕ) (flags : List Bool) → IsAt told j served flags k
+      → HasServed told (taken j.links j.module.setup.places k.inbox.popped) j (record k { inbox = popped_from k.inbox event })
   was_served served flags h = record {
     stands = h.all.stands;
     offered = h.all.offered;
@@ -86,15 +86,15 @@ module _ {B : Type 0} (words : Words B) (j k : Worker B) (event : Event) (there 
 
   pub served_one : (served more : ℕ) (flags later : List Bool) (n : Worker B) → more ≡ served + 1
       → AreFlags later (k.inbox.popped ++ event ∷ []) → HasRoom n → IsServing (record k { inbox = popped_from k.inbox event }) n
-      → HasServed words (taken j.links j.module.setup.places k.inbox.popped ++ event ∷ []) j n
-      → IsAt words j served flags k → IsAt words j more later n
+      → HasServed told (taken j.links j.module.setup.places k.inbox.popped ++ event ∷ []) j n
+      → IsAt told j served flags k → IsAt told j more later n
   served_one served more flags later n is flagged room same done h =
       let e : taken j.links j.module.setup.places (k.inbox.popped ++ event ∷ []) ≡ taken j.links j.module.setup.places k.inbox.popped ++ event ∷ [] =
       taken_more j.links j.module.setup.places k.inbox.popped event true (there_also h.same) in
       let popped : n.inbox.popped ≡ k.inbox.popped ++ event ∷ [] = ap (λ (q : PopEnd Event). q.popped) same.inbox in
       let d : taken j.links j.module.setup.places n.inbox.popped ≡ taken j.links j.module.setup.places k.inbox.popped ++ event ∷ [] =
       ap (taken j.links j.module.setup.places) popped ∙ e in
-      let S : List Event → Type 0 = λ l. HasServed words l j n in
+      let S : List Event → Type 0 = λ l. HasServed told l j n in
       let F : List Event → Type 0 = λ l. AreFlags later l in
       record {
         same = record {

@@ -10,8 +10,9 @@ use Rattle.m17_control.specs.declared.item.Item.{Item}
 use Rattle.m17_floor.specs.declared.verdict.Verdict.{Verdict}
 use Rattle.m17_lane.specs.Ends.{PopEnd, PushEnd}
 use Rattle.m17_module.specs.Items.{Setup, items_given}
-use Rattle.m17_module.specs.StandsFor.{Kept, StandsFor}
-use Rattle.m17_ports.specs.Laws.{NothingMoreIsTold}
+use Rattle.m17_module.specs.StandsFor.{ModuleKept, StandsFor}
+use Rattle.m17_ports.specs.Book.{BookTold, HasText}
+use Rattle.m17_ports.specs.Laws.{BooksAreWrittenInTurn}
 use Rattle.m17_book.specs.Book.{book_header}
 use Rattle.m17_rows.specs.Laws.{RowsGrow}
 use Rattle.m17_roll.specs.Seat.{RollView}
@@ -21,14 +22,12 @@ use Rattle.m17_worker.specs.Taken.{taken, HasStops, EndsWithStops, is_stop_of}
 use Rattle.m17_worker.specs.Offers.{AreOffered, IsQueue}
 use Rattle.m17_worker.specs.Gifts.{gifts, GaveBack}
 use Rattle.m17_worker.specs.Records.{records_of, book_text}
-use Rattle.m17_worker.specs.Written.{Tells, HasText}
 use Rattle.m17_worker.specs.Tape.{IsTaped}
-use Rattle.m17_worker.specs.Ready.{Words, IsFit}
+use Rattle.m17_worker.specs.Ready.{IsFit}
 use Rattle.m17_worker.specs.WorkerDid.{HasServed, HasWorked}
 use Rattle.m17_worker.specs.Underway.{AreFlags, IsAt}
 use Rattle.m17_worker.proofs.Tries.{offered_none}
 use Rattle.m17_worker.proofs.Giving.{gave_none}
-use Rattle.m17_worker.proofs.Texts.{text_none}
 use Rattle.m17_worker.proofs.Tapes.{none_taped}
 use Rattle.m17_worker.proofs.Flags.{flags_none, stops_of_flags, flags_of_stops}
 
@@ -49,26 +48,23 @@ empty_tape : (places : ℕ) (tape : List (Option Verdict)) → All (λ cell. cel
 empty_tape places tape all index lt =
     slice_get-get_or tape index None lt ∙ ap Some (all index None lt ∙ sym (none_taped places index))
 
-module _ {B : Type 0} (words : Words B) (j n : Worker B) (rest : n ≡ record j { book = n.book; book_failed = n.book_failed }) (fit : IsFit words j) where
-  abbrev told : B → Tells
-  told book = (words.written book, words.faults book)
-
+module _ {B L : Type 0} (told : B → BookTold L) (j n : Worker B) (rest : n ≡ record j { book = n.book; book_failed = n.book_failed }) (fit : IsFit told j) where
   -- the header is written
-  begins : NothingMoreIsTold ℕ
-      → ((start : Tells) (text : List ℕ) → HasText start text j.book_failed (told j.book) → HasText start (text ++ book_header j.letter) n.book_failed (told n.book))
+  begins : BooksAreWrittenInTurn L
+      → ((start : BookTold L) (text : List ℕ) → HasText start text j.book_failed (told j.book) → HasText start (text ++ book_header j.letter) n.book_failed (told n.book))
       → HasText (told j.book) (book_text j.letter (records_of j.module.setup [])) n.book_failed (told n.book)
-  begins nothing text =
+  begins books text =
       let F : Bool → Type 0 = λ b. HasText (told j.book) [] b (told j.book) in
       let T : List ℕ → Type 0 = λ l. HasText (told j.book) l n.book_failed (told n.book) in
       let header : HasText (told j.book) (book_header j.letter) n.book_failed (told n.book) =
-      text (told j.book) [] (subst F (sym fit.unused.book_failed) (text_none nothing (told j.book))) in
+      text (told j.book) [] (subst F (sym fit.unused.book_failed) (books.nothing (told j.book))) in
       subst T (sym (append-nil (book_header j.letter)) ∙ ap (book_text j.letter) (sym (none_recorded j.module.setup))) header
 
-  nothing_served : RowsGrow Item → NothingMoreIsTold ℕ
-      → ((start : Tells) (text : List ℕ) → HasText start text j.book_failed (told j.book) → HasText start (text ++ book_header j.letter) n.book_failed (told n.book))
-      → HasServed words [] j n
-  nothing_served law nothing text =
-      let S : Kept → Type 0 = λ m. StandsFor m [] in
+  nothing_served : RowsGrow Item → BooksAreWrittenInTurn L
+      → ((start : BookTold L) (text : List ℕ) → HasText start text j.book_failed (told j.book) → HasText start (text ++ book_header j.letter) n.book_failed (told n.book))
+      → HasServed told [] j n
+  nothing_served law books text =
+      let S : ModuleKept → Type 0 = λ m. StandsFor m [] in
       let O : LaneOffers → Type 0 = λ o. AreOffered [] j.offers o in
       let P : List Item → Type 0 = λ l. AreOffered l j.offers n.offers in
       let G : RollView → Type 0 = λ s. GaveBack j.seat [] s in
@@ -78,19 +74,19 @@ module _ {B : Type 0} (words : Words B) (j n : Worker B) (rest : n ≡ record j 
         stands = subst S (sym (ap (λ (w : Worker B). w.module) rest)) fit.stands;
         offered = subst P (sym (none_given j.module.setup)) (subst O (sym (ap (λ (w : Worker B). w.offers) rest)) (offered_none j.offers law));
         gave_back = subst Q (sym (none_gifts j.module.setup)) (subst G (sym (ap (λ (w : Worker B). w.seat) rest)) (gave_none j.seat));
-        booked = begins nothing text;
+        booked = begins books text;
         taped = subst T (sym (ap (λ (w : Worker B). w.tape.items) rest)) (empty_tape j.module.setup.places j.tape.items fit.unused.tape);
       }
 
   no_events : n.inbox.popped ≡ []
   no_events = ap (λ (w : Worker B). w.inbox.popped) rest ∙ fit.unused.inbox
 
-  pub starts_at : RowsGrow Item → NothingMoreIsTold ℕ
-      → ((start : Tells) (text : List ℕ) → HasText start text j.book_failed (told j.book) → HasText start (text ++ book_header j.letter) n.book_failed (told n.book))
-      → IsAt words j 0 (false ∷ false ∷ false ∷ false ∷ []) n
-  starts_at law nothing text =
+  pub starts_at : RowsGrow Item → BooksAreWrittenInTurn L
+      → ((start : BookTold L) (text : List ℕ) → HasText start text j.book_failed (told j.book) → HasText start (text ++ book_header j.letter) n.book_failed (told n.book))
+      → IsAt told j 0 (false ∷ false ∷ false ∷ false ∷ []) n
+  starts_at law books text =
       let e : taken j.links j.module.setup.places n.inbox.popped ≡ [] = ap (taken j.links j.module.setup.places) no_events in
-      let S : List Event → Type 0 = λ l. HasServed words l j n in
+      let S : List Event → Type 0 = λ l. HasServed told l j n in
       let F : List Event → Type 0 = λ l. AreFlags (false ∷ false ∷ false ∷ false ∷ []) l in
       let inbox_is : n.inbox ≡ j.inbox = ap (λ (w : Worker B). w.inbox) rest in
       let offers_are : n.offers ≡ j.offers = ap (λ (w : Worker B). w.offers) rest in
@@ -118,7 +114,7 @@ module _ {B : Type 0} (words : Words B) (j n : Worker B) (rest : n ≡ record j 
         };
         counted = sym (ap length e);
         flagged = subst F (sym no_events) flags_none;
-        all = subst S (sym e) (nothing_served law nothing text);
+        all = subst S (sym e) (nothing_served law books text);
       }
 
   -- no link has had its Stop yet
@@ -136,18 +132,18 @@ ends_at links before after event is going each = record {
       going (subst P (sym same) h);
 }
 
-pub has_worked : {B : Type 0} (words : Words B) (j k n : Worker B) (served : ℕ) (flags : List Bool) (event : Event) → j.links ≤ 4
+pub has_worked : {B L : Type 0} (told : B → BookTold L) (j k n : Worker B) (served : ℕ) (flags : List Bool) (event : Event) → j.links ≤ 4
     → n.inbox.popped ≡ k.inbox.popped ++ event ∷ [] → (HasStops j.links k.inbox.popped → ⊥)
     → ((link : ℕ) → link < j.links → slice_get flags link ≡ Some true)
-    → IsAt words j served flags n → HasWorked words j n
-has_worked words j k n served flags event few is going all h = record {
+    → IsAt told j served flags n → HasWorked told j n
+has_worked told j k n served flags event few is going all h = record {
   same = h.same;
   stops = ends_at j.links k.inbox n.inbox event is going (stops_of_flags j.links flags n.inbox.popped (omega (arith, few)) h.flagged all);
   served = h.all;
 }
 
 -- not all flags are set
-pub goes_on : {B : Type 0} (words : Words B) (j n : Worker B) (served : ℕ) (flags : List Bool) → j.links ≤ 4 → IsAt words j served flags n
+pub goes_on : {B L : Type 0} (told : B → BookTold L) (j n : Worker B) (served : ℕ) (flags : List Bool) → j.links ≤ 4 → IsAt told j served flags n
     → (((link : ℕ) → link < n.links → slice_get flags link ≡ Some true) → ⊥) → HasStops j.links n.inbox.popped → ⊥
-goes_on words j n served flags few h not_all stops =
+goes_on told j n served flags few h not_all stops =
     not_all (λ link lt. flags_of_stops j.links flags n.inbox.popped (omega (arith, few)) h.flagged stops link (omega (arith, lt, h.same.links)))

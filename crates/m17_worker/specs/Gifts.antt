@@ -15,23 +15,19 @@ use Rattle.m17_roll.specs.Seat.{RollView, IsSameSeat, HasLists}
 use Rattle.m17_module.specs.Items.{Setup, items_at}
 
 -- Why an item says that its member has left, if it is a Bye.
--- This profile.
 abbrev pub why_left : Said → Option Why
 why_left (Bye why) = Some why
 why_left _ = None
 
 -- The member to whom an item is a Bye, if it is one.
--- This profile.
 abbrev pub left_by : Item → Option Member
 left_by item = option_map (λ why. item.member) (why_left item.body)
 
 -- The item is a Bye.
--- This profile.
 abbrev pub is_bye : Item → Bool
 is_bye item = is_some (why_left item.body)
 
 -- The event is a Leave of a member that another one replaced.
--- This profile.
 abbrev pub is_replaced : Why → Bool
 is_replaced Replaced = true
 is_replaced _ = false
@@ -45,23 +41,21 @@ is_replacing None = false
 is_replacing (Some event) = leaves_replaced event.body
 
 -- The members whose places are given back of those to whom these items are Byes: all, or none.
--- This profile.
 abbrev pub gifts_by : Bool → List Item → List Member
 gifts_by gives items = if gives then filter_map left_by items else []
 
 -- The members that position n gives back: those to whom it says a Bye, unless it is a Leave of a
--- member that another one replaced, whose place is taken. This profile.
+-- member that another one replaced, whose place is taken.
 unfoldable pub gifts_at : Setup → List Event → ℕ → List Member
 gifts_at setup events n =
     gifts_by (not (is_replacing (slice_get events n))) (items_at setup events n)
 
 -- All that the events give back, in order.
--- This profile.
 unfoldable pub gifts : Setup → List Event → List Member
 gifts setup events = flat_map (gifts_at setup events) (range_with_len 0 (length events))
 
 -- The seat gave these members back, in order, and did nothing else: it claimed nothing, refused
--- nobody, and looked at nothing. This profile.
+-- nobody, and looked at nothing.
 pub record GaveBack (before : RollView) (members : List Member) (after : RollView) : Type 0 where
   pub seat : IsSameSeat before after
   pub lists : HasLists before.claimed (before.given ++ members) before.refused after

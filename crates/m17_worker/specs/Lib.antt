@@ -3,7 +3,6 @@ pub mod Offers
 pub mod Gifts
 pub mod Records
 pub mod BookLaws
-pub mod Written
 pub mod Tape
 pub mod Ready
 pub mod WorkerDid

@@ -11,7 +11,6 @@ use Rattle.m17_worker.specs.declared.offers.Offered.TheVariants.{Queued, Missed}
 use Rattle.m17_worker.specs.declared.offers.LaneOffers.{LaneOffers}
 
 -- An item that was offered, and whether its queue took it; else it was left out.
--- This profile.
 pub record Try : Type 0 where
   pub item : Item
   pub queued : Bool
@@ -24,7 +23,6 @@ abbrev pub try_of : Item → Offered → Try
 try_of item answer = record { item = item; queued = is_queued answer }
 
 -- What may be left out where its queue is full: a Frame, an Echo or a Ping. All else waits.
--- This profile.
 abbrev pub may_be_missed : Said → Bool
 may_be_missed (Frame position packet) = true
 may_be_missed (Echo position packet) = true
@@ -32,7 +30,6 @@ may_be_missed Ping = true
 may_be_missed _ = false
 
 -- What the queue of a place took of the items offered, in order, and what was left out there.
--- This profile.
 abbrev pub queued_for : List Try → ℕ → List Item
 queued_for tries place =
     map (λ t. t.item) (filter (λ t. t.queued && (place == t.item.member.place)) tries)
@@ -42,18 +39,16 @@ missed_for tries place =
     map (λ t. t.item) (filter (λ t. not t.queued && (place == t.item.member.place)) tries)
 
 -- How many items were left out at all places.
--- This profile.
 abbrev pub count_missed : List Try → ℕ
 count_missed tries = count_by (λ t. not t.queued) tries
 
 -- A count, and then so many more. One that has come to 2^64 - 1 stays there.
--- This profile.
 abbrev pub counted_on : ℕ → ℕ → ℕ
 counted_on count zero = count
 counted_on count (suc more) = min (count + suc more) (2 ^ 64 - 1)
 
 -- An item was left out behind these: it may be, the offers aren't patient, and its queue had taken
--- at least 64 items by then. This profile.
+-- at least 64 items by then.
 pub record IsLeftOut (offers : LaneOffers) (earlier : List Try) (item : Item) : Type 0 where
   pub may_be : may_be_missed item.body ≡ true
   pub impatient : offers.patient ≡ false
@@ -61,7 +56,6 @@ pub record IsLeftOut (offers : LaneOffers) (earlier : List Try) (item : Item) : 
       (λ q. 64 ≤ length q.pushed + length (queued_for earlier item.member.place))
 
 -- These items were offered, in this order: each was queued, or left out and counted.
--- This profile.
 pub record AreTried (tries : List Try) (before after : LaneOffers) : Type 0 where
   pub queues : after.queues.items
       ≡ grow_each (queued_for tries) (missed_for tries) 0 before.queues.items
@@ -72,18 +66,15 @@ pub record AreTried (tries : List Try) (before after : LaneOffers) : Type 0 wher
   pub room : vec_capacity after.queues ≡ vec_capacity before.queues
 
 -- All of these items were offered, in this order.
--- This profile.
 pub record AreOffered (items : List Item) (before after : LaneOffers) : Type 0 where
   pub tries : List Try
   pub of_all : map (λ t. t.item) tries ≡ items
   pub tried : AreTried tries before after
 
 -- The end of a lane that has one producer and holds 64 items.
--- This profile.
 abbrev pub IsQueue : PushEnd Item → Type 0
 IsQueue q = (q.producers ≡ 1) × (q.capacity ≡ 64)
 
 -- There is a queue for each of so many places.
--- This profile.
 abbrev pub AreQueues : ℕ → List (PushEnd Item) → Type 0
 AreQueues places queues = (length queues ≡ places) × All IsQueue queues

@@ -19,7 +19,7 @@ use Rattle.m17_book.specs.declared.record.Record.TheVariants.{Join, Leave, Packe
 use Rattle.m17_worker.specs.Gifts.{why_left}
 
 -- What the records of an event are told by: the entry that it comes from, the module's moment at
--- it, the verdict on it, which a packet alone has, and the number of places. This profile.
+-- it, the verdict on it, which a packet alone has, and the number of places.
 pub record Noted : Type 0 where
   pub tag : Tag
   pub moment : ℕ
@@ -27,13 +27,11 @@ pub record Noted : Type 0 where
   pub places : ℕ
 
 -- The record of a membership that ends: of each Bye a Leave, with the Bye's reason.
--- This profile.
 abbrev pub leave_record : Tag → ℕ → Item → Option Record
 leave_record tag moment item =
     option_map (λ why. Leave tag moment item.member why) (why_left item.body)
 
 -- The record of what an event begins or decides: of a Join at one of the places, and of a packet.
--- This profile.
 abbrev pub own_record : Noted → Body → Option Record
 own_record now (body.Join k peer callsign listen after) =
     if nat_lt k.place now.places then Some (Join now.tag now.moment k listen callsign) else None
@@ -42,13 +40,12 @@ own_record now (body.Packet k packet) =
 own_record now _ = None
 
 -- The records of an event that says these items: first of the member that leaves, if one does, and
--- then its own. So a Join or a Leave that did nothing has none. This profile.
+-- then its own. So a Join or a Leave that did nothing has none.
 abbrev pub records_by : Noted → List Item → Body → List Record
 records_by now items what =
     filter_map (leave_record now.tag now.moment) items ++ option_to_list (own_record now what)
 
--- Position n of the events, in a module of so many places.
--- This profile.
+-- Position n of the events, in a module of `places` places.
 abbrev pub noted_at : ℕ → List Event → ℕ → Tag → Noted
 noted_at places events n tag = record {
   tag = tag;
@@ -63,7 +60,6 @@ records_for setup events n (Some event) =
     records_by (noted_at setup.places events n event.tag) (items_at setup events n) event.body
 
 -- The records of position n, and of all the events, in order.
--- This profile.
 unfoldable pub records_at : Setup → List Event → ℕ → List Record
 records_at setup events n = records_for setup events n (slice_get events n)
 
@@ -71,6 +67,5 @@ unfoldable pub records_of : Setup → List Event → List Record
 records_of setup events = flat_map (records_at setup events) (range_with_len 0 (length events))
 
 -- The bytes of a module's book: its header, and then the records of the events.
--- This profile.
 abbrev pub book_text : ℕ → List Record → List ℕ
 book_text letter records = book_header letter ++ flat_map record_bytes records

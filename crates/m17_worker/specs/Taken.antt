@@ -7,7 +7,6 @@ use Rattle.m17_control.specs.declared.event.Body.TheVariants.{Join, Leave, Packe
 use Rattle.m17_control.specs.declared.event.Event.{Event}
 
 -- The place that an event names, if it names a member.
--- This profile.
 abbrev pub place_of : Body → Option ℕ
 place_of (Join k peer callsign listen after) = Some k.place
 place_of (Leave k why) = Some k.place
@@ -17,19 +16,17 @@ place_of Tick = None
 place_of Stop = None
 
 -- The event's link is there, and the place that it names, if it names one.
--- This profile.
 abbrev pub is_there : ℕ → ℕ → Event → Bool
 is_there links places event =
     nat_lt event.tag.link links
     && option_map_or (λ place. nat_lt place places) (place_of event.body) true
 
 -- The events of these that a worker takes: all but those that name a link or a place that isn't
--- there, which it passes over. This profile.
+-- there, which it passes over.
 abbrev pub taken : ℕ → ℕ → List Event → List Event
 taken links places events = filter (is_there links places) events
 
 -- The event is a Stop of the link.
--- This profile.
 abbrev pub is_stop : Body → Bool
 is_stop Stop = true
 is_stop _ = false
@@ -38,13 +35,11 @@ abbrev pub is_stop_of : ℕ → Event → Bool
 is_stop_of link event = (event.tag.link == link) && is_stop event.body
 
 -- Each link has had its Stop.
--- This profile.
 abbrev pub HasStops : ℕ → List Event → Type 0
 HasStops links events =
     (link : ℕ) → link < links → list_any (is_stop_of link) events ≡ true
 
 -- Each link has had its Stop, and not before the last of the events: so nothing is taken behind it.
--- This profile.
 pub record EndsWithStops (links : ℕ) (events : List Event) : Type 0 where
   pub each : HasStops links events
   pub at_the_last : (front : List Event) (last : Event) →

@@ -9,25 +9,22 @@ use Rattle.m17_floor.specs.Floor.{verdict_at}
 use Rattle.m17_module.specs.Events.{acts_of, kind_of}
 
 -- The event is a packet, and comes from the entry of link 0 with this index.
--- This profile.
 abbrev pub is_packet_of : ℕ → Event → Bool
 is_packet_of index event =
     (event.tag.link == 0) && ((index == event.tag.index) && is_packet (kind_of event.body))
 
 -- The last position of such an event: its only one, where no two come from one entry.
--- This profile.
 unfoldable pub position_of : List Event → ℕ → Option ℕ
 position_of events index =
     last_below (λ n. option_map_or (is_packet_of index) (slice_get events n) false) (length events)
 
 -- The verdict on the packet that came from the entry of link 0 with this index, if one did.
--- This profile.
 abbrev pub verdict_on : ℕ → List Event → ℕ → Option Verdict
 verdict_on places events index =
     option_and_then (verdict_at places (acts_of events)) (position_of events index)
 
 -- Each cell has the verdict on the entry whose index is the cell's number, and is empty where there
--- is none. This profile.
+-- is none.
 abbrev pub IsTaped : ℕ → List Event → List (Option Verdict) → Type 0
 IsTaped places events tape =
     (index : ℕ) → index < length tape →

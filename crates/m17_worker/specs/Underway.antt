@@ -5,13 +5,13 @@ use Rattle.std.specs.List.{list_any, flat_map}
 use Rattle.m17_control.specs.declared.event.Event.{Event}
 use Rattle.m17_control.specs.declared.item.Item.{Item}
 use Rattle.m17_floor.specs.declared.verdict.Verdict.{Verdict}
+use Rattle.m17_ports.specs.Book.{BookTold}
 use Rattle.m17_book.specs.Records.{record_bytes}
 use Rattle.m17_module.specs.StandsFor.{StandsFor}
 use Rattle.m17_worker.specs.declared.worker.Worker.{Worker}
 use Rattle.m17_worker.specs.Taken.{taken, is_there, is_stop_of}
 use Rattle.m17_worker.specs.Offers.{AreQueues}
 use Rattle.m17_worker.specs.Records.{Noted, leave_record, own_record}
-use Rattle.m17_worker.specs.Ready.{Words}
 use Rattle.m17_worker.specs.WorkerDid.{IsSameWorker, HasServed}
 
 -- The flag of each of four links says whether it has had its Stop.
@@ -37,13 +37,13 @@ pub record CanServe {B : Type 0} (events : List Event) (event : Event) (k : Work
 
 -- So many events were served of those popped, each link's flag says whether it was stopped, and all
 -- else is as it has to be.
-pub record IsAt {B : Type 0} (words : Words B) (j : Worker B) (served : ℕ) (flags : List Bool)
-    (k : Worker B) : Type 0 where
+pub record IsAt {B L : Type 0} (told : B → BookTold L) (j : Worker B) (served : ℕ)
+    (flags : List Bool) (k : Worker B) : Type 0 where
   pub same : IsSameWorker j k
   pub room : HasRoom k
   pub counted : served ≡ length (taken j.links j.module.setup.places k.inbox.popped)
   pub flagged : AreFlags flags k.inbox.popped
-  pub all : HasServed words (taken j.links j.module.setup.places k.inbox.popped) j k
+  pub all : HasServed told (taken j.links j.module.setup.places k.inbox.popped) j k
 
 -- Serving an event leaves these as they were.
 pub record IsServing {B : Type 0} (before after : Worker B) : Type 0 where

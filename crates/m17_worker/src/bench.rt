@@ -130,8 +130,8 @@ pub(crate) fn lay<B: Book + Drop, R: Abort>(
     parrot: bool,
 ) -> Bench<B>
     requires places { (0 < places) × (places ≤ 256) }
-    requires book { StartsEmpty (B.written book) }
-    ensures { IsReady (record { written = B.written; faults = B.faults }) result.worker }
+    requires book { StartsEmpty (B.told book).written }
+    ensures { IsReady B.told result.worker }
 {
     let (pushers, queues) = lay_queues(rt, alloc, places);
     let (events, inbox) = must(rt, make_one(alloc, 256));

@@ -2,21 +2,19 @@
 ghost use Rattle.std.specs.Prelude.{◌≡◌, ℕ, List, ◌++◌};
 ghost use Rattle.std.specs.Option.{ForSome, option_to_list};
 ghost use Rattle.std.specs.List.{flat_map};
+ghost use Rattle.m17_ports.specs.Book.{BookTold, HasText};
 ghost use Rattle.m17_book.specs.Records.{IsWritable, record_bytes};
-ghost use Rattle.m17_worker.specs.Written.{Tells, HasText};
 
 use m17_book::{Record, write_record};
 use m17_ports::Book;
 
 // Writes the bytes to the book, in one write. A book that failed is written no more.
 pub(crate) fn write_whole<B: Book>(book: &mut B, failed: &mut bool, bytes: &[u8])
-    ensures text { (start : Tells) (text : List ℕ) →
-        HasText start text failed.old (B.written book.old, B.faults book.old) →
-        HasText start (text ++ bytes.now) failed.new (B.written book.new, B.faults book.new) }
-    ensures same_device { (B.mark book.new ≡ B.mark book.old)
-        × (B.label book.new ≡ B.label book.old) }
+    ensures { (start : BookTold B.Label) (text : List ℕ) →
+        HasText start text failed.old (B.told book.old) →
+        HasText start (text ++ bytes.now) failed.new (B.told book.new) }
 {
-    m17_ports::laws::told_in_turn::<u8>();
+    m17_ports::laws::books_are_written_in_turn::<B::Label>();
     if !*failed {
         *failed = book.write(bytes).is_err();
     }
@@ -25,12 +23,10 @@ pub(crate) fn write_whole<B: Book>(book: &mut B, failed: &mut bool, bytes: &[u8]
 // Writes the record to the book, if there is one.
 pub(crate) fn write_if<B: Book>(book: &mut B, failed: &mut bool, line: &Option<Record>)
     requires { ForSome line.now IsWritable }
-    ensures text { (start : Tells) (text : List ℕ) →
-        HasText start text failed.old (B.written book.old, B.faults book.old) →
+    ensures { (start : BookTold B.Label) (text : List ℕ) →
+        HasText start text failed.old (B.told book.old) →
         HasText start (text ++ flat_map record_bytes (option_to_list line.now)) failed.new
-        (B.written book.new, B.faults book.new) }
-    ensures same_device { (B.mark book.new ≡ B.mark book.old)
-        × (B.label book.new ≡ B.label book.old) }
+        (B.told book.new) }
 {
     if let Some(line) = line {
         write_whole(book, failed, write_record(line).as_slice());

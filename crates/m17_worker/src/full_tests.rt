@@ -28,13 +28,11 @@ impl Book for CountingBook {
 
     type Label = ();
 
-    ghost faults = { λ _. 0 };
-
-    ghost written = { λ _. None };
-
-    ghost mark = { λ _. None };
-
-    ghost label = { λ _. tt };
+    ghost told = { λ _. record {
+      written = None;
+      faults = 0;
+      device = record { mark = None; label = tt };
+    } };
 
     ghost faults_fit = { λ _. lit≤ tt };
 
@@ -144,7 +142,7 @@ fn go_beside<B: Book + Drop + Send + 'static, R: Threads + Wait + Clock + Abort 
     bench: Bench<B>,
     writes: Arc<AtomicU64, Global>,
 ) -> ([u64; 2], [Option<u64>; 2])
-    requires { IsReady (record { written = B.written; faults = B.faults }) bench.worker }
+    requires { IsReady B.told bench.worker }
 {
     let mut bench = bench;
     push_events(rt, &mut bench.events);

@@ -8,7 +8,7 @@ use m17_lane::Pusher;
 use m17_rows::{push_at, try_push_at};
 use std::sync::Wait;
 
-/// What became of an item that was offered. This profile.
+/// What became of an item that was offered.
 #[derive(Clone, Copy, Debug, PartialEq, Eq)]
 pub enum Offered {
     /// The queue of its place took it.
@@ -17,7 +17,7 @@ pub enum Offered {
     Missed,
 }
 
-/// Where a module's items go: a queue for each of its places. This profile.
+/// Where a module's items go: a queue for each of its places.
 #[derive(Drop)]
 pub struct LaneOffers {
     /// The ends of the queues, in order of places.
@@ -32,8 +32,7 @@ impl LaneOffers {
     /// Offers the item to the queue of its place, of which there has to be one: a lane of one producer that holds 64
     /// items. `Missed` comes only once that queue has taken 64 items, for a Frame, an Echo or a Ping and where the offers
     /// aren't patient, and is counted; it comes at once, where the queue has no room. All else is `Queued`, and waits,
-    /// asleep, while the queue is full: for ever, where nobody empties it. The other queues are as they were. This
-    /// profile.
+    /// asleep, while the queue is full: for ever, where nobody empties it. The other queues are as they were.
     pub fn offer<R: Wait>(&mut self, rt: &R, item: Item) -> Offered
         requires queue { IsSomeAnd (slice_get self.old.queues.items item.member.place) IsQueue }
         ensures tried { AreTried (try_of item result ∷ []) self.old self.new }

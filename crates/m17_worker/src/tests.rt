@@ -168,7 +168,7 @@ fn go<B: Book + Drop + Send + 'static, R: Wait + Abort>(
     book: B,
     order: Order,
 ) -> Bench<B>
-    requires { StartsEmpty (B.written book) }
+    requires { StartsEmpty (B.told book).written }
 {
     let mut bench = lay(rt, alloc, 2, book, false);
     push_events(rt, &mut bench.events);
@@ -308,13 +308,11 @@ impl Book for UnkeptBook {
 
     type Label = ();
 
-    ghost faults = { λ _. 0 };
-
-    ghost written = { λ _. None };
-
-    ghost mark = { λ _. None };
-
-    ghost label = { λ _. tt };
+    ghost told = { λ _. record {
+      written = None;
+      faults = 0;
+      device = record { mark = None; label = tt };
+    } };
 
     ghost faults_fit = { λ _. lit≤ tt };
 

@@ -3,10 +3,10 @@ ghost use Rattle.std.specs.Prelude.{◌≡◌, ◌<◌, ℕ, true, List, [], ◌
 ghost use Rattle.std.specs.Option.{ForSome, option_map_or};
 ghost use Rattle.m17_control.specs.declared.event.Event.{Event};
 ghost use Rattle.m17_lane.specs.Ends.{popped_from};
+ghost use Rattle.m17_ports.specs.Book.{BookTold, HasText};
 ghost use Rattle.m17_worker.specs.declared.worker.Worker.{Worker};
 ghost use Rattle.m17_book.specs.Records.{IsLowVerdict};
 ghost use Rattle.m17_worker.specs.Taken.{is_there, place_of};
-ghost use Rattle.m17_worker.specs.Written.{Tells, HasText};
 ghost use Rattle.m17_worker.specs.WorkerDid.{HasServed};
 ghost use Rattle.m17_worker.specs.Underway.{CanServe, HasRoom, IsAt, IsServing, filled, noted_text};
 
@@ -33,21 +33,11 @@ impl<B: Book> Worker<B> {
         served: u64,
         stopped: &mut [bool; MOST_LINKS],
     ) -> u64
-        requires at { (j : Worker B) × IsAt (record {
-          written = B.written;
-          faults = B.faults;
-        }) j served stopped.old self.old }
-        ensures at { (j : Worker B) → IsAt (record {
-          written = B.written;
-          faults = B.faults;
-        }) j served stopped.old self.old → IsAt (record {
-          written = B.written;
-          faults = B.faults;
-        }) j result stopped.new self.new }
+        requires at { (j : Worker B) × IsAt B.told j served stopped.old self.old }
+        ensures at { (j : Worker B) → IsAt B.told j served stopped.old self.old →
+            IsAt B.told j result stopped.new self.new }
         ensures popped { (event : Event) × (self.new.inbox ≡ popped_from self.old.inbox event) }
         ensures order { self.new.order ≡ self.old.order }
-        ensures same_device { (B.mark self.new.book ≡ B.mark self.old.book)
-            × (B.label self.new.book ≡ B.label self.old.book) }
     {
         let event = next_event(rt, &mut self.inbox, self.module.is_parrot());
         note_stop(stopped, &event);
@@ -81,13 +71,10 @@ impl<B: Book> Worker<B> {
         requires { (events : List Event) × CanServe events event.now self.old }
         ensures served { (j : Worker B) (events : List Event) →
             CanServe events event.now self.old → self.old.module.setup ≡ j.module.setup →
-            HasServed (record { written = B.written; faults = B.faults }) events j self.old →
-            HasServed (record { written = B.written; faults = B.faults })
-            (events ++ event.now ∷ []) j self.new }
+            HasServed B.told events j self.old →
+            HasServed B.told (events ++ event.now ∷ []) j self.new }
         ensures room { HasRoom self.new }
         ensures same { IsServing self.old self.new }
-        ensures same_device { (B.mark self.new.book ≡ B.mark self.old.book)
-            × (B.label self.new.book ≡ B.label self.old.book) }
     {
         module_laws::later_events_change_no_items();
         module_laws::one_event_more_gives();
@@ -114,21 +101,18 @@ impl<B: Book> Worker<B> {
         requires place { ForSome (place_of event.now.body) (λ place. place < 256) }
         requires verdict { ForSome verdict IsLowVerdict }
         requires bye { ForSome bye.now (λ item. item.member.place < 256) }
-        ensures text { (start : Tells) (text : List ℕ) (places : ℕ) →
+        ensures text { (start : BookTold B.Label) (text : List ℕ) (places : ℕ) →
             option_map_or (λ place. nat_lt place places) (place_of event.now.body) true ≡ true →
-            HasText start text self.old.book_failed
-            (B.written self.old.book, B.faults self.old.book) →
+            HasText start text self.old.book_failed (B.told self.old.book) →
             HasText start (noted_text text self.old.module.moment
             (record { event = event.now; verdict = verdict; bye = bye.now; places = places }))
-            self.new.book_failed (B.written self.new.book, B.faults self.new.book) }
+            self.new.book_failed (B.told self.new.book) }
         ensures tape { self.new.tape.items ≡ filled self.old.tape.items event.now verdict }
         ensures rest { self.new ≡ record self.old {
           book = self.new.book;
           book_failed = self.new.book_failed;
           tape = self.new.tape;
         } }
-        ensures same_device { (B.mark self.new.book ≡ B.mark self.old.book)
-            × (B.label self.new.book ≡ B.label self.old.book) }
     {
         self.write_records(event, verdict, bye);
         fill_tape(&mut self.tape, event, verdict);
@@ -140,20 +124,18 @@ impl<B: Book> Worker<B> {
         requires place { ForSome (place_of event.now.body) (λ place. place < 256) }
         requires verdict { ForSome verdict IsLowVerdict }
         requires bye { ForSome bye.now (λ item. item.member.place < 256) }
-        ensures text { (start : Tells) (text : List ℕ) (places : ℕ) →
+        ensures text { (start : BookTold B.Label) (text : List ℕ) (places : ℕ) →
             option_map_or (λ place. nat_lt place places) (place_of event.now.body) true ≡ true →
-            HasText start text self.old.book_failed
-            (B.written self.old.book, B.faults self.old.book) →
+            HasText start text self.old.book_failed (B.told self.old.book) →
             HasText start (noted_text text self.old.module.moment
             (record { event = event.now; verdict = verdict; bye = bye.now; places = places }))
-            self.new.book_failed (B.written self.new.book, B.faults self.new.book) }
+            self.new.book_failed (B.told self.new.book) }
         ensures rest { self.new ≡ record self.old {
           book = self.new.book;
           book_failed = self.new.book_failed;
         } }
-        ensures same_device { (B.mark self.new.book ≡ B.mark self.old.book)
-            × (B.label self.new.book ≡ B.label self.old.book) }
     {
+        m17_ports::laws::books_are_written_in_turn::<B::Label>();
         if !self.book.is_kept() {
             return;
         }

@@ -1,7 +1,7 @@
 ghost use Rattle.std.specs.Prelude.{◌≡◌, ℕ, List, ◌++◌};
 ghost use Rattle.m17_control.specs.Forms.{IsModule};
+ghost use Rattle.m17_ports.specs.Book.{BookTold, HasText};
 ghost use Rattle.m17_book.specs.Book.{book_header};
-ghost use Rattle.m17_worker.specs.Written.{Tells, HasText};
 ghost use Rattle.m17_worker.specs.Ready.{IsFit, IsReady};
 ghost use Rattle.m17_worker.specs.WorkerDid.{HasWorked, WorkerDid};
 
@@ -26,7 +26,7 @@ use std::sync::Wait;
 /// behind each Bye its member's place is given back to the roll, again until it is taken, but for a Leave with
 /// `Replaced`; the records of the event go to the book, one write each, and its verdict to the tape. An event that
 /// names a link or a place that isn't there is passed over. The book's header is written before the first event, and a
-/// book that failed is written no more. After `Quit` nothing but the order is touched. This profile.
+/// book that failed is written no more. After `Quit` nothing but the order is touched.
 #[derive(Drop)]
 pub struct Worker<B> {
     /// The letter of the module, `A` to `Z`.
@@ -54,10 +54,9 @@ pub struct Worker<B> {
 }
 
 impl<B: Book + Drop + Send + 'static> Work for Worker<B> {
-    ghost ready = { IsReady (record { written = B.written; faults = B.faults }) };
+    ghost ready = { IsReady B.told };
 
-    ghost does = { λ j k. WorkerDid (record { written = B.written; faults = B.faults }) j k
-        × (B.mark k.book ≡ B.mark j.book) × (B.label k.book ≡ B.label j.book) };
+    ghost does = { WorkerDid B.told };
 
     fn go<R: Wait>(&mut self, rt: &R) {
         if starts(rt, &mut self.order) {
@@ -69,15 +68,12 @@ impl<B: Book + Drop + Send + 'static> Work for Worker<B> {
 impl<B: Book> Worker<B> {
     // Takes event after event, up to the last link's Stop.
     fn work<R: Wait>(&mut self, rt: &R)
-        requires { IsFit (record { written = B.written; faults = B.faults }) self.old }
-        ensures worked { HasWorked (record { written = B.written; faults = B.faults })
-            self.old self.new }
+        requires { IsFit B.told self.old }
+        ensures worked { HasWorked B.told self.old self.new }
         ensures order { self.new.order ≡ self.old.order }
-        ensures same_device { (B.mark self.new.book ≡ B.mark self.old.book)
-            × (B.label self.new.book ≡ B.label self.old.book) }
     {
         m17_rows::laws::rows_grow::<Item>();
-        m17_ports::laws::told_in_turn::<u8>();
+        m17_ports::laws::books_are_written_in_turn::<B::Label>();
         self.begin();
         let mut served = 0u64;
         let mut stopped = [false; MOST_LINKS];
@@ -93,18 +89,16 @@ impl<B: Book> Worker<B> {
     // Writes the book's header, if the book keeps anything.
     fn begin(&mut self)
         requires { IsModule self.old.letter }
-        ensures text { (start : Tells) (text : List ℕ) →
-            HasText start text self.old.book_failed
-            (B.written self.old.book, B.faults self.old.book) →
+        ensures text { (start : BookTold B.Label) (text : List ℕ) →
+            HasText start text self.old.book_failed (B.told self.old.book) →
             HasText start (text ++ book_header self.old.letter) self.new.book_failed
-            (B.written self.new.book, B.faults self.new.book) }
+            (B.told self.new.book) }
         ensures rest { self.new ≡ record self.old {
           book = self.new.book;
           book_failed = self.new.book_failed;
         } }
-        ensures same_device { (B.mark self.new.book ≡ B.mark self.old.book)
-            × (B.label self.new.book ≡ B.label self.old.book) }
     {
+        m17_ports::laws::books_are_written_in_turn::<B::Label>();
         if !self.book.is_kept() {
             return;
         }

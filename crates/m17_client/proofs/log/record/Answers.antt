@@ -1,11 +1,11 @@
 use Rattle.std.proofs.Common.{◌≡◌, ◌++◌, ◌∙◌, ap, length, rules}
 use Rattle.m17_fields.specs.Fields.{be_16, be_64}
-use Rattle.m17_client.specs.TalkDevices.{record_bytes}
+use Rattle.m17_client.specs.TalkDevices.{kept_record}
 use Rattle.m17_client.proofs.Logged.{three_fields}
 use Rattle.m17_client.proofs.log.record.Goals as goal
 
 pub returns : goal.returns
-unfolding record_bytes
+unfolding kept_record
 returns c =
     let long : length c.write.result ≡ 54 = search rules in
     let whole : length c.put-3.new.bytes ≡ 64 =

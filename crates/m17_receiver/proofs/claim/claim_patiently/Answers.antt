@@ -4,7 +4,7 @@ use Rattle.std.proofs.lemmas.Bool.{false≢true}
 use Rattle.std.proofs.lemmas.List.{append-nil}
 use Rattle.m17_directory.specs.declared.known.Known.{Known}
 use Rattle.m17_directory.specs.Outcome.{has_place}
-use Rattle.m17_directory.specs.StandsFor.{Kept}
+use Rattle.m17_directory.specs.StandsFor.{DirectoryKept}
 use Rattle.m17_receiver.proofs.Noted.{noted_nothing, noted_then}
 use Rattle.m17_receiver.proofs.claim.claim_patiently.Goals as goal
 
@@ -20,7 +20,7 @@ pub returns-in-Some-claim_unknown_place-clause-taken : goal.returns-in-Some-clai
 returns-in-Some-claim_unknown_place-clause-taken g c = λ asker.
     let old = c.loop.invariant in
     let one = c.in-Some-claim_unknown_place.ensures asker in
-    let known : c.loop.directory.known ≡ c.args.directory.now.known = ap (λ (k : Kept). k.known) old.noted.2.same in
+    let known : c.loop.directory.known ≡ c.args.directory.now.known = ap (λ (k : DirectoryKept). k.known) old.noted.2.same in
     record {
       claims = one.claims ∙ ap (λ ms. ms ++ c.in-Some-claim_unknown_place.member ∷ []) old.claimed;
       given = one.given ∙ old.given;

@@ -1,35 +1,33 @@
-use Rattle.std.proofs.Common.{◌≡◌, ℕ, ◌<◌, List, [], ◌∷◌, map, length, All, vec_len, sym, subst, refl, ap, ◌∙◌, arith}
+use Rattle.std.proofs.Common.{◌≡◌, ℕ, ◌<◌, List, [], ◌∷◌, length, All, vec_len, sym, subst, refl, ap, ◌∙◌, arith}
 use Rattle.std.proofs.lemmas.List.{length-map}
 use Rattle.std.proofs.lemmas.List.Elements.{recursion_from_All}
 use Rattle.m17_crew.specs.declared.order.Order.{Order}
 use Rattle.m17_crew.specs.declared.order.Order.TheVariants.{Go, Stop, Quit}
 use Rattle.m17_crew.specs.Laws.{Ran}
+use Rattle.m17_ports.specs.Book.{BookTold}
+use Rattle.m17_ports.specs.Ear.{EarTold}
+use Rattle.m17_ports.specs.Mouth.{MouthTold}
 use Rattle.m17_launch.specs.Groups.{Staff, staff, WereTold}
-use Rattle.m17_receiver.specs.declared.receiver.Receiver.{Receiver}
 use Rattle.m17_receiver.specs.ReceiverDid.{ReceiverDid}
-use Rattle.m17_worker.specs.declared.worker.Worker.{Worker}
 use Rattle.m17_worker.specs.WorkerDid.{WorkerDid}
 use Rattle.m17_sender.specs.declared.sender.Sender.{Sender}
 use Rattle.m17_sender.specs.Ready.{IsReady}
-use Rattle.m17_sender.specs.Sent.{SenderDid, told_by}
-use Rattle.m17_house.specs.declared.plan.Plan.{Plan}
-use Rattle.m17_wiring.specs.Jobs.{AreJobs}
-use Rattle.m17_wiring.specs.Planned.{module_count}
-use Rattle.m17_wiring.specs.Rooms.{HasRooms}
-use Rattle.m17_wiring.specs.Site.{IsSite}
+use Rattle.m17_sender.specs.Sent.{SenderDid}
+use Rattle.m17_plan.specs.declared.plan.Plan.{Plan}
+use Rattle.m17_run_setup.specs.Jobs.{AreJobs}
+use Rattle.m17_plan.specs.Planned.{module_count}
+use Rattle.m17_run_setup.specs.Rooms.{HasRooms}
+use Rattle.m17_run_setup.specs.Site.{IsSite}
 use Rattle.m17_reflect.specs.Parted.{IsParted}
-use Rattle.m17_reflect.specs.Views.{Words}
 use Rattle.m17_reflect.specs.declared.parted.Parted.{Parted}
-use Rattle.m17_reflect.proofs.Assembled.{ear_words, book_words}
-use Rattle.m17_reflect.proofs.Calls.{Cast, Done, Wired, can_part, done, long_r, long_w}
+use Rattle.m17_reflect.proofs.Calls.{RunDevices, Done, Wired, can_part, done, long_r, long_w}
 use Rattle.m17_reflect.proofs.Gathering.{can_gather}
 use Rattle.m17_reflect.proofs.Gone.{receiver_order, worker_order, receivers_stayed, workers_stayed}
 use Rattle.m17_reflect.proofs.Heads.{sender_stays}
 use Rattle.m17_reflect.proofs.Known.{whole_laws, back_laws}
-use Rattle.m17_reflect.proofs.Launched.{launched, one_job, told_came, told_less, told_long, told_ran}
-use Rattle.m17_reflect.proofs.Lines.{sender_order, sender_went}
+use Rattle.m17_reflect.proofs.Launched.{launched, one_job, told_came, told_long}
+use Rattle.m17_reflect.proofs.Lines.{sender_order}
 use Rattle.m17_reflect.proofs.Over.{headline_of}
-use Rattle.m17_reflect.proofs.SameDevices.{part_same, mouths_same}
 use Rattle.m17_reflect.proofs.Whole.{Laws}
 use Rattle.m17_reflect.proofs.running.reflect.Given.{Over}
 use Rattle.m17_reflect.proofs.running.reflect.Goals.{After-launch-started}
@@ -37,26 +35,14 @@ use Rattle.m17_reflect.proofs.running.reflect.Goals as goal
 
 module _ (g : Over) where
   -- what the devices of these kinds tell
-  abbrev words : Words g.row.E.Denot g.row.M.Denot g.row.B.Denot g.row.M-Label.Denot
-  words = record {
-    heard = g.E.Ear.heard;
-    ear_faults = g.E.Ear.faults;
-    told = told_by g.M.Mouth.said g.M.Mouth.tallies g.M.Mouth.faults g.M.Mouth.mark g.M.Mouth.label;
-    written = g.B.Book.written;
-    book_faults = g.B.Book.faults;
-  }
+  abbrev hears : g.row.E.Denot → EarTold g.row.E-Label.Denot
+  hears = g.E.Ear.told
 
-  -- what receivers and workers do with them
-  abbrev receives : Receiver g.row.E.Denot g.row.B.Denot → Receiver g.row.E.Denot g.row.B.Denot → Type 0
-  receives j k =
-      ReceiverDid (ear_words words) j k
-      × (g.E.Ear.mark k.ear ≡ g.E.Ear.mark j.ear) × (g.E.Ear.label k.ear ≡ g.E.Ear.label j.ear)
-      × (g.B.Book.mark k.trace ≡ g.B.Book.mark j.trace) × (g.B.Book.label k.trace ≡ g.B.Book.label j.trace)
+  abbrev tells : g.row.M.Denot → MouthTold g.row.M-Label.Denot
+  tells = g.M.Mouth.told
 
-  abbrev works : Worker g.row.B.Denot → Worker g.row.B.Denot → Type 0
-  works j k =
-      WorkerDid (book_words words) j k
-      × (g.B.Book.mark k.book ≡ g.B.Book.mark j.book) × (g.B.Book.label k.book ≡ g.B.Book.label j.book)
+  abbrev writes : g.row.B.Denot → BookTold g.row.B-Label.Denot
+  writes = g.B.Book.told
 
 module _ (g : Over) (c : After-launch-started g) where
   abbrev senders : Staff (Sender g.row.M.Denot)
@@ -65,18 +51,18 @@ module _ (g : Over) (c : After-launch-started g) where
   abbrev senders' : Staff (Sender g.row.M.Denot)
   senders' = staff c.launch-started.new.last.jobs.items c.launch-started.new.last.orders.items
 
-  ran_s : (told : List Order) × WereTold (Ran (SenderDid (words g).told)) told senders senders'
+  ran_s : (told : List Order) × WereTold (Ran (SenderDid (tells g))) told senders senders'
   ran_s =
-      launched (SenderDid (words g).told) (SenderDid (words g).told) (λ j k did. did) (Stop ∷ []) senders senders'
+      launched (SenderDid (tells g)) (Stop ∷ []) senders senders'
       c.launch-started.result c.launch-started.ensures.last
 
   -- the sender that came back
   returned : (t : Sender g.row.M.Denot) × (senders'.jobs ≡ t ∷ [])
   returned =
       one_job senders.jobs senders'.jobs c.staff-staffed.ensures.jobs.0 c.staff-staffed.ensures.jobs.1
-      (told_long (Ran (SenderDid (words g).told)) ran_s.0 senders senders' ran_s.1)
+      (told_long (Ran (SenderDid (tells g))) ran_s.0 senders senders' ran_s.1)
 
-  abbrev cast : Cast g.row.E.Denot g.row.M.Denot g.row.B.Denot
+  abbrev cast : RunDevices g.row.E.Denot g.row.M.Denot g.row.B.Denot
   cast =
       let st = c.staff-staffed.result in let l = c.launch-started.new in record {
         r = staff st.receivers.jobs.items st.receivers.orders.items;
@@ -95,7 +81,7 @@ module _ (g : Over) (c : After-launch-started g) where
   some : 0 < length cast.r.jobs
   some = omega (arith, its_ears, c.requires.links.0)
 
-  wired : Wired (words g) c.args.plan.now cast
+  wired : Wired (hears g) (tells g) (writes g) c.args.plan.now cast
   wired =
       let st = c.staff-staffed.ensures in let (s, one, its_mouths, made) = st.jobs in let e = c.launch-started.ensures in record {
         one = one;
@@ -106,8 +92,8 @@ module _ (g : Over) (c : After-launch-started g) where
         new_r = st.to_receivers;
         new_w = st.to_workers;
         new_s = st.to_sender;
-        ran_r = launched (receives g) (ReceiverDid (ear_words (words g))) (λ j k did. did.0) [] cast.r cast.r' c.launch-started.result e.first;
-        ran_w = launched (works g) (WorkerDid (book_words (words g))) (λ j k did. did.0) [] cast.w cast.w' c.launch-started.result e.second;
+        ran_r = launched (ReceiverDid (hears g) (writes g)) [] cast.r cast.r' c.launch-started.result e.first;
+        ran_w = launched (WorkerDid (writes g)) [] cast.w cast.w' c.launch-started.result e.second;
         ran_s = ran_s;
       }
 
@@ -123,13 +109,9 @@ module _ (g : Over) (c : After-launch-started g) where
   laws = whole_laws c.of_lanes.ensures c.of_links.ensures c.of_modules.ensures
 
   -- the jobs went, and were taken apart into this
-  finished : (p : Parted g.row.E.Denot g.row.M.Denot g.row.B.Denot) → IsParted cast.r' cast.w' cast.v' c.staff-staffed.result.rooms.trails p → WereTold (receives g) (Go ∷ []) cast.r cast.r' → WereTold (works g) (Go ∷ []) cast.w cast.w' → WereTold (SenderDid (words g).told) (Go ∷ Stop ∷ []) cast.v cast.v' → Done (words g) c.args.plan.now cast c.staff-staffed.result.rooms.trails p
+  finished : (p : Parted g.row.E.Denot g.row.M.Denot g.row.B.Denot) → IsParted cast.r' cast.w' cast.v' c.staff-staffed.result.rooms.trails p → WereTold (ReceiverDid (hears g) (writes g)) (Go ∷ []) cast.r cast.r' → WereTold (WorkerDid (writes g)) (Go ∷ []) cast.w cast.w' → WereTold (SenderDid (tells g)) (Go ∷ Stop ∷ []) cast.v cast.v' → Done (hears g) (tells g) (writes g) c.args.plan.now cast c.staff-staffed.result.rooms.trails p
   finished p parted r w s =
-      done laws.gone (words g) c.args.plan.now cast c.staff-staffed.result.rooms.trails p wired (record {
-        r = told_less (receives g) (ReceiverDid (ear_words (words g))) (λ j k did. did.0) (Go ∷ []) cast.r cast.r' r;
-        w = told_less (works g) (WorkerDid (book_words (words g))) (λ j k did. did.0) (Go ∷ []) cast.w cast.w' w;
-        s = s;
-      }) parted
+      done laws.gone (hears g) (tells g) (writes g) c.args.plan.now cast c.staff-staffed.result.rooms.trails p wired (record { r = r; w = w; s = s }) parted
 
 pub staff-staffed-requires-clause-books : goal.staff-staffed-requires-clause-books
 staff-staffed-requires-clause-books g c κs within =
@@ -141,14 +123,14 @@ staff-staffed-requires-clause-site g c κs within = subst (λ (n : ℕ). IsSite 
 pub part-parted-requires-clause-jobs : goal.part-parted-requires-clause-jobs
 part-parted-requires-clause-jobs g c κs within =
     let a = (goal.at.part-parted-requires-clause-jobs g c).After-launch-started in
-    can_part (words g) c.args.plan.now (cast g a) (wired g a) c.of_lanes.ensures.orders
+    can_part (hears g) (tells g) (writes g) c.args.plan.now (cast g a) (wired g a) c.of_lanes.ensures.orders
 
 pub part-parted-requires-clause-room : goal.part-parted-requires-clause-room
 part-parted-requires-clause-room g c κs within =
     let a = (goal.at.part-parted-requires-clause-room g c).After-launch-started in
     let plan = c.args.plan.now in let st = c.staff-staffed in let l = c.launch-started.new in
-    let links : vec_len l.first.jobs ≡ length (cast g a).r.jobs = l.first.jobs.ok.0 ∙ long_r (words g) plan (cast g a) (wired g a) in
-    let modules : vec_len l.second.jobs ≡ module_count plan = l.second.jobs.ok.0 ∙ long_w (words g) plan (cast g a) (wired g a) in
+    let links : vec_len l.first.jobs ≡ length (cast g a).r.jobs = l.first.jobs.ok.0 ∙ long_r (hears g) (tells g) (writes g) plan (cast g a) (wired g a) in
+    let modules : vec_len l.second.jobs ≡ module_count plan = l.second.jobs.ok.0 ∙ long_w (hears g) (tells g) (writes g) plan (cast g a) (wired g a) in
     let ears = its_ears g a in record {
       of_ears = (st.ensures.emptied.0, omega (arith, links, ears, st.ensures.same_room.0, c.args.ears.ok.1));
       of_traces = (st.ensures.emptied.1, omega (arith, links, ears, st.ensures.same_room.1, c.args.traces.ok.1, c.requires.traces));
@@ -163,7 +145,7 @@ part-parted-requires-clause-room g c κs within =
 pub gather-requires : goal.gather-requires
 gather-requires g c =
     let a = (goal.at.gather-requires g c).After-launch-started in let e = c.in-Ok-started.ensures in let p = c.part-parted in
-    can_gather (words g) c.args.plan.now (cast g a) c.staff-staffed.result.rooms.trails p.result
+    can_gather (hears g) (tells g) (writes g) c.args.plan.now (cast g a) c.staff-staffed.result.rooms.trails p.result
     (finished g a p.result p.ensures e.first e.second e.last)
     (back_laws c.of_lanes.ensures) (some g a) (rooms g a).trails
 
@@ -171,70 +153,24 @@ pub returns-in-Ok-started-clause-headline : goal.returns-in-Ok-started-clause-he
 returns-in-Ok-started-clause-headline g c =
     let a = (goal.at.returns-in-Ok-started-clause-headline g c).After-launch-started in let e = c.in-Ok-started.ensures in let p = c.part-parted in
     let st = c.staff-staffed.ensures in
-    headline_of (words g) c.args.plan.now (cast g a) c.staff-staffed.result.rooms.trails p.result
+    headline_of (hears g) (tells g) (writes g) c.args.plan.now (cast g a) c.staff-staffed.result.rooms.trails p.result
     (finished g a p.result p.ensures e.first e.second e.last) c.gather.result c.gather.ensures
     (laws g a) (back_laws c.of_lanes.ensures)
     (record { ears = c.args.ears.items; mouths = c.args.mouths.items; traces = c.args.traces.items; books = c.args.books.items })
     (record { ears = st.ears; traces = st.traces; books = st.books; mouths = ap (λ ms. ms.items) st.jobs.2 })
     (some g a)
 
-pub returns-in-Ok-started-clause-same_ears : goal.returns-in-Ok-started-clause-same_ears
-returns-in-Ok-started-clause-same_ears g c =
-    let k = cast g (goal.at.returns-in-Ok-started-clause-same_ears g c).After-launch-started in
-    let did = c.in-Ok-started.ensures.first.jobs in let was = c.staff-staffed.ensures.ears in
-    let is = ap (λ es. es.items) c.gather.ensures.devices.0 ∙ c.part-parted.ensures.links.ears in (
-      part_same (receives g) (λ j. j.ear) g.E.Ear.mark (λ i j d. d.1) k.r.jobs k.r'.jobs c.args.ears.items c.gather.result.ears.items did was is,
-      part_same (receives g) (λ j. j.ear) g.E.Ear.label (λ i j d. d.2) k.r.jobs k.r'.jobs c.args.ears.items c.gather.result.ears.items did was is,
-    )
-
-pub returns-in-Ok-started-clause-same_traces : goal.returns-in-Ok-started-clause-same_traces
-returns-in-Ok-started-clause-same_traces g c =
-    let k = cast g (goal.at.returns-in-Ok-started-clause-same_traces g c).After-launch-started in
-    let did = c.in-Ok-started.ensures.first.jobs in let was = c.staff-staffed.ensures.traces in
-    let is = ap (λ es. es.items) c.gather.ensures.devices.1 ∙ c.part-parted.ensures.links.traces in (
-      part_same (receives g) (λ j. j.trace) g.B.Book.mark (λ i j d. d.3) k.r.jobs k.r'.jobs c.args.traces.items c.gather.result.traces.items did was is,
-      part_same (receives g) (λ j. j.trace) g.B.Book.label (λ i j d. d.4) k.r.jobs k.r'.jobs c.args.traces.items c.gather.result.traces.items did was is,
-    )
-
-pub returns-in-Ok-started-clause-same_books : goal.returns-in-Ok-started-clause-same_books
-returns-in-Ok-started-clause-same_books g c =
-    let k = cast g (goal.at.returns-in-Ok-started-clause-same_books g c).After-launch-started in
-    let did = c.in-Ok-started.ensures.second.jobs in let was = c.staff-staffed.ensures.books in
-    let is = ap (λ es. es.items) c.gather.ensures.devices.2 ∙ c.part-parted.ensures.modules.books in (
-      part_same (works g) (λ j. j.book) g.B.Book.mark (λ i j d. d.1) k.w.jobs k.w'.jobs c.args.books.items c.gather.result.books.items did was is,
-      part_same (works g) (λ j. j.book) g.B.Book.label (λ i j d. d.2) k.w.jobs k.w'.jobs c.args.books.items c.gather.result.books.items did was is,
-    )
-
-pub returns-in-Ok-started-clause-same_mouths : goal.returns-in-Ok-started-clause-same_mouths
-returns-in-Ok-started-clause-same_mouths g c =
-    let a = (goal.at.returns-in-Ok-started-clause-same_mouths g c).After-launch-started in let e = c.in-Ok-started.ensures in let p = c.part-parted in
-    let told = (words g).told in let k = cast g a in let its_mouths = c.staff-staffed.ensures.jobs.2 in
-    let d = finished g a p.result p.ensures e.first e.second e.last in
-    let sent = sender_went (laws g a).gone told (Stop ∷ []) k.s k.t k.v.orders d.to_sender d.did in
-    let rest = c.gather.ensures.ended.rest in let voice = p.result.voice in (
-      mouths_same told g.M.Mouth.mark voice.name rest.acts (λ i m n h. h.said.same_mouth.0) 0 voice.mouths.items c.gather.result.mouths.items rest.mouths
-          ∙ ap (λ ms. map g.M.Mouth.mark ms.items) d.of_sender.mouths
-          ∙ mouths_same told g.M.Mouth.mark k.s.name sent.acts (λ i m n h. h.said.same_mouth.0) 0 k.s.mouths.items k.t.mouths.items sent.mouths
-          ∙ ap (λ ms. map g.M.Mouth.mark ms.items) its_mouths,
-      mouths_same told g.M.Mouth.label voice.name rest.acts (λ i m n h. h.said.same_mouth.1) 0 voice.mouths.items c.gather.result.mouths.items rest.mouths
-          ∙ ap (λ ms. map g.M.Mouth.label ms.items) d.of_sender.mouths
-          ∙ mouths_same told g.M.Mouth.label k.s.name sent.acts (λ i m n h. h.said.same_mouth.1) 0 k.s.mouths.items k.t.mouths.items sent.mouths
-          ∙ ap (λ ms. map g.M.Mouth.label ms.items) its_mouths,
-    )
-
 pub returns-in-Err-clause-refused : goal.returns-in-Err-clause-refused
 returns-in-Err-clause-refused g c =
     let a = (goal.at.returns-in-Err-clause-refused g c).After-launch-started in let e = c.in-Err.ensures in
-    let ew = ear_words (words g) in let bw = book_words (words g) in let told = (words g).told in let gone = (laws g a).gone in
+    let gone = (laws g a).gone in
     let k = cast g a in let w = wired g a in let st = c.staff-staffed.ensures in
     let h = c.hand_back.ensures in let is = c.part-parted.ensures in let trails = c.part-parted.result.trails in
-    let r = told_ran (receives g) (ReceiverDid ew) (λ i j d. d.0) (Quit ∷ []) k.r k.r' e.first in
-    let b = told_ran (works g) (WorkerDid bw) (λ i j d. d.0) (Quit ∷ []) k.w k.w' e.second in
-    let came_r = told_came receiver_order (Ran (ReceiverDid ew)) (Quit ∷ []) k.r k.r' trails.to_receivers.items w.new_r r is.to_receivers in
-    let came_w = told_came worker_order (Ran (WorkerDid bw)) (Quit ∷ []) k.w k.w' trails.to_workers.items w.new_w b is.to_workers in
-    let came_s = told_came sender_order (Ran (SenderDid told)) (Quit ∷ []) k.v k.v' trails.to_sender.items w.new_s e.last is.to_sender in (
-      ap (λ es. es.items) h.ears ∙ is.links.ears ∙ receivers_stayed ew gone (λ j. j.ear) k.r.jobs k.r'.jobs k.r.orders (λ j q. refl) r.jobs came_r ∙ st.ears,
-      ap (λ es. es.items) h.mouths ∙ ap (λ es. es.items) (is.voice k.t w.two).mouths ∙ ap (λ es. es.items) (sender_stays gone told k.v.jobs k.v'.jobs k.s k.t k.v.orders w.one w.two e.last.jobs came_s) ∙ ap (λ es. es.items) st.jobs.2,
-      ap (λ es. es.items) h.traces ∙ is.links.traces ∙ receivers_stayed ew gone (λ j. j.trace) k.r.jobs k.r'.jobs k.r.orders (λ j q. refl) r.jobs came_r ∙ st.traces,
-      ap (λ es. es.items) h.books ∙ is.modules.books ∙ workers_stayed bw gone (λ w. w.book) k.w.jobs k.w'.jobs k.w.orders (λ j q. refl) b.jobs came_w ∙ st.books,
+    let came_r = told_came receiver_order (Ran (ReceiverDid (hears g) (writes g))) (Quit ∷ []) k.r k.r' trails.to_receivers.items w.new_r e.first is.to_receivers in
+    let came_w = told_came worker_order (Ran (WorkerDid (writes g))) (Quit ∷ []) k.w k.w' trails.to_workers.items w.new_w e.second is.to_workers in
+    let came_s = told_came sender_order (Ran (SenderDid (tells g))) (Quit ∷ []) k.v k.v' trails.to_sender.items w.new_s e.last is.to_sender in (
+      ap (λ es. es.items) h.ears ∙ is.links.ears ∙ receivers_stayed (hears g) (writes g) gone (λ j. j.ear) k.r.jobs k.r'.jobs k.r.orders (λ j q. refl) e.first.jobs came_r ∙ st.ears,
+      ap (λ es. es.items) h.mouths ∙ ap (λ es. es.items) (is.voice k.t w.two).mouths ∙ ap (λ es. es.items) (sender_stays gone (tells g) k.v.jobs k.v'.jobs k.s k.t k.v.orders w.one w.two e.last.jobs came_s) ∙ ap (λ es. es.items) st.jobs.2,
+      ap (λ es. es.items) h.traces ∙ is.links.traces ∙ receivers_stayed (hears g) (writes g) gone (λ j. j.trace) k.r.jobs k.r'.jobs k.r.orders (λ j q. refl) e.first.jobs came_r ∙ st.traces,
+      ap (λ es. es.items) h.books ∙ is.modules.books ∙ workers_stayed (writes g) gone (λ w. w.book) k.w.jobs k.w'.jobs k.w.orders (λ j q. refl) e.second.jobs came_w ∙ st.books,
     )

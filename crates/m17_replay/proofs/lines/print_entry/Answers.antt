@@ -1,7 +1,8 @@
 use Rattle.std.proofs.Common.{length, ap, ◌∙◌}
 use Rattle.m17_directory.specs.Routed.{link_verdict}
-use Rattle.m17_house.specs.Replay.{setup_of, packet_verdict}
-use Rattle.m17_report.specs.Lines.{verdict_line}
+use Rattle.m17_house.specs.Replay.{packet_verdict}
+use Rattle.m17_plan.specs.Planned.{setup_of}
+use Rattle.m17_replay.specs.Lines.{verdict_line}
 use Rattle.m17_replay.proofs.Steps.{made_at}
 use Rattle.m17_replay.proofs.Writing.{writes_same}
 use Rattle.m17_replay.proofs.lines.print_entry.Goals as goal

@@ -1,6 +1,6 @@
 use Rattle.std.proofs.Common.{map, refl, ap}
 use Rattle.std.specs.List.{range_with_len}
-use Rattle.m17_report.specs.Summary.{counts_text, peers_text}
+use Rattle.m17_replay.specs.Summary.{counts_text, peers_text}
 use Rattle.m17_replay.specs.Replay.{outcome_of, tally_at}
 use Rattle.m17_replay.proofs.Ends.{summary_named}
 use Rattle.m17_replay.proofs.Writing.{writes_part, writes_same, writes_then}

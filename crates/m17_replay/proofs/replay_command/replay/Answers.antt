@@ -18,7 +18,7 @@ pub returns-clause-ended : goal.returns-clause-ended
 returns-clause-ended g c = λ bytes told.
     let read = in_ok c.in-Ok-Ok.field-0 _ _ c.in-Ok-Ok.heard c.in-Ok-Ok.field-0-is (c.in-Ok-Ok.ensures.read bytes told) in
     let judged = c.in-Ok.ensures.judged in
-    subst (λ (ending : ReplayEnding). ComesToReplay c.args.plan.now c.args.summary ending (streams bytes (g.S.Input.left c.read_heard.new.input) (g.K.Sink.written c.args.out.now) (g.K.Sink.written c.print_replayed-printed.new.out)))
+    subst (λ (ending : ReplayEnding). ComesToReplay c.args.plan.now c.args.summary ending (streams bytes (g.S.Input.told c.read_heard.new.input).left (g.K.Sink.told c.args.out.now).written (g.K.Sink.told c.print_replayed-printed.new.out).written))
     (sym c.ending_of.ensures)
     (ended c.a_replay_there_is.ensures c.replay_text_is_free_of_places.ensures c.args.plan.now c.args.summary bytes c.in-Ok-Ok.heard.items c.in-Ok.replayed read.0 judged
     c.print_replayed-printed.result c.in-Ok.replayed.lost _ _ _ _ read.1 refl c.in-Ok-Ok.ensures.nothing_written
@@ -26,10 +26,8 @@ returns-clause-ended g c = λ bytes told.
 
 pub returns-clause-causes : goal.returns-clause-causes
 returns-clause-causes g c =
-    let ins = g.S.Input.faults in
-    let outs = g.K.Sink.faults in
-    let read = subst (λ read. HasCauses (ins c.args.input.now, outs c.args.out.now) (ins c.read_heard.new.input, outs c.read_heard.new.out) (stopped_by read)) c.in-Ok-Ok.field-0-is c.in-Ok-Ok.ensures.causes in
-    subst (λ (ending : ReplayEnding). HasCauses (ins c.args.input.now, outs c.args.out.now) (ins c.read_heard.new.input, outs c.print_replayed-printed.new.out) (failed_device ending))
+    let read = subst (λ read. HasCauses ((g.S.Input.told c.args.input.now).faults, (g.K.Sink.told c.args.out.now).faults) ((g.S.Input.told c.read_heard.new.input).faults, (g.K.Sink.told c.read_heard.new.out).faults) (stopped_by read)) c.in-Ok-Ok.field-0-is c.in-Ok-Ok.ensures.causes in
+    subst (λ (ending : ReplayEnding). HasCauses ((g.S.Input.told c.args.input.now).faults, (g.K.Sink.told c.args.out.now).faults) ((g.S.Input.told c.read_heard.new.input).faults, (g.K.Sink.told c.print_replayed-printed.new.out).faults) (failed_device ending))
     (sym c.ending_of.ensures)
     (ended_causes _ _ _ _ _ c.print_replayed-printed.result c.in-Ok.replayed.lost read c.print_replayed-printed.ensures.cause)
 

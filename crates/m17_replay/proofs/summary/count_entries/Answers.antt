@@ -1,6 +1,6 @@
 use Rattle.std.proofs.Common.{subst, arith}
 use Rattle.std.proofs.lemmas.List.FromFn.{length-map-range_with_len}
-use Rattle.m17_report.specs.Counted.{CountsAre}
+use Rattle.m17_replay.specs.Counted.{CountsAre}
 use Rattle.m17_replay.specs.Replay.{outcome_of}
 use Rattle.m17_replay.proofs.Steps.{counted_more}
 use Rattle.m17_replay.proofs.summary.count_entries.Goals as goal

@@ -1,8 +1,8 @@
 use Rattle.std.proofs.Common.{List, map}
 use Rattle.std.specs.List.{range_with_len}
 use Rattle.m17_directory.specs.Entries.{Entry}
-use Rattle.m17_house.specs.declared.plan.Plan.{Plan}
-use Rattle.m17_report.specs.Counted.{CountsAre}
+use Rattle.m17_plan.specs.declared.plan.Plan.{Plan}
+use Rattle.m17_replay.specs.Counted.{CountsAre}
 use Rattle.m17_replay.specs.Replay.{outcome_of}
 use Rattle.m17_replay.specs.Run.{AreVerdicts}
 use Rattle.m17_replay.proofs.summary.count_entries.Given as goal

@@ -1,7 +1,7 @@
 use Rattle.std.proofs.Common.{codes, map, ap}
 use Rattle.std.specs.List.{range_with_len}
 use Rattle.m17_print.specs.Kinds.{kinds}
-use Rattle.m17_report.specs.Summary.{count_line}
+use Rattle.m17_replay.specs.Summary.{count_line}
 use Rattle.m17_replay.specs.Replay.{outcome_of}
 use Rattle.m17_replay.specs.Run.{kinds_text}
 use Rattle.m17_replay.proofs.Writing.{writes_part, writes_same, writes_then}

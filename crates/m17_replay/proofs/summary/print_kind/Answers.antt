@@ -1,6 +1,6 @@
 use Rattle.std.proofs.Common.{ap, ◌∙◌}
 use Rattle.m17_print.specs.Kinds.{kind_word}
-use Rattle.m17_report.specs.Summary.{count_line}
+use Rattle.m17_replay.specs.Summary.{count_line}
 use Rattle.m17_replay.proofs.Writing.{writes_same}
 use Rattle.m17_replay.proofs.summary.print_kind.Goals as goal
 

@@ -1,7 +1,7 @@
 use Rattle.std.proofs.Common.{refl, ◌∙◌, ap, arith}
 use Rattle.std.proofs.lemmas.List.{take_all}
 use Rattle.std.proofs.lemmas.List.Elements.{Contains-get_or}
-use Rattle.m17_report.specs.Summary.{peer_line, peers_text}
+use Rattle.m17_replay.specs.Summary.{peer_line, peers_text}
 use Rattle.m17_replay.proofs.Steps.{item_written, item_failed}
 use Rattle.m17_replay.proofs.Writing.{writes_nothing, writes_same}
 use Rattle.m17_replay.proofs.summary.print_peers.Goals as goal

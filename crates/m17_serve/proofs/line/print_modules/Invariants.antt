@@ -5,7 +5,7 @@ use Rattle.m17_serve.proofs.line.print_modules.Given as goal
 
 abbrev pub invariant-loop-number : goal.invariant-loop-number
 invariant-loop-number g l = record {
-  written : (before : List ℕ) → g.K.Sink.written l.fn.out ≡ Some before → g.K.Sink.written l.out
+  written : (before : List ℕ) → (g.K.Sink.told l.fn.out).written ≡ Some before → (g.K.Sink.told l.out).written
       ≡ Some (before ++ flat_map (λ m. module_line (slice_index l.letters m) (slice_index l.admitted m) (slice_index l.missed m)) (range_with_len 0 l.number));
-  same : g.K.Sink.faults l.out ≡ g.K.Sink.faults l.fn.out;
+  same : (g.K.Sink.told l.out).faults ≡ (g.K.Sink.told l.fn.out).faults;
 }

@@ -1,22 +1,23 @@
 use Rattle.std.proofs.Common.{ℕ, List, [], ◌∷◌, map, string_bytes, sym, ap, subst, ◌∙◌, arith, inl, inr}
 use Rattle.std.proofs.lemmas.List.{take_all}
-use Rattle.m17_ports.specs.Marks.{IsNumbered}
+use Rattle.m17_ports.specs.Book.{IsNewBook}
+use Rattle.m17_ports.specs.Ports.{HasAsked, PortsTold}
 use Rattle.m17_ports.specs.declared.question.Question.{Question}
 use Rattle.m17_ports.specs.declared.question.Question.TheVariants.{Book}
-use Rattle.m17_talk.specs.Devices.{PortsTold, ports_told}
-use Rattle.m17_serve.specs.Asked.{AreAsked, FailsAmong}
-use Rattle.m17_serve.proofs.Asking.{asked_more, asked_one, at_call, fails_at}
+use Rattle.m17_talk.specs.Devices.{FailsAmong}
+use Rattle.m17_serve.specs.Devices.{told_of_shelf}
+use Rattle.m17_serve.proofs.Asking.{asked_more, at_call, fails_at}
 use Rattle.m17_serve.proofs.Lists.{map_twice}
-use Rattle.m17_serve.proofs.NewOnes.{new_pushed, there_pushed}
+use Rattle.m17_serve.proofs.NewOnes.{new_pushed, on_shelf, there_pushed}
 use Rattle.m17_serve.proofs.opening.open_books.Goals as goal
 
 pub returns-in-Err-clause-asks : goal.returns-in-Err-clause-asks
 returns-in-Err-clause-asks g c =
-    let p : PortsTold = ports_told (g.P.Ports.asked c.args.ports.now) (g.P.Ports.calls c.args.ports.now) (g.P.Ports.faults c.args.ports.now) in
-    let q : PortsTold = ports_told (g.P.Ports.asked c.loop-name.ports) (g.P.Ports.calls c.loop-name.ports) (g.P.Ports.faults c.loop-name.ports) in
-    let r : PortsTold = ports_told (g.P.Ports.asked c.book.new.self) (g.P.Ports.calls c.book.new.self) (g.P.Ports.faults c.book.new.self) in
+    let p : PortsTold = g.P.Ports.told c.args.ports.now in
+    let q : PortsTold = g.P.Ports.told c.loop-name.ports in
+    let r : PortsTold = g.P.Ports.told c.book.new.self in
     let x : List ℕ = string_bytes c.name-item.result in
-    let next : AreAsked (Book x ∷ []) q r = asked_one (Book x) q r (rw c.as_str.ensures.value at c.book.ensures.asked) c.book.ensures.counted in
+    let next : HasAsked (Book x ∷ []) q r = rw c.as_str.ensures.value at c.book.ensures.asked in
     record {
       asked = tt;
       no_fault = tt;
@@ -27,18 +28,18 @@ returns-in-Err-clause-asks g c =
 
 pub loop-name-preserved : goal.loop-name-preserved
 loop-name-preserved g c =
-    let p : PortsTold = ports_told (g.P.Ports.asked c.args.ports.now) (g.P.Ports.calls c.args.ports.now) (g.P.Ports.faults c.args.ports.now) in
-    let q : PortsTold = ports_told (g.P.Ports.asked c.loop-name.ports) (g.P.Ports.calls c.loop-name.ports) (g.P.Ports.faults c.loop-name.ports) in
-    let r : PortsTold = ports_told (g.P.Ports.asked c.book.new.self) (g.P.Ports.calls c.book.new.self) (g.P.Ports.faults c.book.new.self) in
+    let p : PortsTold = g.P.Ports.told c.args.ports.now in
+    let q : PortsTold = g.P.Ports.told c.loop-name.ports in
+    let r : PortsTold = g.P.Ports.told c.book.new.self in
     let x : List ℕ = string_bytes c.name-item.result in
-    let next : AreAsked (Book x ∷ []) q r = asked_one (Book x) q r (rw c.as_str.ensures.value at c.book.ensures.asked) c.book.ensures.counted in
+    let next : HasAsked (Book x ∷ []) q r = rw c.as_str.ensures.value at c.book.ensures.asked in
     let at = at_call (λ name. Book (string_bytes name)) c.args.names.now c.loop-name.name-index p q (omega arith) c.loop-name.invariant.asked in
     record {
       asked = asked_more (λ name. Book (string_bytes name)) c.args.names.now c.loop-name.name-index c.name-item.result p q r c.loop-name-test.true c.name-item.is
           c.loop-name.invariant.asked next;
       same = c.in-Ok.ensures.cause.no_fault ∙ c.loop-name.invariant.same;
-      new = new_pushed _ _ _ _ _ _ _ _ c.push_reserved.ensures.items c.loop-name.invariant.new (c.in-Ok.ensures.book.1, c.in-Ok.ensures.book.0)
-          (subst (IsNumbered (g.P.Book.Book.mark c.in-Ok.book)) at c.in-Ok.ensures.numbered);
+      new = new_pushed (told_of_shelf g.P.Book.Book.told) IsNewBook _ _ _ _ _ c.push_reserved.ensures.items c.loop-name.invariant.new
+          (on_shelf g.P.Book.Book.told c.in-Ok.book _ (subst (λ (call : ℕ). IsNewBook call (g.P.Book.Book.told c.in-Ok.book)) at c.in-Ok.ensures.book));
       there = there_pushed c.loop-name.shelves.items c.push_reserved.new.self.items c.in-Ok.book c.push_reserved.ensures.items c.loop-name.invariant.there;
       room = omega (arith, c.loop-name.invariant.room, c.push_reserved.ensures.capacity);
     }
@@ -55,7 +56,7 @@ returns-clause-asks g c =
 
 pub returns-in-Err-clause-fails_last : goal.returns-in-Err-clause-fails_last
 returns-in-Err-clause-fails_last g c =
-    inr (c.loop-name.ports, Book c.as_str.result.now, c.loop-name.invariant.same, (c.book.ensures.asked, c.book.ensures.counted))
+    inr (c.loop-name.ports, Book c.as_str.result.now, c.loop-name.invariant.same, c.book.ensures.asked)
 
 pub returns-clause-fails_last : goal.returns-clause-fails_last
 returns-clause-fails_last g c = inl c.loop-name.invariant.same

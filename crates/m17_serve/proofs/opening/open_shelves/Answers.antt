@@ -1,7 +1,7 @@
 use Rattle.std.proofs.Common.{List, map, string_bytes, sym, subst, arith}
 use Rattle.m17_ports.specs.declared.question.Question.{Question}
 use Rattle.m17_ports.specs.declared.question.Question.TheVariants.{Book}
-use Rattle.m17_talk.specs.Devices.{PortsTold, ports_told}
+use Rattle.m17_ports.specs.Ports.{PortsTold}
 use Rattle.m17_serve.specs.Steps.{Asks}
 use Rattle.m17_serve.proofs.Asking.{asks_then, fails_behind}
 use Rattle.m17_serve.proofs.NewOnes.{empty_new}
@@ -9,9 +9,9 @@ use Rattle.m17_serve.proofs.opening.open_shelves.Goals as goal
 
 pub returns-in-Ok-clause-asks : goal.returns-in-Ok-clause-asks
 returns-in-Ok-clause-asks g c =
-    let p : PortsTold = ports_told (g.P.Ports.asked c.args.ports.now) (g.P.Ports.calls c.args.ports.now) (g.P.Ports.faults c.args.ports.now) in
-    let q : PortsTold = ports_told (g.P.Ports.asked c.open_books.new.ports) (g.P.Ports.calls c.open_books.new.ports) (g.P.Ports.faults c.open_books.new.ports) in
-    let r : PortsTold = ports_told (g.P.Ports.asked c.open_books-in-Ok.new.ports) (g.P.Ports.calls c.open_books-in-Ok.new.ports) (g.P.Ports.faults c.open_books-in-Ok.new.ports) in
+    let p : PortsTold = g.P.Ports.told c.args.ports.now in
+    let q : PortsTold = g.P.Ports.told c.open_books.new.ports in
+    let r : PortsTold = g.P.Ports.told c.open_books-in-Ok.new.ports in
     let traces : List Question = map Book (map string_bytes c.args.names.now.traces.items) in
     let books : List Question = map Book (map string_bytes c.args.names.now.books.items) in
     subst (λ (qs : List Question). Asks c.open_books-in-Ok.result qs p r) (sym c.requires.names.questions)
@@ -30,5 +30,5 @@ returns-in-None-clause-books g c =
 
 pub returns-in-Ok-clause-fails_last : goal.returns-in-Ok-clause-fails_last
 returns-in-Ok-clause-fails_last g c =
-    fails_behind (λ p. ports_told (g.P.Ports.asked p) (g.P.Ports.calls p) (g.P.Ports.faults p)) c.args.ports.now c.open_books.new.ports c.open_books-in-Ok.new.ports
+    fails_behind g.P.Ports.told c.args.ports.now c.open_books.new.ports c.open_books-in-Ok.new.ports
     c.in-Ok.ensures.asks.no_fault c.open_books-in-Ok.ensures.fails_last

@@ -1,14 +1,15 @@
 use Rattle.std.proofs.Common.{◌≡◌, length, refl, sym, ap, ◌∙◌, arith}
 use Rattle.std.specs.Prelude.{vec_len}
 use Rattle.m17_control.specs.Modules.{letters_of}
-use Rattle.m17_sender.specs.Sent.{told_by}
 use Rattle.m17_reflect.specs.Run.{module_count}
 use Rattle.m17_reflect.specs.Views.{handed_of, kinds_back}
 use Rattle.m17_serve.specs.Devices.{house_told}
+use Rattle.m17_serve.specs.Served.{run_told}
 use Rattle.m17_serve.specs.Steps.{kinds_opened}
+use Rattle.m17_serve.proofs.Asking.{served_questions}
 use Rattle.m17_serve.proofs.Endings.{asked_nothing, caused_port, caused_refusal, caused_run, comes_refusal, comes_run, has_run, never_ran}
 use Rattle.m17_serve.proofs.Printing.{printed_grows}
-use Rattle.m17_serve.proofs.Told.{eyes_of, have_same_marks, headline_told, looks, new_ears, new_shelves, of_questions, ones_count, refused_same}
+use Rattle.m17_serve.proofs.Told.{headline_told, new_ears, new_shelves, ones_count, refused_same, stay_same}
 use Rattle.m17_serve.proofs.serve_command.serve.Goals as goal
 
 pub returns-in_default-open-clause-causes : goal.returns-in_default-open-clause-causes
@@ -19,30 +20,21 @@ returns-in_default-open-clause-causes g c =
 pub reflect-ran-requires-clause-books : goal.reflect-ran-requires-clause-books
 reflect-ran-requires-clause-books g c κs within =
     let books = c.in-Ok-open.opened.books in
-    let long = ones_count _ _ _ _ _ books.items c.in-Ok-open.ensures.new.books in
+    let long = ones_count _ _ _ _ books.items c.in-Ok-open.ensures.new.books in
     let same : vec_len books ≡ length (letters_of c.args.order.now.modules) = omega (arith, long, books.ok.0) in
     same ∙ ap module_count (sym c.plan_of-plan.ensures)
 
 pub reflect-ran-requires-clause-new_ears : goal.reflect-ran-requires-clause-new_ears
 reflect-ran-requires-clause-new_ears g c κs within =
-    let k = looks g.P.Ear.Ear.heard g.P.Ear.Ear.faults g.P.Ear.Ear.mark
-    (told_by g.P.Mouth.Mouth.said g.P.Mouth.Mouth.tallies g.P.Mouth.Mouth.faults g.P.Mouth.Mouth.mark g.P.Mouth.Mouth.label)
-    g.P.Book.Book.written g.P.Book.Book.faults g.P.Book.Book.mark in
-    new_ears k _ _ c.in-Ok-open.opened.ears.items c.in-Ok-open.ensures.new.ears
+    new_ears g.P.Ear.Ear.told _ _ c.in-Ok-open.opened.ears.items c.in-Ok-open.ensures.new.ears
 
 pub reflect-ran-requires-clause-new_traces : goal.reflect-ran-requires-clause-new_traces
 reflect-ran-requires-clause-new_traces g c κs within =
-    let k = looks g.P.Ear.Ear.heard g.P.Ear.Ear.faults g.P.Ear.Ear.mark
-    (told_by g.P.Mouth.Mouth.said g.P.Mouth.Mouth.tallies g.P.Mouth.Mouth.faults g.P.Mouth.Mouth.mark g.P.Mouth.Mouth.label)
-    g.P.Book.Book.written g.P.Book.Book.faults g.P.Book.Book.mark in
-    new_shelves k _ _ c.in-Ok-open.opened.traces.items c.in-Ok-open.ensures.new.traces
+    new_shelves g.P.Book.Book.told _ _ c.in-Ok-open.opened.traces.items c.in-Ok-open.ensures.new.traces
 
 pub reflect-ran-requires-clause-new_books : goal.reflect-ran-requires-clause-new_books
 reflect-ran-requires-clause-new_books g c κs within =
-    let k = looks g.P.Ear.Ear.heard g.P.Ear.Ear.faults g.P.Ear.Ear.mark
-    (told_by g.P.Mouth.Mouth.said g.P.Mouth.Mouth.tallies g.P.Mouth.Mouth.faults g.P.Mouth.Mouth.mark g.P.Mouth.Mouth.label)
-    g.P.Book.Book.written g.P.Book.Book.faults g.P.Book.Book.mark in
-    new_shelves k _ _ c.in-Ok-open.opened.books.items c.in-Ok-open.ensures.new.books
+    new_shelves g.P.Book.Book.told _ _ c.in-Ok-open.opened.books.items c.in-Ok-open.ensures.new.books
 
 pub returns-in-Ok-ran-clause-causes : goal.returns-in-Ok-ran-clause-causes
 returns-in-Ok-ran-clause-causes g c =
@@ -51,23 +43,21 @@ returns-in-Ok-ran-clause-causes g c =
 
 pub returns-in-Ok-ran-clause-ended : goal.returns-in-Ok-ran-clause-ended
 returns-in-Ok-ran-clause-ended g c =
-    let k = looks g.P.Ear.Ear.heard g.P.Ear.Ear.faults g.P.Ear.Ear.mark
-    (told_by g.P.Mouth.Mouth.said g.P.Mouth.Mouth.tallies g.P.Mouth.Mouth.faults g.P.Mouth.Mouth.mark g.P.Mouth.Mouth.label)
-    g.P.Book.Book.written g.P.Book.Book.faults g.P.Book.Book.mark in
     let order = c.args.order.now in
     let house = c.in-Ok-ran.house in
-    let new = kinds_opened c.in-Ok-open.opened in
-    comes_run c.print_modules-printed.result order c.ending_of.result _ (house_told (eyes_of k) (kinds_back house)) (handed_of house) _ _ c.ending_of.ensures.ok c.ending_of.ensures.err
+    let opened = kinds_opened c.in-Ok-open.opened in
+    let new = house_told g.P.Ear.Ear.told g.P.Mouth.Mouth.told g.P.Book.Book.told opened in
+    let back = house_told g.P.Ear.Ear.told g.P.Mouth.Mouth.told g.P.Book.Book.told (kinds_back house) in
+    let are_new = c.in-Ok-open.ensures.new in
+    let headline = headline_told g.P.Ear.Ear.told g.P.Mouth.Mouth.told g.P.Book.Book.told order c.plan_of-plan.result c.plan_of-plan.ensures opened house c.in-Ok-ran.ensures.headline in
+    comes_run c.print_modules-printed.result order c.ending_of.result _ back (handed_of house) _ _ c.ending_of.ensures.ok c.ending_of.ensures.err
     (record {
-      asked = c.in-Ok-open.ensures.asks.asked;
+      asked = served_questions order _ _ c.requires.servable.some_link c.in-Ok-open.ensures.asks.asked;
       no_fault = c.in-Ok-open.ensures.asks.no_fault;
-      new = house_told (eyes_of k) new;
-      are_new = c.in-Ok-open.ensures.new;
-      headline = headline_told k order c.plan_of-plan.result c.plan_of-plan.ensures new house c.in-Ok-ran.ensures.headline;
-      same_devices = of_questions k g.P.Book.Book.label order _ new (kinds_back house) c.in-Ok-open.ensures.new c.in-Ok-ran.ensures.same_ears.0 c.in-Ok-ran.ensures.same_mouths.0
-          c.in-Ok-ran.ensures.same_traces.0 c.in-Ok-ran.ensures.same_traces.1 c.in-Ok-ran.ensures.same_books.0 c.in-Ok-ran.ensures.same_books.1;
-      same_marks = have_same_marks k new (kinds_back house) c.in-Ok-ran.ensures.same_ears.0 c.in-Ok-ran.ensures.same_mouths.0 c.in-Ok-ran.ensures.same_traces.0
-          c.in-Ok-ran.ensures.same_books.0;
+      new = new;
+      are_new = are_new;
+      headline = headline;
+      same_devices = stay_same c.of_runs.ensures order _ (run_told order new back (handed_of house)) headline are_new are_new.books.count_is;
       handed_back = refl;
       none = refl;
     })
@@ -95,17 +85,14 @@ returns-clause-causes g c =
 
 pub returns-clause-ended : goal.returns-clause-ended
 returns-clause-ended g c =
-    let k = looks g.P.Ear.Ear.heard g.P.Ear.Ear.faults g.P.Ear.Ear.mark
-    (told_by g.P.Mouth.Mouth.said g.P.Mouth.Mouth.tallies g.P.Mouth.Mouth.faults g.P.Mouth.Mouth.mark g.P.Mouth.Mouth.label)
-    g.P.Book.Book.written g.P.Book.Book.faults g.P.Book.Book.mark in
     let refused = c.in-Err.refused in
     let same = c.in-Err.ensures.refused in
-    let new = kinds_opened c.in-Ok-open.opened in
+    let opened = kinds_opened c.in-Ok-open.opened in
     comes_refusal refused.why c.args.order.now c.ending_for.result _ _ c.ending_for.ensures.crew c.ending_for.ensures.memory (record {
-      asked = c.in-Ok-open.ensures.asks.asked;
+      asked = served_questions c.args.order.now _ _ c.requires.servable.some_link c.in-Ok-open.ensures.asks.asked;
       no_fault = c.in-Ok-open.ensures.asks.no_fault;
-      devices = house_told (eyes_of k) new;
+      devices = house_told g.P.Ear.Ear.told g.P.Mouth.Mouth.told g.P.Book.Book.told opened;
       are_new = c.in-Ok-open.ensures.new;
-      handed_back = refused_same k refused new same.0 same.1 same.2 same.3;
+      handed_back = refused_same g.P.Ear.Ear.told g.P.Mouth.Mouth.told g.P.Book.Book.told refused opened same.0 same.1 same.2 same.3;
       none = refl;
     })

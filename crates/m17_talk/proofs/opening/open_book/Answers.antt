@@ -4,4 +4,4 @@ use Rattle.m17_talk.proofs.opening.open_book.Goals as goal
 
 pub returns-in-Err-clause-fails_last : goal.returns-in-Err-clause-fails_last
 returns-in-Err-clause-fails_last g c =
-    inr (c.args.ports.now, Book c.as_str.result.now, refl, (c.book.ensures.asked, c.book.ensures.counted))
+    inr (c.args.ports.now, Book c.as_str.result.now, refl, c.book.ensures.asked)

@@ -32,7 +32,7 @@ loop-index-preserved g c =
     record {
       after = λ bytes told.
           let after = c.loop-index.invariant.after bytes told in
-          subst (λ (s : List Due). IsAfter bytes s (g.S.Input.left c.fill.new.input)) (sym pushed)
+          subst (λ (s : List Due). IsAfter bytes s (g.S.Input.told c.fill.new.input).left) (sym pushed)
           (one_more bytes c.loop-index.script.items c.in-Ok-read_record.due c.loop-index.bytes c.fill.new.into c.in-Ok.taken _ _
           (omega (arith, c.in-Ok.ensures.within, c.loop-index.invariant.size)) (omega arith) after (c.in-Ok.ensures.filled _ after.rest_left) c.in-Ok-read_record.ensures.0 later);
       in_order = subst (λ (s : List Due). IsInOrder s) (sym pushed) (in_order_more c.loop-index.script.items c.in-Ok-read_record.due c.loop-index.invariant.in_order later);

@@ -20,10 +20,10 @@ returns-clause-stepped g c = λ origin steps to_is h.
       refl,
       at_more origin steps step c.args.self.now
           (record { progress = c.send.new.self; log = c.carry_out.new.self })
-          (g.M.Mouth.said c.args.mouth.now, g.M.Mouth.tallies c.args.mouth.now, g.M.Mouth.faults c.args.mouth.now)
-          (g.M.Mouth.said c.carry_out.new.mouth, g.M.Mouth.tallies c.carry_out.new.mouth, g.M.Mouth.faults c.carry_out.new.mouth)
-          (g.B.Book.written c.args.book.now, g.B.Book.faults c.args.book.now)
-          (g.B.Book.written c.carry_out.new.book, g.B.Book.faults c.carry_out.new.book)
+          (g.M.Mouth.told c.args.mouth.now)
+          (g.M.Mouth.told c.carry_out.new.mouth)
+          (g.B.Book.told c.args.book.now)
+          (g.B.Book.told c.carry_out.new.book)
           h c.send.ensures.step
           (after_send origin.plan.client steps step c.args.self.now.progress c.send.new.self h.after refl refl same
           c.requires.connected c.send.ensures.connected c.send.ensures.sent c.send.ensures.sent_at)

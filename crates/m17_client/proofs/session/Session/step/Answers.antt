@@ -5,8 +5,8 @@ use Rattle.m17_client.proofs.OneStep.{after_step}
 use Rattle.m17_client.proofs.OneTurn.{at_more}
 use Rattle.m17_client.proofs.session.Session.step.Goals as goal
 
-pub returns-clause-stepped : goal.returns-clause-stepped
-returns-clause-stepped g c = λ origin steps to_is h.
+pub returns : goal.returns
+returns g c = λ origin steps to_is h.
     let step : ClientStep = record {
       input = c.args.input.now;
       actions = c.step.new.out.items;
@@ -16,10 +16,10 @@ returns-clause-stepped g c = λ origin steps to_is h.
       refl,
       at_more origin steps step c.args.self.now
           (record { progress = c.step.new.self; log = c.carry_out.new.self })
-          (g.M.Mouth.said c.args.mouth.now, g.M.Mouth.tallies c.args.mouth.now, g.M.Mouth.faults c.args.mouth.now)
-          (g.M.Mouth.said c.carry_out.new.mouth, g.M.Mouth.tallies c.carry_out.new.mouth, g.M.Mouth.faults c.carry_out.new.mouth)
-          (g.B.Book.written c.args.book.now, g.B.Book.faults c.args.book.now)
-          (g.B.Book.written c.carry_out.new.book, g.B.Book.faults c.carry_out.new.book)
+          (g.M.Mouth.told c.args.mouth.now)
+          (g.M.Mouth.told c.carry_out.new.mouth)
+          (g.B.Book.told c.args.book.now)
+          (g.B.Book.told c.carry_out.new.book)
           h c.step.ensures.step
           (after_step origin.plan.client steps step c.args.self.now.progress c.step.new.self h.after c.requires refl
           c.step.ensures.connected c.step.ensures.sent c.step.ensures.sent_at)

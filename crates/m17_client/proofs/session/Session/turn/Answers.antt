@@ -5,15 +5,15 @@ use Rattle.m17_client.specs.TalkSoFar.{IsAt}
 use Rattle.m17_client.proofs.OneTurn.{time_to_leave}
 use Rattle.m17_client.proofs.session.Session.turn.Goals as goal
 
-pub returns-then-is_time_to_leave-clause-taken : goal.returns-then-is_time_to_leave-clause-taken
-returns-then-is_time_to_leave-clause-taken g c = λ origin steps entry plan_is heard h.
-    let on_entry = c.step.ensures.stepped origin steps plan_is.to_peer h in
-    let on_due = c.send_due.ensures.sent origin (steps ++ on_entry.0 ∷ []) plan_is.to_peer plan_is.of_script on_entry.2 in
+pub returns-then-is_time_to_leave : goal.returns-then-is_time_to_leave
+returns-then-is_time_to_leave g c = λ origin steps entry plan_is heard h.
+    let on_entry = c.step.ensures origin steps plan_is.to_peer h in
+    let on_due = c.send_due.ensures origin (steps ++ on_entry.0 ∷ []) plan_is.to_peer plan_is.of_script on_entry.2 in
     let so_far = subst (λ l. IsAt origin l c.send_due.new.self
-    (g.M.Mouth.said c.send_due.new.mouth, g.M.Mouth.tallies c.send_due.new.mouth, g.M.Mouth.faults c.send_due.new.mouth)
-    (g.B.Book.written c.send_due.new.book, g.B.Book.faults c.send_due.new.book))
+    (g.M.Mouth.told c.send_due.new.mouth)
+    (g.B.Book.told c.send_due.new.book))
     (append_assoc steps (on_entry.0 ∷ []) on_due.0) on_due.2 in
-    let on_leave = c.step-then-is_time_to_leave.ensures.stepped origin (steps ++ on_entry.0 ∷ on_due.0)
+    let on_leave = c.step-then-is_time_to_leave.ensures origin (steps ++ on_entry.0 ∷ on_due.0)
     plan_is.to_peer so_far in
     let time = time_to_leave origin.plan (steps ++ on_entry.0 ∷ on_due.0) c.send_due.new.self.progress
     (length c.args.script.now) c.args.stay so_far.after (sym (ap length plan_is.of_script)) plan_is.for_stay in (
@@ -29,18 +29,18 @@ returns-then-is_time_to_leave-clause-taken g c = λ origin steps entry plan_is h
         on_leave = inl (time.0 (c.is_time_to_leave.ensures.0 c.if-is_time_to_leave.true), ap (λ i. i ∷ []) on_leave.1);
       },
       subst (λ l. IsAt origin l c.step-then-is_time_to_leave.new.self
-          (g.M.Mouth.said c.step-then-is_time_to_leave.new.mouth, g.M.Mouth.tallies c.step-then-is_time_to_leave.new.mouth, g.M.Mouth.faults c.step-then-is_time_to_leave.new.mouth)
-          (g.B.Book.written c.step-then-is_time_to_leave.new.book, g.B.Book.faults c.step-then-is_time_to_leave.new.book))
+          (g.M.Mouth.told c.step-then-is_time_to_leave.new.mouth)
+          (g.B.Book.told c.step-then-is_time_to_leave.new.book))
           (append_assoc steps (on_entry.0 ∷ on_due.0) (on_leave.0 ∷ [])) on_leave.2,
     )
 
-pub returns-else-is_time_to_leave-clause-taken : goal.returns-else-is_time_to_leave-clause-taken
-returns-else-is_time_to_leave-clause-taken g c = λ origin steps entry plan_is heard h.
-    let on_entry = c.step.ensures.stepped origin steps plan_is.to_peer h in
-    let on_due = c.send_due.ensures.sent origin (steps ++ on_entry.0 ∷ []) plan_is.to_peer plan_is.of_script on_entry.2 in
+pub returns-else-is_time_to_leave : goal.returns-else-is_time_to_leave
+returns-else-is_time_to_leave g c = λ origin steps entry plan_is heard h.
+    let on_entry = c.step.ensures origin steps plan_is.to_peer h in
+    let on_due = c.send_due.ensures origin (steps ++ on_entry.0 ∷ []) plan_is.to_peer plan_is.of_script on_entry.2 in
     let so_far = subst (λ l. IsAt origin l c.send_due.new.self
-    (g.M.Mouth.said c.send_due.new.mouth, g.M.Mouth.tallies c.send_due.new.mouth, g.M.Mouth.faults c.send_due.new.mouth)
-    (g.B.Book.written c.send_due.new.book, g.B.Book.faults c.send_due.new.book))
+    (g.M.Mouth.told c.send_due.new.mouth)
+    (g.B.Book.told c.send_due.new.book))
     (append_assoc steps (on_entry.0 ∷ []) on_due.0) on_due.2 in
     let time = time_to_leave origin.plan (steps ++ on_entry.0 ∷ on_due.0) c.send_due.new.self.progress
     (length c.args.script.now) c.args.stay so_far.after (sym (ap length plan_is.of_script)) plan_is.for_stay in (

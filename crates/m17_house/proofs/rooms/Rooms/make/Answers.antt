@@ -1,5 +1,5 @@
 use Rattle.std.proofs.Common.{◌≡◌, ◌+◌, List, length, slice_get, Option, Some, subst, arith}
-use Rattle.m17_module.specs.StandsFor.{Kept}
+use Rattle.m17_module.specs.StandsFor.{ModuleKept}
 use Rattle.m17_house.proofs.Cells.{new_more, room_of}
 use Rattle.m17_house.proofs.rooms.Rooms.make.Goals as goal
 
@@ -11,7 +11,7 @@ loop-letter-preserved c =
       omega (arith, inv.1, c.push_reserved.ensures.len),
       omega arith,
       λ k cell is. new_more c.args.plan.now c.loop-letter.cells.items c.in_ok-room.room c.loop-letter.letter len inv.3 c.in_ok-room.ensures k cell
-          (subst (λ (xs : List (Option Kept)). slice_get xs k ≡ Some cell) c.push_reserved.ensures.items is),
+          (subst (λ (xs : List (Option ModuleKept)). slice_get xs k ≡ Some cell) c.push_reserved.ensures.items is),
     )
 
 pub returns : goal.returns

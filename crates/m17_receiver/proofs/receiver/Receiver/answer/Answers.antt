@@ -2,7 +2,7 @@ use Rattle.std.proofs.Common.{◌≡◌, ◌↔◌, ℕ, true, List, length, Non
 use Rattle.m17_values.specs.declared.member.Member.{Member}
 use Rattle.m17_lane.specs.Ends.{PopEnd}
 use Rattle.m17_directory.specs.declared.known.Known.{Known}
-use Rattle.m17_directory.specs.StandsFor.{Kept}
+use Rattle.m17_directory.specs.StandsFor.{DirectoryKept}
 use Rattle.m17_receiver.specs.ReceiverDid.{outlets_of}
 use Rattle.m17_receiver.specs.SoFar.{Parts, HasTaken, IsAsking, parts_of, posting}
 use Rattle.m17_receiver.proofs.Entered.{asking_noted}
@@ -35,10 +35,10 @@ returns-clause-through g c = λ plan entries notice is_plan index asking.
     let asking₂ : IsAsking plan entries notice p₂ =
     asking_noted plan entries notice p₁ c.claim-claimed.new.self.directory c.claim-claimed.new.self.notes.popped second.0 c.claim-claimed.new.noted asking₁
     (ap (λ (q : PopEnd Member). q.popped) second.1) second.2 in
-    let same_known : c.claim-claimed.new.self.directory.known ≡ c.pop_until_ready.new.directory.known = ap (λ (k : Kept). k.known) second.2.same in
+    let same_known : c.claim-claimed.new.self.directory.known ≡ c.pop_until_ready.new.directory.known = ap (λ (k : DirectoryKept). k.known) second.2.same in
     let known : length c.claim-claimed.new.self.directory.known ≡ length c.pop_until_ready.new.directory.known = ap length same_known in
     let asked : c.args.self.now.directory.asked ≡ c.claim-claimed.new.self.directory.asked =
-    sym (ap (λ (k : Kept). k.asked) second.2.same ∙ ap (λ (k : Kept). k.asked) first.2.same) in
+    sym (ap (λ (k : DirectoryKept). k.asked) second.2.same ∙ ap (λ (k : DirectoryKept). k.asked) first.2.same) in
     let taken : HasTaken plan.patient (length entries) c.claim-claimed.result c.claim-claimed.new.self.directory.known old.seat c.claim-claimed.new.self.seat =
     subst (λ (n : ℕ). HasTaken plan.patient n c.claim-claimed.result c.claim-claimed.new.self.directory.known old.seat c.claim-claimed.new.self.seat) index
     (subst (λ b. HasTaken b c.args.index c.claim-claimed.result c.claim-claimed.new.self.directory.known old.seat c.claim-claimed.new.self.seat) (sym is_plan.patient)

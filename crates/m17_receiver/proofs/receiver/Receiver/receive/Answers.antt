@@ -3,15 +3,15 @@ use Rattle.std.proofs.lemmas.Bool.{false≢true}
 use Rattle.std.proofs.lemmas.List.Elements.{Contains-push_cases}
 use Rattle.m17_values.specs.declared.heard.Heard.TheVariants.{End}
 use Rattle.m17_receiver.specs.declared.receiver.Receiver.{Receiver}
-use Rattle.m17_receiver.specs.Devices.{Words, HasHeard, HasTrace}
-use Rattle.m17_receiver.specs.SoFar.{plan_of}
+use Rattle.m17_ports.specs.Book.{HasText}
+use Rattle.m17_receiver.specs.Devices.{HearsToTheEnd, trace_text}
+use Rattle.m17_receiver.specs.SoFar.{plan_of_job}
 use Rattle.m17_receiver.proofs.Came.{same_devices, same_taped, come_none, come_on, come_end, same_kept, same_itself, plan_is, first_is, next_index, index_is, trace_stays, ear_stays, faults_stay, cell_put}
 use Rattle.m17_receiver.proofs.Heard.{hears_one}
 use Rattle.m17_receiver.proofs.receiver.Receiver.receive.Goals as goal
 
 pub loop-init : goal.loop-init
 loop-init g c =
-    let words : Words g.row.E.Denot g.row.B.Denot = record { heard = g.E.Ear.heard; ear_faults = g.E.Ear.faults; written = g.B.Book.written; trace_faults = g.B.Book.faults } in
     record {
       between = record {
         same = same_itself c.args.self.now;
@@ -20,14 +20,14 @@ loop-init g c =
         asked = c.requires.made.asked;
         goes_on = c.requires.made.ended;
       };
-      come = come_none c.known_laws.ensures words c.args.self.now c.requires;
-      same_ear = (refl, refl);
-      same_trace = (refl, refl);
+      come = come_none c.known_laws.ensures c.ears_tell_up_to_the_end.ensures.new c.ears_hear_in_turn.ensures c.books_are_written_in_turn.ensures g.E.Ear.told g.B.Book.told
+          c.args.self.now c.requires;
     }
 
 pub loop-preserved : goal.loop-preserved
 loop-preserved g c =
-    let words : Words g.row.E.Denot g.row.B.Denot = record { heard = g.E.Ear.heard; ear_faults = g.E.Ear.faults; written = g.B.Book.written; trace_faults = g.B.Book.faults } in
+    let hears = g.E.Ear.told in
+    let writes = g.B.Book.told in
     let law = c.known_laws.ensures in
     let j = c.args.self.now in
     let k = c.loop.self in
@@ -38,11 +38,12 @@ loop-preserved g c =
     let kept = c.enter-verdict.ensures.kept in
     let k₁ : Receiver g.row.E.Denot g.row.B.Denot = record k { ear = c.hear-entry.new.self; trace = c.write_trace.new.trace; trace_failed = c.write_trace.new.failed } in
     let s₁ : Receiver g.row.E.Denot g.row.B.Denot = record s { tape = c.fill_tape.new.tape } in
-    let heard : HasHeard (words.heard j.ear, words.ear_faults j.ear) (old.heard ++ h ∷ []) (words.heard k₁.ear, words.ear_faults k₁.ear) =
-    hears_one (words.heard j.ear, words.ear_faults j.ear) (words.heard k.ear, words.ear_faults k.ear) (words.heard k₁.ear, words.ear_faults k₁.ear) old.heard h c.requires.unused.ear old.no_end
-    c.hear-entry.ensures.counted c.hear-entry.ensures.fault c.hear-entry.ensures.no_fault c.hear-entry.ensures.appended old.ear in
-    let traced : HasTrace (words.written j.trace, words.trace_faults j.trace) (old.heard ++ h ∷ []) k₁.trace_failed (words.written k₁.trace, words.trace_faults k₁.trace) =
-    c.write_trace.ensures.traced (words.written j.trace, words.trace_faults j.trace) old.heard (first_is c.loop.index old.heard old.count) old.trace in
+    let one = c.ears_hear_in_turn.ensures.one (hears k.ear) (hears k₁.ear) h
+    c.hear-entry.ensures.counted c.hear-entry.ensures.fault c.hear-entry.ensures.no_fault c.hear-entry.ensures.appended c.hear-entry.ensures.same_device in
+    let heard : HearsToTheEnd (hears j.ear) (old.heard ++ h ∷ []) (hears k₁.ear) =
+    hears_one c.ears_tell_up_to_the_end.ensures.new c.ears_hear_in_turn.ensures (hears j.ear) (hears k.ear) (hears k₁.ear) old.heard h c.requires.unused.ear old.no_end one old.ear in
+    let traced : HasText (writes j.trace) (trace_text (old.heard ++ h ∷ [])) k₁.trace_failed (writes k₁.trace) =
+    c.write_trace.ensures (writes j.trace) old.heard (first_is c.loop.index old.heard old.count) old.trace in
     record {
       between = record {
         same = same_taped j s s₁ refl (same_kept j k₁ s (same_devices j k c.hear-entry.new.self c.write_trace.new.trace c.write_trace.new.failed between.same) kept);
@@ -53,8 +54,8 @@ loop-preserved g c =
       };
       come = record {
         heard = old.heard ++ h ∷ [];
-        ear = ear_stays words k₁ s (words.heard j.ear, words.ear_faults j.ear) (old.heard ++ h ∷ []) kept heard;
-        trace = trace_stays words k₁ s (words.written j.trace, words.trace_faults j.trace) (old.heard ++ h ∷ []) kept traced;
+        ear = ear_stays hears k₁ s (hears j.ear) (old.heard ++ h ∷ []) kept heard;
+        trace = trace_stays writes k₁ s (writes j.trace) (trace_text (old.heard ++ h ∷ [])) kept traced;
         no_end = λ in_it. elim (Contains-push_cases old.heard h End in_it) [
           | inl earlier ↦ old.no_end earlier
           | inr now ↦ false≢true (sym c.if-has_ended.false ∙ c.has_ended.ensures ∙ c.enter-verdict.ensures.over now)
@@ -64,25 +65,18 @@ loop-preserved g c =
             let was = old.come in
             let at = index_is j k old.heard c.loop.noted c.loop.index was old.count in
             let says = c.enter-verdict.ensures.says in
-            let through = c.enter-verdict.ensures.through (plan_of j) was.entries says.0 (plan_is j k₁ c.requires.made.places c.requires.made.modules
+            let through = c.enter-verdict.ensures.through (plan_of_job j) was.entries says.0 (plan_is j k₁ c.requires.made.places c.requires.made.modules
             (same_devices j k c.hear-entry.new.self c.write_trace.new.trace c.write_trace.new.failed between.same)) at says.1 was.so_far in
             come_on law j k s₁ old.heard h says.0 c.loop.noted c.enter-verdict.new.noted c.enter-verdict.result was says.1 through
             (cell_put k₁ s c.fill_tape.new.tape.items c.loop.index (length was.entries) c.enter-verdict.result kept c.fill_tape.ensures at)
             (sym c.has_ended.ensures ∙ c.if-has_ended.false);
       };
-      same_ear = (
-        ap (λ (r : Receiver g.row.E.Denot g.row.B.Denot). g.E.Ear.mark r.ear) kept.rest ∙ c.hear-entry.ensures.same_device.0 ∙ c.loop.invariant.same_ear.0,
-        ap (λ (r : Receiver g.row.E.Denot g.row.B.Denot). g.E.Ear.label r.ear) kept.rest ∙ c.hear-entry.ensures.same_device.1 ∙ c.loop.invariant.same_ear.1,
-      );
-      same_trace = (
-        ap (λ (r : Receiver g.row.E.Denot g.row.B.Denot). g.B.Book.mark r.trace) kept.rest ∙ c.write_trace.ensures.same_device.0 ∙ c.loop.invariant.same_trace.0,
-        ap (λ (r : Receiver g.row.E.Denot g.row.B.Denot). g.B.Book.label r.trace) kept.rest ∙ c.write_trace.ensures.same_device.1 ∙ c.loop.invariant.same_trace.1,
-      );
     }
 
 pub returns-then-has_ended-clause-gone : goal.returns-then-has_ended-clause-gone
 returns-then-has_ended-clause-gone g c =
-    let words : Words g.row.E.Denot g.row.B.Denot = record { heard = g.E.Ear.heard; ear_faults = g.E.Ear.faults; written = g.B.Book.written; trace_faults = g.B.Book.faults } in
+    let hears = g.E.Ear.told in
+    let writes = g.B.Book.told in
     let law = c.known_laws.ensures in
     let j = c.args.self.now in
     let k = c.loop.self in
@@ -93,24 +87,25 @@ returns-then-has_ended-clause-gone g c =
     let kept = c.enter-verdict.ensures.kept in
     let k₁ : Receiver g.row.E.Denot g.row.B.Denot = record k { ear = c.hear-entry.new.self; trace = c.write_trace.new.trace; trace_failed = c.write_trace.new.failed } in
     let s₁ : Receiver g.row.E.Denot g.row.B.Denot = record s { tape = c.fill_tape.new.tape; lost = c.is_fault-self.result } in
-    let heard : HasHeard (words.heard j.ear, words.ear_faults j.ear) (old.heard ++ h ∷ []) (words.heard k₁.ear, words.ear_faults k₁.ear) =
-    hears_one (words.heard j.ear, words.ear_faults j.ear) (words.heard k.ear, words.ear_faults k.ear) (words.heard k₁.ear, words.ear_faults k₁.ear) old.heard h c.requires.unused.ear old.no_end
-    c.hear-entry.ensures.counted c.hear-entry.ensures.fault c.hear-entry.ensures.no_fault c.hear-entry.ensures.appended old.ear in
-    let traced : HasTrace (words.written j.trace, words.trace_faults j.trace) (old.heard ++ h ∷ []) k₁.trace_failed (words.written k₁.trace, words.trace_faults k₁.trace) =
-    c.write_trace.ensures.traced (words.written j.trace, words.trace_faults j.trace) old.heard (first_is c.loop.index old.heard old.count) old.trace in
+    let one = c.ears_hear_in_turn.ensures.one (hears k.ear) (hears k₁.ear) h
+    c.hear-entry.ensures.counted c.hear-entry.ensures.fault c.hear-entry.ensures.no_fault c.hear-entry.ensures.appended c.hear-entry.ensures.same_device in
+    let heard : HearsToTheEnd (hears j.ear) (old.heard ++ h ∷ []) (hears k₁.ear) =
+    hears_one c.ears_tell_up_to_the_end.ensures.new c.ears_hear_in_turn.ensures (hears j.ear) (hears k.ear) (hears k₁.ear) old.heard h c.requires.unused.ear old.no_end one old.ear in
+    let traced : HasText (writes j.trace) (trace_text (old.heard ++ h ∷ [])) k₁.trace_failed (writes k₁.trace) =
+    c.write_trace.ensures (writes j.trace) old.heard (first_is c.loop.index old.heard old.count) old.trace in
     record {
       heard = old.heard ++ h ∷ [];
-      ear = ear_stays words k₁ s (words.heard j.ear, words.ear_faults j.ear) (old.heard ++ h ∷ []) kept heard;
+      ear = ear_stays hears k₁ s (hears j.ear) (old.heard ++ h ∷ []) kept heard;
       lost = λ lost.
           let risen = c.hear-entry.ensures.fault (c.is_fault-self.ensures.0 lost) in
-          omega (arith, risen, old.ear.counted, faults_stay words k₁ s kept);
-      trace = trace_stays words k₁ s (words.written j.trace, words.trace_faults j.trace) (old.heard ++ h ∷ []) kept traced;
+          omega (arith, risen, old.ear.heard.counted, faults_stay hears k₁ s kept);
+      trace = trace_stays writes k₁ s (writes j.trace) (trace_text (old.heard ++ h ∷ [])) kept traced;
       counted = omega (arith, next_index c.loop.index c.count_one-next.result old.heard h old.count c.count_one-next.ensures, c.count_one-next.type_inv);
       received =
           let was = old.come in
           let at = index_is j k old.heard c.loop.noted c.loop.index was old.count in
           let says = c.enter-verdict.ensures.says in
-          let through = c.enter-verdict.ensures.through (plan_of j) was.entries says.0 (plan_is j k₁ c.requires.made.places c.requires.made.modules
+          let through = c.enter-verdict.ensures.through (plan_of_job j) was.entries says.0 (plan_is j k₁ c.requires.made.places c.requires.made.modules
           (same_devices j k c.hear-entry.new.self c.write_trace.new.trace c.write_trace.new.failed between.same)) at says.1 was.so_far in
           come_end law j k s₁ old.heard h says.0 c.loop.noted c.enter-verdict.new.noted c.enter-verdict.result was says.1 through
           (cell_put k₁ s c.fill_tape.new.tape.items c.loop.index (length was.entries) c.enter-verdict.result kept c.fill_tape.ensures at)

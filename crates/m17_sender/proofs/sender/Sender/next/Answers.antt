@@ -1,7 +1,6 @@
 use Rattle.std.proofs.Common.{refl, sym, arith}
 use Rattle.m17_sender.proofs.Queued.{goes_from_cell, goes_from_lane}
 use Rattle.m17_sender.proofs.Shapes.{held_place, queue_at, queue_place}
-use Rattle.m17_sender.specs.Sent.{told_by}
 use Rattle.m17_sender.proofs.sender.Sender.next.Goals as goal
 
 pub cell_at-requires : goal.cell_at-requires
@@ -21,14 +20,14 @@ pop_in-requires-clause-at g c =
 
 pub returns-in-Some-clause-goes_on : goal.returns-in-Some-clause-goes_on
 returns-in-Some-clause-goes_on g c = λ noted.
-    goes_from_cell (told_by g.M.Mouth.said g.M.Mouth.tallies g.M.Mouth.faults g.M.Mouth.mark g.M.Mouth.label) c.args.self.now
+    goes_from_cell g.M.Mouth.told c.args.self.now
     (record c.args.self.now { held = c.empty_cell.new.cells }) noted c.args.row c.args.at c.in-Some.held.now
     (record { name = refl; places = refl; mouths = refl; notes = refl; door = refl; order = refl }) refl refl
     (c.empty_cell.ensures c.in-Some.held.now (sym c.in-Some.ensures))
 
 pub returns-clause-goes_on : goal.returns-clause-goes_on
 returns-clause-goes_on g c = λ noted.
-    goes_from_lane (told_by g.M.Mouth.said g.M.Mouth.tallies g.M.Mouth.faults g.M.Mouth.mark g.M.Mouth.label) c.rows_pop.ensures
+    goes_from_lane g.M.Mouth.told c.rows_pop.ensures
     c.grids_pop.ensures c.pop_in.result c.args.self.now
     (record c.args.self.now { queues = c.pop_in.new.grid }) noted c.args.row c.args.at
     (record { name = refl; places = refl; mouths = refl; notes = refl; door = refl; order = refl })

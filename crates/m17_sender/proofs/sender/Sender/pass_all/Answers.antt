@@ -1,5 +1,4 @@
 use Rattle.std.proofs.Common.{sym, ◌∙◌, arith}
-use Rattle.m17_sender.specs.Sent.{told_by}
 use Rattle.m17_sender.specs.SoFar.{at_rest}
 use Rattle.m17_sender.proofs.Queued.{goes_on}
 use Rattle.m17_sender.proofs.Rests.{all_rest, rows_rest}
@@ -9,7 +8,7 @@ use Rattle.m17_sender.proofs.sender.Sender.pass_all.Goals as goal
 pub loop-row-preserved : goal.loop-row-preserved
 loop-row-preserved g c = record {
   shaped = c.pass_row.ensures.goes_on.grows.shaped c.loop-row.invariant.shaped;
-  goes_on = goes_on (told_by g.M.Mouth.said g.M.Mouth.tallies g.M.Mouth.faults g.M.Mouth.mark g.M.Mouth.label)
+  goes_on = goes_on g.M.Mouth.told
       (at_rest c.args.self.now c.args.kept.now.noted) (at_rest c.loop-row.self c.loop-row.kept.noted)
       (at_rest c.pass_row.new.self c.pass_row.new.kept.noted) c.loop-row.invariant.goes_on c.pass_row.ensures.goes_on;
   vain = λ e. elim c.if-pass_row.branch [

@@ -1,5 +1,4 @@
 use Rattle.std.proofs.Common.{ℕ, List}
-use Rattle.m17_sender.specs.Sent.{told_by}
 use Rattle.m17_sender.specs.Ready.{IsShaped}
 use Rattle.m17_sender.specs.SoFar.{at_rest, GoesOn}
 use Rattle.m17_sender.proofs.sender.Sender.pass_door.Given as goal
@@ -7,6 +6,6 @@ use Rattle.m17_sender.proofs.sender.Sender.pass_door.Given as goal
 abbrev pub invariant-loop-taken : goal.invariant-loop-taken
 invariant-loop-taken g l = record {
   shaped : IsShaped l.self;
-  goes_on : (noted : List ℕ) → GoesOn (told_by g.M.Mouth.said g.M.Mouth.tallies g.M.Mouth.faults g.M.Mouth.mark g.M.Mouth.label)
+  goes_on : (noted : List ℕ) → GoesOn g.M.Mouth.told
       (at_rest l.initial.self noted) (at_rest l.self noted);
 }

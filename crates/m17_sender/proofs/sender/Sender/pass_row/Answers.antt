@@ -1,5 +1,4 @@
 use Rattle.std.proofs.Common.{sym, ◌∙◌}
-use Rattle.m17_sender.specs.Sent.{told_by}
 use Rattle.m17_sender.specs.SoFar.{at_rest}
 use Rattle.m17_sender.proofs.Queued.{goes_on}
 use Rattle.m17_sender.proofs.Rests.{in_vain, row_rests}
@@ -9,7 +8,7 @@ use Rattle.m17_sender.proofs.sender.Sender.pass_row.Goals as goal
 pub loop-at-preserved : goal.loop-at-preserved
 loop-at-preserved g c = record {
   shaped = c.try_queue.ensures.goes_on.grows.shaped c.loop-at.invariant.shaped;
-  goes_on = goes_on (told_by g.M.Mouth.said g.M.Mouth.tallies g.M.Mouth.faults g.M.Mouth.mark g.M.Mouth.label)
+  goes_on = goes_on g.M.Mouth.told
       (at_rest c.args.self.now c.args.kept.now.noted) (at_rest c.loop-at.self c.loop-at.kept.noted)
       (at_rest c.try_queue.new.self c.try_queue.new.kept.noted) c.loop-at.invariant.goes_on c.try_queue.ensures.goes_on;
   vain = λ e. elim c.if-did.branch [

@@ -1,6 +1,5 @@
 use Rattle.std.proofs.Common.{Option, Some, subst, arith}
 use Rattle.m17_control.specs.declared.item.Item.{Item}
-use Rattle.m17_sender.specs.Sent.{told_by}
 use Rattle.m17_sender.specs.SoFar.{at_rest, GoesOn, with_item}
 use Rattle.m17_sender.proofs.Queued.{goes_on}
 use Rattle.m17_sender.proofs.sender.Sender.try_queue.Goals as goal
@@ -19,16 +18,16 @@ take-requires-clause-at g c =
 
 pub returns-in-Some-clause-goes_on : goal.returns-in-Some-clause-goes_on
 returns-in-Some-clause-goes_on g c =
-    goes_on (told_by g.M.Mouth.said g.M.Mouth.tallies g.M.Mouth.faults g.M.Mouth.mark g.M.Mouth.label) (at_rest c.args.self.now c.args.kept.now.noted)
+    goes_on g.M.Mouth.told (at_rest c.args.self.now c.args.kept.now.noted)
     (with_item c.next-next.new.self c.args.kept.now.noted c.args.row c.args.at (Some c.in-Some.item))
     (at_rest c.take.new.self c.take.new.kept.noted)
-    (subst (λ (item : Option Item). GoesOn (told_by g.M.Mouth.said g.M.Mouth.tallies g.M.Mouth.faults g.M.Mouth.mark g.M.Mouth.label)
+    (subst (λ (item : Option Item). GoesOn g.M.Mouth.told
     (at_rest c.args.self.now c.args.kept.now.noted) (with_item c.next-next.new.self c.args.kept.now.noted c.args.row c.args.at item))
     c.in-Some.is (c.next-next.ensures.goes_on c.args.kept.now.noted))
     c.take.ensures.goes_on
 
 pub returns-in-None-clause-goes_on : goal.returns-in-None-clause-goes_on
 returns-in-None-clause-goes_on g c =
-    subst (λ (item : Option Item). GoesOn (told_by g.M.Mouth.said g.M.Mouth.tallies g.M.Mouth.faults g.M.Mouth.mark g.M.Mouth.label)
+    subst (λ (item : Option Item). GoesOn g.M.Mouth.told
     (at_rest c.args.self.now c.args.kept.now.noted) (with_item c.next-next.new.self c.args.kept.now.noted c.args.row c.args.at item))
     c.in-None.is (c.next-next.ensures.goes_on c.args.kept.now.noted)

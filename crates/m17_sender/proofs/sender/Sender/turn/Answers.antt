@@ -1,4 +1,3 @@
-use Rattle.m17_sender.specs.Sent.{told_by}
 use Rattle.m17_sender.specs.SoFar.{at_rest}
 use Rattle.m17_sender.proofs.Queued.{goes_on}
 use Rattle.m17_sender.proofs.sender.Sender.turn.Goals as goal
@@ -9,7 +8,7 @@ pass_marked-said-requires g c =
 
 pub returns-then-answered : goal.returns-then-answered
 returns-then-answered g c = record {
-  goes_on = goes_on (told_by g.M.Mouth.said g.M.Mouth.tallies g.M.Mouth.faults g.M.Mouth.mark g.M.Mouth.label)
+  goes_on = goes_on g.M.Mouth.told
       (at_rest c.args.self.now c.args.kept.now.noted) (at_rest c.pass_door-answered.new.self c.args.kept.now.noted)
       (at_rest c.pass_marked-said.new.self c.pass_marked-said.new.kept.noted) (c.pass_door-answered.ensures.goes_on c.args.kept.now.noted)
       c.pass_marked-said.ensures.goes_on;
@@ -17,7 +16,7 @@ returns-then-answered g c = record {
 
 pub returns-else-answered : goal.returns-else-answered
 returns-else-answered g c = record {
-  goes_on = goes_on (told_by g.M.Mouth.said g.M.Mouth.tallies g.M.Mouth.faults g.M.Mouth.mark g.M.Mouth.label)
+  goes_on = goes_on g.M.Mouth.told
       (at_rest c.args.self.now c.args.kept.now.noted) (at_rest c.pass_door-answered.new.self c.args.kept.now.noted)
       (at_rest c.pass_marked-said.new.self c.pass_marked-said.new.kept.noted) (c.pass_door-answered.ensures.goes_on c.args.kept.now.noted)
       c.pass_marked-said.ensures.goes_on;

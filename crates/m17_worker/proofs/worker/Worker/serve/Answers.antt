@@ -46,8 +46,8 @@ returns-clause-served g c = λ j events can same h.
       bye = c.hand_out-bye.result;
     } in
     let G : Bool → Type 0 = λ b. GaveBack c.args.self.now.seat (gifts_by (not b) c.step-verdict.new.out) c.hand_out-bye.new.seat in
-    served_more (record { written = g.B.Book.written; faults = g.B.Book.faults }) laws events s j c.args.self.now c.note.new.self same can.there
-    (seen_after (record { written = g.B.Book.written; faults = g.B.Book.faults }) events s c.args.self.now
+    served_more g.B.Book.told laws events s j c.args.self.now c.note.new.self same can.there
+    (seen_after g.B.Book.told events s c.args.self.now
     (record c.args.self.now {
       «module» = c.step-verdict.new.self;
       basket = c.hand_out-bye.new.basket;

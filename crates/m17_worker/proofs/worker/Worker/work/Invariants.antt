@@ -5,8 +5,7 @@ use Rattle.m17_worker.proofs.worker.Worker.work.Given as goal
 
 abbrev pub invariant-loop : goal.invariant-loop
 invariant-loop g l = record {
-  at : IsAt (record { written = g.B.Book.written; faults = g.B.Book.faults }) l.fn.self l.served l.stopped l.self;
+  at : IsAt g.B.Book.told l.fn.self l.served l.stopped l.self;
   going : HasStops l.fn.self.links l.self.inbox.popped → ⊥;
   order : l.self.order ≡ l.fn.self.order;
-  same_device : (g.B.Book.mark l.self.book ≡ g.B.Book.mark l.fn.self.book) × (g.B.Book.label l.self.book ≡ g.B.Book.label l.fn.self.book);
 }

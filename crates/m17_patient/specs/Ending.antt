@@ -1,8 +1,0 @@
--- What a replay over threads hears. This profile.
-use Rattle.std.specs.Prelude.{◌≡◌, List, ◌∷◌, ◌++◌}
-use Rattle.m17_values.specs.declared.heard.Heard.{Heard}
-use Rattle.m17_values.specs.declared.heard.Heard.TheVariants.{End}
-
--- An End stands in the list: somewhere nothing more comes. This profile.
-abbrev pub HasAnEnd : List Heard → Type 0
-HasAnEnd heard = (front : List Heard) × (rest : List Heard) × (heard ≡ front ++ End ∷ rest)

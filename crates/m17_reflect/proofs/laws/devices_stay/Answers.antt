@@ -1,0 +1,5 @@
+use Rattle.m17_reflect.proofs.SameDevices.{devices_stay}
+use Rattle.m17_reflect.proofs.laws.devices_stay.Goals as goal
+
+pub returns : goal.returns
+returns g c = devices_stay

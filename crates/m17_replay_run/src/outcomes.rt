@@ -1,0 +1,98 @@
+//! What each entry came to, read off the tapes of a run.
+ghost use Rattle.std.specs.Prelude.{◌≡◌, ◌<◌, Some, count_by, is_some, length, map, slice_get};
+ghost use Rattle.m17_replay_run.specs.Tapes.{cell_at, packet_on};
+
+use m17_directory::LinkVerdict;
+use m17_floor::Verdict;
+use std::marker::Model;
+
+/// What each entry of a replay came to that was heard. It has the tapes of the run as they came back, and no list of its
+/// own. Contracts see two lists: the verdict of each entry, and the floor rule's verdict on its packet, where it was
+/// routed to a module as one.
+#[derive(Drop)]
+pub struct Outcomes {
+    // The link's tape, whose first cells have the verdicts.
+    link: Vec<Option<LinkVerdict>>,
+    // The tape of each module.
+    modules: Vec<Vec<Option<Verdict>>>,
+}
+
+impl Model for Outcomes {
+    ghost use Rattle.std.specs.Prelude.{map};
+    ghost use Rattle.m17_replay_run.specs.Tapes.{IsFilledInOrder, OutcomesKept, outcomes_on};
+
+    ghost Value = { OutcomesKept };
+
+    ghost view = { λ o. outcomes_on o.link.items (map (λ tape. tape.items) o.modules.items) };
+
+    ghost invariant = { λ o. IsFilledInOrder o.link.items };
+}
+
+impl Outcomes {
+    ghost use Rattle.m17_replay_run.specs.Tapes.{IsFilledInOrder, outcomes_on};
+
+    // What these tapes have.
+    pub(crate) fn of(link: Vec<Option<LinkVerdict>>, modules: Vec<Vec<Option<Verdict>>>) -> Outcomes
+        requires { IsFilledInOrder link.items }
+        ensures { result ≡ outcomes_on link.items (map (λ tape. tape.items) modules.items) }
+    {
+        Outcomes { link, modules }
+    }
+
+    /// How many entries were heard.
+    pub fn count(&self) -> usize
+        ensures verdicts { result ≡ length self.now.verdicts }
+        ensures packets { result ≡ length self.now.packets }
+    {
+        count_filled(&self.link)
+    }
+
+    /// What entry `n` came to, counted from 0.
+    pub fn verdict(&self, n: usize) -> &LinkVerdict
+        requires heard { n < length self.now.verdicts }
+        ensures { slice_get self.now.verdicts n ≡ Some result.now }
+    {
+        match &self.link[n] {
+            Some(verdict) => verdict,
+            None => unreachable!(),
+        }
+    }
+
+    /// The floor rule's verdict on the packet of entry `n`, counted from 0, where it was routed to a module as one.
+    pub fn packet(&self, n: usize) -> Option<Verdict>
+        requires heard { n < length self.now.packets }
+        ensures { slice_get self.now.packets n ≡ Some result }
+    {
+        packet_verdict(&self.modules, n)
+    }
+}
+
+// How many cells of a link's tape have a verdict.
+fn count_filled(tape: &[Option<LinkVerdict>]) -> usize
+    ensures { result ≡ count_by (λ cell. is_some cell) tape.now }
+{
+    tape.iter().filter(|cell| cell.is_some()).count()
+}
+
+// What the cell of this number has; nothing where there is no such cell.
+fn cell_of(tape: &[Option<Verdict>], n: usize) -> Option<Verdict>
+    ensures { result ≡ cell_at tape.now n }
+{
+    match tape.get(n) {
+        Some(cell) => *cell,
+        None => None,
+    }
+}
+
+// The verdict on the packet of entry `n`, by the tapes of the modules.
+fn packet_verdict(tapes: &[Vec<Option<Verdict>>], n: usize) -> Option<Verdict>
+    ensures { result ≡ packet_on (map (λ tape. tape.items) tapes.now) n }
+{
+    for tape in tapes {
+        let cell = cell_of(tape, n);
+        if cell.is_some() {
+            return cell;
+        }
+    }
+    None
+}

@@ -1,5 +1,0 @@
-use Rattle.m17_turns.proofs.Less.{less}
-use Rattle.m17_turns.proofs.laws.less_of_a_life_is_a_life.Goals as goal
-
-pub returns : goal.returns
-returns c = less

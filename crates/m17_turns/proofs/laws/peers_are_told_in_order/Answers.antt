@@ -1,5 +1,0 @@
-use Rattle.m17_turns.proofs.Marked.{told_in_order}
-use Rattle.m17_turns.proofs.laws.peers_are_told_in_order.Goals as goal
-
-pub returns : goal.returns
-returns c = told_in_order
