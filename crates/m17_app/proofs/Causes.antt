@@ -1,13 +1,14 @@
 -- What caused a status, and what follows where nothing stood against a run.
 use Rattle.std.proofs.Common.{◌≡◌, ◌≢◌, ◌⊎◌, ℕ, ◌≤◌, List, Option, Some, refl, sym, ap, subst, ◌∙◌, arith, inl, inr}
 use Rattle.m17_io.specs.Faults.{HasRisen, HasCauses}
+use Rattle.m17_io.specs.Source.{SourceTold}
 use Rattle.m17_io.specs.declared.fault.Fault.{Fault}
 use Rattle.m17_io.specs.declared.fault.Fault.TheVariants.{Read}
 use Rattle.m17_app.specs.declared.status.Status.{Status}
 use Rattle.m17_app.specs.declared.status.Status.TheVariants.{Finished, InputRefused, WordsRefused, ReadFailed, WriteFailed, PortFailed, CrewRefused, LinkLost, BookFailed, NoMemory}
-use Rattle.m17_app.specs.Status.{Beside, HasCause, Outside, RoseBy, WritesLast}
+use Rattle.m17_app.specs.Status.{Beside, HasCause, Streams, RoseBy, WritesLast}
 use Rattle.m17_app.specs.Terms.{IsDone, NoneRose, RunsCommand, Terms}
-use Rattle.m17_app.proofs.Statuses.{Told, own_status, never}
+use Rattle.m17_app.proofs.Statuses.{Told, own_status}
 
 -- a count that rose has risen later too
 risen_later : (a b c : ℕ) → HasRisen a b → b ≤ c → HasRisen a c
@@ -17,8 +18,8 @@ pub risen_since : (a b c : ℕ) → a ≤ b → HasRisen b c → HasRisen a c
 risen_since a b c earlier risen = omega arith
 
 -- the counts of both streams
-abbrev pub counts : Outside → ℕ × ℕ
-counts o = (o.reads, o.writes)
+abbrev pub counts : Streams → ℕ × ℕ
+counts o = (o.source.faults, o.sink.faults)
 
 -- a count that a run leaves alone
 pub stays : (which status : Status) (a b : ℕ) → status ≢ which → b ≡ a → RoseBy which status a b
@@ -30,26 +31,26 @@ rose_by which own status a b (inl is) other rose = subst (λ (s : Status). RoseB
 rose_by which own status a b (inr is) other rose = record { rose = λ e. absurd (other (sym e ∙ is)); stands = λ _ no. absurd (no is) }
 
 -- the cause of the status, where an ending has this own one and tells of this device
-pub cause_from : (own : Status) (fault : Option Fault) (line : List ℕ) (status : Status) (before mid after : Outside) (others : Beside) → Told own fault
+pub cause_from : (own : Status) (fault : Option Fault) (line : List ℕ) (status : Status) (before mid after : Streams) (others : Beside) → Told own fault
     → HasCauses (counts before) (counts mid) fault → WritesLast line own status mid after
     → RoseBy PortFailed own others.ports.before others.ports.after → RoseBy CrewRefused own others.crew.before others.crew.after → HasCause status before after others
 cause_from own fault line status before mid after others told causes last ports crew =
-    let same : after.reads ≡ mid.reads = last.input_untouched.1 in
-    let reads : before.reads ≤ mid.reads = causes.reads_counted in
-    let writes : before.writes ≤ mid.writes = causes.writes_counted in
+    let same : after.source.faults ≡ mid.source.faults = ap (λ (told : SourceTold). told.faults) last.input_untouched in
+    let reads : before.source.faults ≤ mid.source.faults = causes.reads_counted in
+    let writes : before.sink.faults ≤ mid.sink.faults = causes.writes_counted in
     record {
       source = record {
         rose = λ is.
             let its = own_status own status last.answer (λ w. cc) in
-            subst (λ (n : ℕ). HasRisen before.reads n) (sym same) (causes.read_failed (told.read_told (sym its ∙ is)));
+            subst (λ (n : ℕ). HasRisen before.source.faults n) (sym same) (causes.read_failed (told.read_told (sym its ∙ is)));
         stands = λ not_read not_write.
             let its = own_status own status last.answer not_write in
             same ∙ causes.no_read_fault (λ is. not_read (its ∙ told.read_failed is));
       };
       sink = record {
         rose = λ is. elim (last.failed is) [
-          | inl its ↦ risen_later before.writes mid.writes after.writes (causes.write_failed (told.write_told its)) last.counted
-          | inr later ↦ risen_since before.writes mid.writes after.writes writes later
+          | inl its ↦ risen_later before.sink.faults mid.sink.faults after.sink.faults (causes.write_failed (told.write_told its)) last.counted
+          | inr later ↦ risen_since before.sink.faults mid.sink.faults after.sink.faults writes later
         ];
         stands = λ not_write _.
             let its = own_status own status last.answer not_write in
@@ -63,7 +64,7 @@ cause_from own fault line status before mid after others told causes last ports 
     }
 
 -- the cause of want of memory, where no count rose
-pub memory_cause : (before after : Outside) (others : Beside) → after.reads ≡ before.reads → after.writes ≡ before.writes → others.ports.after ≡ others.ports.before
+pub memory_cause : (before after : Streams) (others : Beside) → after.source.faults ≡ before.source.faults → after.sink.faults ≡ before.sink.faults → others.ports.after ≡ others.ports.before
     → others.crew.after ≡ others.crew.before → HasCause NoMemory before after others
 memory_cause before after others reads writes ports crew = record {
   source = record { rose = λ e. cc; stands = λ _ _. reads };
@@ -76,17 +77,17 @@ memory_cause before after others reads writes ports crew = record {
 }
 
 -- the source's count rose where the device that is told is the source
-pub sound_from : (own : Status) (fault : Option Fault) (line : List ℕ) (status : Status) (before mid after : Outside) → HasCauses (counts before) (counts mid) fault
-    → WritesLast line own status mid after → fault ≡ Some Read → HasRisen before.reads after.reads
-sound_from own fault line status before mid after causes last is = subst (λ (n : ℕ). HasRisen before.reads n) (sym last.input_untouched.1) (causes.read_failed is)
+pub sound_from : (own : Status) (fault : Option Fault) (line : List ℕ) (status : Status) (before mid after : Streams) → HasCauses (counts before) (counts mid) fault
+    → WritesLast line own status mid after → fault ≡ Some Read → HasRisen before.source.faults after.source.faults
+sound_from own fault line status before mid after causes last is = subst (λ (n : ℕ). HasRisen before.source.faults n) (sym (ap (λ (told : SourceTold). told.faults) last.input_untouched)) (causes.read_failed is)
 
 -- the last line was written, with the own status
-pub own_last : (line : List ℕ) (own status : Status) (mid after : Outside) → WritesLast line own status mid after → status ≡ own → WritesLast line own own mid after
+pub own_last : (line : List ℕ) (own status : Status) (mid after : Streams) → WritesLast line own status mid after → status ≡ own → WritesLast line own own mid after
 own_last line own status mid after last is = subst (λ (s : Status). WritesLast line own s mid after) is last
 
 -- a run whose input is taken, and in which no count rose
-done_by : (terms : Terms) (status : Status) (before after : Outside) (others : Beside) → HasCause status before after others → terms.tells status before after
-    → (terms.tells InputRefused before after → terms.takes before.left → ⊥) → (terms.tells WordsRefused before after → ⊥) → terms.takes before.left
+done_by : (terms : Terms) (status : Status) (before after : Streams) (others : Beside) → HasCause status before after others → terms.tells status before after
+    → (terms.tells InputRefused before after → terms.takes before.source.left → ⊥) → (terms.tells WordsRefused before after → ⊥) → terms.takes before.source.left
     → NoneRose before after others → IsDone status
 done_by terms Finished before after others cause tells refused words takes none = inl refl
 done_by terms InputRefused before after others cause tells refused words takes none = absurd (refused tells takes)
@@ -100,7 +101,7 @@ done_by terms BookFailed before after others cause tells refused words takes non
 done_by terms NoMemory before after others cause tells refused words takes none = inr (inr (inr refl))
 
 -- where nothing else stood against it either
-complete_by : (terms : Terms) (status : Status) (before after : Outside) → terms.tells status before after → (terms.tells LinkLost before after → ⊥)
+complete_by : (terms : Terms) (status : Status) (before after : Streams) → terms.tells status before after → (terms.tells LinkLost before after → ⊥)
     → (terms.tells BookFailed before after → ⊥) → IsDone status → (status ≡ Finished) ⊎ (status ≡ NoMemory)
 complete_by terms status before after tells lost failed (inl is) = inl is
 complete_by terms status before after tells lost failed (inr (inl is)) = absurd (lost (subst (λ (s : Status). terms.tells s before after) is tells))
@@ -109,12 +110,12 @@ complete_by terms status before after tells lost failed (inr (inr (inr is))) = i
 
 -- What a run of a command promises: its cause and what it tells, where 1 tells of an input that it doesn't take, and 7 and
 -- 8 of what stood against it.
-pub runs_by : (terms : Terms) (status : Status) (before after : Outside) (others : Beside) → HasCause status before after others → terms.tells status before after
-    → (terms.tells InputRefused before after → terms.takes before.left → ⊥) → (terms.tells WordsRefused before after → ⊥)
-    → (terms.tells LinkLost before after → terms.untroubled before.left → ⊥) → (terms.tells BookFailed before after → terms.untroubled before.left → ⊥)
+pub runs_by : (terms : Terms) (status : Status) (before after : Streams) (others : Beside) → HasCause status before after others → terms.tells status before after
+    → (terms.tells InputRefused before after → terms.takes before.source.left → ⊥) → (terms.tells WordsRefused before after → ⊥)
+    → (terms.tells LinkLost before after → terms.untroubled before.source.left → ⊥) → (terms.tells BookFailed before after → terms.untroubled before.source.left → ⊥)
     → RunsCommand terms status before after others
 runs_by terms status before after others cause tells refused words lost failed =
-    let done = λ (takes : terms.takes before.left) (none : NoneRose before after others). done_by terms status before after others cause tells refused words takes none in
+    let done = λ (takes : terms.takes before.source.left) (none : NoneRose before after others). done_by terms status before after others cause tells refused words takes none in
     record {
       cause = cause;
       tells = tells;

@@ -5,7 +5,7 @@ use Rattle.m17_words.specs.declared.command.Command.TheVariants.{Judge, Show, Re
 use Rattle.m17_app.specs.declared.status.Status.{Status}
 use Rattle.m17_app.specs.declared.status.Status.TheVariants.{Finished, InputRefused, WordsRefused, ReadFailed, WriteFailed, PortFailed, CrewRefused, LinkLost, BookFailed, NoMemory}
 use Rattle.m17_io.specs.Faults.{HasRisen}
-use Rattle.m17_app.specs.Status.{code_of, Outside, Tells}
+use Rattle.m17_app.specs.Status.{code_of, Streams, Tells}
 use Rattle.m17_app.specs.Run.{TellsRefused}
 use Rattle.m17_app.specs.Commands.{terms_of, Runs, RunsWords, EndsRefused}
 use Rattle.m17_app.specs.Doing.{Doing}
@@ -61,14 +61,14 @@ is_no_memory BookFailed e = absurd (omega arith)
 is_no_memory NoMemory e = refl
 
 -- refused words end with 2 or 4 alone
-refused_status : (status : Status) (before after : Outside) → TellsRefused status before after → (status ≡ WordsRefused) ⊎ (status ≡ WriteFailed)
+refused_status : (status : Status) (before after : Streams) → TellsRefused status before after → (status ≡ WordsRefused) ⊎ (status ≡ WriteFailed)
 refused_status WordsRefused before after tells = inl refl
 refused_status WriteFailed before after tells = inr refl
 refused_status _ before after tells = absurd tells
 
-module _ {L : Type 0} where
+module _ {E M B : Type 0} where
   -- no command ends as refused words do
-  not_words : (command : Command) (before after : Outside) (run : Doing L) → (terms_of command run).tells WordsRefused before after → ⊥
+  not_words : (command : Command) (before after : Streams) (run : Doing E M B) → (terms_of command run).tells WordsRefused before after → ⊥
   not_words Judge before after run tells = tells
   not_words Show before after run tells = tells
   not_words (Make seed count) before after run tells = tells
@@ -77,12 +77,12 @@ module _ {L : Type 0} where
   not_words (Talk order) before after run tells = tells
   not_words (Serve order) before after run tells = tells.1
 
-  pub not_two : (command : Command) (status : Status) (before after : Outside) (run : Doing L) → Runs command status before after run → code_of status ≢ 2
+  pub not_two : (command : Command) (status : Status) (before after : Streams) (run : Doing E M B) → Runs command status before after run → code_of status ≢ 2
   not_two command status before after run runs two =
       not_words command before after run (subst (λ (s : Status). (terms_of command run).tells s before after) (is_words_refused status two) runs.0.tells)
 
   -- the numbers of refused words
-  pub refused_code : (status : Status) (code : ℕ) (before after : Outside) (run : Doing L) → code ≡ code_of status → EndsRefused status before after run → (code ≡ 2) ⊎ (code ≡ 4) ⊎ (code ≡ 70)
+  pub refused_code : (status : Status) (code : ℕ) (before after : Streams) (run : Doing E M B) → code ≡ code_of status → EndsRefused status before after run → (code ≡ 2) ⊎ (code ≡ 4) ⊎ (code ≡ 70)
   refused_code status code before after run is (inl refuses) = elim (refused_status status before after refuses.0.tells) [
     | inl words ↦ inl (is ∙ ap code_of words)
     | inr write ↦ inr (inl (is ∙ ap code_of write))
@@ -90,7 +90,7 @@ module _ {L : Type 0} where
   refused_code status code before after run is (inr none) = inr (inr (is ∙ ap code_of none.0))
 
   -- the ports failed
-  pub ports_failed : (words : List (List ℕ)) (code : ℕ) (before after : Outside) (run : Doing L) → Tells code (λ status. RunsWords words status before after run)
+  pub ports_failed : (words : List (List ℕ)) (code : ℕ) (before after : Streams) (run : Doing E M B) → Tells code (λ status. RunsWords words status before after run)
       → code ≡ 5 → HasRisen run.before.faults run.after.faults
   ports_failed words code before after run (status, is, inl (command, names, runs)) five = runs.0.cause.ports.rose (is_port_failed status (sym is ∙ five))
   ports_failed words code before after run (status, is, inr (inl (are, refuses))) five = refuses.0.cause.ports.rose (is_port_failed status (sym is ∙ five))
@@ -98,7 +98,7 @@ module _ {L : Type 0} where
       let bad : NoMemory ≡ PortFailed = sym memory ∙ is_port_failed status (sym is ∙ five) in cc
 
   -- the crew refused a start
-  pub crew_failed : (words : List (List ℕ)) (code : ℕ) (before after : Outside) (run : Doing L) → Tells code (λ status. RunsWords words status before after run)
+  pub crew_failed : (words : List (List ℕ)) (code : ℕ) (before after : Streams) (run : Doing E M B) → Tells code (λ status. RunsWords words status before after run)
       → code ≡ 6 → HasRisen run.crew_before run.crew_after
   crew_failed words code before after run (status, is, inl (command, names, runs)) six = runs.0.cause.crew.rose (is_crew_refused status (sym is ∙ six))
   crew_failed words code before after run (status, is, inr (inl (are, refuses))) six = refuses.0.cause.crew.rose (is_crew_refused status (sym is ∙ six))

@@ -1,5 +1,5 @@
 -- Bytes that an interrupted read leaves.
-use Rattle.std.proofs.Common.{rules, ℕ, List, Option, None, Some, refl, ◌∙◌, sym}
+use Rattle.std.proofs.Common.{ℕ, List, Option, None, Some, refl, ◌∙◌, sym}
 use Rattle.std.specs.Io.KnownBytes.{Keeps, Consumes}
 
 pub keeps-refl : (o : Option (List ℕ)) → Keeps o o

@@ -1,25 +1,25 @@
 -- A run of `replay`, from its ending to what it promises.
-use Rattle.std.proofs.Common.{◌≡◌, ◌≢◌, ◌⊎◌, ℕ, Bool, List, [], ◌++◌, Option, Some, refl, sym, ap, subst, ◌∙◌, inl, inr}
+use Rattle.std.proofs.Common.{◌≡◌, ◌≢◌, ℕ, Bool, List, [], ◌++◌, Option, Some, refl, sym, ap, subst, ◌∙◌, inl, inr}
 use Rattle.std.specs.Prelude.{false, true}
 use Rattle.std.proofs.lemmas.List.{append-nil}
-use Rattle.m17_io.specs.Faults.{HasRisen, HasCauses}
+use Rattle.m17_io.specs.Faults.{HasCauses}
 use Rattle.m17_values.specs.declared.heard.Heard.{Heard}
 use Rattle.m17_print.specs.Endings.{Grows}
 use Rattle.m17_print.specs.declared.ending.Ending.{Ending}
 use Rattle.m17_print.specs.declared.ending.Ending.TheVariants as ways
 use Rattle.m17_book.specs.Book.{IsTrace}
 use Rattle.m17_book.specs.Laws.{TracesAreExact}
-use Rattle.m17_house.specs.declared.plan.Plan.{Plan}
+use Rattle.m17_plan.specs.declared.plan.Plan.{Plan}
 use Rattle.m17_replay.specs.declared.ending.ReplayEnding.{ReplayEnding}
 use Rattle.m17_replay.specs.declared.ending.ReplayEnding.TheVariants as endings
 use Rattle.m17_replay.specs.declared.reason.TraceReason.{TraceReason}
 use Rattle.m17_replay.specs.Endings.{replay_ending}
 use Rattle.m17_replay.specs.Laws.{LostBySixteenFaults}
 use Rattle.m17_replay.specs.Reasons.{refusal_told}
-use Rattle.m17_replay.specs.Replay.{IsReplayText, SaysReplay, PrintsReplay, EndsBeforeText, failed_device, streams, ComesToReplay, TellsCrew}
+use Rattle.m17_replay.specs.Replay.{IsReplayText, SaysReplay, EndsBeforeText, failed_device, streams, ComesToReplay, TellsCrew}
 use Rattle.m17_app.specs.declared.status.Status.{Status}
 use Rattle.m17_app.specs.declared.status.Status.TheVariants.{InputRefused, WriteFailed, PortFailed, CrewRefused, LinkLost, NoMemory}
-use Rattle.m17_app.specs.Status.{Beside, Count, HasCause, Outside, RoseBy, WritesLast, beside, count_from}
+use Rattle.m17_app.specs.Status.{Beside, Count, HasCause, Streams, RoseBy, WritesLast, beside, count_from}
 use Rattle.m17_app.specs.Replayed.{replay_last_line, replay_status, replay_terms, CutsReplay, IsRunText, KeepsItsLink, PrintsTrace, TellsReplay}
 use Rattle.m17_app.specs.Terms.{RunsCommand}
 use Rattle.m17_app.specs.Written.{Adds}
@@ -65,18 +65,18 @@ finished_text : (plan : Plan) (summary : Bool) (input text : List ℕ) (left : O
     → PrintsTrace plan summary endings.Finished input left text → IsReplayText plan summary false input (text ++ [])
 finished_text plan summary input text left said printed = subst (λ (xs : List ℕ). IsReplayText plan summary false input xs) (sym (append-nil text)) printed
 
-abbrev Last : ReplayEnding → Status → Outside → Outside → Type 0
+abbrev Last : ReplayEnding → Status → Streams → Streams → Type 0
 Last ending status mid after = WritesLast (replay_last_line ending) (replay_status ending) status mid after
 
 -- where nothing was written before, the last line stands alone
-alone : (ending : ReplayEnding) (status : Status) (before mid after : Outside) → mid.written ≡ before.written → Last ending status mid after → status ≢ WriteFailed
+alone : (ending : ReplayEnding) (status : Status) (before mid after : Streams) → mid.sink.written ≡ before.sink.written → Last ending status mid after → status ≢ WriteFailed
     → Adds (replay_last_line ending) before after
 alone ending status before mid after none last other = λ first is. last.whole other first (none ∙ is)
 
 -- the last line was written
-own_tells : (plan : Plan) (summary : Bool) (crew : Count) (ending : ReplayEnding) (before mid after : Outside) → replay_status ending ≢ WriteFailed
-    → Said (SaysReplay plan summary) ending before mid → Printed (PrintsTrace plan summary) ending before mid → Grows before.written mid.written
-    → (EndsBeforeText ending → mid.written ≡ before.written) → Last ending (replay_status ending) mid after → TellsReplay plan summary crew (replay_status ending) before after
+own_tells : (plan : Plan) (summary : Bool) (crew : Count) (ending : ReplayEnding) (before mid after : Streams) → replay_status ending ≢ WriteFailed
+    → Said (SaysReplay plan summary) ending before mid → Printed (PrintsTrace plan summary) ending before mid → Grows before.sink.written mid.sink.written
+    → (EndsBeforeText ending → mid.sink.written ≡ before.sink.written) → Last ending (replay_status ending) mid after → TellsReplay plan summary crew (replay_status ending) before after
 own_tells plan summary crew endings.Finished before mid after other said printed grows unwritten last = (
   ends_by (SaysReplay plan summary) (PrintsTrace plan summary) _ _ _ endings.Finished before mid after said printed grows last other,
   adds_text (SaysReplay plan summary) (PrintsTrace plan summary) (IsReplayText plan summary false) _ _ _ endings.Finished before mid after said printed last other
@@ -106,19 +106,19 @@ own_tells plan summary crew endings.ReadFailed before mid after other said print
 own_tells plan summary crew endings.WriteFailed before mid after other said printed grows unwritten last = absurd (other refl)
 
 -- an input that is a trace isn't refused, and one without 16 faults in a row doesn't lose its link
-refuses_none : TracesAreExact → (plan : Plan) (summary : Bool) (crew : Count) (before after : Outside) → TellsReplay plan summary crew InputRefused before after
-    → (input : List ℕ) × (before.left ≡ Some input) × ((heard : List Heard) × IsTrace input heard) → ⊥
+refuses_none : TracesAreExact → (plan : Plan) (summary : Bool) (crew : Count) (before after : Streams) → TellsReplay plan summary crew InputRefused before after
+    → (input : List ℕ) × (before.source.left ≡ Some input) × ((heard : List Heard) × IsTrace input heard) → ⊥
 refuses_none exact plan summary crew before after (place, reason, ends, adds, line) (input, is, (heard, is_trace)) =
     exact.not_both input heard (refusal_told place reason) is_trace (ends.said input is)
 
-loses_none : LostBySixteenFaults → (plan : Plan) (summary : Bool) (crew : Count) (before after : Outside) → TellsReplay plan summary crew LinkLost before after
-    → (input : List ℕ) × (before.left ≡ Some input) × KeepsItsLink input → ⊥
+loses_none : LostBySixteenFaults → (plan : Plan) (summary : Bool) (crew : Count) (before after : Streams) → TellsReplay plan summary crew LinkLost before after
+    → (input : List ℕ) × (before.source.left ≡ Some input) × KeepsItsLink input → ⊥
 loses_none law plan summary crew before after (ends, adds) (input, is, (heard, is_trace, none)) =
     let said = ends.said input is in
     none ((law plan summary true input said.0.0 heard said.0.1 is_trace).0 refl)
 
 -- nor that of want of memory, behind an ending
-pub some_memory : (ending : ReplayEnding) (status : Status) (mid after : Outside) → Last ending status mid after → status ≢ NoMemory
+pub some_memory : (ending : ReplayEnding) (status : Status) (mid after : Streams) → Last ending status mid after → status ≢ NoMemory
 some_memory ending status mid after last = never NoMemory (replay_status ending) status last.answer (told ending).no_memory (λ e. cc)
 
 some_way : (ending : ReplayEnding) → replay_ending ending ≢ ways.NoMemory
@@ -133,13 +133,13 @@ pub has_memory : (ending : ReplayEnding) (way : Ending TraceReason) → way ≡ 
 has_memory ending way is e = some_way ending (sym is ∙ e)
 
 -- what is told of a run before its last line
-abbrev pub Came : Plan → Bool → ReplayEnding → Outside → Outside → Type 0
-Came plan summary ending before mid = (input : List ℕ) → before.left ≡ Some input → ComesToReplay plan summary ending (streams input mid.left before.written mid.written)
+abbrev pub Came : Plan → Bool → ReplayEnding → Streams → Streams → Type 0
+Came plan summary ending before mid = (input : List ℕ) → before.source.left ≡ Some input → ComesToReplay plan summary ending (streams input mid.source.left before.sink.written mid.sink.written)
 
 -- the whole run
-pub ran : (plan : Plan) (summary : Bool) (ending : ReplayEnding) (status : Status) (before mid after : Outside) (ports : ℕ) (crew : Count) → TracesAreExact → LostBySixteenFaults
-    → TellsCrew ending crew.before crew.after → Came plan summary ending before mid → HasCauses (counts before) (counts mid) (failed_device ending) → Grows before.written mid.written
-    → (EndsBeforeText ending → mid.written ≡ before.written) → Last ending status mid after
+pub ran : (plan : Plan) (summary : Bool) (ending : ReplayEnding) (status : Status) (before mid after : Streams) (ports : ℕ) (crew : Count) → TracesAreExact → LostBySixteenFaults
+    → TellsCrew ending crew.before crew.after → Came plan summary ending before mid → HasCauses (counts before) (counts mid) (failed_device ending) → Grows before.sink.written mid.sink.written
+    → (EndsBeforeText ending → mid.sink.written ≡ before.sink.written) → Last ending status mid after
     → RunsCommand (replay_terms plan summary crew) status before after (beside (count_from ports ports) crew)
 ran plan summary ending status before mid after ports crew exact law tells came causes grows unwritten last =
     let own : Status = replay_status ending in
@@ -165,8 +165,8 @@ ran plan summary ending status before mid after ports crew exact law tells came 
     (loses_none law plan summary crew before after) (λ t _. t)
 
 -- there was no memory
-pub no_run : (plan : Plan) (summary : Bool) (before after : Outside) (ports : ℕ) (crew : Count) → TracesAreExact → LostBySixteenFaults → after.written ≡ before.written
-    → after.reads ≡ before.reads → after.writes ≡ before.writes → crew.after ≡ crew.before
+pub no_run : (plan : Plan) (summary : Bool) (before after : Streams) (ports : ℕ) (crew : Count) → TracesAreExact → LostBySixteenFaults → after.sink.written ≡ before.sink.written
+    → after.source.faults ≡ before.source.faults → after.sink.faults ≡ before.sink.faults → crew.after ≡ crew.before
     → RunsCommand (replay_terms plan summary crew) NoMemory before after (beside (count_from ports ports) crew)
 no_run plan summary before after ports crew exact law written reads writes stands =
     let others : Beside = beside (count_from ports ports) crew in

@@ -38,7 +38,7 @@ some_module (x ∷ xs) modules named =
 
 -- parrots are among the modules
 among : (text : Option (List ℕ)) (modules parrots : Modules) → NamesParrots text modules parrots → (letter : ℕ) → serves parrots letter ≡ true → serves modules letter ≡ true
-among None modules parrots none letter is = absurd (let no : serves parrots letter ≡ false = none letter in cc)
+among None modules parrots none letter is = absurd (let no : serves parrots letter ≡ false = none.0 letter in cc)
 among (Some text) modules parrots (named, all) letter is =
     All-contains (λ l. IsTrue (serves modules l)) text letter all ((named.letters letter).0 is)
 

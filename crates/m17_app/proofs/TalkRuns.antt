@@ -1,24 +1,27 @@
 -- A run of `talk`, from its ending to what it promises.
-use Rattle.std.proofs.Common.{rules, ◌≡◌, ◌≢◌, ◌⊎◌, ℕ, ◌<◌, List, [], ◌++◌, take, Option, None, Some, Bool, true, false, refl, sym, ap, subst, ◌∙◌, arith, inl, inr}
+use Rattle.std.proofs.Common.{rules, ◌≡◌, ◌≢◌, ℕ, ◌<◌, List, [], ◌++◌, take, Option, Some, Bool, true, false, refl, sym, ap, subst, ◌∙◌, arith, inl, inr}
 use Rattle.std.specs.Prelude.{IsTrue, if◌then◌else◌}
 use Rattle.m17_io.specs.Faults.{HasRisen, HasCauses}
 use Rattle.m17_io.specs.Sink.{AppendsPrefix}
+use Rattle.m17_io.specs.Source.{SourceTold}
 use Rattle.m17_print.specs.declared.ending.Ending.{Ending}
 use Rattle.m17_print.specs.declared.ending.Ending.TheVariants as ways
 use Rattle.m17_client.specs.declared.talking.TalkEnd.{TalkEnd}
 use Rattle.m17_words.specs.declared.order.TalkOrder.{TalkOrder}
 use Rattle.m17_talk.specs.declared.ending.TalkEnding.{TalkEnding}
 use Rattle.m17_talk.specs.declared.ending.TalkEnding.TheVariants as endings
-use Rattle.m17_talk.specs.Devices.{BookTold, DevicesTold, IsNewBook, PortsTold, shelf_tells}
+use Rattle.m17_ports.specs.Ports.{PortsTold}
+use Rattle.m17_talk.specs.Devices.{DevicesTold}
 use Rattle.m17_talk.specs.declared.reason.ScriptReason.{ScriptReason}
 use Rattle.m17_talk.specs.Endings.{talk_ending}
 use Rattle.m17_talk.specs.Laws.{ScriptsAreExact}
 use Rattle.m17_talk.specs.Script.{Due, IsScript}
-use Rattle.m17_talk.specs.Talked.{ending_of, talk_line, failed_device, AsksNothing, ComesToTalk, EndsTalk, Handed, HasRun, Streams, Talks}
+use Rattle.m17_talk.specs.Talked.{ending_of, talk_line, failed_device, AsksNothing, ComesToTalk, EndsTalk, Handed, HasRun, Talks}
+use Rattle.m17_talk.specs.Talked as talked
 use Rattle.m17_app.specs.declared.status.Status.{Status}
 use Rattle.m17_app.specs.declared.status.Status.TheVariants.{InputRefused, WriteFailed, PortFailed, CrewRefused, LinkLost, BookFailed, NoMemory}
-use Rattle.m17_app.specs.Status.{Beside, HasCause, Outside, RoseBy, WritesLast, beside, count_from}
-use Rattle.m17_app.specs.Talk.{talk_last_line, talk_status, talk_terms, streams, CutsTalk, IsUntroubled, RanTalk, TellsTalk}
+use Rattle.m17_app.specs.Status.{Beside, HasCause, Streams, RoseBy, WritesLast, beside, count_from}
+use Rattle.m17_app.specs.Talk.{talk_last_line, talk_status, talk_terms, talk_streams, CutsTalk, IsUntroubled, RanTalk, TellsTalk}
 use Rattle.m17_app.specs.Terms.{RunsCommand}
 use Rattle.m17_app.proofs.Statuses.{Told, is_write_failed, own_status}
 use Rattle.m17_app.proofs.Causes.{cause_from, counts, memory_cause, runs_by, sound_from, stays}
@@ -35,7 +38,7 @@ told endings.WriteFailed = record { read_told = λ e. cc; read_failed = λ e. cc
 told endings.PortFailed = record { read_told = λ e. cc; read_failed = λ e. cc; write_told = λ e. cc; write_failed = λ e. cc; no_memory = λ e. cc }
 
 -- what was read and done stays, where the last line leaves the input alone
-ran_later : (order : TalkOrder) (end : TalkEnd) (run : Handed) (before mid after : Outside) → after.left ≡ mid.left → HasRun order end run (streams before mid) → HasRun order end run (streams before after)
+ran_later : {E M B : Type 0} (order : TalkOrder) (end : TalkEnd) (run : Handed E M B) (before mid after : Streams) → after.source.left ≡ mid.source.left → HasRun order end run (talk_streams before mid) → HasRun order end run (talk_streams before after)
 ran_later order end run before mid after left (script, read, talks) =
     (script, (read.0, (λ input is. let both = read.1 input is in (both.0, left ∙ both.1))), talks)
 
@@ -51,39 +54,36 @@ failed_flag false true e = search rules
 failed_flag false false e = cc
 
 -- new devices' counts began at 0
-new_shelf : (number : ℕ) (book : Option BookTold) → IsNewBook number book → (shelf_tells book).1 ≡ 0
-new_shelf number None new = refl
-new_shelf number (Some book) new = new.1
-
 above_0 : (a b : ℕ) → a ≡ 0 → HasRisen a b → 0 < b
 above_0 a b none risen = omega arith
 
-one_of : (o : Option DevicesTold) (a b : DevicesTold) → o ≡ Some a → o ≡ Some b → a ≡ b
-one_of o a b e f = cc
+module _ {E M B : Type 0} where
+  one_of : (o : Option (DevicesTold E M (Option B))) (a b : DevicesTold E M (Option B)) → o ≡ Some a → o ≡ Some b → a ≡ b
+  one_of o a b e f = cc
 
-lost_ear : (order : TalkOrder) (script : List Due) (end : TalkEnd) (run : Handed) → Talks order script end run → talk_status (ending_of end) ≡ LinkLost
-    → (d : DevicesTold) → run.devices ≡ Some d → 0 < d.ear.tells.1
-lost_ear order script end run talks is d at =
-    let risen = talks.talked.lost (lost_flag end.lost end.book_failed is) in
-    subst (λ (x : DevicesTold). 0 < x.ear.tells.1) (one_of run.devices talks.devices d talks.handed_back at)
-    (above_0 talks.new.ear.tells.1 talks.devices.ear.tells.1 talks.are_new.ear.1 risen)
+  lost_ear : (order : TalkOrder) (script : List Due) (end : TalkEnd) (run : Handed E M B) → Talks order script end run → talk_status (ending_of end) ≡ LinkLost
+      → (d : DevicesTold E M (Option B)) → run.devices ≡ Some d → 0 < d.ear.faults
+  lost_ear order script end run talks is d at =
+      let risen = talks.talked.lost (lost_flag end.lost end.book_failed is) in
+      subst (λ (x : DevicesTold E M (Option B)). 0 < x.ear.faults) (one_of run.devices talks.devices d talks.handed_back at)
+      (above_0 talks.new.ear.faults talks.devices.ear.faults talks.are_new.ear.faults risen)
 
-failed_book : (order : TalkOrder) (script : List Due) (end : TalkEnd) (run : Handed) → Talks order script end run → talk_status (ending_of end) ≡ BookFailed
-    → (d : DevicesTold) → run.devices ≡ Some d → 0 < (shelf_tells d.book).1
-failed_book order script end run talks is d at =
-    let risen = talks.talked.failed (failed_flag end.lost end.book_failed is) in
-    subst (λ (x : DevicesTold). 0 < (shelf_tells x.book).1) (one_of run.devices talks.devices d talks.handed_back at)
-    (above_0 (shelf_tells talks.new.book).1 (shelf_tells talks.devices.book).1 (new_shelf _ talks.new.book talks.are_new.book) risen)
+  failed_book : (order : TalkOrder) (script : List Due) (end : TalkEnd) (run : Handed E M B) → Talks order script end run → talk_status (ending_of end) ≡ BookFailed
+      → (d : DevicesTold E M (Option B)) → run.devices ≡ Some d → 0 < d.book.faults
+  failed_book order script end run talks is d at =
+      let risen = talks.talked.failed (failed_flag end.lost end.book_failed is) in
+      subst (λ (x : DevicesTold E M (Option B)). 0 < x.book.faults) (one_of run.devices talks.devices d talks.handed_back at)
+      (above_0 talks.new.book.faults talks.devices.book.faults talks.are_new.book.faults risen)
 
 -- A last line was written behind what an ending printed.
-abbrev AddsLine : TalkEnding → Outside → Outside → Type 0
-AddsLine ending mid after = (xs : List ℕ) → mid.written ≡ Some xs → after.written ≡ Some (xs ++ talk_last_line ending)
+abbrev AddsLine : TalkEnding → Streams → Streams → Type 0
+AddsLine ending mid after = (xs : List ℕ) → mid.sink.written ≡ Some xs → after.sink.written ≡ Some (xs ++ talk_last_line ending)
 
-abbrev AddsLinePart : TalkEnding → Outside → Outside → Type 0
-AddsLinePart ending mid after = (xs : List ℕ) → mid.written ≡ Some xs → AppendsPrefix xs (talk_last_line ending) after.written
+abbrev AddsLinePart : TalkEnding → Streams → Streams → Type 0
+AddsLinePart ending mid after = (xs : List ℕ) → mid.sink.written ≡ Some xs → AppendsPrefix xs (talk_last_line ending) after.sink.written
 
-ran_tells : (order : TalkOrder) (ending : TalkEnding) (before mid after : Outside) (run : Handed) → after.left ≡ mid.left → AddsLine ending mid after
-    → EndsTalk order ending run (streams before mid) → RanTalk order (talk_status ending) before after run
+ran_tells : {E M B : Type 0} (order : TalkOrder) (ending : TalkEnding) (before mid after : Streams) (run : Handed E M B) → after.source.left ≡ mid.source.left → AddsLine ending mid after
+    → EndsTalk order ending run (talk_streams before mid) → RanTalk order (talk_status ending) before after run
 ran_tells order ending before mid after run left line (end, ran, is, printed) = record {
   end = end;
   ran = ran_later order end run before mid after left ran;
@@ -94,8 +94,8 @@ ran_tells order ending before mid after run left line (end, ran, is, printed) = 
 }
 
 -- the last line was written
-own_tells : (order : TalkOrder) (ending : TalkEnding) (before mid after : Outside) (run : Handed) → talk_status ending ≢ WriteFailed → after.left ≡ mid.left
-    → AddsLine ending mid after → ComesToTalk order ending run (streams before mid) → TellsTalk order run (talk_status ending) before after
+own_tells : {E M B : Type 0} (order : TalkOrder) (ending : TalkEnding) (before mid after : Streams) (run : Handed E M B) → talk_status ending ≢ WriteFailed → after.source.left ≡ mid.source.left
+    → AddsLine ending mid after → ComesToTalk order ending run (talk_streams before mid) → TellsTalk order run (talk_status ending) before after
 own_tells order endings.Finished before mid after run other left line came = ran_tells order endings.Finished before mid after run left line came
 own_tells order endings.LinkLost before mid after run other left line came = ran_tells order endings.LinkLost before mid after run left line came
 own_tells order endings.BookFailed before mid after run other left line came = ran_tells order endings.BookFailed before mid after run left line came
@@ -108,16 +108,16 @@ own_tells order endings.PortFailed before mid after run other left line came =
     (came.0, (came.2.0, (read.0, (λ input is. let both = read.1 input is in (both.0, left ∙ both.1)))), (λ first is. line first (came.1 ∙ is)))
 
 -- the sink failed
-cut_ran : (order : TalkOrder) (ending : TalkEnding) (before mid after : Outside) (run : Handed) → after.left ≡ mid.left → AddsLinePart ending mid after
-    → EndsTalk order ending run (streams before mid) → CutsTalk order before after run
+cut_ran : {E M B : Type 0} (order : TalkOrder) (ending : TalkEnding) (before mid after : Streams) (run : Handed E M B) → after.source.left ≡ mid.source.left → AddsLinePart ending mid after
+    → EndsTalk order ending run (talk_streams before mid) → CutsTalk order before after run
 cut_ran order ending before mid after run left part (end, ran, is, printed) = inr (inr (
   end,
   ran_later order end run before mid after left ran,
   adds_part_after (talk_line end) (talk_last_line (ending_of end)) before mid after printed (subst (λ (e : TalkEnding). AddsLinePart e mid after) is part),
 ))
 
-cut_tells : (order : TalkOrder) (ending : TalkEnding) (before mid after : Outside) (run : Handed) → after.left ≡ mid.left → (ending ≡ endings.ReadFailed → HasRisen before.reads after.reads)
-    → AddsLinePart ending mid after → ComesToTalk order ending run (streams before mid) → CutsTalk order before after run
+cut_tells : {E M B : Type 0} (order : TalkOrder) (ending : TalkEnding) (before mid after : Streams) (run : Handed E M B) → after.source.left ≡ mid.source.left → (ending ≡ endings.ReadFailed → HasRisen before.source.faults after.source.faults)
+    → AddsLinePart ending mid after → ComesToTalk order ending run (talk_streams before mid) → CutsTalk order before after run
 cut_tells order endings.Finished before mid after run left sound part came = cut_ran order endings.Finished before mid after run left part came
 cut_tells order endings.LinkLost before mid after run left sound part came = cut_ran order endings.LinkLost before mid after run left part came
 cut_tells order endings.BookFailed before mid after run left sound part came = cut_ran order endings.BookFailed before mid after run left part came
@@ -131,12 +131,12 @@ cut_tells order endings.WriteFailed before mid after run left sound part (inr (e
   ran_later order end run before mid after left ran,
   (λ first is.
       let p = printed first is in
-      part_longer first (talk_line end) (talk_last_line (ending_of end)) after.written (p.0, same_written mid after part (first ++ take p.0 (talk_line end)) p.1)),
+      part_longer first (talk_line end) (talk_last_line (ending_of end)) after.sink.written (p.0, same_written mid after part (first ++ take p.0 (talk_line end)) p.1)),
 ))
 cut_tells order endings.PortFailed before mid after run left sound part came = inr (inl (came.0, (λ first is. part first (came.1 ∙ is))))
 
 -- the ports failed exactly where it is told
-ports_rose : (order : TalkOrder) (ending : TalkEnding) (run : Handed) (s : Streams) → ComesToTalk order ending run s → RoseBy PortFailed (talk_status ending) run.before.faults run.after.faults
+ports_rose : {E M B : Type 0} (order : TalkOrder) (ending : TalkEnding) (run : Handed E M B) (s : talked.Streams) → ComesToTalk order ending run s → RoseBy PortFailed (talk_status ending) run.before.faults run.after.faults
 ports_rose order endings.Finished run s (end, ran, is, printed) = stays PortFailed (talk_status endings.Finished) _ _ (λ e. cc) ran.2.no_fault
 ports_rose order endings.LinkLost run s (end, ran, is, printed) = stays PortFailed (talk_status endings.LinkLost) _ _ (λ e. cc) ran.2.no_fault
 ports_rose order endings.BookFailed run s (end, ran, is, printed) = stays PortFailed (talk_status endings.BookFailed) _ _ (λ e. cc) ran.2.no_fault
@@ -145,7 +145,7 @@ ports_rose order (endings.Refused place reason) run s (nothing, same, refuses) =
 ports_rose order endings.ReadFailed run s (nothing, same) = stays PortFailed (talk_status endings.ReadFailed) _ _ (λ e. cc) (ap (λ (p : PortsTold). p.faults) nothing.0)
 ports_rose order endings.WriteFailed run s (inl (nothing, same)) = stays PortFailed (talk_status endings.WriteFailed) _ _ (λ e. cc) (ap (λ (p : PortsTold). p.faults) nothing.0)
 ports_rose order endings.WriteFailed run s (inr (end, ran, printed)) = stays PortFailed (talk_status endings.WriteFailed) _ _ (λ e. cc) ran.2.no_fault
-ports_rose order endings.PortFailed run s (fails, same, read) = record { rose = λ _. fails.risen; stands = λ other _. absurd (other refl) }
+ports_rose order endings.PortFailed run s (fails, same, read) = record { rose = λ _. fails.0.risen; stands = λ other _. absurd (other refl) }
 
 -- no crew is asked
 no_crew : (ending : TalkEnding) → talk_status ending ≢ CrewRefused
@@ -171,36 +171,36 @@ pub has_memory : (ending : TalkEnding) (way : Ending ScriptReason) → way ≡ t
 has_memory ending way is e = some_way ending (sym is ∙ e)
 
 -- a script isn't refused
-refuses_none : ScriptsAreExact → (order : TalkOrder) (run : Handed) (before after : Outside) → TellsTalk order run InputRefused before after
-    → (input : List ℕ) × (before.left ≡ Some input) × ((script : List Due) × IsScript input script) → ⊥
+refuses_none : {E M B : Type 0} → ScriptsAreExact → (order : TalkOrder) (run : Handed E M B) (before after : Streams) → TellsTalk order run InputRefused before after
+    → (input : List ℕ) × (before.source.left ≡ Some input) × ((script : List Due) × IsScript input script) → ⊥
 refuses_none exact order run before after (nothing, (place, reason, none, line)) (input, is, (script, is_script)) =
     exact.not_both input script place reason is_script (none input is)
 
 -- a talk against which nothing stood
-abbrev IsSmooth : TalkOrder → Handed → Type 0
+abbrev IsSmooth : {E M B : Type 0} → TalkOrder → Handed E M B → Type 0
 IsSmooth order run = (script : List Due) (end : TalkEnd) (talks : Talks order script end run) → IsUntroubled order script end run talks
 
-loses_none : (order : TalkOrder) (run : Handed) (before after : Outside) → TellsTalk order run LinkLost before after → IsSmooth order run → ⊥
+loses_none : {E M B : Type 0} (order : TalkOrder) (run : Handed E M B) (before after : Streams) → TellsTalk order run LinkLost before after → IsSmooth order run → ⊥
 loses_none order run before after ran smooth =
     let talks = ran.ran.2 in
     (smooth ran.ran.0 ran.end talks).no_link_lost (talks.talked.is_end.lost.0 (lost_flag ran.end.lost ran.end.book_failed (sym ran.status_is)))
 
-fails_none : (order : TalkOrder) (run : Handed) (before after : Outside) → TellsTalk order run BookFailed before after → IsSmooth order run → ⊥
+fails_none : {E M B : Type 0} (order : TalkOrder) (run : Handed E M B) (before after : Streams) → TellsTalk order run BookFailed before after → IsSmooth order run → ⊥
 fails_none order run before after ran smooth =
     let talks = ran.ran.2 in
     (smooth ran.ran.0 ran.end talks).no_book_failed (talks.talked.failed (failed_flag ran.end.lost ran.end.book_failed (sym ran.status_is)))
 
 -- the whole run
-pub ran : (order : TalkOrder) (ending : TalkEnding) (status : Status) (before mid after : Outside) (run : Handed) (crew : ℕ) → ScriptsAreExact
-    → ComesToTalk order ending run (streams before mid) → HasCauses (counts before) (counts mid) (failed_device ending)
+pub ran : {E M B : Type 0} (order : TalkOrder) (ending : TalkEnding) (status : Status) (before mid after : Streams) (run : Handed E M B) (crew : ℕ) → ScriptsAreExact
+    → ComesToTalk order ending run (talk_streams before mid) → HasCauses (counts before) (counts mid) (failed_device ending)
     → WritesLast (talk_last_line ending) (talk_status ending) status mid after
     → RunsCommand (talk_terms order run) status before after (beside (count_from run.before.faults run.after.faults) (count_from crew crew))
 ran order ending status before mid after run crew exact came causes last =
     let own : Status = talk_status ending in
     let others : Beside = beside (count_from run.before.faults run.after.faults) (count_from crew crew) in
     let cause : HasCause status before after others = cause_from own (failed_device ending) (talk_last_line ending) status before mid after others (told ending) causes last
-    (ports_rose order ending run (streams before mid) came) (stays CrewRefused own crew crew (no_crew ending) refl) in
-    let left : after.left ≡ mid.left = last.input_untouched.0 in
+    (ports_rose order ending run (talk_streams before mid) came) (stays CrewRefused own crew crew (no_crew ending) refl) in
+    let left : after.source.left ≡ mid.source.left = ap (λ (told : SourceTold). told.left) last.input_untouched in
     let tells : TellsTalk order run status before after = elim (is_write_failed status) [
       | inl four ↦
           let sound = λ (e : ending ≡ endings.ReadFailed). sound_from own (failed_device ending) (talk_last_line ending) status before mid after causes last (ap failed_device e) in
@@ -214,8 +214,8 @@ ran order ending status before mid after run crew exact came causes last =
     (loses_none order run before after) (fails_none order run before after)
 
 -- there was no memory
-pub no_run : (order : TalkOrder) (before after : Outside) (run : Handed) (crew : ℕ) → ScriptsAreExact → AsksNothing run → after.written ≡ before.written → after.reads ≡ before.reads
-    → after.writes ≡ before.writes → RunsCommand (talk_terms order run) NoMemory before after (beside (count_from run.before.faults run.after.faults) (count_from crew crew))
+pub no_run : {E M B : Type 0} (order : TalkOrder) (before after : Streams) (run : Handed E M B) (crew : ℕ) → ScriptsAreExact → AsksNothing run → after.sink.written ≡ before.sink.written → after.source.faults ≡ before.source.faults
+    → after.sink.faults ≡ before.sink.faults → RunsCommand (talk_terms order run) NoMemory before after (beside (count_from run.before.faults run.after.faults) (count_from crew crew))
 no_run order before after run crew exact nothing written reads writes =
     let others : Beside = beside (count_from run.before.faults run.after.faults) (count_from crew crew) in
     runs_by (talk_terms order run) NoMemory before after others (memory_cause before after others reads writes (ap (λ (p : PortsTold). p.faults) nothing.0) refl)

@@ -1,5 +1,5 @@
 -- A run of a command that reads and prints, from its ending to what it promises.
-use Rattle.std.proofs.Common.{◌≡◌, ◌≢◌, ◌⊎◌, ℕ, ◌+◌, List, [], ◌++◌, Option, Some, refl, sym, ap, subst, ◌∙◌, arith, inl, inr}
+use Rattle.std.proofs.Common.{◌≡◌, ◌≢◌, ℕ, List, [], ◌++◌, Option, Some, refl, sym, ap, subst, ◌∙◌, arith, inl, inr}
 use Rattle.std.proofs.lemmas.List.{append-nil}
 use Rattle.m17_io.specs.Faults.{HasCauses}
 use Rattle.m17_book.specs.declared.record.Record.{Record}
@@ -20,7 +20,7 @@ use Rattle.m17_show.specs.Show.{IsShowText, IsTextOfFirst, PrintsShow, SaysShow}
 use Rattle.m17_show.specs.declared.reason.ShowReason.{ShowReason}
 use Rattle.m17_app.specs.declared.status.Status.{Status}
 use Rattle.m17_app.specs.declared.status.Status.TheVariants.{InputRefused, WriteFailed, PortFailed, CrewRefused, NoMemory}
-use Rattle.m17_app.specs.Status.{Beside, HasCause, Outside, WritesLast, beside, count_from, status_of}
+use Rattle.m17_app.specs.Status.{Beside, HasCause, Streams, WritesLast, beside, count_from, status_of}
 use Rattle.m17_app.specs.Terms.{RunsCommand}
 use Rattle.m17_app.specs.Text.{check_command, judge_command, show_command, text_line, text_terms, CutsText, TellsText, TextCommand}
 use Rattle.m17_app.proofs.Statuses.{is_write_failed, no_crew, no_ports, own_status, told}
@@ -37,25 +37,25 @@ module _ {R : Type 0} where
         → command.prints (endings.Refused place reason) input left text → command.is_text input (text ++ input_refused_line place (command.words reason))
     pub not_refused : (input : List ℕ) (left : Option (List ℕ)) (place : ℕ) (reason : R) → command.takes input → command.says (endings.Refused place reason) input left → ⊥
 
-  abbrev pub Came : TextCommand R → TextEnding R → Outside → Outside → Type 0
-  Came command ending before mid = (input : List ℕ) → before.left ≡ Some input → Comes command.says command.prints ending input mid.left before.written mid.written
+  abbrev pub Came : TextCommand R → TextEnding R → Streams → Streams → Type 0
+  Came command ending before mid = (input : List ℕ) → before.source.left ≡ Some input → Comes command.says command.prints ending input mid.source.left before.sink.written mid.sink.written
 
-  abbrev Last : TextCommand R → TextEnding R → Status → Outside → Outside → Type 0
+  abbrev Last : TextCommand R → TextEnding R → Status → Streams → Streams → Type 0
   Last command ending status mid after = WritesLast (text_line command ending) (status_of (text_ending ending)) status mid after
 
   -- the last line was written
-  own_tells : (command : TextCommand R) → IsSound command → (ending : TextEnding R) (before mid after : Outside) → status_of (text_ending ending) ≢ WriteFailed
-      → Came command ending before mid → Grows before.written mid.written → Last command ending (status_of (text_ending ending)) mid after
+  own_tells : (command : TextCommand R) → IsSound command → (ending : TextEnding R) (before mid after : Streams) → status_of (text_ending ending) ≢ WriteFailed
+      → Came command ending before mid → Grows before.sink.written mid.sink.written → Last command ending (status_of (text_ending ending)) mid after
       → TellsText command (status_of (text_ending ending)) before after
   own_tells command sound endings.Finished before mid after other came grows last =
-      let said = λ (input : List ℕ) (is : before.left ≡ Some input). (came input is).said in
-      let printed = λ (input first : List ℕ) (is : before.left ≡ Some input) (is_first : before.written ≡ Some first). (came input is).printed first is_first in (
+      let said = λ (input : List ℕ) (is : before.source.left ≡ Some input). (came input is).said in
+      let printed = λ (input first : List ℕ) (is : before.source.left ≡ Some input) (is_first : before.sink.written ≡ Some first). (came input is).printed first is_first in (
         ends_by command.says command.prints _ _ _ endings.Finished before mid after said printed grows last other,
         adds_text command.says command.prints command.is_text _ _ _ endings.Finished before mid after said printed last other sound.finished,
       )
   own_tells command sound (endings.Refused place reason) before mid after other came grows last =
-      let said = λ (input : List ℕ) (is : before.left ≡ Some input). (came input is).said in
-      let printed = λ (input first : List ℕ) (is : before.left ≡ Some input) (is_first : before.written ≡ Some first). (came input is).printed first is_first in (
+      let said = λ (input : List ℕ) (is : before.source.left ≡ Some input). (came input is).said in
+      let printed = λ (input first : List ℕ) (is : before.source.left ≡ Some input) (is_first : before.sink.written ≡ Some first). (came input is).printed first is_first in (
         place,
         reason,
         ends_by command.says command.prints _ _ _ (endings.Refused place reason) before mid after said printed grows last other,
@@ -63,29 +63,29 @@ module _ {R : Type 0} where
             (λ input text left h p. sound.refused input text left place reason h p),
       )
   own_tells command sound endings.ReadFailed before mid after other came grows last =
-      let said = λ (input : List ℕ) (is : before.left ≡ Some input). (came input is).said in
-      let printed = λ (input first : List ℕ) (is : before.left ≡ Some input) (is_first : before.written ≡ Some first). (came input is).printed first is_first in
+      let said = λ (input : List ℕ) (is : before.source.left ≡ Some input). (came input is).said in
+      let printed = λ (input first : List ℕ) (is : before.source.left ≡ Some input) (is_first : before.sink.written ≡ Some first). (came input is).printed first is_first in
       ends_by command.says command.prints _ _ _ endings.ReadFailed before mid after said printed grows last other
   own_tells command sound endings.WriteFailed before mid after other came grows last = absurd (other refl)
 
   -- the sink failed
-  cut_tells : (command : TextCommand R) (ending : TextEnding R) (status : Status) (before mid after : Outside) → Came command ending before mid
+  cut_tells : (command : TextCommand R) (ending : TextEnding R) (status : Status) (before mid after : Streams) → Came command ending before mid
       → HasCauses (counts before) (counts mid) (failed_device ending) → Last command ending status mid after → CutsText command before after
   cut_tells command ending status before mid after came causes last =
-      let printed = λ (input first : List ℕ) (is : before.left ≡ Some input) (is_first : before.written ≡ Some first). (came input is).printed first is_first in (
+      let printed = λ (input first : List ℕ) (is : before.source.left ≡ Some input) (is_first : before.sink.written ≡ Some first). (came input is).printed first is_first in (
         ending,
         (λ is. sound_from (status_of (text_ending ending)) (failed_device ending) (text_line command ending) status before mid after causes last (ap failed_device is)),
         cuts_by command.prints (text_line command ending) (status_of (text_ending ending)) status ending before mid after printed last,
       )
 
   -- an input that the command takes isn't refused
-  refuses_none : (command : TextCommand R) → IsSound command → (before after : Outside) → TellsText command InputRefused before after
-      → (input : List ℕ) × (before.left ≡ Some input) × command.takes input → ⊥
-  refuses_none command sound before after (place, reason, ends, adds) (input, is, takes) = sound.not_refused input after.left place reason takes (ends.said input is)
+  refuses_none : (command : TextCommand R) → IsSound command → (before after : Streams) → TellsText command InputRefused before after
+      → (input : List ℕ) × (before.source.left ≡ Some input) × command.takes input → ⊥
+  refuses_none command sound before after (place, reason, ends, adds) (input, is, takes) = sound.not_refused input after.source.left place reason takes (ends.said input is)
 
   -- the whole run
-  pub ran : (command : TextCommand R) → IsSound command → (ending : TextEnding R) (status : Status) (before mid after : Outside) (ports crew : ℕ) → Came command ending before mid
-      → HasCauses (counts before) (counts mid) (failed_device ending) → Grows before.written mid.written → Last command ending status mid after
+  pub ran : (command : TextCommand R) → IsSound command → (ending : TextEnding R) (status : Status) (before mid after : Streams) (ports crew : ℕ) → Came command ending before mid
+      → HasCauses (counts before) (counts mid) (failed_device ending) → Grows before.sink.written mid.sink.written → Last command ending status mid after
       → RunsCommand (text_terms command) status before after (beside (count_from ports ports) (count_from crew crew))
   ran command sound ending status before mid after ports crew came causes grows last =
       let own : Status = status_of (text_ending ending) in
@@ -145,7 +145,7 @@ pub check_is_sound : LegalIsNotRefused → IsSound check_command
 check_is_sound legal_or = record { finished = check_finished; refused = check_refused; not_refused = check_takes legal_or }
 
 -- there was no memory for the table of `judge`
-pub no_run : (before : Outside) (ports crew : ℕ) → RunsCommand (text_terms judge_command) NoMemory before before (beside (count_from ports ports) (count_from crew crew))
+pub no_run : (before : Streams) (ports crew : ℕ) → RunsCommand (text_terms judge_command) NoMemory before before (beside (count_from ports ports) (count_from crew crew))
 no_run before ports crew =
     let others : Beside = beside (count_from ports ports) (count_from crew crew) in
     runs_by (text_terms judge_command) NoMemory before before others (memory_cause before before others refl refl refl refl) refl

@@ -1,8 +1,8 @@
--- What a run of the program promises, by its words. This profile.
+-- What a run of the program promises, by its words.
 use Rattle.std.specs.Prelude.{◌≡◌, ◌⊎◌, ℕ, ◌≤◌, Bool, List, None}
 use Rattle.m17_control.specs.declared.modules.Modules.{Modules}
-use Rattle.m17_house.specs.declared.plan.Plan.{Plan}
-use Rattle.m17_house.specs.Replay.{IsPlan}
+use Rattle.m17_plan.specs.declared.plan.Plan.{Plan}
+use Rattle.m17_plan.specs.Planned.{IsPlan}
 use Rattle.m17_words.specs.declared.command.Command.{Command}
 use Rattle.m17_words.specs.declared.command.Command.TheVariants.{Judge, Show, Replay, Make, Check, Talk, Serve}
 use Rattle.m17_words.specs.Words.{Names}
@@ -13,15 +13,15 @@ use Rattle.m17_app.specs.Make.{make_terms}
 use Rattle.m17_app.specs.Replayed.{replay_terms}
 use Rattle.m17_app.specs.Run.{AreRefused, refused_terms}
 use Rattle.m17_app.specs.Serve.{serve_terms}
-use Rattle.m17_app.specs.Status.{Outside, count_from}
+use Rattle.m17_app.specs.Status.{Streams, count_from}
 use Rattle.m17_app.specs.Talk.{talk_terms}
 use Rattle.m17_app.specs.Terms.{RunsCommand, Terms}
 use Rattle.m17_app.specs.Text.{check_command, judge_command, show_command, text_terms}
 use Rattle.m17_serve.specs.Served.{IsServable}
 
 -- the plan of a replay: patient, and with no tapes
-abbrev pub plan_of : ℕ → Modules → Modules → ℕ → Plan
-plan_of call modules parrots places = record {
+abbrev pub replay_plan : ℕ → Modules → Modules → ℕ → Plan
+replay_plan call modules parrots places = record {
   name = call;
   modules = modules;
   parrots = parrots;
@@ -30,21 +30,21 @@ plan_of call modules parrots places = record {
   entries = 0;
 }
 
-module _ {L : Type 0} where
+module _ {E M B : Type 0} where
   -- The terms of each command, and what it leaves alone. Only `talk` and `serve` ask the ports for anything, and hand back
-  -- devices; only `replay` and `serve` have the crew start threads. This profile.
-  abbrev pub terms_of : Command → Doing L → Terms
+  -- devices; only `replay` and `serve` have the crew start threads.
+  abbrev pub terms_of : Command → Doing E M B → Terms
   terms_of Judge run = text_terms judge_command
   terms_of Show run = text_terms show_command
   terms_of (Make seed count) run = make_terms seed count
   terms_of Check run = text_terms check_command
   terms_of (Replay call modules parrots places summary) run =
-      replay_terms (plan_of call modules parrots places) summary
+      replay_terms (replay_plan call modules parrots places) summary
       (count_from run.crew_before run.crew_after)
   terms_of (Talk order) run = talk_terms order (talk_side run)
   terms_of (Serve order) run = serve_terms order run
 
-  abbrev pub LeavesAlone : Command → Doing L → Type 0
+  abbrev pub LeavesAlone : Command → Doing E M B → Type 0
   LeavesAlone Judge run = DoesNothing run
   LeavesAlone Show run = DoesNothing run
   LeavesAlone (Make seed count) run = DoesNothing run
@@ -53,44 +53,43 @@ module _ {L : Type 0} where
   LeavesAlone (Talk order) run = ServesNothing run
   LeavesAlone (Serve order) run = run.talk ≡ None
 
-  -- What the run of a command promises. This profile.
-  abbrev pub Runs : Command → Status → Outside → Outside → Doing L → Type 0
+  -- What the run of a command promises.
+  abbrev pub Runs : Command → Status → Streams → Streams → Doing E M B → Type 0
   Runs command status before after run =
       RunsCommand (terms_of command run) status before after (beside_of run)
       × LeavesAlone command run
 
-  -- What a run promises whose words are refused: that a line says so, and that nothing was asked for. This profile.
-  abbrev pub RefusesWords : Status → Outside → Outside → Doing L → Type 0
+  -- What a run promises whose words are refused: that a line says so, and that nothing was asked for.
+  abbrev pub RefusesWords : Status → Streams → Streams → Doing E M B → Type 0
   RefusesWords status before after run =
       RunsCommand refused_terms status before after (beside_of run) × DoesNothing run
 
   -- There was no memory for reading the words, and no device was touched.
-  abbrev pub WantsMemory : Status → Outside → Outside → Doing L → Type 0
+  abbrev pub WantsMemory : Status → Streams → Streams → Doing E M B → Type 0
   WantsMemory status before after run =
       (status ≡ NoMemory) × (after ≡ before) × DoesNothing run
 
   -- What a run promises: that of the command which its words name, or that they are refused where they name none; or
-  -- there was no memory for reading them, and no device was touched. This profile.
-  abbrev pub RunsWords : List (List ℕ) → Status → Outside → Outside → Doing L → Type 0
+  -- there was no memory for reading them, and no device was touched.
+  abbrev pub RunsWords : List (List ℕ) → Status → Streams → Streams → Doing E M B → Type 0
   RunsWords words status before after run =
       ((command : Command) × Names words command × Runs command status before after run)
       ⊎ (AreRefused words × RefusesWords status before after run)
       ⊎ WantsMemory status before after run
 
   -- What a run promises whose words name no command: that they are refused, or there was no memory for reading them and
-  -- no device was touched. This profile.
-  abbrev pub EndsRefused : Status → Outside → Outside → Doing L → Type 0
+  -- no device was touched.
+  abbrev pub EndsRefused : Status → Streams → Streams → Doing E M B → Type 0
   EndsRefused status before after run =
       RefusesWords status before after run ⊎ WantsMemory status before after run
 
--- The values of a command are within the bounds that its run needs, as those of a command that words name are. This
--- profile.
+-- The values of a command are within the bounds that its run needs, as those of a command that words name are.
 abbrev pub IsRunnable : Command → Type 0
 IsRunnable Judge = Unit {0}
 IsRunnable Show = Unit {0}
 IsRunnable (Make seed count) = count ≤ 100000
 IsRunnable Check = Unit {0}
 IsRunnable (Replay call modules parrots places summary) =
-    IsPlan (plan_of call modules parrots places)
+    IsPlan (replay_plan call modules parrots places)
 IsRunnable (Talk order) = Unit {0}
 IsRunnable (Serve order) = IsServable order

@@ -1,65 +1,87 @@
--- What is told of a run of the program beside its streams. This profile.
+-- What is told of a run of the program beside its streams.
 use Rattle.std.specs.Prelude.{◌≡◌, ℕ, Option, None}
+use Rattle.std.specs.Option.{option_map}
+use Rattle.m17_ports.specs.Book.{BookTold}
+use Rattle.m17_ports.specs.Ear.{EarTold}
+use Rattle.m17_ports.specs.Mouth.{MouthTold}
+use Rattle.m17_ports.specs.Ports.{PortsTold}
 use Rattle.m17_reflect.specs.declared.returned.HouseRefusal.{HouseRefusal}
 use Rattle.m17_reflect.specs.Run as reflect
-use Rattle.m17_serve.specs.Devices.{HouseTold}
-use Rattle.m17_serve.specs.Served.{Around, around}
-use Rattle.m17_talk.specs.Devices.{DevicesTold, PortsTold}
+use Rattle.m17_serve.specs.Devices.{house_back, refused_back, told_of_shelf}
+use Rattle.m17_serve.specs.Served.{Around}
+use Rattle.m17_talk.specs.Devices.{DevicesTold, devices_told}
 use Rattle.m17_talk.specs.Talked.{Handed, handed}
-use Rattle.m17_app.specs.Status.{Beside, beside, count_from}
+use Rattle.m17_app.specs.declared.done.Done.{Done}
+use Rattle.m17_app.specs.declared.done.Ended.{Ended}
+use Rattle.m17_app.specs.Status.{Beside, beside, code_of, count_from}
 
 -- What the ports told before the run and after it, how many starts the crew had refused then, and what the run hands
 -- back: the devices of a talk that ran, those of a reflector that ran with what went through its threads, or those of one
 -- that refused to run with the reason.
-pub record Doing (L : Type 0) : Type 0 where
+pub record Doing (E M B : Type 0) : Type 0 where
   pub before : PortsTold
   pub after : PortsTold
   pub crew_before : ℕ
   pub crew_after : ℕ
-  pub talk : Option DevicesTold
-  pub house : Option (HouseTold L × reflect.Handed)
-  pub refused : Option (HouseTold L × HouseRefusal)
+  pub talk : Option (DevicesTold E M (Option B))
+  pub house : Option (reflect.Devices E M (Option B) × reflect.Handed)
+  pub refused : Option (reflect.Devices E M (Option B) × HouseRefusal)
 
-module _ {L : Type 0} where
-  abbrev pub doing : PortsTold → PortsTold → ℕ → ℕ → Option DevicesTold
-      → Option (HouseTold L × reflect.Handed) → Option (HouseTold L × HouseRefusal) → Doing L
-  doing before after crew_before crew_after talk house refused = record {
+module _ {E M B : Type 0} where
+  -- what is told of the run that came to `done`; `ear`, `mouth` and `book` say what each kind of device tells
+  abbrev pub doing : {X Y Z : Type 0} → (E → EarTold X) → (M → MouthTold Y) → (B → BookTold Z)
+      → PortsTold → PortsTold → ℕ → ℕ → Done E M B → Doing X Y Z
+  doing ear mouth book before after crew_before crew_after done = record {
     before = before;
     after = after;
     crew_before = crew_before;
     crew_after = crew_after;
-    talk = talk;
-    house = house;
-    refused = refused;
+    talk = option_map (λ d. devices_told (ear d.0) (mouth d.1) (told_of_shelf book d.2)) done.talk;
+    house = house_back ear mouth book done.house;
+    refused = refused_back ear mouth book done.refused;
   }
 
-  -- what of it a talk speaks of, and what a reflector
-  abbrev pub talk_side : Doing L → Handed
+  -- a run that ended so, with the number of its status
+  abbrev pub done_of : Ended E M B → Done E M B
+  done_of ended = record {
+    status = code_of ended.status;
+    talk = ended.talk;
+    house = ended.house;
+    refused = ended.refused;
+  }
+
+  -- the part of it that the clauses of `talk` speak of, and the part that those of `serve` speak of
+  abbrev pub talk_side : Doing E M B → Handed E M B
   talk_side run = handed run.before run.after run.talk
 
-  abbrev pub serve_side : Doing L → Around L
-  serve_side run = around run.before run.after run.house run.refused
+  abbrev pub serve_side : Doing E M B → Around E M B
+  serve_side run = record {
+    before = run.before;
+    after = run.after;
+    house = run.house;
+    refused = run.refused;
+  }
 
   -- what it counts beside the streams
-  abbrev pub beside_of : Doing L → Beside
+  abbrev pub beside_of : Doing E M B → Beside
   beside_of run = beside (count_from run.before.faults run.after.faults)
       (count_from run.crew_before run.crew_after)
 
   -- the ports were asked for nothing, and no devices are handed back
-  pub record AsksForNothing (run : Doing L) : Type 0 where
+  pub record AsksForNothing (run : Doing E M B) : Type 0 where
     pub ports : run.after ≡ run.before
     pub talk : run.talk ≡ None
     pub house : run.house ≡ None
     pub refused : run.refused ≡ None
 
   -- no reflector was to run: the crew was asked for nothing, and no devices of one are handed back
-  pub record ServesNothing (run : Doing L) : Type 0 where
+  pub record ServesNothing (run : Doing E M B) : Type 0 where
     pub crew : run.crew_after ≡ run.crew_before
     pub house : run.house ≡ None
     pub refused : run.refused ≡ None
 
   -- nothing was asked for, and nothing is handed back
-  pub record DoesNothing (run : Doing L) : Type 0 where
+  pub record DoesNothing (run : Doing E M B) : Type 0 where
     pub ports : run.after ≡ run.before
     pub talk : run.talk ≡ None
     pub serve : ServesNothing run

@@ -1,14 +1,14 @@
--- What a run of `make` promises. It reads nothing, and takes no memory. This profile.
+-- What a run of `make` promises. It reads nothing, and takes no memory.
 use Rattle.std.specs.Prelude.{ℕ}
 use Rattle.m17_make.specs.Make.{make_text}
 use Rattle.m17_app.specs.declared.status.Status.{Status}
 use Rattle.m17_app.specs.declared.status.Status.TheVariants.{Finished, WriteFailed}
-use Rattle.m17_app.specs.Status.{Outside}
+use Rattle.m17_app.specs.Status.{Streams}
 use Rattle.m17_app.specs.Terms.{Terms}
 use Rattle.m17_app.specs.Written.{Adds, AddsPart, LeavesInput}
 
--- The trace of the seed with so many entries stands written, or with a sink that failed a first part of it.
-abbrev pub TellsMake : ℕ → ℕ → Status → Outside → Outside → Type 0
+-- The trace of the seed with this number of entries stands written, or with a sink that failed a first part of it.
+abbrev pub TellsMake : ℕ → ℕ → Status → Streams → Streams → Type 0
 TellsMake seed count Finished before after =
     LeavesInput before after × Adds (make_text seed count) before after
 TellsMake seed count WriteFailed before after =

@@ -1,10 +1,10 @@
--- What a run of `replay` promises. This profile.
+-- What a run of `replay` promises.
 use Rattle.std.specs.Prelude.{◌≡◌, ℕ, Bool, false, true, List, ◌++◌, Option, Some}
 use Rattle.m17_io.specs.Faults.{HasRisen}
 use Rattle.m17_values.specs.declared.heard.Heard.{Heard}
 use Rattle.m17_print.specs.Endings.{crew_refused_line, input_refused_line, last_line, link_lost_line, read_failed_line}
 use Rattle.m17_book.specs.Book.{IsTrace, RefusesTrace}
-use Rattle.m17_house.specs.declared.plan.Plan.{Plan}
+use Rattle.m17_plan.specs.declared.plan.Plan.{Plan}
 use Rattle.m17_replay.specs.declared.ending.ReplayEnding.{ReplayEnding}
 use Rattle.m17_replay.specs.declared.ending.ReplayEnding.TheVariants as endings
 use Rattle.m17_replay.specs.declared.reason.TraceReason.{TraceReason}
@@ -14,7 +14,7 @@ use Rattle.m17_replay.specs.Reasons.{trace_reason_words, refusal_told}
 use Rattle.m17_replay.specs.Replay.{IsReplayText, PrintsReplay, SaysReplay}
 use Rattle.m17_app.specs.declared.status.Status.{Status}
 use Rattle.m17_app.specs.declared.status.Status.TheVariants.{Finished, InputRefused, ReadFailed, WriteFailed, CrewRefused, LinkLost, NoMemory}
-use Rattle.m17_app.specs.Status.{Count, Outside, status_of}
+use Rattle.m17_app.specs.Status.{Count, Streams, status_of}
 use Rattle.m17_app.specs.Terms.{Terms}
 use Rattle.m17_app.specs.Written.{Adds, AddsText, CutsBy, EndsBy}
 
@@ -41,23 +41,23 @@ abbrev pub PrintsTrace : Plan → Bool → ReplayEnding → List ℕ → Option 
 PrintsTrace plan summary ending input left text = PrintsReplay plan summary ending input text
 
 -- the run came to this ending, with its last line
-abbrev pub EndsReplay : Plan → Bool → ReplayEnding → Outside → Outside → Type 0
+abbrev pub EndsReplay : Plan → Bool → ReplayEnding → Streams → Streams → Type 0
 EndsReplay plan summary ending before after =
     EndsBy (SaysReplay plan summary) (PrintsTrace plan summary) (replay_last_line ending) ending
     before after
 
 -- Some ending was come to, and the sink failed, while it printed or at the last line; of `read failed` and `crew refused`
 -- a first part is written only where the count of the source, or of the crew, rose.
-abbrev pub CutsReplay : Plan → Bool → Outside → Outside → Count → Type 0
+abbrev pub CutsReplay : Plan → Bool → Streams → Streams → Count → Type 0
 CutsReplay plan summary before after crew = (ending : ReplayEnding)
-    × (ending ≡ endings.ReadFailed → HasRisen before.reads after.reads)
+    × (ending ≡ endings.ReadFailed → HasRisen before.source.faults after.source.faults)
     × (ending ≡ endings.CrewRefused → HasRisen crew.before crew.after)
     × CutsBy (PrintsTrace plan summary) (replay_last_line ending) ending before after
 
 -- What each status says of a run of `replay`. With 0 and 7 the whole text stands written; with 1, 3 and 6 the last line
 -- alone, whatever the source tells; with 4 a first part of what would have been written. Want of memory comes before
--- anything is written, and no device has failed then. This profile.
-abbrev pub TellsReplay : Plan → Bool → Count → Status → Outside → Outside → Type 0
+-- anything is written, and no device has failed then.
+abbrev pub TellsReplay : Plan → Bool → Count → Status → Streams → Streams → Type 0
 TellsReplay plan summary crew Finished before after =
     EndsReplay plan summary endings.Finished before after
     × AddsText (IsRunText plan summary Finished) before after
@@ -73,8 +73,8 @@ TellsReplay plan summary crew ReadFailed before after =
 TellsReplay plan summary crew CrewRefused before after =
     EndsReplay plan summary endings.CrewRefused before after × Adds crew_refused_line before after
 TellsReplay plan summary crew WriteFailed before after = CutsReplay plan summary before after crew
-TellsReplay plan summary crew NoMemory before after = (after.written ≡ before.written)
-    × (after.reads ≡ before.reads) × (after.writes ≡ before.writes)
+TellsReplay plan summary crew NoMemory before after = (after.sink.written ≡ before.sink.written)
+    × (after.source.faults ≡ before.source.faults) × (after.sink.faults ≡ before.sink.faults)
 TellsReplay plan summary crew _ before after = ⊥
 
 -- the input is a trace in which no 16 faults stand in a row

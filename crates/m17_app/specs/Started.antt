@@ -1,44 +1,52 @@
--- What is told of a run of the program whose streams and devices its caller doesn't see. This profile.
+-- What is told of a run of the program whose streams and devices its caller doesn't see.
 use Rattle.std.specs.Prelude.{◌≡◌, ◌≢◌, ◌⊎◌, ℕ, List, Option, None, Some}
 use Rattle.m17_reflect.specs.declared.returned.HouseRefusal.{HouseRefusal}
 use Rattle.m17_reflect.specs.Run as reflect
-use Rattle.m17_serve.specs.Devices.{HouseTold}
-use Rattle.m17_talk.specs.Devices.{DevicesTold, PortsTold}
+use Rattle.m17_ports.specs.Ports.{PortsTold}
+use Rattle.m17_talk.specs.Devices.{DevicesTold}
 use Rattle.m17_app.specs.declared.status.Status.{Status}
 use Rattle.m17_app.specs.declared.status.Status.TheVariants.{NoMemory}
 use Rattle.m17_app.specs.Commands.{RunsWords}
-use Rattle.m17_app.specs.Doing.{doing}
-use Rattle.m17_app.specs.Status.{Outside, Count, Tells}
+use Rattle.m17_app.specs.Status.{Streams, Count, Tells}
 
--- A run of these words ended with this status, over ports that told this before it and after it, and a crew that had
--- refused so many starts; its mouths have labels of kind L. This profile.
-pub record HasRun (L : Type 0) (words : List (List ℕ)) (status : Status) (first last : PortsTold)
-    (crew : Count) : Type 0 where
-  pub before : Outside
-  pub after : Outside
-  pub talk : Option DevicesTold
-  pub house : Option (HouseTold L × reflect.Handed)
-  pub refused : Option (HouseTold L × HouseRefusal)
-  pub ran : RunsWords words status before after
-      (doing first last crew.before crew.after talk house refused)
+-- A run of these words ended with this status. The ports told `first` before it and `last` after it, and `crew` is the
+-- number of starts that the crew had refused before it and after it. E, M and B are the kinds of the labels of its
+-- ears, mouths and books.
+pub record HasRun (E M B : Type 0) (words : List (List ℕ)) (status : Status)
+    (first last : PortsTold) (crew : Count) : Type 0 where
+  pub before : Streams
+  pub after : Streams
+  pub talk : Option (DevicesTold E M (Option B))
+  pub house : Option (reflect.Devices E M (Option B) × reflect.Handed)
+  pub refused : Option (reflect.Devices E M (Option B) × HouseRefusal)
+  pub ran : RunsWords words status before after (record {
+    before = first;
+    after = last;
+    crew_before = crew.before;
+    crew_after = crew.after;
+    talk = talk;
+    house = house;
+    refused = refused;
+  })
 
--- The same, where there was memory for the words; else nothing was run. This profile.
-abbrev pub HasRunIfAny : (L : Type 0) → Option (List (List ℕ)) → Status → PortsTold → PortsTold
-    → Count → Type 0
-HasRunIfAny L None status first last crew =
+-- The same, where there was memory for the words; else nothing was run.
+abbrev pub HasRunIfAny : (E M B : Type 0) → Option (List (List ℕ)) → Status → PortsTold
+    → PortsTold → Count → Type 0
+HasRunIfAny E M B None status first last crew =
     (status ≡ NoMemory) × (last ≡ first) × (crew.after ≡ crew.before)
-HasRunIfAny L (Some words) status first last crew = HasRun L words status first last crew
+HasRunIfAny E M B (Some words) status first last crew =
+    HasRun E M B words status first last crew
 
--- The number is that of the status of a run of the program, whose mouths have labels of kind L. This profile.
-pub record EndsAsRun (L : Type 0) (code : ℕ) : Type 0 where
+-- The number is that of the status of a run of the program, whose ears, mouths and books have labels of these kinds.
+pub record EndsAsRun (E M B : Type 0) (code : ℕ) : Type 0 where
   pub words : Option (List (List ℕ))
   pub first : PortsTold
   pub last : PortsTold
   pub crew : Count
-  pub told : Tells code (λ status. HasRunIfAny L words status first last crew)
+  pub told : Tells code (λ status. HasRunIfAny E M B words status first last crew)
 
--- What a process ends with whose command ended so: that number; but where it is 0, closing the books may make it 8, or 4 where
--- that could not be told. This profile.
+-- The number that a process ends with, by the one that its command ended with: the same, but that closing the books may
+-- make 0 into 8, or into 4 where that could not be told.
 pub record IsClosed (ended code : ℕ) : Type 0 where
   pub kept : ended ≢ 0 → code ≡ ended
   pub told : ended ≡ 0 → (code ≡ 0) ⊎ (code ≡ 8) ⊎ (code ≡ 4)

@@ -1,7 +1,8 @@
--- The statuses of the program, and their causes. This profile.
-use Rattle.std.specs.Prelude.{◌≡◌, ◌≢◌, ◌⊎◌, ℕ, ◌≤◌, List, ◌++◌, Option, Some}
+-- The statuses of the program, and their causes.
+use Rattle.std.specs.Prelude.{◌≡◌, ◌≢◌, ◌⊎◌, ℕ, ◌≤◌, List, ◌++◌, Some}
 use Rattle.m17_io.specs.Faults.{HasRisen}
-use Rattle.m17_io.specs.Sink.{AppendsPrefix}
+use Rattle.m17_io.specs.Sink.{AppendsPrefix, SinkTold}
+use Rattle.m17_io.specs.Source.{SourceTold}
 use Rattle.m17_print.specs.declared.ending.Ending.{Ending}
 use Rattle.m17_print.specs.declared.ending.Ending.TheVariants as endings
 use Rattle.m17_app.specs.declared.status.Status.{Status}
@@ -41,18 +42,13 @@ status_of endings.LinkLost = LinkLost
 status_of endings.BookFailed = BookFailed
 status_of endings.NoMemory = NoMemory
 
--- What the streams tell at a moment: what is left of the input, how often the source has failed,
--- what was written, how often the sink has failed, and how many bytes it holds back.
-pub record Outside : Type 0 where
-  pub left : Option (List ℕ)
-  pub reads : ℕ
-  pub written : Option (List ℕ)
-  pub writes : ℕ
-  pub held_back : ℕ
+-- What the source and the sink of a run tell at a moment.
+pub record Streams : Type 0 where
+  pub source : SourceTold
+  pub sink : SinkTold
 
-abbrev pub outside : Option (List ℕ) → ℕ → Option (List ℕ) → ℕ → ℕ → Outside
-outside left reads written writes held_back =
-    record { left = left; reads = reads; written = written; writes = writes; held_back = held_back }
+abbrev pub streams : SourceTold → SinkTold → Streams
+streams source sink = record { source = source; sink = sink }
 
 -- A count of failures, before a run and after it.
 pub record Count : Type 0 where
@@ -70,34 +66,35 @@ pub record Beside : Type 0 where
 abbrev pub beside : Count → Count → Beside
 beside ports crew = record { ports = ports; crew = crew }
 
--- The count rose where the run ended with the status of its own, and stands where it ended with another; but the sink's
--- failure is told in place of all others. This profile.
+-- A count of failures that have the status `own`: it rose where the run ended with that status, and stands where it
+-- ended with another, but for WriteFailed. That is told in place of all others, so it leaves open whether this count
+-- rose too.
 pub record RoseBy (own status : Status) (before after : ℕ) : Type 0 where
   pub rose : status ≡ own → HasRisen before after
   pub stands : status ≢ own → status ≢ WriteFailed → after ≡ before
 
 -- What caused the status of a run: the source failed exactly where it is 3, the ports where it is 5, and the crew refused
 -- a start where it is 6, but that 4 comes in place of all; and the sink failed exactly where it is 4. No count of the
--- streams falls. This profile.
-pub record HasCause (status : Status) (before after : Outside) (others : Beside) : Type 0 where
-  pub source : RoseBy ReadFailed status before.reads after.reads
-  pub sink : RoseBy WriteFailed status before.writes after.writes
+-- streams falls.
+pub record HasCause (status : Status) (before after : Streams) (others : Beside) : Type 0 where
+  pub source : RoseBy ReadFailed status before.source.faults after.source.faults
+  pub sink : RoseBy WriteFailed status before.sink.faults after.sink.faults
   pub ports : RoseBy PortFailed status others.ports.before others.ports.after
   pub crew : RoseBy CrewRefused status others.crew.before others.crew.after
-  pub reads_counted : before.reads ≤ after.reads
-  pub writes_counted : before.writes ≤ after.writes
+  pub reads_counted : before.source.faults ≤ after.source.faults
+  pub writes_counted : before.sink.faults ≤ after.sink.faults
   -- where the sink did not fail, it holds nothing back of what was written
-  pub handed_on : status ≢ WriteFailed → status ≢ NoMemory → after.held_back ≡ 0
+  pub handed_on : status ≢ WriteFailed → status ≢ NoMemory → after.sink.held_back ≡ 0
 
 -- A last line was written, which may be empty, and all was handed on, or the sink failed. `own` is
 -- the status where it did not.
-pub record WritesLast (line : List ℕ) (own status : Status) (before after : Outside) : Type 0 where
+pub record WritesLast (line : List ℕ) (own status : Status) (before after : Streams) : Type 0 where
   pub answer : (status ≡ own) ⊎ (status ≡ WriteFailed)
-  pub whole : status ≢ WriteFailed → (xs : List ℕ) → before.written ≡ Some xs
-      → after.written ≡ Some (xs ++ line)
-  pub part : (xs : List ℕ) → before.written ≡ Some xs → AppendsPrefix xs line after.written
-  pub failed : status ≡ WriteFailed → (own ≡ WriteFailed) ⊎ HasRisen before.writes after.writes
-  pub handed_on : status ≢ WriteFailed → after.held_back ≡ 0
-  pub no_fault : status ≢ WriteFailed → after.writes ≡ before.writes
-  pub counted : before.writes ≤ after.writes
-  pub input_untouched : (after.left ≡ before.left) × (after.reads ≡ before.reads)
+  pub whole : status ≢ WriteFailed → (xs : List ℕ) → before.sink.written ≡ Some xs
+      → after.sink.written ≡ Some (xs ++ line)
+  pub part : (xs : List ℕ) → before.sink.written ≡ Some xs → AppendsPrefix xs line after.sink.written
+  pub failed : status ≡ WriteFailed → (own ≡ WriteFailed) ⊎ HasRisen before.sink.faults after.sink.faults
+  pub handed_on : status ≢ WriteFailed → after.sink.held_back ≡ 0
+  pub no_fault : status ≢ WriteFailed → after.sink.faults ≡ before.sink.faults
+  pub counted : before.sink.faults ≤ after.sink.faults
+  pub input_untouched : after.source ≡ before.source

@@ -1,4 +1,4 @@
--- The commands that read their input, print, and ask for nothing more: `judge`, `show` and `check`. This profile.
+-- The commands that read their input, print, and ask for nothing more: `judge`, `show` and `check`.
 use Rattle.std.specs.Prelude.{◌≡◌, ℕ, List, Option, Some}
 use Rattle.m17_io.specs.Faults.{HasRisen}
 use Rattle.m17_book.specs.declared.record.Record.{Record}
@@ -18,7 +18,7 @@ use Rattle.m17_show.specs.Show.{IsShowText, PrintsShow, SaysShow}
 use Rattle.m17_show.specs.declared.reason.ShowReason.{ShowReason}
 use Rattle.m17_app.specs.declared.status.Status.{Status}
 use Rattle.m17_app.specs.declared.status.Status.TheVariants.{Finished, InputRefused, ReadFailed, WriteFailed, NoMemory}
-use Rattle.m17_app.specs.Status.{Outside}
+use Rattle.m17_app.specs.Status.{Streams}
 use Rattle.m17_app.specs.Terms.{Terms}
 use Rattle.m17_app.specs.Written.{AddsText, CutsBy, EndsBy}
 
@@ -30,7 +30,7 @@ pub record TextCommand (R : Type 0) : Type 1 where
   pub words : R → List ℕ
   pub is_text : List ℕ → List ℕ → Type 0
   pub takes : List ℕ → Type 0
-  pub no_memory : Outside → Outside → Type 0
+  pub no_memory : Streams → Streams → Type 0
 
 module _ {R : Type 0} where
   -- the last line of such a command
@@ -38,20 +38,20 @@ module _ {R : Type 0} where
   text_line command ending = last_line command.words (text_ending ending)
 
   -- the run came to this ending, with its last line
-  abbrev pub EndsText : TextCommand R → TextEnding R → Outside → Outside → Type 0
+  abbrev pub EndsText : TextCommand R → TextEnding R → Streams → Streams → Type 0
   EndsText command ending before after =
       EndsBy command.says command.prints (text_line command ending) ending before after
 
   -- Some ending was come to, and the sink failed, while it printed or at the last line; of `read failed` a first part is
   -- written only where the source's count rose.
-  abbrev pub CutsText : TextCommand R → Outside → Outside → Type 0
+  abbrev pub CutsText : TextCommand R → Streams → Streams → Type 0
   CutsText command before after = (ending : TextEnding R)
-      × (ending ≡ endings.ReadFailed → HasRisen before.reads after.reads)
+      × (ending ≡ endings.ReadFailed → HasRisen before.source.faults after.source.faults)
       × CutsBy command.prints (text_line command ending) ending before after
 
   -- What each status says of a run. With 0 and 1 the whole text of the input stands written; with 3 the lines of what was
-  -- taken whole, and `read failed`; with 4 a first part of what would have been written. This profile.
-  abbrev pub TellsText : TextCommand R → Status → Outside → Outside → Type 0
+  -- taken whole, and `read failed`; with 4 a first part of what would have been written.
+  abbrev pub TellsText : TextCommand R → Status → Streams → Streams → Type 0
   TellsText command Finished before after = EndsText command endings.Finished before after
       × AddsText command.is_text before after
   TellsText command InputRefused before after = (place : ℕ) × (reason : R)

@@ -4,16 +4,16 @@ use crate::tests::{Piece, Row, expect};
 const CHECK: &[&str] = &["check"];
 
 /// What a book of module A begins with.
-const BOOK: Piece = Piece::Bytes(b"M17BOOK1A");
+pub(crate) const BOOK: Piece = Piece::Bytes(b"M17BOOK1A");
 
 /// A book without records, and what is said of it.
-const EMPTY: &[Piece] = &[BOOK];
+pub(crate) const EMPTY: &[Piece] = &[BOOK];
 
-const EMPTY_LINE: &str = "legal 0 records 0 streams 0 admitted\n";
+pub(crate) const EMPTY_LINE: &str = "legal 0 records 0 streams 0 admitted\n";
 
 /// A record of 37 bytes: `AB1CD` joins at place 0 with generation 0, at moment 0. The last byte of the moment stands 20
 /// bytes before its end, that of the place 16, and that of the generation 8.
-const JOIN: Piece = Piece::Bytes(
+pub(crate) const JOIN: Piece = Piece::Bytes(
     b"\x01\0\0\0\0\0\0\0\0\0\0\0\0\0\0\0\0\0\0\0\0\0\0\0\0\0\0\0\0\0\0\0\0\0\x9f\xdd\x51",
 );
 
@@ -60,7 +60,7 @@ const FALLS: &[Piece] = &[
     Piece::Put(8, b"\x01"),
 ];
 
-const HELD: &[Piece] = &[
+pub(crate) const HELD: &[Piece] = &[
     BOOK,
     JOIN,
     Piece::Put(20, b"\x0a"),

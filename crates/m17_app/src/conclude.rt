@@ -1,6 +1,7 @@
-ghost use Rattle.std.specs.Prelude.{◌≡◌, ◌≢◌, ℕ, Option, List};
+ghost use Rattle.std.specs.Prelude.{◌≡◌, ◌≢◌};
+ghost use Rattle.m17_io.specs.Source.{SourceTold};
 ghost use Rattle.m17_print.specs.Endings.{last_line, words_refused_line};
-ghost use Rattle.m17_app.specs.Status.{status_of, outside, WritesLast};
+ghost use Rattle.m17_app.specs.Status.{status_of, streams, WritesLast};
 ghost use Rattle.m17_app.specs.declared.status.Status.TheVariants.{WordsRefused};
 
 use crate::status::Status;
@@ -10,9 +11,8 @@ use m17_print::{Ending, Line, NoReason, Reason};
 // Writes a last line, which may be empty, hands on all that was written, and answers the status, or that the sink
 // failed.
 pub fn end_with<K: Sink>(out: &mut K, line: &[u8], status: Status) -> Status
-    ensures { (left : Option (List ℕ)) (reads : ℕ) → WritesLast line.now status result
-        (outside left reads (K.written out.old) (K.faults out.old) (K.held_back out.old))
-        (outside left reads (K.written out.new) (K.faults out.new) (K.held_back out.new)) }
+    ensures { (source : SourceTold) → WritesLast line.now status result
+        (streams source (K.told out.old)) (streams source (K.told out.new)) }
 {
     match out.write(line) {
         Ok(()) => match out.flush() {
@@ -29,10 +29,9 @@ pub fn conclude<K: Sink, R: Reason>(out: &mut K, ending: &Ending<R>) -> Status
     ensures memory { ending.now ≡ Ending.NoMemory
         → (result ≡ Status.NoMemory) × (out.new ≡ out.old) }
     ensures concluded { ending.now ≢ Ending.NoMemory
-        → (left : Option (List ℕ)) (reads : ℕ) →
-        WritesLast (last_line R.words ending.now) (status_of ending.now) result
-        (outside left reads (K.written out.old) (K.faults out.old) (K.held_back out.old))
-        (outside left reads (K.written out.new) (K.faults out.new) (K.held_back out.new)) }
+        → (source : SourceTold)
+        → WritesLast (last_line R.words ending.now) (status_of ending.now) result
+        (streams source (K.told out.old)) (streams source (K.told out.new)) }
 {
     let status = status_of(ending);
     match status {
@@ -47,10 +46,8 @@ pub fn conclude<K: Sink, R: Reason>(out: &mut K, ending: &Ending<R>) -> Status
 
 // Ends a run whose words are refused.
 pub fn refuse_words<K: Sink>(out: &mut K) -> Status
-    ensures { (left : Option (List ℕ)) (reads : ℕ)
-        → WritesLast words_refused_line WordsRefused result
-        (outside left reads (K.written out.old) (K.faults out.old) (K.held_back out.old))
-        (outside left reads (K.written out.new) (K.faults out.new) (K.held_back out.new)) }
+    ensures { (source : SourceTold) → WritesLast words_refused_line WordsRefused result
+        (streams source (K.told out.old)) (streams source (K.told out.new)) }
 {
     let ending: Ending<NoReason> = Ending::WordsRefused;
     conclude(out, &ending)

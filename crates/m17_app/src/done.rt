@@ -5,7 +5,7 @@ use crate::status::Status;
 use m17_devices::Shelf;
 use m17_reflect::{Refused, Returned};
 
-/// What a run of the program came to: its status, and the devices of a talk that ran or of a reflector. This profile.
+/// What a run of the program came to: its status, and the devices of a talk that ran or of a reflector.
 #[derive(Drop)]
 pub struct Done<E, M, B> {
     /// The number that the program ends with.

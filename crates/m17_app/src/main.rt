@@ -60,7 +60,8 @@ fn start<
 >(rt: HostRuntime, waits: &W) -> ExitCode
     ensures status { IsStatus (exit_status result) }
     // The process ends with the status of a run of the program; but 0 may become 8, or 4, when its books are closed.
-    ensures ran { (ended : ℕ) × EndsAsRun (Unit {0}) ended × IsClosed ended (exit_status result) }
+    ensures ran { (ended : ℕ) × EndsAsRun (Unit {0}) (Unit {0}) (Unit {0}) ended
+        × IsClosed ended (exit_status result) }
 {
     let mut ports = UdpPorts::new(*waits);
     let mut crew = StdCrew::new();
@@ -84,6 +85,8 @@ mod check_tests;
 #[cfg(test)]
 mod evening_tests;
 #[cfg(test)]
+mod faults_tests;
+#[cfg(test)]
 mod loopback_tests;
 #[cfg(test)]
 mod replay_tests;
@@ -95,3 +98,5 @@ mod std_tests;
 mod talk_tests;
 #[cfg(test)]
 mod tests;
+#[cfg(test)]
+mod torn_tests;

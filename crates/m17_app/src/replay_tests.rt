@@ -16,9 +16,9 @@ const PONG: [u8; 10] = *b"PONG\x00\x00\x00\x9f\xdd\x51";
 
 const LEAVE_AB1CD: [u8; 10] = *b"DISC\x00\x00\x00\x9f\xdd\x51";
 
-const REPLAY: &[&str] = &["replay"];
+pub(crate) const REPLAY: &[&str] = &["replay"];
 
-const SUMMARY: &[&str] = &["replay", "--summary"];
+pub(crate) const SUMMARY: &[&str] = &["replay", "--summary"];
 
 #[test]
 fn each_way_to_end_has_its_status_and_last_line(rt: HostRuntime) {

@@ -1,9 +1,7 @@
-ghost use Rattle.std.specs.Prelude.{◌≡◌, ℕ, map, string_bytes, option_map};
-ghost use Rattle.m17_talk.specs.Devices.{ports_told, ear_told, mouth_told, book_told, devices_told, FailsLast};
-ghost use Rattle.m17_sender.specs.Sent.{told_by};
-ghost use Rattle.m17_serve.specs.Devices.{eyes_by, house_back, refused_back};
-ghost use Rattle.m17_app.specs.Doing.{doing};
-ghost use Rattle.m17_app.specs.Status.{Tells, IsStatus, beside, count_from, outside};
+ghost use Rattle.std.specs.Prelude.{◌≡◌, ℕ, map, string_bytes};
+ghost use Rattle.m17_ports.specs.Ports.{FailsLast};
+ghost use Rattle.m17_app.specs.Doing.{doing, done_of};
+ghost use Rattle.m17_app.specs.Status.{Tells, IsStatus, beside, count_from, streams};
 ghost use Rattle.m17_app.specs.Run.{AreRefused, refused_terms};
 ghost use Rattle.m17_app.specs.Commands.{Runs, RunsWords, EndsRefused, IsRunnable};
 ghost use Rattle.m17_app.specs.Terms.{RunsCommand};
@@ -18,8 +16,8 @@ use crate::run_serve::run_serve;
 use crate::run_talk::run_talk;
 use crate::status::Status;
 use m17_devices::{Crew, Ports};
-use m17_house::Plan;
 use m17_io::{Input, Sink};
+use m17_plan::Plan;
 use m17_words::{Command, WordsRefusal, read_words};
 use std::alloc::Global;
 use std::sync::Wait;
@@ -28,10 +26,7 @@ use std::thread::Threads;
 // Runs `judge` to its last line.
 fn run_judge<S: Input<K>, K: Sink>(alloc: Global, input: &mut S, out: &mut K) -> Status
     ensures { (ports crew : ℕ) → RunsCommand (text_terms judge_command) result
-        (outside (S.left input.old) (S.faults input.old)
-        (K.written out.old) (K.faults out.old) (K.held_back out.old))
-        (outside (S.left input.new) (S.faults input.new)
-        (K.written out.new) (K.faults out.new) (K.held_back out.new))
+        (streams (S.told input.old) (K.told out.old)) (streams (S.told input.new) (K.told out.new))
         (beside (count_from ports ports) (count_from crew crew)) }
 {
     match m17_judge::judge(alloc, input, out) {
@@ -43,10 +38,7 @@ fn run_judge<S: Input<K>, K: Sink>(alloc: Global, input: &mut S, out: &mut K) ->
 // Runs `show` to its last line.
 fn run_show<S: Input<K>, K: Sink>(input: &mut S, out: &mut K) -> Status
     ensures { (ports crew : ℕ) → RunsCommand (text_terms show_command) result
-        (outside (S.left input.old) (S.faults input.old)
-        (K.written out.old) (K.faults out.old) (K.held_back out.old))
-        (outside (S.left input.new) (S.faults input.new)
-        (K.written out.new) (K.faults out.new) (K.held_back out.new))
+        (streams (S.told input.old) (K.told out.old)) (streams (S.told input.new) (K.told out.new))
         (beside (count_from ports ports) (count_from crew crew)) }
 {
     let ending = m17_show::show(input, out);
@@ -56,10 +48,7 @@ fn run_show<S: Input<K>, K: Sink>(input: &mut S, out: &mut K) -> Status
 // Ends a run whose words are refused.
 fn run_nothing<S: Input<K>, K: Sink>(input: &S, out: &mut K) -> Status
     ensures { (ports crew : ℕ) → RunsCommand refused_terms result
-        (outside (S.left input.now) (S.faults input.now)
-        (K.written out.old) (K.faults out.old) (K.held_back out.old))
-        (outside (S.left input.now) (S.faults input.now)
-        (K.written out.new) (K.faults out.new) (K.held_back out.new))
+        (streams (S.told input.now) (K.told out.old)) (streams (S.told input.now) (K.told out.new))
         (beside (count_from ports ports) (count_from crew crew)) }
 {
     refuse_words(out)
@@ -77,28 +66,10 @@ fn run_command<R: Threads + Wait + Copy + Send + 'static, P: Ports, C: Crew, S: 
 ) -> Ended<P::Ear, P::Mouth, P::Book>
     requires runnable { IsRunnable command }
     ensures runs { Runs command result.status
-        (outside (S.left input.old) (S.faults input.old)
-        (K.written out.old) (K.faults out.old) (K.held_back out.old))
-        (outside (S.left input.new) (S.faults input.new)
-        (K.written out.new) (K.faults out.new) (K.held_back out.new))
-        (doing (ports_told (P.asked ports.old) (P.calls ports.old) (P.faults ports.old))
-        (ports_told (P.asked ports.new) (P.calls ports.new) (P.faults ports.new))
-        (C.refusals crew.old) (C.refusals crew.new)
-        (option_map (λ d. devices_told
-        (ear_told (P.Ear.heard d.0) (P.Ear.faults d.0) (P.Ear.mark d.0))
-        (mouth_told (P.Mouth.said d.1) (P.Mouth.tallies d.1)
-        (P.Mouth.faults d.1) (P.Mouth.mark d.1))
-        (option_map (λ b. book_told (P.Book.written b) (P.Book.faults b) (P.Book.mark b))
-        d.2.inner))
-        result.talk)
-        (house_back (eyes_by P.Ear.heard P.Ear.faults P.Ear.mark
-        (told_by P.Mouth.said P.Mouth.tallies P.Mouth.faults P.Mouth.mark P.Mouth.label)
-        P.Book.written P.Book.faults P.Book.mark) result.house)
-        (refused_back (eyes_by P.Ear.heard P.Ear.faults P.Ear.mark
-        (told_by P.Mouth.said P.Mouth.tallies P.Mouth.faults P.Mouth.mark P.Mouth.label)
-        P.Book.written P.Book.faults P.Book.mark) result.refused)) }
-    ensures fails_last { FailsLast (λ p. ports_told (P.asked p) (P.calls p) (P.faults p))
-        ports.old ports.new }
+        (streams (S.told input.old) (K.told out.old)) (streams (S.told input.new) (K.told out.new))
+        (doing P.Ear.told P.Mouth.told P.Book.told (P.told ports.old) (P.told ports.new)
+        (C.refusals crew.old) (C.refusals crew.new) (done_of result)) }
+    ensures fails_last { FailsLast P.told ports.old ports.new }
     ensures unasked { result.status ≡ Status.NoMemory → crew.new ≡ crew.old }
 {
     match command {
@@ -133,7 +104,7 @@ fn run_command<R: Threads + Wait + Copy + Send + 'static, P: Ports, C: Crew, S: 
 /// are, 3 where the source failed, 4 where the sink failed, in place of all others, 5 where the ports failed, 6 where
 /// the crew refused a start, 7 where a link was lost, 8 where a book failed, and 70 where there was no memory. Only
 /// `talk` and `serve` ask the ports for anything; where they ran, their devices are handed back. Only `replay` and
-/// `serve` have the crew start threads. `make` reads no input, and ends with 0 or 4. This profile.
+/// `serve` have the crew start threads. `make` reads no input, and ends with 0 or 4.
 pub fn run<R: Threads + Wait + Copy + Send + 'static, P: Ports, C: Crew, S: Input<K>, K: Sink>(
     rt: &R,
     alloc: Global,
@@ -148,55 +119,20 @@ pub fn run<R: Threads + Wait + Copy + Send + 'static, P: Ports, C: Crew, S: Inpu
     // 2 comes where the words name no command, and nowhere else.
     ensures taken { result.status ≡ 2 → AreRefused (map string_bytes words.now) }
     // Where the ports fail, that was the last question: until then their count of faults stands.
-    ensures fails_last { FailsLast (λ p. ports_told (P.asked p) (P.calls p) (P.faults p))
-        ports.old ports.new }
+    ensures fails_last { FailsLast P.told ports.old ports.new }
     // Want of memory comes before the crew is asked for anything.
     ensures unasked { result.status ≡ 70 → crew.new ≡ crew.old }
     // The run is that of a command which the words name, or says that they name none.
     ensures runs { Tells result.status (λ status. RunsWords (map string_bytes words.now) status
-        (outside (S.left input.old) (S.faults input.old)
-        (K.written out.old) (K.faults out.old) (K.held_back out.old))
-        (outside (S.left input.new) (S.faults input.new)
-        (K.written out.new) (K.faults out.new) (K.held_back out.new))
-        (doing (ports_told (P.asked ports.old) (P.calls ports.old) (P.faults ports.old))
-        (ports_told (P.asked ports.new) (P.calls ports.new) (P.faults ports.new))
-        (C.refusals crew.old) (C.refusals crew.new)
-        (option_map (λ d. devices_told
-        (ear_told (P.Ear.heard d.0) (P.Ear.faults d.0) (P.Ear.mark d.0))
-        (mouth_told (P.Mouth.said d.1) (P.Mouth.tallies d.1)
-        (P.Mouth.faults d.1) (P.Mouth.mark d.1))
-        (option_map (λ b. book_told (P.Book.written b) (P.Book.faults b) (P.Book.mark b))
-        d.2.inner))
-        result.talk)
-        (house_back (eyes_by P.Ear.heard P.Ear.faults P.Ear.mark
-        (told_by P.Mouth.said P.Mouth.tallies P.Mouth.faults P.Mouth.mark P.Mouth.label)
-        P.Book.written P.Book.faults P.Book.mark) result.house)
-        (refused_back (eyes_by P.Ear.heard P.Ear.faults P.Ear.mark
-        (told_by P.Mouth.said P.Mouth.tallies P.Mouth.faults P.Mouth.mark P.Mouth.label)
-        P.Book.written P.Book.faults P.Book.mark) result.refused))) }
+        (streams (S.told input.old) (K.told out.old)) (streams (S.told input.new) (K.told out.new))
+        (doing P.Ear.told P.Mouth.told P.Book.told (P.told ports.old) (P.told ports.new)
+        (C.refusals crew.old) (C.refusals crew.new) result)) }
     // Words that name no command are refused, but for want of memory.
     ensures refused { AreRefused (map string_bytes words.now)
         → Tells result.status (λ status. EndsRefused status
-        (outside (S.left input.old) (S.faults input.old)
-        (K.written out.old) (K.faults out.old) (K.held_back out.old))
-        (outside (S.left input.new) (S.faults input.new)
-        (K.written out.new) (K.faults out.new) (K.held_back out.new))
-        (doing (ports_told (P.asked ports.old) (P.calls ports.old) (P.faults ports.old))
-        (ports_told (P.asked ports.new) (P.calls ports.new) (P.faults ports.new))
-        (C.refusals crew.old) (C.refusals crew.new)
-        (option_map (λ d. devices_told
-        (ear_told (P.Ear.heard d.0) (P.Ear.faults d.0) (P.Ear.mark d.0))
-        (mouth_told (P.Mouth.said d.1) (P.Mouth.tallies d.1)
-        (P.Mouth.faults d.1) (P.Mouth.mark d.1))
-        (option_map (λ b. book_told (P.Book.written b) (P.Book.faults b) (P.Book.mark b))
-        d.2.inner))
-        result.talk)
-        (house_back (eyes_by P.Ear.heard P.Ear.faults P.Ear.mark
-        (told_by P.Mouth.said P.Mouth.tallies P.Mouth.faults P.Mouth.mark P.Mouth.label)
-        P.Book.written P.Book.faults P.Book.mark) result.house)
-        (refused_back (eyes_by P.Ear.heard P.Ear.faults P.Ear.mark
-        (told_by P.Mouth.said P.Mouth.tallies P.Mouth.faults P.Mouth.mark P.Mouth.label)
-        P.Book.written P.Book.faults P.Book.mark) result.refused))) }
+        (streams (S.told input.old) (K.told out.old)) (streams (S.told input.new) (K.told out.new))
+        (doing P.Ear.told P.Mouth.told P.Book.told (P.told ports.old) (P.told ports.new)
+        (C.refusals crew.old) (C.refusals crew.new) result)) }
 {
     match read_words(alloc, words) {
         Ok(command) => answer_of(run_command(rt, alloc, command, ports, crew, input, out)),

@@ -1,5 +1,5 @@
 ghost use Rattle.std.specs.Prelude.{ℕ};
-ghost use Rattle.m17_app.specs.Status.{beside, count_from, outside};
+ghost use Rattle.m17_app.specs.Status.{beside, count_from, streams};
 ghost use Rattle.m17_app.specs.Terms.{RunsCommand};
 ghost use Rattle.m17_app.specs.Text.{check_command, text_terms};
 
@@ -12,10 +12,7 @@ use m17_io::{Input, Sink};
 // Runs `check` to its last line.
 pub fn run_check<S: Input<K>, K: Sink>(input: &mut S, out: &mut K) -> Status
     ensures { (ports crew : ℕ) → RunsCommand (text_terms check_command) result
-        (outside (S.left input.old) (S.faults input.old)
-        (K.written out.old) (K.faults out.old) (K.held_back out.old))
-        (outside (S.left input.new) (S.faults input.new)
-        (K.written out.new) (K.faults out.new) (K.held_back out.new))
+        (streams (S.told input.old) (K.told out.old)) (streams (S.told input.new) (K.told out.new))
         (beside (count_from ports ports) (count_from crew crew)) }
 {
     legal_books_are_not_refused();

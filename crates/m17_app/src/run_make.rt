@@ -1,6 +1,6 @@
 ghost use Rattle.std.specs.Prelude.{◌≤◌, ℕ};
 ghost use Rattle.m17_app.specs.Make.{make_terms};
-ghost use Rattle.m17_app.specs.Status.{beside, count_from, outside};
+ghost use Rattle.m17_app.specs.Status.{beside, count_from, streams};
 ghost use Rattle.m17_app.specs.Terms.{RunsCommand};
 
 use crate::conclude::end_with;
@@ -12,10 +12,7 @@ use m17_make::make;
 pub fn run_make<S: Input<K>, K: Sink>(seed: u64, count: u32, input: &S, out: &mut K) -> Status
     requires { count ≤ 100000 }
     ensures { (ports crew : ℕ) → RunsCommand (make_terms seed count) result
-        (outside (S.left input.now) (S.faults input.now)
-        (K.written out.old) (K.faults out.old) (K.held_back out.old))
-        (outside (S.left input.now) (S.faults input.now)
-        (K.written out.new) (K.faults out.new) (K.held_back out.new))
+        (streams (S.told input.now) (K.told out.old)) (streams (S.told input.now) (K.told out.new))
         (beside (count_from ports ports) (count_from crew crew)) }
 {
     match make(seed, count, out) {

@@ -1,15 +1,15 @@
 ghost use Rattle.std.specs.Prelude.{◌≡◌, ℕ};
-ghost use Rattle.m17_house.specs.Replay.{IsPlan};
+ghost use Rattle.m17_plan.specs.Planned.{IsPlan};
 ghost use Rattle.m17_app.specs.Replayed.{replay_terms};
-ghost use Rattle.m17_app.specs.Status.{beside, count_from, outside};
+ghost use Rattle.m17_app.specs.Status.{beside, count_from, streams};
 ghost use Rattle.m17_app.specs.Terms.{RunsCommand};
 
 use crate::conclude::conclude;
 use crate::status::Status;
 use m17_book::laws::traces_are_exact;
 use m17_devices::Crew;
-use m17_house::Plan;
 use m17_io::{Input, Sink};
+use m17_plan::Plan;
 use m17_replay::laws::lost_by_sixteen_faults;
 use m17_replay::replay;
 use std::alloc::Global;
@@ -29,10 +29,7 @@ pub fn run_replay<R: Threads + Wait + Copy + Send + 'static, C: Crew, S: Input<K
     requires { IsPlan plan.now }
     ensures runs { (ports : ℕ) → RunsCommand (replay_terms plan.now summary
         (count_from (C.refusals crew.old) (C.refusals crew.new))) result
-        (outside (S.left input.old) (S.faults input.old)
-        (K.written out.old) (K.faults out.old) (K.held_back out.old))
-        (outside (S.left input.new) (S.faults input.new)
-        (K.written out.new) (K.faults out.new) (K.held_back out.new))
+        (streams (S.told input.old) (K.told out.old)) (streams (S.told input.new) (K.told out.new))
         (beside (count_from ports ports)
         (count_from (C.refusals crew.old) (C.refusals crew.new))) }
     ensures unasked { result ≡ Status.NoMemory → crew.new ≡ crew.old }

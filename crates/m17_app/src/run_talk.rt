@@ -1,9 +1,9 @@
-ghost use Rattle.std.specs.Prelude.{◌≡◌, ℕ, None, option_map};
-ghost use Rattle.m17_talk.specs.Devices.{ports_told, ear_told, mouth_told, book_told, devices_told, FailsLast};
-ghost use Rattle.m17_talk.specs.Talked.{handed};
-ghost use Rattle.m17_app.specs.Status.{beside, count_from, outside};
-ghost use Rattle.m17_app.specs.Talk.{talk_terms};
-ghost use Rattle.m17_app.specs.Terms.{RunsCommand};
+ghost use Rattle.std.specs.Prelude.{ℕ};
+ghost use Rattle.m17_ports.specs.Ports.{FailsLast};
+ghost use Rattle.m17_words.specs.declared.command.Command.TheVariants as commands;
+ghost use Rattle.m17_app.specs.Commands.{Runs};
+ghost use Rattle.m17_app.specs.Doing.{doing, done_of};
+ghost use Rattle.m17_app.specs.Status.{streams};
 
 use crate::conclude::conclude;
 use crate::done::{Ended, alone};
@@ -25,25 +25,11 @@ pub(crate) fn run_talk<R: Wait, P: Ports, S: Input<K>, K: Sink>(
     input: &mut S,
     out: &mut K,
 ) -> Ended<P::Ear, P::Mouth, P::Book>
-    ensures runs { (crew : ℕ) → RunsCommand (talk_terms order.now (handed
-        (ports_told (P.asked ports.old) (P.calls ports.old) (P.faults ports.old))
-        (ports_told (P.asked ports.new) (P.calls ports.new) (P.faults ports.new))
-        (option_map (λ d. devices_told
-        (ear_told (P.Ear.heard d.0) (P.Ear.faults d.0) (P.Ear.mark d.0))
-        (mouth_told (P.Mouth.said d.1) (P.Mouth.tallies d.1)
-        (P.Mouth.faults d.1) (P.Mouth.mark d.1))
-        (option_map (λ b. book_told (P.Book.written b) (P.Book.faults b) (P.Book.mark b))
-        d.2.inner))
-        result.talk))) result.status
-        (outside (S.left input.old) (S.faults input.old)
-        (K.written out.old) (K.faults out.old) (K.held_back out.old))
-        (outside (S.left input.new) (S.faults input.new)
-        (K.written out.new) (K.faults out.new) (K.held_back out.new))
-        (beside (count_from (P.faults ports.old) (P.faults ports.new)) (count_from crew crew)) }
-    ensures fails_last { FailsLast (λ p. ports_told (P.asked p) (P.calls p) (P.faults p))
-        ports.old ports.new }
-    ensures no_house { result.house ≡ None }
-    ensures no_refusal { result.refused ≡ None }
+    ensures runs { (crew : ℕ) → Runs (commands.Talk order.now) result.status
+        (streams (S.told input.old) (K.told out.old)) (streams (S.told input.new) (K.told out.new))
+        (doing P.Ear.told P.Mouth.told P.Book.told (P.told ports.old) (P.told ports.new)
+        crew crew (done_of result)) }
+    ensures fails_last { FailsLast P.told ports.old ports.new }
 {
     scripts_are_exact();
     match talk(rt, alloc, order, ports, input, out) {

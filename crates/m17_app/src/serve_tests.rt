@@ -14,7 +14,7 @@ use std::process::Abort;
 use std::sync::Wait;
 use std::thread::Threads;
 
-const SERVE: &[&str] = &[
+pub(crate) const SERVE: &[&str] = &[
     "serve",
     "--call",
     "M17-TST",
@@ -25,7 +25,7 @@ const SERVE: &[&str] = &[
     "x",
 ];
 
-const BOOK: &[&str] = &[
+pub(crate) const BOOK: &[&str] = &[
     "serve",
     "--call",
     "M17-TST",
@@ -152,12 +152,12 @@ fn a_crew_that_refuses_a_start_is_told(rt: HostRuntime) {
     assert!(rt; as_wanted && back == [false, true, false]);
 }
 
-fn packet(number: u16) -> [u8; 54] {
+pub(crate) fn packet(number: u16) -> [u8; 54] {
     write(&frame(0x1234, number, number == 3))
 }
 
 // AB1CD joins module A and talks; N0CALL comes to listen, and leaves before the last packet.
-fn evening(rt: &impl Abort, alloc: Global) -> Vec<Heard> {
+pub(crate) fn evening(rt: &impl Abort, alloc: Global) -> Vec<Heard> {
     let heard = [
         came(0, 1, &JOIN),
         came(40, 1, &packet(0)),

@@ -1,4 +1,4 @@
-/// How a run of the program ended. This profile.
+/// How a run of the program ended.
 #[derive(Clone, Copy, Debug, PartialEq, Eq)]
 pub enum Status {
     /// The input was read to its end.
@@ -27,7 +27,7 @@ impl Status {
     ghost use Rattle.std.specs.Prelude.{◌≡◌};
     ghost use Rattle.m17_app.specs.Status.{code_of};
 
-    /// The number that the program ends with. This profile.
+    /// The number that the program ends with.
     pub fn code(self) -> u8
         ensures { result ≡ code_of self }
     {

@@ -44,11 +44,11 @@ fn read_once<R: Read>(reader: &mut R, into: &mut [u8]) -> Result<usize, Failed>
 impl<R: Read + Drop> Source for StdIn<R> {
     ghost use Rattle.std.proofs.Math.Nat.{min-le_right};
 
-    ghost faults = { λ s. min s.faults (2 ^ 64 - 1) };
-
-    ghost left = { λ _. None };
-
-    ghost at_hand = { λ _. false };
+    ghost told = { λ s. record {
+      left = None;
+      at_hand = false;
+      faults = min s.faults (2 ^ 64 - 1);
+    } };
 
     ghost faults_fit = { λ s. min-le_right s.faults (2 ^ 64 - 1) };
 

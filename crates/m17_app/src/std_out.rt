@@ -46,9 +46,10 @@ fn write_once<P: Print>(to: &P, bytes: &[u8]) -> Result<usize, Failed>
 impl<P: Print> Outlet for StdOut<'_, P> {
     ghost use Rattle.std.proofs.Math.Nat.{min-le_right};
 
-    ghost faults = { λ s. min s.faults (2 ^ 64 - 1) };
-
-    ghost sent = { λ _. None };
+    ghost told = { λ s. record {
+      sent = None;
+      faults = min s.faults (2 ^ 64 - 1);
+    } };
 
     ghost faults_fit = { λ s. min-le_right s.faults (2 ^ 64 - 1) };
 

@@ -1,6 +1,5 @@
 ghost use Rattle.std.specs.Prelude.{◌≡◌, ◌⊎◌, map, string_bytes};
 ghost use Rattle.m17_io.specs.Faults.{HasRisen};
-ghost use Rattle.m17_talk.specs.Devices.{ports_told};
 ghost use Rattle.m17_app.specs.Status.{IsStatus, Tells, count_from};
 ghost use Rattle.m17_app.specs.Run.{AreRefused};
 ghost use Rattle.m17_app.specs.Started.{HasRun};
@@ -31,14 +30,13 @@ pub fn run_on<
         → (result ≡ 2) ⊎ (result ≡ 4) ⊎ (result ≡ 70) }
     ensures taken { result ≡ 2 → AreRefused (map string_bytes words.now) }
     // Ports that failed and a crew that refused a start were counted; want of memory comes before the crew is asked.
-    ensures port_failed { result ≡ 5 → HasRisen (Q.faults ports.old) (Q.faults ports.new) }
+    ensures port_failed { result ≡ 5 → HasRisen (Q.told ports.old).faults (Q.told ports.new).faults }
     ensures crew_refused { result ≡ 6 → HasRisen (C.refusals crew.old) (C.refusals crew.new) }
     ensures unasked { result ≡ 70 → crew.new ≡ crew.old }
     // It is the status of a run of these words over these ports and this crew.
     ensures ran { Tells result (λ status.
-        HasRun Q.Mouth.Label (map string_bytes words.now) status
-        (ports_told (Q.asked ports.old) (Q.calls ports.old) (Q.faults ports.old))
-        (ports_told (Q.asked ports.new) (Q.calls ports.new) (Q.faults ports.new))
+        HasRun Q.Ear.Label Q.Mouth.Label Q.Book.Label (map string_bytes words.now) status
+        (Q.told ports.old) (Q.told ports.new)
         (count_from (C.refusals crew.old) (C.refusals crew.new))) }
 {
     let Ok(mut input) = BufferedSource::make(alloc, StdIn::new(reader)) else {

@@ -11,7 +11,7 @@ use std::process::Abort;
 use std::sync::Wait;
 use std::thread::Threads;
 
-const TALK: &[&str] = &[
+pub(crate) const TALK: &[&str] = &[
     "talk",
     "--call",
     "AB1CD",

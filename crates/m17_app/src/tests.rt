@@ -209,7 +209,7 @@ pub(crate) fn expect<R: Threads + Wait + Abort + Copy + Send + 'static>(
     }
 }
 
-const JUDGE: &[&str] = &["judge"];
+pub(crate) const JUDGE: &[&str] = &["judge"];
 
 // A crew that refuses the first start: nothing of the trace is told. Without a trace the crew is not asked.
 #[test]
@@ -239,7 +239,7 @@ fn a_refused_start_is_told(rt: HostRuntime) {
     }
 }
 
-const TWO_TALKERS: &[Piece] = &[
+pub(crate) const TWO_TALKERS: &[Piece] = &[
     Piece::Spoken(0, 3, 1, 0, false),
     Piece::Spoken(0, 4, 2, 0, false),
 ];

@@ -1,7 +1,6 @@
 ghost use Rattle.std.specs.Prelude.{◌≡◌, ◌≢◌, [], drop, map, option_map, string_bytes, IfErr, IfOk, IfSome, MatchOption, None};
 ghost use Rattle.std.specs.Vec.Iter.{into_iter_items};
 ghost use Rattle.std.specs.IoError.{error_kind};
-ghost use Rattle.m17_talk.specs.Devices.{ports_told};
 ghost use Rattle.m17_app.specs.Started.{HasRunIfAny};
 ghost use Rattle.m17_app.specs.Status.{Tells, count_from};
 
@@ -30,10 +29,9 @@ pub fn run_words<
     reader: R,
     to: &P,
 ) -> u8
-    ensures { Tells result (λ status. HasRunIfAny Q.Mouth.Label
+    ensures { Tells result (λ status. HasRunIfAny Q.Ear.Label Q.Mouth.Label Q.Book.Label
         (option_map (λ words. map string_bytes words.items) words) status
-        (ports_told (Q.asked ports.old) (Q.calls ports.old) (Q.faults ports.old))
-        (ports_told (Q.asked ports.new) (Q.calls ports.new) (Q.faults ports.new))
+        (Q.told ports.old) (Q.told ports.new)
         (count_from (C.refusals crew.old) (C.refusals crew.new))) }
 {
     match words {

@@ -1,11 +1,11 @@
 //! Plans, devices and entries for the tests of a run.
 ghost use Rattle.std.specs.Prelude.{◌≡◌, All, Err, Ok, Some, false, vec_len};
 ghost use Rattle.m17_ports.specs.Told.{StartsEmpty};
-ghost use Rattle.m17_house.specs.Replay.{IsPlan};
+ghost use Rattle.m17_plan.specs.Planned.{IsPlan};
 
 use m17_callsign::{Address, CallAddress};
 use m17_control::{Control, ModuleLetter, Modules, write};
-use m17_house::Plan;
+use m17_plan::Plan;
 use m17_port_memory::{ListBook, ListMouth};
 use m17_ports::{Book, Ear};
 use m17_reflect::{Refused, Returned};
@@ -56,9 +56,9 @@ pub(crate) fn plan(rt: &impl Abort, letters: &str, places: u32) -> Plan
 }
 
 pub(crate) fn one_ear<E: Ear + Drop, R: Abort>(rt: &R, alloc: Global, a: E) -> Vec<E>
-    requires a { StartsEmpty (E.heard a) }
+    requires a { StartsEmpty (E.told a).heard }
     ensures count { vec_len result ≡ 1 }
-    ensures new { All (λ ear. StartsEmpty (E.heard ear)) result.items }
+    ensures new { All (λ ear. StartsEmpty (E.told ear).heard) result.items }
 {
     let mut all = must(rt, Vec::with_capacity(alloc, 1));
     all.push_reserved(a);
@@ -66,10 +66,10 @@ pub(crate) fn one_ear<E: Ear + Drop, R: Abort>(rt: &R, alloc: Global, a: E) -> V
 }
 
 pub(crate) fn two_ears<E: Ear + Drop, R: Abort>(rt: &R, alloc: Global, a: E, b: E) -> Vec<E>
-    requires a { StartsEmpty (E.heard a) }
-    requires b { StartsEmpty (E.heard b) }
+    requires a { StartsEmpty (E.told a).heard }
+    requires b { StartsEmpty (E.told b).heard }
     ensures count { vec_len result ≡ 2 }
-    ensures new { All (λ ear. StartsEmpty (E.heard ear)) result.items }
+    ensures new { All (λ ear. StartsEmpty (E.told ear).heard) result.items }
 {
     let mut all = must(rt, Vec::with_capacity(alloc, 2));
     all.push_reserved(a);
@@ -78,9 +78,9 @@ pub(crate) fn two_ears<E: Ear + Drop, R: Abort>(rt: &R, alloc: Global, a: E, b: 
 }
 
 pub(crate) fn one_book<B: Book + Drop, R: Abort>(rt: &R, alloc: Global, a: B) -> Vec<B>
-    requires a { StartsEmpty (B.written a) }
+    requires a { StartsEmpty (B.told a).written }
     ensures count { vec_len result ≡ 1 }
-    ensures new { All (λ book. StartsEmpty (B.written book)) result.items }
+    ensures new { All (λ book. StartsEmpty (B.told book).written) result.items }
 {
     let mut all = must(rt, Vec::with_capacity(alloc, 1));
     all.push_reserved(a);
@@ -88,10 +88,10 @@ pub(crate) fn one_book<B: Book + Drop, R: Abort>(rt: &R, alloc: Global, a: B) ->
 }
 
 pub(crate) fn two_books<B: Book + Drop, R: Abort>(rt: &R, alloc: Global, a: B, b: B) -> Vec<B>
-    requires a { StartsEmpty (B.written a) }
-    requires b { StartsEmpty (B.written b) }
+    requires a { StartsEmpty (B.told a).written }
+    requires b { StartsEmpty (B.told b).written }
     ensures count { vec_len result ≡ 2 }
-    ensures new { All (λ book. StartsEmpty (B.written book)) result.items }
+    ensures new { All (λ book. StartsEmpty (B.told book).written) result.items }
 {
     let mut all = must(rt, Vec::with_capacity(alloc, 2));
     all.push_reserved(a);

@@ -1,6 +1,6 @@
 //! Devices for tests that wait for one another. Each counts what it does, and one that waits gives up after a while; the
 //! run then says so.
-ghost use Rattle.std.specs.Prelude.{None, Some};
+ghost use Rattle.std.specs.Prelude.{None};
 
 use crate::bench::must;
 use crossbeam_utils::Backoff;
@@ -90,13 +90,11 @@ impl Book for MeetingBook {
 
     type Label = ();
 
-    ghost faults = { λ _. 2 ^ 64 - 1 };
-
-    ghost written = { λ _. None };
-
-    ghost mark = { λ _. None };
-
-    ghost label = { λ _. tt };
+    ghost told = { λ _. record {
+      written = None;
+      faults = 2 ^ 64 - 1;
+      device = record { mark = None; label = tt };
+    } };
 
     ghost faults_fit = { λ _. lit≤ tt };
 
@@ -143,13 +141,11 @@ impl Ear for MeetingEar {
 
     type Label = ();
 
-    ghost faults = { λ _. 2 ^ 64 - 1 };
-
-    ghost heard = { λ _. None };
-
-    ghost mark = { λ _. None };
-
-    ghost label = { λ _. tt };
+    ghost told = { λ _. record {
+      heard = None;
+      faults = 2 ^ 64 - 1;
+      device = record { mark = None; label = tt };
+    } };
 
     ghost faults_fit = { λ _. lit≤ tt };
 
@@ -193,23 +189,20 @@ impl MeetingMouth {
 
 impl Mouth for MeetingMouth {
     ghost use Rattle.std.proofs.Common.{lit≤};
-    ghost use Rattle.m17_port_memory.specs.Named.{names_nobody};
+    ghost use Rattle.m17_ports.specs.Untold.{names_nobody};
 
     type Label = ();
 
-    ghost faults = { λ _. 0 };
-
-    ghost said = { λ _. None };
-
-    ghost tallies = { λ _ _. None };
-
-    ghost mark = { λ _. Some (record { number = 0; peers = None }) };
-
-    ghost label = { λ _. tt };
+    ghost told = { λ _. record {
+      said = None;
+      tallies = λ _. None;
+      faults = 0;
+      device = record { mark = None; label = tt };
+    } };
 
     ghost faults_fit = { λ _. lit≤ tt };
 
-    ghost tells_named = { λ _. names_nobody None };
+    ghost tells_named = { λ _. names_nobody };
 
     fn say(&mut self, _to: &Peer, bytes: &[u8]) -> Result<(), Failed> {
         if bytes.len() == FRAME_LENGTH {

@@ -25,7 +25,7 @@ returns-in-Err-Refused-clause-runs g c =
       inr (inl (
         c.in-Err-Refused.ensures.refused (ap Err c.in-Err-Refused.field-0-is),
         (
-          c.run_nothing.ensures (g.P.Ports.faults c.args.ports.now) (g.C.Crew.refusals c.args.crew.now),
+          c.run_nothing.ensures (g.P.Ports.told c.args.ports.now).faults (g.C.Crew.refusals c.args.crew.now),
           record { ports = refl; talk = refl; serve = record { crew = refl; house = refl; refused = refl } },
         ),
       )),
@@ -37,7 +37,7 @@ returns-in-Err-Refused-clause-refused g c = λ are.
       c.run_nothing.result,
       c.answer_of-in-Err-Refused.ensures.code ∙ ap code_of c.alone.ensures.status,
       inl (
-        c.run_nothing.ensures (g.P.Ports.faults c.args.ports.now) (g.C.Crew.refusals c.args.crew.now),
+        c.run_nothing.ensures (g.P.Ports.told c.args.ports.now).faults (g.C.Crew.refusals c.args.crew.now),
         record { ports = refl; talk = refl; serve = record { crew = refl; house = refl; refused = refl } },
       ),
     )

@@ -1,21 +1,19 @@
-use Rattle.m17_app.specs.Status.{Outside, count_from, outside}
+use Rattle.m17_app.specs.Status.{Streams, count_from, streams}
 use Rattle.m17_app.proofs.ReplayRuns.{has_memory, no_run, ran, some_memory}
 use Rattle.m17_app.proofs.run_replay.run_replay.Goals as goal
 
 pub returns-in-Ok-clause-runs : goal.returns-in-Ok-clause-runs
 returns-in-Ok-clause-runs g c = λ ports.
-    let mid : Outside = outside (g.S.Input.left c.replay.new.input) (g.S.Input.faults c.replay.new.input)
-    (g.K.Sink.written c.replay.new.out) (g.K.Sink.faults c.replay.new.out) (g.K.Sink.held_back c.replay.new.out) in
+    let mid : Streams = streams (g.S.Input.told c.replay.new.input) (g.K.Sink.told c.replay.new.out) in
     ran c.args.plan.now c.args.summary c.in-Ok.ending c.conclude.result _ mid _ ports (count_from _ _) c.traces_are_exact.ensures c.lost_by_sixteen_faults.ensures
     c.in-Ok.ensures.crew c.in-Ok.ensures.ended c.in-Ok.ensures.causes c.replay.ensures.appended c.in-Ok.ensures.unwritten
-    (rw c.into_ending.ensures at (c.conclude.ensures.concluded (has_memory c.in-Ok.ending _ c.into_ending.ensures) mid.left mid.reads))
+    (rw c.into_ending.ensures at (c.conclude.ensures.concluded (has_memory c.in-Ok.ending _ c.into_ending.ensures) mid.source))
 
 pub returns-in-Ok-clause-unasked : goal.returns-in-Ok-clause-unasked
 returns-in-Ok-clause-unasked g c is =
-    let mid : Outside = outside (g.S.Input.left c.replay.new.input) (g.S.Input.faults c.replay.new.input)
-    (g.K.Sink.written c.replay.new.out) (g.K.Sink.faults c.replay.new.out) (g.K.Sink.held_back c.replay.new.out) in
+    let mid : Streams = streams (g.S.Input.told c.replay.new.input) (g.K.Sink.told c.replay.new.out) in
     absurd (some_memory c.in-Ok.ending c.conclude.result mid _
-    (rw c.into_ending.ensures at (c.conclude.ensures.concluded (has_memory c.in-Ok.ending _ c.into_ending.ensures) mid.left mid.reads)) is)
+    (rw c.into_ending.ensures at (c.conclude.ensures.concluded (has_memory c.in-Ok.ending _ c.into_ending.ensures) mid.source)) is)
 
 pub returns-in-Err-clause-runs : goal.returns-in-Err-clause-runs
 returns-in-Err-clause-runs g c = λ ports.

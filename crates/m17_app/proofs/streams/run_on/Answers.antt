@@ -1,8 +1,12 @@
-use Rattle.std.proofs.Common.{None, refl, inr}
+use Rattle.std.proofs.Common.{None, false, refl, inr}
 use Rattle.m17_app.specs.declared.status.Status.TheVariants.{NoMemory}
-use Rattle.m17_app.specs.Status.{outside}
+use Rattle.m17_app.specs.Status.{Streams, streams}
 use Rattle.m17_app.proofs.Codes.{crew_failed, ports_failed, refused_code}
 use Rattle.m17_app.proofs.streams.run_on.Goals as goal
+
+-- streams that tell nothing
+abbrev untold : Streams
+untold = streams (record { left = None; at_hand = false; faults = 0 }) (record { written = None; held_back = 0; faults = 0 })
 
 pub returns-clause-refused : goal.returns-clause-refused
 returns-clause-refused g c = λ are.
@@ -25,8 +29,8 @@ returns-in_default-clause-ran g c = (
   NoMemory,
   c.code.ensures,
   record {
-    before = outside None 0 None 0 0;
-    after = outside None 0 None 0 0;
+    before = untold;
+    after = untold;
     talk = None;
     house = None;
     refused = None;
@@ -39,8 +43,8 @@ returns-in_default-make-clause-ran g c = (
   NoMemory,
   c.code-in_default-make.ensures,
   record {
-    before = outside None 0 None 0 0;
-    after = outside None 0 None 0 0;
+    before = untold;
+    after = untold;
     talk = None;
     house = None;
     refused = None;

@@ -1,5 +1,5 @@
 use Rattle.std.proofs.Common.{◌≡◌, sym, subst, IfOk}
-use Rattle.m17_house.specs.Replay.{IsPlan}
+use Rattle.m17_plan.specs.Planned.{IsPlan}
 use Rattle.m17_run_tests.proofs.wiring_tests.ready.Goals as goal
 
 pub staff-requires-clause-plan : goal.staff-requires-clause-plan
