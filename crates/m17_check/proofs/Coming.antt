@@ -7,6 +7,7 @@ use Rattle.m17_book.specs.Checks.{report_of}
 use Rattle.m17_book.specs.declared.record.Record.{Record}
 use Rattle.m17_book.specs.declared.refusal.FormRefusal.{FormRefusal}
 use Rattle.m17_book.specs.declared.report.Report.{Report}
+use Rattle.m17_io.specs.Sink.{SinkTold}
 use Rattle.m17_print.specs.Endings.{Comes, Grows}
 use Rattle.m17_print.specs.declared.ending.TextEnding.{TextEnding}
 use Rattle.m17_print.specs.declared.ending.TextEnding.TheVariants.{Finished, Refused, ReadFailed, WriteFailed}
@@ -25,16 +26,16 @@ refused_is bytes refusal found is bytes_tell told =
     inside bytes found bytes_tell (subst P is told)
 
 -- a legal book whose line was written, or a first part of it
-pub printed : (result : TextEnding CheckReason) (report : Report) (bytes : List ℕ) (left first middle written : Option (List ℕ)) (f g : ℕ) → middle ≡ first → HasJudged (Ok report) bytes left → Prints result (legal_line report) (middle, f) (written, g) → Comes SaysCheck PrintsCheck result bytes left first written
-printed Finished report bytes left first middle written f g same judged prints =
+pub printed : (result : TextEnding CheckReason) (report : Report) (bytes : List ℕ) (left first : Option (List ℕ)) (old new : SinkTold) → old.written ≡ first → HasJudged (Ok report) bytes left → Prints result (legal_line report) old new → Comes SaysCheck PrintsCheck result bytes left first new.written
+printed Finished report bytes left first old new same judged prints =
     let book = judged.0 in
     record {
       said = ((book.0, book.1), judged.1);
       printed = λ before e. (legal_line report, prints.1 before (same ∙ e), (book.0, book.1, ap legal_line book.2));
     }
-printed (Refused place reason) report bytes left first middle written f g same judged prints = absurd prints
-printed ReadFailed report bytes left first middle written f g same judged prints = absurd prints
-printed WriteFailed report bytes left first middle written f g same judged prints =
+printed (Refused place reason) report bytes left first old new same judged prints = absurd prints
+printed ReadFailed report bytes left first old new same judged prints = absurd prints
+printed WriteFailed report bytes left first old new same judged prints =
     let book = judged.0 in
     record {
       said = tt;
@@ -46,11 +47,11 @@ printed WriteFailed report bytes left first middle written f g same judged print
           );
     }
 
-pub grown : (result : TextEnding CheckReason) (line : List ℕ) (first middle written : Option (List ℕ)) (f g : ℕ) → middle ≡ first → Prints result line (middle, f) (written, g) → Grows first written
-grown Finished line first middle written f g same prints = λ before e. (line, prints.1 before (same ∙ e))
-grown (Refused place reason) line first middle written f g same prints = absurd prints
-grown ReadFailed line first middle written f g same prints = absurd prints
-grown WriteFailed line first middle written f g same prints = λ before e. let part = prints.2 before (same ∙ e) in (take part.0 line, part.1)
+pub grown : (result : TextEnding CheckReason) (line : List ℕ) (first : Option (List ℕ)) (old new : SinkTold) → old.written ≡ first → Prints result line old new → Grows first new.written
+grown Finished line first old new same prints = λ before e. (line, prints.1 before (same ∙ e))
+grown (Refused place reason) line first old new same prints = absurd prints
+grown ReadFailed line first old new same prints = absurd prints
+grown WriteFailed line first old new same prints = λ before e. let part = prints.2 before (same ∙ e) in (take part.0 line, part.1)
 
 -- a run that ended without a line
 unwritten : (first written : Option (List ℕ)) (before : List ℕ) → written ≡ first → first ≡ Some before → written ≡ Some (before ++ [])

@@ -6,7 +6,7 @@ use Rattle.m17_floor.specs.LegalLaws.{OneFirstBreach}
 use Rattle.m17_book.specs.Answers.{IsBookOf}
 use Rattle.m17_book.specs.Book.{RefusesBook}
 use Rattle.m17_book.specs.Checks.{IsFirstBreachOf, kept_of, report_of}
-use Rattle.m17_book.specs.Laws.{Kept, BooksAreExact}
+use Rattle.m17_book.specs.Laws.{BookKept, BooksAreExact}
 use Rattle.m17_book.specs.declared.record.Record.{Record}
 use Rattle.m17_book.specs.declared.refusal.FormRefusal.{FormRefusal}
 use Rattle.m17_book.specs.declared.refusal.FormRefusal.TheVariants as form
@@ -57,12 +57,12 @@ refused_as input place Member (records, book, first) = inr (record { records = r
 refused_as input place Verdict (records, book, first) = inr (record { records = records; book = book; breach = record { position = place; rule = rules.Verdict }; first = first; line_is = refl })
 
 -- a book with its letter
-abbrev lettered : ℕ → List Record → Kept
+abbrev lettered : ℕ → List Record → BookKept
 lettered letter records = record { letter = letter; records = records }
 
 -- a book has one list of records
 one_book : BooksAreExact → (input : List ℕ) (a b : List Record) → IsBookOf input a → IsBookOf input b → a ≡ b
-one_book exact input a b in_a in_b = ap (λ (k : Kept). k.records) (exact.one_value input (lettered in_a.0 a) (lettered in_b.0 b) in_a.1 in_b.1)
+one_book exact input a b in_a in_b = ap (λ (k : BookKept). k.records) (exact.one_value input (lettered in_a.0 a) (lettered in_b.0 b) in_a.1 in_b.1)
 
 -- it isn't refused as bytes, and a legal one has no breach
 not_refused : BooksAreExact → (input line : List ℕ) (records : List Record) → IsBookOf input records → NoBook input line → ⊥

@@ -1,4 +1,4 @@
--- What `check` prints: one line of a legal book. This profile.
+-- What `check` prints: one line of a legal book.
 use Rattle.std.specs.Prelude.{◌≡◌, ◌⊎◌, ℕ, List, [], ◌∷◌, ◌++◌, codes, decimal, Option, Some}
 use Rattle.m17_floor.specs.declared.rule.Rule.{Rule}
 use Rattle.m17_floor.specs.declared.rule.Rule.TheVariants as rules
@@ -30,8 +30,7 @@ abbrev pub BreaksRule : List ℕ → ℕ → Rule → Type 0
 BreaksRule input place rule = (records : List Record) × IsBookOf input records
     × IsFirstBreachOf records (record { position = place; rule = rule })
 
--- Why the input is refused, and where: it is no book, as the form of books says, or it is one that isn't legal. This
--- profile.
+-- Why the input is refused, and where: it is no book, as the form of books says, or it is one that isn't legal.
 abbrev pub RefusesInput : List ℕ → ℕ → CheckReason → Type 0
 RefusesInput input place Cut = RefusesBook input (form.Cut place)
 RefusesInput input place (Kind byte) = RefusesBook input (form.Kind place byte)
@@ -41,8 +40,7 @@ RefusesInput input place Moment = BreaksRule input place rules.Moment
 RefusesInput input place Member = BreaksRule input place rules.Member
 RefusesInput input place Verdict = BreaksRule input place rules.Verdict
 
--- What `check` prints for the input: the line of a legal book, or the line that says where and why it is refused. This
--- profile.
+-- What `check` prints for the input: the line of a legal book, or the line that says where and why it is refused.
 abbrev pub IsCheckText : List ℕ → List ℕ → Type 0
 IsCheckText input text = ((records : List Record) × IsLegalInput input records
     × (text ≡ legal_line (report_of records)))
@@ -58,7 +56,7 @@ SaysCheck ReadFailed input left = Unit {0}
 SaysCheck WriteFailed input left = Unit {0}
 
 -- What stands written when `check` ends in each way: the line of a legal book; nothing where the input is refused or the
--- source failed; and where the sink failed nothing, or a first part of that line. This profile.
+-- source failed; and where the sink failed nothing, or a first part of that line.
 abbrev pub PrintsCheck : TextEnding CheckReason → List ℕ → Option (List ℕ) → List ℕ → Type 0
 PrintsCheck Finished input left text = (records : List Record) × IsLegalInput input records
     × (text ≡ legal_line (report_of records))

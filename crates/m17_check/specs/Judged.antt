@@ -5,7 +5,7 @@ use Rattle.m17_book.specs.declared.record.Record.{Record}
 use Rattle.m17_book.specs.declared.report.Report.{Report}
 use Rattle.m17_io.specs.declared.fault.Fault.{Fault}
 use Rattle.m17_io.specs.Faults.{HasRisen}
-use Rattle.m17_io.specs.Sink.{AppendsPrefix}
+use Rattle.m17_io.specs.Sink.{AppendsPrefix, SinkTold}
 use Rattle.m17_floor.specs.declared.rule.Rule.{Rule}
 use Rattle.m17_floor.specs.declared.rule.Rule.TheVariants as rules
 use Rattle.m17_check.specs.declared.reason.CheckReason.TheVariants as reasons
@@ -35,15 +35,11 @@ reason_of rules.Moment = reasons.Moment
 reason_of rules.Member = reasons.Member
 reason_of rules.Verdict = reasons.Verdict
 
--- what a sink tells, and how often it has failed
-abbrev pub Sunk : Type 0
-Sunk = Option (List ℕ) × ℕ
-
 -- The line was written, or the sink failed and a first part of it stands written.
-abbrev pub Prints : TextEnding CheckReason → List ℕ → Sunk → Sunk → Type 0
-Prints Finished line old new = (new.1 ≡ old.1)
-    × ((before : List ℕ) → old.0 ≡ Some before → new.0 ≡ Some (before ++ line))
+abbrev pub Prints : TextEnding CheckReason → List ℕ → SinkTold → SinkTold → Type 0
+Prints Finished line old new = (new.faults ≡ old.faults)
+    × ((before : List ℕ) → old.written ≡ Some before → new.written ≡ Some (before ++ line))
 Prints (Refused place reason) line old new = ⊥
 Prints ReadFailed line old new = ⊥
-Prints WriteFailed line old new = (old.1 ≤ new.1) × HasRisen old.1 new.1
-    × ((before : List ℕ) → old.0 ≡ Some before → AppendsPrefix before line new.0)
+Prints WriteFailed line old new = (old.faults ≤ new.faults) × HasRisen old.faults new.faults
+    × ((before : List ℕ) → old.written ≡ Some before → AppendsPrefix before line new.written)

@@ -1,4 +1,4 @@
--- What holds of every input of `check`. This profile.
+-- What holds of every input of `check`.
 use Rattle.std.specs.Prelude.{◌≡◌, ℕ, List}
 use Rattle.m17_book.specs.declared.record.Record.{Record}
 use Rattle.m17_check.specs.Check.{IsCheckText, IsLegalInput, RefusesInput}

@@ -1,4 +1,4 @@
--- The words of the reasons of `check`. This profile.
+-- The words of the reasons of `check`.
 use Rattle.std.specs.Prelude.{ℕ, List, [], ◌∷◌, ◌++◌, codes}
 use Rattle.m17_print.specs.Line.{hex_of}
 use Rattle.m17_check.specs.declared.reason.CheckReason.{CheckReason}

@@ -14,16 +14,16 @@ use m17_print::{Line, TextEnding};
 /// Checks a book: reads it to its end, and writes the line of a legal one, as `legal 12 records 3 streams 9 admitted`.
 /// Nothing is written before the input was read to its end. The input is refused with the place and reason of the form of
 /// books, `Large` first of all; and a book that isn't legal with the number of its first record that breaks a rule, and
-/// that rule: `Moment`, `Member` or `Verdict`. It takes no memory. This profile.
+/// that rule: `Moment`, `Member` or `Verdict`. It takes no memory.
 pub fn check<S: Input<K>, K: Sink>(input: &mut S, out: &mut K) -> TextEnding<CheckReason>
     // A device is told to have failed exactly where its count of faults rose.
-    ensures causes { HasCauses (S.faults input.old, K.faults out.old)
-        (S.faults input.new, K.faults out.new) (failed_device result) }
+    ensures causes { HasCauses ((S.told input.old).faults, (K.told out.old).faults)
+        ((S.told input.new).faults, (K.told out.new).faults) (failed_device result) }
     // What the ending says of the input holds, and what it prints stands written.
-    ensures ended { (bytes : List ℕ) → S.left input.old ≡ Some bytes →
-        Comes SaysCheck PrintsCheck result bytes (S.left input.new)
-        (K.written out.old) (K.written out.new) }
-    ensures appended { Grows (K.written out.old) (K.written out.new) }
+    ensures ended { (bytes : List ℕ) → (S.told input.old).left ≡ Some bytes →
+        Comes SaysCheck PrintsCheck result bytes (S.told input.new).left
+        (K.told out.old).written (K.told out.new).written }
+    ensures appended { Grows (K.told out.old).written (K.told out.new).written }
 {
     match read_report(input, out) {
         Ok(report) => print_report(&report, out),
@@ -36,11 +36,11 @@ fn read_report<S: Input<K>, K: Sink>(
     input: &mut S,
     out: &mut K,
 ) -> Result<Report, TextEnding<CheckReason>>
-    ensures causes { HasCauses (S.faults input.old, K.faults out.old)
-        (S.faults input.new, K.faults out.new) (stopped_by result) }
-    ensures judged { (bytes : List ℕ) → S.left input.old ≡ Some bytes
-        → HasJudged result bytes (S.left input.new) }
-    ensures nothing_written { K.written out.new ≡ K.written out.old }
+    ensures causes { HasCauses ((S.told input.old).faults, (K.told out.old).faults)
+        ((S.told input.new).faults, (K.told out.new).faults) (stopped_by result) }
+    ensures judged { (bytes : List ℕ) → (S.told input.old).left ≡ Some bytes
+        → HasJudged result bytes (S.told input.new).left }
+    ensures nothing_written { (K.told out.new).written ≡ (K.told out.old).written }
 {
     let Ok(()) = out.flush() else {
         return Err(TextEnding::WriteFailed);
@@ -78,8 +78,7 @@ fn broken(breach: &Breach) -> TextEnding<CheckReason>
 
 // Writes the line of a legal book.
 fn print_report<K: Sink>(report: &Report, out: &mut K) -> TextEnding<CheckReason>
-    ensures written { Prints result (legal_line report.now)
-        (K.written out.old, K.faults out.old) (K.written out.new, K.faults out.new) }
+    ensures written { Prints result (legal_line report.now) (K.told out.old) (K.told out.new) }
 {
     let mut line = Line::new();
     make_line(report, &mut line);

@@ -1,6 +1,6 @@
 use m17_print::{Line, Reason};
 
-/// Why `check` refuses its input: it is no book, or the book isn't legal. This profile.
+/// Why `check` refuses its input: it is no book, or the book isn't legal.
 #[derive(Clone, Copy, Debug, PartialEq, Eq)]
 pub enum CheckReason {
     /// The input ends inside the header, a record or a field.

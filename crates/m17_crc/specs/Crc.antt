@@ -22,7 +22,7 @@ less_front (t ∷ taken) (b ∷ bits) = (b + t) % 2 ∷ less_front taken bits
 abbrev pub divisor : List ℕ
 divisor = 1 ∷ byte_bits 0x59 ++ byte_bits 0x35
 
--- Long division, for so many digits of the quotient: the divisor is subtracted where the first bit is 1, and then the
+-- Long division, for a given number of digits of the quotient: the divisor is subtracted where the first bit is 1, and then the
 -- first bit, which is 0, is left behind. What is left after the last digit is the remainder.
 unfoldable pub remainder : ℕ → List ℕ → List ℕ
 remainder zero bits = bits

@@ -18,7 +18,7 @@ use Rattle.m17_control.specs.declared.packet.Control.TheVariants.{Conn, Lstn, Ac
 use Rattle.m17_control.specs.Modules.{serves}
 use Rattle.m17_directory.specs.Outcome.{Here, Outcome, only, posting, to_door, of_other, of_packet}
 use Rattle.m17_directory.specs.Routed.{here_of, row_for, unclaimed_at, is_asks, asks_at, asked_before, past_at, others_than, others_at}
-use Rattle.m17_directory.specs.StandsFor.{Kept, StandsFor, IsAsked, IsHeard, faults_before, unclaimed, with_left}
+use Rattle.m17_directory.specs.StandsFor.{DirectoryKept, StandsFor, IsAsked, IsHeard, faults_before, unclaimed, with_left}
 use Rattle.m17_directory.specs.Steps.{Lists, IsComeTo, IsTaken, is_other, rows_by, still_by, said_by, heard_by, known_by, asked_as, asked_by, asks_by}
 use Rattle.m17_directory.proofs.Positions.{get_before, get_end}
 use Rattle.m17_directory.proofs.Faults.{ends_is}
@@ -39,7 +39,7 @@ pub claim_end : (entries : List Entry) (entry : Entry) → claim_at (entries ++ 
 claim_end entries entry = ap (option_and_then (λ (e : Entry). e.claim)) (get_end entries entry)
 
 -- the lists of what is kept
-abbrev pub lists_of : Kept → Lists
+abbrev pub lists_of : DirectoryKept → Lists
 lists_of kept = record { known = kept.known; asked = kept.asked; departing = kept.departing }
 
 -- who is known one entry later, as the code has it
@@ -149,7 +149,7 @@ others_by here true rows still Notice.Fault e = absurd (false≢true e)
 others_by here false rows still Notice.Fault e = absurd (false≢true e)
 others_by here ends rows still Notice.End e = absurd (false≢true e)
 
-module _ (old new : Kept) (entries : List Entry) (notice : Notice) (stood : StandsFor old entries)
+module _ (old new : DirectoryKept) (entries : List Entry) (notice : Notice) (stood : StandsFor old entries)
     (moment : new.moment ≡ max old.moment (moment_of notice)) (faults : new.faults ≡ cond (is_fault notice) (old.faults + 1) 0) where
   abbrev longer : List Entry
   longer = entries ++ unclaimed notice ∷ []

@@ -12,20 +12,20 @@ use Rattle.m17_directory.specs.Steps.{Lists, row_given, known_after}
 use Rattle.m17_directory.proofs.Filters.{with_row_length, left_together}
 use Rattle.m17_directory.specs.Known.{known_at}
 use Rattle.m17_directory.specs.Routed.{asked_before}
-use Rattle.m17_directory.specs.StandsFor.{Kept, StandsFor, IsBounded, with_left}
+use Rattle.m17_directory.specs.StandsFor.{DirectoryKept, StandsFor, IsBounded, with_left}
 use Rattle.m17_directory.proofs.Bounds.{IsSeated, seated_length, seated_none, seated_filter, seated_put, freed, fewer_than_places}
 
-pub bounded_by : (kept : Kept) → IsSeated kept.setup.places kept.known → length kept.known + length kept.departing ≤ 512 → IsBounded kept
+pub bounded_by : (kept : DirectoryKept) → IsSeated kept.setup.places kept.known → length kept.known + length kept.departing ≤ 512 → IsBounded kept
 bounded_by kept h few = record { known = seated_length kept.setup.places kept.known h; members = few; below = h.below; apart = h.apart }
 
-pub seated_of : (kept : Kept) → IsBounded kept → IsSeated kept.setup.places kept.known
+pub seated_of : (kept : DirectoryKept) → IsBounded kept → IsSeated kept.setup.places kept.known
 seated_of kept h = record { below = h.below; apart = h.apart }
 
-pub bounded_new : (kept : Kept) → kept.known ≡ [] → kept.departing ≡ [] → IsBounded kept
+pub bounded_new : (kept : DirectoryKept) → kept.known ≡ [] → kept.departing ≡ [] → IsBounded kept
 bounded_new kept known departing =
     bounded_by kept (subst (λ ks. IsSeated kept.setup.places ks) (sym known) (seated_none kept.setup.places)) (omega (arith, ap length known, ap length departing))
 
-pub stands_new : (kept : Kept) → kept.moment ≡ 0 → kept.known ≡ [] → kept.asked ≡ None → kept.faults ≡ 0 → StandsFor kept []
+pub stands_new : (kept : DirectoryKept) → kept.moment ≡ 0 → kept.known ≡ [] → kept.asked ≡ None → kept.faults ≡ 0 → StandsFor kept []
 unfolding known_at peers_named asked_before
 stands_new kept moment known asked faults = record {
   moment = moment;

@@ -13,7 +13,7 @@ use Rattle.m17_directory.specs.Entries.{Notice, Claim, Entry, Setup, notice_at, 
 use Rattle.m17_directory.specs.Known.{Past, asks_for, turns, request_of, request_in, row_at, known_at}
 use Rattle.m17_directory.specs.Outcome.{Here, Outcome, has_place, settled}
 use Rattle.m17_directory.specs.Routed.{here_of, is_asks, asks_at, asked_before, past_at, others_than, others_at, settled_by, settled_at}
-use Rattle.m17_directory.specs.StandsFor.{Kept, StandsFor, IsAsked, IsSettled, faults_before, unclaimed, claimed, with_left}
+use Rattle.m17_directory.specs.StandsFor.{DirectoryKept, StandsFor, IsAsked, IsSettled, faults_before, unclaimed, claimed, with_left}
 use Rattle.m17_directory.specs.Steps.{IsInOrder, IsGiven, row_given, known_after, with_row, still_by, said_by, known_by}
 use Rattle.m17_directory.proofs.Peers.{is_peer_same}
 use Rattle.m17_directory.proofs.Rows.{if_passes, order_filter, order_put, row_for-filter, row_for-put, same_rows}
@@ -105,7 +105,7 @@ module _ (setup : Setup) (a b : List Entry) (l : List Bool) (v : Bool) (says : s
         ∙ ap (cond (is_peer x from) (Some row)) (sym (row_for-filter (λ k. not (has_place claim.member.place k)) x (known_at (after setup b l v)) (known_order (after setup b l v))))
         ∙ sym (row_for-put x row others))
 
-module _ (old : Kept) (entries : List Entry) (notice : Notice) (claim : Option Claim) (stood : StandsFor old (entries ++ unclaimed notice ∷ [])) (asked : Asked) (waits : old.asked ≡ Some asked) where
+module _ (old : DirectoryKept) (entries : List Entry) (notice : Notice) (claim : Option Claim) (stood : StandsFor old (entries ++ unclaimed notice ∷ [])) (asked : Asked) (waits : old.asked ≡ Some asked) where
   abbrev plain : List Entry
   plain = entries ++ unclaimed notice ∷ []
 
@@ -233,13 +233,13 @@ module _ (old : Kept) (entries : List Entry) (notice : Notice) (claim : Option C
       }) (filter (λ k. not (has_place c.member.place k)) (known_at (after old.setup plain l v)))) moment
       ∙ ap (λ ks. with_row (row_given here asked c) (filter (λ k. not (has_place c.member.place k)) ks)) plain_after
 
-pub known_settled : (old : Kept) (entries : List Entry) (notice : Notice) (claim : Option Claim) (stood : StandsFor old (entries ++ unclaimed notice ∷ [])) (asked : Asked) → old.asked ≡ Some asked
+pub known_settled : (old : DirectoryKept) (entries : List Entry) (notice : Notice) (claim : Option Claim) (stood : StandsFor old (entries ++ unclaimed notice ∷ [])) (asked : Asked) → old.asked ≡ Some asked
     → known_at (past_at old.setup (entries ++ claimed notice claim ∷ []) (suc (length entries))) ≡ known_after (record { setup = old.setup; index = asked.index; moment = old.moment }) asked claim old.known
 known_settled old entries notice None stood asked waits = known_plain old entries notice None stood asked waits
 known_settled old entries notice (Some c) stood asked waits = known_with old entries notice (Some c) stood asked waits c refl
 
 -- the directory stands for the list with the claim
-pub settle_stands : (old new : Kept) (entries : List Entry) (notice : Notice) (claim : Option Claim) (posts : List Dispatch) (verdict : LinkVerdict) (asked : Asked)
+pub settle_stands : (old new : DirectoryKept) (entries : List Entry) (notice : Notice) (claim : Option Claim) (posts : List Dispatch) (verdict : LinkVerdict) (asked : Asked)
     → StandsFor old (entries ++ unclaimed notice ∷ []) → old.asked ≡ Some asked
     → new.setup ≡ old.setup → new.moment ≡ old.moment → new.faults ≡ old.faults
     → IsGiven (record { setup = old.setup; index = asked.index; moment = old.moment }) asked claim (lists_of old) (lists_of new) posts verdict

@@ -1,5 +1,4 @@
--- What a link heard, entry by entry, and what is looked up in it. Positions count from 0. This
--- profile.
+-- What a link heard, entry by entry, and what is looked up in it. Positions count from 0.
 use Rattle.std.specs.Prelude.{◌≡◌, ◌⊎◌, ◌&&◌, ◌||◌, ℕ, zero, suc, ◌-◌, Bool, true, false, List, [], ◌∷◌, map, take, fold, max, slice_get, nat_le, Option, None, Some, option_and_then, option_map}
 use Rattle.std.specs.List.{list_all, range_with_len}
 use Rattle.std.specs.Option.{option_map_or}
@@ -19,7 +18,7 @@ use Rattle.m17_control.specs.declared.modules.Modules.{Modules}
 use Rattle.m17_lookup.specs.Lookup.{last_below}
 
 -- What an entry says: a packet from a peer, bytes that are none and why, that time went by, that
--- the socket failed, or that nothing more comes. Moments are milliseconds. This profile.
+-- the socket failed, or that nothing more comes. Moments are milliseconds.
 pub data Notice : Type 0 where
   Sent : (from : Peer) (at : ℕ) (packet : Packet) → Notice
   Garbled : (from : Peer) (at : ℕ) (refusal : Refusal) → Notice
@@ -28,7 +27,7 @@ pub data Notice : Type 0 where
   End : Notice
 
 -- What was heard says this: of a datagram, the packet that its bytes spell, or the first reason why
--- they are none. This profile.
+-- they are none.
 abbrev pub Says : Heard → Notice → Type 0
 Says (heard.Datagram from at bytes) notice =
     ((p : Packet) × Spells p bytes × (notice ≡ Notice.Sent from at p))
@@ -38,17 +37,17 @@ Says heard.Fault notice = notice ≡ Notice.Fault
 Says heard.End notice = notice ≡ Notice.End
 
 -- The place that an entry was given which asked for one, and how many departed members of the link
--- are to be reported before its peer is greeted. This profile.
+-- are to be reported before its peer is greeted.
 pub record Claim : Type 0 where
   pub member : Member
   pub after : ℕ
 
--- An entry: what it says, and its claim, if it has one. This profile.
+-- An entry: what it says, and its claim, if it has one.
 pub record Entry : Type 0 where
   pub notice : Notice
   pub claim : Option Claim
 
--- Each of what was heard says what the entry beside it is. This profile.
+-- Each of what was heard says what the entry beside it is.
 abbrev pub SaysEach : List Heard → List Entry → Type 0
 SaysEach [] [] = Unit {0}
 SaysEach [] (entry ∷ entries) = ⊥
@@ -56,7 +55,7 @@ SaysEach (h ∷ heard) [] = ⊥
 SaysEach (h ∷ heard) (entry ∷ entries) = Says h entry.notice × SaysEach heard entries
 
 -- The number of a link, the reflector's address, how many places there are, and the modules that
--- are served: what its directory is made with. This profile.
+-- are served: what its directory is made with.
 pub record Setup : Type 0 where
   pub link : ℕ
   pub name : ℕ
@@ -84,7 +83,7 @@ moment_of Notice.Fault = 0
 moment_of Notice.End = 0
 
 -- The link's moment before position n: the greatest of entries 0 to n - 1, and 0 without any; and
--- at position n, the greatest of entries 0 to n. This profile.
+-- at position n, the greatest of entries 0 to n.
 abbrev pub moment_before : List Entry → ℕ → ℕ
 moment_before entries n =
     fold max 0 (map (λ (entry : Entry). moment_of entry.notice) (take n entries))
@@ -98,7 +97,7 @@ passes_time Notice.Fault = false
 passes_time Notice.End = false
 passes_time _ = true
 
--- The order of peers: by family, IPv4 first, then by address, then by port. This profile.
+-- The order of peers: by family, IPv4 first, then by address, then by port.
 abbrev pub peer_cmp : Peer → Peer → Ordering
 peer_cmp a b =
     ordering_then (bool_cmp a.six b.six)
@@ -122,23 +121,23 @@ says_disc x (Notice.Sent from at p) = is_peer x from && is_disc p
 says_disc x _ = false
 
 -- The moment at which the peer was last heard before position n: the link's moment at the last
--- packet from it there. This profile.
+-- packet from it there.
 unfoldable pub last_heard : List Entry → Peer → ℕ → Option ℕ
 last_heard entries x n =
     option_map (moment_at entries) (last_below (λ i. is_from x (notice_at entries i)) n)
 
--- A peer that was not heard for so many ms leaves. This profile.
+-- A peer that was not heard for 30,000 ms leaves.
 abbrev pub silence_ms : ℕ
 silence_ms = 30000
 
 -- The peer is silent at position n: time goes by there, and it was last heard 30,000 ms before or
--- more. This profile.
+-- more.
 unfoldable pub is_silent_at : List Entry → Peer → ℕ → Bool
 is_silent_at entries x n = passes_time (notice_at entries n)
     && option_map_or (λ at. nat_le silence_ms (moment_at entries n - at))
     (last_heard entries x n) false
 
--- The link ends at so many faults in a row. This profile.
+-- The link ends at 16 faults in a row.
 abbrev pub most_faults : ℕ
 most_faults = 16
 
@@ -151,14 +150,13 @@ is_end Notice.End = true
 is_end _ = false
 
 -- The link ends at position n: nothing more comes, or the entry is the last of 16 faults in a row.
--- This profile.
 unfoldable pub ends_at : List Entry → ℕ → Bool
 ends_at entries n = is_end (notice_at entries n)
     || (nat_le most_faults (suc n)
     && list_all (λ i. is_fault (notice_at entries i))
     (range_with_len (suc n - most_faults) most_faults))
 
--- The peers that datagrams before position n came from, each once, in order. This profile.
+-- The peers that datagrams before position n came from, each once, in order.
 abbrev pub with_peer : Peer → List Peer → List Peer
 with_peer x [] = x ∷ []
 with_peer x (y ∷ peers) =

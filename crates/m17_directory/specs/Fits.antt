@@ -1,11 +1,11 @@
--- How many may be known to a link. This profile.
+-- How many may be known to a link.
 use Rattle.std.specs.Prelude.{◌≡◌, ℕ, ◌<◌, ◌≤◌, true, List, length}
 use Rattle.m17_directory.specs.Entries.{Entry, Setup}
 use Rattle.m17_directory.specs.Laws.{ClaimsAreAsked, ClaimsArePlaced}
 use Rattle.m17_directory.specs.Routed.{past_at, asks_at, others_at}
 
 -- Where each claim is of a place, and none but askers have one: at an entry that asks, no more
--- others are still known than there are places. This profile.
+-- others are still known than there are places.
 abbrev pub OthersFitThePlaces : Type 0
 OthersFitThePlaces =
     (setup : Setup) (entries : List Entry) (n : ℕ) → ClaimsAreAsked setup entries →

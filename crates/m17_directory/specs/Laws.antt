@@ -1,4 +1,4 @@
--- What follows from the definitions for all that a link may hear. This profile.
+-- What follows from the definitions for all that a link may hear.
 use Rattle.std.specs.Prelude.{◌≡◌, ◌==◌, ◌&&◌, not, ℕ, suc, ◌+◌, ◌<◌, Bool, true, false, List, [], ◌∷◌, ◌++◌, ◌≤◌, length, map, filter, count_by, sum_by, take, is_some, Option, None, Some, slice_get, option_map, if◌then◌else◌}
 use Rattle.std.specs.List.{filter_map, flat_map, range_with_len, AllByRecursion, AllZip}
 use Rattle.m17_values.specs.declared.heard.Heard.{Heard}
@@ -32,14 +32,14 @@ use Rattle.m17_directory.specs.Outcome.{Here}
 use Rattle.m17_directory.specs.Routed.{here_of, unclaimed_at, others_at, settled_at, asks_at, both, past_at, outcome_at, link_verdict, posts_at, posted, event_for, reply_for, routed, direct_replies}
 use Rattle.m17_directory.specs.StandsFor.{departed_of}
 
--- What comes later changes nothing of what an entry comes to. This profile.
+-- What comes later changes nothing of what an entry comes to.
 abbrev pub LaterEntriesChangeNothing : Type 0
 LaterEntriesChangeNothing =
     (setup : Setup) (entries more : List Entry) (n : ℕ) → n < length entries →
     outcome_at setup (entries ++ more) n ≡ outcome_at setup entries n
 
 -- One entry more posts what it posts at its position, behind all that was posted before; and so it
--- is routed to each module, and answered to each peer. This profile.
+-- is routed to each module, and answered to each peer.
 pub record OneEntryMore : Type 0 where
   pub posts : (setup : Setup) (entries : List Entry) (entry : Entry) →
       posted setup (entries ++ entry ∷ [])
@@ -52,7 +52,7 @@ pub record OneEntryMore : Type 0 where
       ++ filter_map (reply_for x) (posts_at setup (entries ++ entry ∷ []) (length entries))
 
 -- What an entry comes to before its claim, and who the others are there, follows from the entries
--- before it and from what it says itself, whatever its claim. This profile.
+-- before it and from what it says itself, whatever its claim.
 pub record EntriesBeforeDecide : Type 0 where
   pub heard : (setup : Setup) (a b : List Entry) (n : ℕ) → take n a ≡ take n b →
       notice_at a n ≡ notice_at b n →
@@ -61,14 +61,14 @@ pub record EntriesBeforeDecide : Type 0 where
       notice_at a n ≡ notice_at b n →
       others_at (past_at setup a n) ≡ others_at (past_at setup b n)
 
--- What is posted to a module at a position carries the position. This profile.
+-- What is posted to a module at a position carries the position.
 abbrev pub EventsCarryTheirIndex : Type 0
 EventsCarryTheirIndex =
     (setup : Setup) (entries : List Entry) (n letter : ℕ) →
     AllByRecursion (λ event. event.tag.index ≡ n)
     (filter_map (event_for letter) (posts_at setup entries n))
 
--- The body is a packet; and the module's letter, if this is a packet for a module. This profile.
+-- The body is a packet; and the module's letter, if this is a packet for a module.
 abbrev pub is_packet : Body → Bool
 is_packet (Packet k p) = true
 is_packet _ = false
@@ -82,19 +82,19 @@ abbrev pub packet_routed : LinkVerdict → List ℕ
 packet_routed (Routed letter act.Packet) = letter ∷ []
 packet_routed _ = []
 
--- An entry posts one packet, to the module that its verdict names, or none. This profile.
+-- An entry posts one packet, to the module that its verdict names, or none.
 abbrev pub PacketsAreRouted : Type 0
 PacketsAreRouted =
     (setup : Setup) (entries : List Entry) (n : ℕ) →
     filter_map packet_letter (posts_at setup entries n)
     ≡ packet_routed (link_verdict setup entries n)
 
--- The member, if this is posted as its Leave. This profile.
+-- The member, if this is posted as its Leave.
 abbrev pub left_member : Dispatch → Option Member
 left_member (ToModule letter event) = leaver_of event.body
 left_member (ToDoor direct) = None
 
--- Those whose Leaves are posted are those that leave, in order. This profile.
+-- Those whose Leaves are posted are those that leave, in order.
 pub record EachWhoLeavesIsPosted : Type 0 where
   pub heard : (past : Past) →
       filter_map left_member (unclaimed_at past).posts
@@ -103,7 +103,7 @@ pub record EachWhoLeavesIsPosted : Type 0 where
       filter_map left_member (settled_at past claim).posts
       ≡ map (λ (k : Known). k.member) (settled_at past claim).left
 
--- The verdict of an entry is Ended exactly where the link ends. This profile.
+-- The verdict of an entry is Ended exactly where the link ends.
 abbrev pub is_ended : LinkVerdict → Bool
 is_ended Ended = true
 is_ended _ = false
@@ -113,7 +113,7 @@ EndedWhereItEnds =
     (setup : Setup) (entries : List Entry) (n : ℕ) →
     is_ended (unclaimed_at (past_at setup entries n)).verdict ≡ ends_at entries n
 
--- The link has ended, at its last entry, and at no entry before. This profile.
+-- The link has ended, at its last entry, and at no entry before.
 pub record EndsOnce (entries : List Entry) : Type 0 where
   pub last : ℕ
   pub is_last : suc last ≡ length entries
@@ -125,7 +125,7 @@ is_stop Stop = true
 is_stop _ = false
 
 -- For each served module, what a link that ends once routes there is events without a Stop, and
--- then the link's one Stop. This profile.
+-- then the link's one Stop.
 abbrev pub RouteEndsInOneStop : Type 0
 RouteEndsInOneStop =
     (setup : Setup) (entries : List Entry) (letter : ℕ) → EndsOnce entries →
@@ -133,7 +133,7 @@ RouteEndsInOneStop =
     (before : List Event) × (stop : Event) × (routed setup entries letter ≡ before ++ stop ∷ [])
     × (is_stop stop.body ≡ true) × AllByRecursion (λ event. is_stop event.body ≡ false) before
 
--- All that a link routes carries the link, and goes to served modules alone. This profile.
+-- All that a link routes carries the link, and goes to served modules alone.
 abbrev pub RouteCarriesLink : Type 0
 RouteCarriesLink =
     (setup : Setup) (entries : List Entry) (letter : ℕ) →
@@ -144,8 +144,7 @@ OnlyServedAreRouted =
     (setup : Setup) (entries : List Entry) (letter : ℕ) → serves setup.modules letter ≡ false →
     routed setup entries letter ≡ []
 
--- What a link hears, if it is a datagram, is bytes; and then it says exactly one thing. This
--- profile.
+-- What a link hears, if it is a datagram, is bytes; and then it says exactly one thing.
 abbrev pub HasBytes : Heard → Type 0
 HasBytes (heard.Datagram from at bytes) = IsBytes bytes
 HasBytes _ = Unit {0}
@@ -156,7 +155,6 @@ EachEntrySaysOneThing =
     (notice : Notice) × Says h notice × ((other : Notice) → Says h other → other ≡ notice)
 
 -- The index of the entry, if the event is a packet; and the verdict is a packet for this module.
--- This profile.
 abbrev pub packet_index : Event → Option ℕ
 packet_index event = if is_packet event.body then Some event.tag.index else None
 
@@ -165,7 +163,7 @@ is_packet_for letter (Routed to act.Packet) = to == letter
 is_packet_for letter _ = false
 
 -- The packets for a module are those of the entries whose verdicts say so, in order, each entry
--- once. This profile.
+-- once.
 abbrev pub PacketsAreOfEntries : Type 0
 PacketsAreOfEntries =
     (setup : Setup) (entries : List Entry) (letter : ℕ) →
@@ -174,7 +172,6 @@ PacketsAreOfEntries =
     (range_with_len 0 (length entries))
 
 -- The Join of an entry that asked for this module and has a claim: with its link, index and moment.
--- This profile.
 abbrev pub join_event : Here → Peer → Request → Claim → Event
 join_event here x request claim = record {
   tag = record { link = here.setup.link; index = here.index };
@@ -194,7 +191,7 @@ joins_at setup entries letter n =
     (request_in (notice_at entries n)) (claim_at entries n) else []
 
 -- An entry is Full exactly where it asks for a place and has no claim, and a Join exactly where it
--- asks and has one. This profile.
+-- asks and has one.
 abbrev pub is_full : LinkVerdict → Bool
 is_full Full = true
 is_full _ = false
@@ -211,7 +208,7 @@ pub record AskersJoinOrAreFull : Type 0 where
       is_joining (link_verdict setup entries n)
       ≡ (asks_at (past_at setup entries n) && is_some (claim_at entries n))
 
--- Who asks for a place asks for it in a served module. This profile.
+-- Who asks for a place asks for it in a served module.
 abbrev pub AskersAskForServedModules : Type 0
 AskersAskForServedModules =
     (setup : Setup) (entries : List Entry) (n : ℕ) → asks_at (past_at setup entries n) ≡ true →
@@ -224,14 +221,14 @@ is_join (Join k x callsign listen after) = true
 is_join _ = false
 
 -- The Joins for a module are those of the entries that asked for it and have a claim, in order,
--- each entry once. This profile.
+-- each entry once.
 abbrev pub JoinsAreTheClaims : Type 0
 JoinsAreTheClaims =
     (setup : Setup) (entries : List Entry) (letter : ℕ) →
     filter (λ event. is_join event.body) (routed setup entries letter)
     ≡ flat_map (joins_at setup entries letter) (range_with_len 0 (length entries))
 
--- The Joins of all entries that ask for a place and have a claim, in order. This profile.
+-- The Joins of all entries that ask for a place and have a claim, in order.
 abbrev pub join_by : Here → Notice → Option Request → Option Claim → List Event
 join_by here (Notice.Sent from at p) (Some request) (Some claim) =
     join_event here from request claim ∷ []
@@ -244,7 +241,7 @@ all_joins setup entries = flat_map
     (request_in (notice_at entries n)) (claim_at entries n) else [])
     (range_with_len 0 (length entries))
 
--- The Joins for all served modules together are these, each as often. This profile.
+-- The Joins for all served modules together are these, each as often.
 abbrev pub JoinsOfAllModules : Type 0
 JoinsOfAllModules =
     (setup : Setup) (entries : List Entry) (test : Event → Bool) →
@@ -253,13 +250,13 @@ JoinsOfAllModules =
     (letters_of setup.modules)
     ≡ count_by test (all_joins setup entries)
 
--- Where a link has ended nobody is known. This profile.
+-- Where a link has ended nobody is known.
 abbrev pub NobodyIsKnownBehindTheEnd : Type 0
 NobodyIsKnownBehindTheEnd =
     (setup : Setup) (entries : List Entry) → EndsOnce entries →
     known_at (past_at setup entries (length entries)) ≡ []
 
--- No entry has a claim but one that asks for a place. This profile.
+-- No entry has a claim but one that asks for a place.
 abbrev pub ClaimsAreAsked : Setup → List Entry → Type 0
 ClaimsAreAsked setup entries =
     (n : ℕ) → n < length entries → asks_at (past_at setup entries n) ≡ false →
@@ -275,7 +272,7 @@ left_count setup entries letter test =
     count_by test (filter_map (λ event. leaver_of event.body) (routed setup entries letter))
 
 -- Who has joined a module, as often, has left it or is known in it; so with the end of a link each
--- has left. This profile.
+-- has left.
 pub record WhoJoinsLeaves : Type 0 where
   pub so_far : (setup : Setup) (entries : List Entry) (letter : ℕ) (test : Member → Bool) →
       ClaimsAreAsked setup entries →
@@ -288,7 +285,7 @@ pub record WhoJoinsLeaves : Type 0 where
       joined_count setup entries letter test ≡ left_count setup entries letter test
 
 -- The members that joined by the entries before a position, and those that left by them, each with
--- its peer. This profile.
+-- its peer.
 abbrev pub joined_by : Notice → Option Claim → List Departed
 joined_by (Notice.Sent from at p) (Some claim) =
     record { member = claim.member; peer = from } ∷ []
@@ -308,7 +305,7 @@ abbrev pub is_of_peer : Peer → (Member → Bool) → Departed → Bool
 is_of_peer x test d = is_peer x d.peer && test d.member
 
 -- Who has joined has left, as often, or is known; and where a peer asks for a place, each member
--- that it was has left, the last of them by this entry at the latest. This profile.
+-- that it was has left, the last of them by this entry at the latest.
 pub record PeersComeAndGo : Type 0 where
   pub so_far : (setup : Setup) (entries : List Entry) (n : ℕ) (test : Departed → Bool) →
       ClaimsAreAsked setup entries → n ≤ length entries →
@@ -322,7 +319,7 @@ pub record PeersComeAndGo : Type 0 where
       ≡ count_by (is_of_peer x test)
       (left_before setup entries n ++ map departed_of (unclaimed_at (past_at setup entries n)).left)
 
--- A reply past all modules, if this is one; and all that a link answers so, in order. This profile.
+-- A reply past all modules, if this is one; and all that a link answers so, in order.
 abbrev pub direct_of : Dispatch → Option Direct
 direct_of (ToModule letter event) = None
 direct_of (ToDoor direct) = Some direct
@@ -341,7 +338,7 @@ is_door_reply (Disc None) = true
 is_door_reply _ = false
 
 -- The replies past all modules carry the link, each is a NACK or a DISC of 4 bytes, those for a
--- peer are its direct replies, and one entry more answers behind all before. This profile.
+-- peer are its direct replies, and one entry more answers behind all before.
 pub record DoorCarriesReplies : Type 0 where
   pub link : (setup : Setup) (entries : List Entry) →
       AllByRecursion (λ direct. direct.link ≡ setup.link) (door_replies setup entries)
@@ -353,13 +350,13 @@ pub record DoorCarriesReplies : Type 0 where
       door_replies setup (entries ++ entry ∷ []) ≡ door_replies setup entries
       ++ filter_map direct_of (posts_at setup (entries ++ entry ∷ []) (length entries))
 
--- Peers that their order finds equal are one, and each is equal to itself. This profile.
+-- Peers that their order finds equal are one, and each is equal to itself.
 pub record PeersAreToldApart : Type 0 where
   pub same : (a b : Peer) → is_peer a b ≡ true → a ≡ b
   pub itself : (x : Peer) → is_peer x x ≡ true
 
 -- An entry that asks for a place comes to what it comes to before its claim, and then to what its
--- request comes to by the claim; any other entry to the former alone. This profile.
+-- request comes to by the claim; any other entry to the former alone.
 pub record ClaimsCompleteAskers : Type 0 where
   pub asking : (setup : Setup) (entries : List Entry) (n : ℕ) →
       asks_at (past_at setup entries n) ≡ true → outcome_at setup entries n
@@ -369,7 +366,7 @@ pub record ClaimsCompleteAskers : Type 0 where
       asks_at (past_at setup entries n) ≡ false →
       outcome_at setup entries n ≡ unclaimed_at (past_at setup entries n)
 
--- The member that an event is of, if it is of one. This profile.
+-- The member that an event is of, if it is of one.
 abbrev pub member_of : Body → Option Member
 member_of (Join k x callsign listen after) = Some k
 member_of (Leave k why) = Some k
@@ -378,7 +375,7 @@ member_of (Reply k control) = Some k
 member_of _ = None
 
 -- Each member that an event of a route is of was given by a claim: what is true of the members of
--- all claims is true of it. This profile.
+-- all claims is true of it.
 abbrev pub RouteIsOfClaimed : Type 0
 RouteIsOfClaimed =
     (setup : Setup) (entries : List Entry) (letter : ℕ) (test : Member → Bool) →
@@ -387,7 +384,7 @@ RouteIsOfClaimed =
     (filter_map (λ (event : Event). member_of event.body) (routed setup entries letter))
 
 -- The members of the claims, in order; where claims stand at asking entries alone, they are those
--- that join, in order. This profile.
+-- that join, in order.
 abbrev pub claimed_members : List Entry → List Member
 claimed_members entries = filter_map
     (λ (entry : Entry). option_map (λ (claim : Claim). claim.member) entry.claim) entries
@@ -400,15 +397,14 @@ pub record EachClaimJoins : Type 0 where
       map (λ (d : Departed). d.member) (joined_before setup entries (length entries))
       ≡ claimed_members entries
 
--- Whoever leaves by an entry was known before it: of no kind do more leave than were known. This
--- profile.
+-- Whoever leaves by an entry was known before it: of no kind do more leave than were known.
 abbrev pub LeaversWereKnown : Type 0
 LeaversWereKnown =
     (setup : Setup) (entries : List Entry) (n : ℕ) (test : Departed → Bool) →
     count_by (λ (k : Known). test (departed_of k)) (outcome_at setup entries n).left
     ≤ count_by (λ (k : Known). test (departed_of k)) (known_at (past_at setup entries n))
 
--- Two lists of entries that say the same, each with claims that are given freely. This profile.
+-- Two lists of entries that say the same, each with claims that are given freely.
 pub record AreGivenOtherwise (setup : Setup) (entries others : List Entry) : Type 0 where
   pub same : SayTheSame entries others
   pub first : AreGivenFreely setup entries
@@ -416,7 +412,7 @@ pub record AreGivenOtherwise (setup : Setup) (entries others : List Entry) : Typ
 
 -- Which free places are given changes no verdict, nor who is known, but for the members, nor what
 -- is answered past all modules; and each module is routed the same events, but for the members and
--- for how many departed ones a greeting waits for. This profile.
+-- for how many departed ones a greeting waits for.
 pub record PlacesChangeNoVerdict : Type 0 where
   pub verdicts : (setup : Setup) (entries others : List Entry) →
       AreGivenOtherwise setup entries others → (n : ℕ) → n < length entries →
@@ -434,19 +430,19 @@ pub record PlacesChangeNoVerdict : Type 0 where
       (routed setup others letter)
 
 -- Where places are given freely, who joins a module takes one of the places, and whoever joined the
--- module at it before has left. This profile.
+-- module at it before has left.
 abbrev pub JoinsTakeFreePlaces : Type 0
 JoinsTakeFreePlaces =
     (setup : Setup) (entries : List Entry) (letter : ℕ) → AreGivenFreely setup entries →
     TakeFreePlaces setup.places (routed setup entries letter)
 
--- Each claim is of one of the places. This profile.
+-- Each claim is of one of the places.
 abbrev pub ClaimsArePlaced : Setup → List Entry → Type 0
 ClaimsArePlaced setup entries =
     (n : ℕ) (claim : Claim) → claim_at entries n ≡ Some claim → claim.member.place < setup.places
 
 -- Where an entry asks and as many others are still known as there are places, each place was
--- claimed by an entry before it. This profile.
+-- claimed by an entry before it.
 abbrev pub AllPlacesAreClaimed : Type 0
 AllPlacesAreClaimed =
     (setup : Setup) (entries : List Entry) (n q : ℕ) → ClaimsAreAsked setup entries →
@@ -456,7 +452,7 @@ AllPlacesAreClaimed =
     (i : ℕ) × (claim : Claim) × (i < n) × (claim_at entries i ≡ Some claim)
     × (claim.member.place ≡ q)
 
--- The member was given by a claim, and a later entry's claim is of its place again. This profile.
+-- The member was given by a claim, and a later entry's claim is of its place again.
 pub record IsClaimedAgain (entries : List Entry) (k : Member) : Type 0 where
   pub first : ℕ
   pub second : ℕ
@@ -469,7 +465,7 @@ pub record IsClaimedAgain (entries : List Entry) (k : Member) : Type 0 where
   pub same_place : other.member.place ≡ k.place
 
 -- A Leave that a module is routed stands behind a Join of its member there; and where the member is
--- replaced, its place was claimed again. This profile.
+-- replaced, its place was claimed again.
 abbrev pub LeavesFollowJoins : Type 0
 LeavesFollowJoins =
     (setup : Setup) (entries : List Entry) (letter n : ℕ) (event : Event) (k : Member)

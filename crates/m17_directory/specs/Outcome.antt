@@ -1,4 +1,4 @@
--- What an entry of a link comes to: the table of the directory, for whom is known. This profile.
+-- What an entry of a link comes to: the table of the directory, for whom is known.
 use Rattle.std.specs.Prelude.{◌==◌, ◌&&◌, ℕ, Bool, true, false, not, List, [], ◌∷◌, ◌++◌, map, filter, Option, None, Some, if◌then◌else◌}
 use Rattle.m17_values.specs.declared.peer.Peer.{Peer}
 use Rattle.m17_control.specs.declared.event.Body.{Body}
@@ -19,14 +19,13 @@ use Rattle.m17_directory.specs.declared.verdict.LinkVerdict.TheVariants.{Routed,
 use Rattle.m17_directory.specs.declared.verdict.Act.TheVariants as act
 use Rattle.m17_directory.specs.Entries.{Setup, Claim}
 
--- The entry: its link's setup, its index, and the link's moment at it. This profile.
+-- The entry: its link's setup, its index, and the link's moment at it.
 pub record Here : Type 0 where
   pub setup : Setup
   pub index : ℕ
   pub moment : ℕ
 
 -- What it comes to: its verdict, what is posted, in order, and who of the known leaves, in order.
--- This profile.
 pub record Outcome : Type 0 where
   pub verdict : LinkVerdict
   pub posts : List Dispatch
@@ -71,7 +70,7 @@ is_what request k = k.letter == request.letter && k.callsign == request.callsign
     && (if request.listen then k.listen else not k.listen)
 
 -- A request of one that is known: for a module that is not served, for what it has already, and for
--- anything else. This profile.
+-- anything else.
 abbrev pub known_asks : Here → Known → Request → Outcome
 known_asks here k request =
     if not (serves here.setup.modules request.letter)
@@ -81,14 +80,14 @@ known_asks here k request =
     (to_module here k.letter (body.Reply k.member control.Ackn))
     else leaving here Asks Moved k)
 
--- A request of another peer. This profile.
+-- A request of another peer.
 abbrev pub other_asks : Here → Peer → Request → Outcome
 other_asks here from request =
     if not (serves here.setup.modules request.letter)
     then posting (NotServed request.letter) (to_door here from control.Nack)
     else only Asks
 
--- The packets of one that is known, in the order of the table. This profile.
+-- The packets of one that is known, in the order of the table.
 abbrev pub of_known : Here → Known → Packet → Outcome
 of_known here k (packets.Control (control.Conn from letter)) =
     known_asks here k (record { letter = letter; callsign = from; listen = false })
@@ -105,7 +104,7 @@ of_known here k (packets.Control (control.Disc from)) =
 of_known here k (packets.Control control.Ackn) = only Stray
 of_known here k (packets.Control control.Nack) = only Stray
 
--- The packets of another peer, in the order of the table. This profile.
+-- The packets of another peer, in the order of the table.
 abbrev pub of_other : Here → Peer → Packet → Outcome
 of_other here x (packets.Control (control.Conn from letter)) =
     other_asks here x (record { letter = letter; callsign = from; listen = false })
@@ -120,12 +119,12 @@ of_other here x (packets.Control (control.Disc (Some from))) =
 of_other here x (packets.Control control.Ackn) = only Stray
 of_other here x (packets.Control control.Nack) = only Stray
 
--- A packet, by the row of the peer that sent it, if it is known. This profile.
+-- A packet, by the row of the peer that sent it, if it is known.
 abbrev pub of_packet : Here → Peer → Option Known → Packet → Outcome
 of_packet here from (Some k) p = of_known here k p
 of_packet here from None p = of_other here from p
 
--- The end of the link: all leave, in order of peers, and then each module is told. This profile.
+-- The end of the link: all leave, in order of peers, and then each module is told.
 abbrev pub of_end : Here → List Known → Outcome
 of_end here rows = record {
   verdict = Ended;
@@ -135,7 +134,7 @@ of_end here rows = record {
 
 -- What becomes of a request that was asked, beside the others that are still known: with a claim
 -- the other at its place leaves, if there is one, and the peer joins; without one it is turned
--- away. This profile.
+-- away.
 abbrev pub has_place : ℕ → Known → Bool
 has_place place k = k.member.place == place
 

@@ -1,5 +1,5 @@
 -- What each entry of a link comes to, and what all of them route to each module and answer each
--- peer. This profile.
+-- peer.
 use Rattle.std.specs.Prelude.{◌==◌, ◌/◌, ℕ, zero, suc, ◌-◌, Bool, true, false, not, List, [], ◌∷◌, ◌++◌, length, map, filter, find, nat_lt, nat_le, Option, None, Some, if◌then◌else◌}
 use Rattle.std.specs.List.{filter_map, flat_map, range_with_len}
 use Rattle.m17_values.specs.declared.peer.Peer.{Peer}
@@ -17,8 +17,7 @@ use Rattle.m17_directory.specs.Entries.{Notice, Claim, Entry, Setup, notice_at, 
 use Rattle.m17_directory.specs.Known.{Past, now, known_at, request_in}
 use Rattle.m17_directory.specs.Outcome.{Here, Outcome, only, to_each_module, leave, of_packet, of_end, settled}
 
--- Each served module is told of the time where the link's moment passes a multiple of so many ms.
--- This profile.
+-- Each served module is told of the time where the link's moment passes a multiple of 20 ms.
 abbrev pub tick_ms : ℕ
 tick_ms = 20
 
@@ -35,7 +34,6 @@ abbrev pub is_silent : ℕ → Known → Bool
 is_silent moment k = nat_le silence_ms (moment - k.heard_at)
 
 -- Who of the known is silent at the position, where time goes by there, and who is still known.
--- This profile.
 abbrev pub silent_at : Past → List Known
 silent_at past =
     if passes_time (notice_at past.entries (now past))
@@ -51,7 +49,7 @@ still_at past =
 abbrev pub row_for : Peer → List Known → Option Known
 row_for x rows = find (λ k. is_peer x k.peer) rows
 
--- What the entry itself says comes to. This profile.
+-- What the entry itself says comes to.
 abbrev pub said_at : Past → Notice → Outcome
 said_at past (Notice.Sent from at p) =
     of_packet (here_of past) from (row_for from (still_at past)) p
@@ -69,7 +67,7 @@ ticks_at past =
     then to_each_module (here_of past) body.Tick else []
 
 -- What the entry comes to before a claim: first the silent leave, in order of peers, then come the
--- ticks, and then what it says. This profile.
+-- ticks, and then what it says.
 unfoldable pub unclaimed_at : Past → Outcome
 unclaimed_at past =
     let said = said_at past (notice_at past.entries (now past)) in
@@ -79,7 +77,7 @@ unclaimed_at past =
       left = silent_at past ++ said.left;
     }
 
--- Who is still known at the position but the peer that the entry is from. This profile.
+-- Who is still known at the position but the peer that the entry is from.
 abbrev pub others_than : Notice → List Known → List Known
 others_than (Notice.Sent from at p) rows = filter (λ k. not (is_peer from k.peer)) rows
 others_than _ rows = rows
@@ -88,7 +86,7 @@ unfoldable pub others_at : Past → List Known
 others_at past = others_than (notice_at past.entries (now past)) (still_at past)
 
 -- What its request then comes to by its claim, where it asked: beside the others that are still
--- known. This profile.
+-- known.
 abbrev pub settled_by : Past → Option Claim → Notice → Option Request → Outcome
 settled_by past claim (Notice.Sent from at p) (Some request) =
     settled (here_of past) (others_at past) from request claim
@@ -108,7 +106,7 @@ is_asks _ = false
 abbrev pub asks_at : Past → Bool
 asks_at past = is_asks (unclaimed_at past).verdict
 
--- All that the entry comes to. This profile.
+-- All that the entry comes to.
 abbrev pub both : Outcome → Outcome → Outcome
 both first second = record {
   verdict = second.verdict;
@@ -133,7 +131,7 @@ abbrev pub past_at : Setup → List Entry → ℕ → Past
 past_at setup entries n =
     record { setup = setup; entries = entries; asked = asked_before setup entries n }
 
--- The outcome of position n, with its claim; its verdict; and what it posts. This profile.
+-- The outcome of position n, with its claim; its verdict; and what it posts.
 abbrev pub outcome_at : Setup → List Entry → ℕ → Outcome
 outcome_at setup entries n = comes_to (past_at setup entries n)
 
@@ -143,12 +141,11 @@ link_verdict setup entries n = (outcome_at setup entries n).verdict
 unfoldable pub posts_at : Setup → List Entry → ℕ → List Dispatch
 posts_at setup entries n = (outcome_at setup entries n).posts
 
--- All that the entries post, in order. This profile.
+-- All that the entries post, in order.
 unfoldable pub posted : Setup → List Entry → List Dispatch
 posted setup entries = flat_map (posts_at setup entries) (range_with_len 0 (length entries))
 
--- The event, if it is for the module with this letter; the reply, if it is for this peer. This
--- profile.
+-- The event, if it is for the module with this letter; the reply, if it is for this peer.
 abbrev pub event_for : ℕ → Dispatch → Option Event
 event_for letter (ToModule to event) = if to == letter then Some event else None
 event_for letter (ToDoor direct) = None
@@ -158,7 +155,6 @@ reply_for x (ToModule to event) = None
 reply_for x (ToDoor direct) = if is_peer x direct.peer then Some direct.control else None
 
 -- What the link routes to a module, entry by entry, and what it answers a peer past all modules.
--- This profile.
 unfoldable pub routed : Setup → List Entry → ℕ → List Event
 routed setup entries letter = filter_map (event_for letter) (posted setup entries)
 

@@ -1,9 +1,9 @@
 -- For proofs alone: what the fields of a directory are seen as, and what is true of them.
 use Rattle.std.specs.Prelude.{◌≡◌, ◌≤◌, ◌<◌, false}
-use Rattle.m17_directory.specs.StandsFor.{Kept, IsBounded}
+use Rattle.m17_directory.specs.StandsFor.{DirectoryKept, IsBounded}
 use Rattle.m17_directory.specs.declared.directory.Directory.TheInside.{Inside}
 
-abbrev pub kept_of : Inside → Kept
+abbrev pub kept_of : Inside → DirectoryKept
 kept_of d = record {
   setup = record { link = d.link; name = d.name; places = d.places; modules = d.modules };
   moment = d.moment;

@@ -1,4 +1,4 @@
--- What the table of a directory stands for, out of all that its link heard. This profile.
+-- What the table of a directory stands for, out of all that its link heard.
 use Rattle.std.specs.Prelude.{◌≡◌, ◌==◌, ◌&&◌, ◌||◌, ℕ, zero, suc, ◌+◌, ◌<◌, ◌≤◌, nat_eq, Bool, true, false, not, List, [], ◌∷◌, ◌++◌, length, map, filter, Option, None, Some, if◌then◌else◌}
 use Rattle.std.specs.List.{list_any, AllByRecursion, IsDistinct}
 use Rattle.std.specs.Option.{option_map_or}
@@ -18,8 +18,8 @@ use Rattle.m17_directory.specs.Routed.{past_at, asks_at, unclaimed_at, settled_a
 
 -- What a directory keeps: how it was made, the link's moment, who is known, in order of peers, the
 -- request that waits for a claim, if one does, who has left and was not reported yet, how many
--- faults came last in a row, and whether the link has ended. This profile.
-pub record Kept : Type 0 where
+-- faults came last in a row, and whether the link has ended.
+pub record DirectoryKept : Type 0 where
   pub setup : Setup
   pub moment : ℕ
   pub known : List Known
@@ -34,7 +34,7 @@ faults_before entries zero = 0
 faults_before entries (suc n) =
     if is_fault (notice_at entries n) then suc (faults_before entries n) else 0
 
--- The request is that of the last entry, which asks for a place and has no claim. This profile.
+-- The request is that of the last entry, which asks for a place and has no claim.
 pub record IsAsked (setup : Setup) (entries : List Entry) (asked : Asked) : Type 0 where
   pub last : suc asked.index ≡ length entries
   pub asks : asks_at (past_at setup entries asked.index) ≡ true
@@ -44,8 +44,8 @@ pub record IsAsked (setup : Setup) (entries : List Entry) (asked : Asked) : Type
   pub says : notice_at entries asked.index ≡ Notice.Sent asked.peer at packet
   pub request : request_of packet ≡ Some asked.request
 
--- The directory may have come from these entries. This profile.
-pub record StandsFor (kept : Kept) (entries : List Entry) : Type 0 where
+-- The directory may have come from these entries.
+pub record StandsFor (kept : DirectoryKept) (entries : List Entry) : Type 0 where
   pub moment : kept.moment ≡ moment_before entries (length entries)
   pub known : kept.known ≡ known_at (past_at kept.setup entries (length entries))
   pub asked : (asked : Asked) → kept.asked ≡ Some asked → IsAsked kept.setup entries asked
@@ -57,8 +57,7 @@ most_members = 512
 
 -- What is true of every directory: it knows at most as many peers as there are places, 512 members
 -- are known and departing at most, and the places of those that are known are places, each another.
--- This profile.
-pub record IsBounded (kept : Kept) : Type 0 where
+pub record IsBounded (kept : DirectoryKept) : Type 0 where
   pub known : length kept.known ≤ kept.setup.places
   pub members : length kept.known + length kept.departing ≤ most_members
   pub below : AllByRecursion (λ k. k.member.place < kept.setup.places) kept.known
@@ -88,16 +87,16 @@ pub record Answer : Type 0 where
   pub verdict : LinkVerdict
   pub posts : List Dispatch
 
--- The answer is this outcome, and who left by it is departing. This profile.
-pub record HasOutcome (old new : Kept) (answer : Answer) (outcome : Outcome) : Type 0 where
+-- The answer is this outcome, and who left by it is departing.
+pub record HasOutcome (old new : DirectoryKept) (answer : Answer) (outcome : Outcome) : Type 0 where
   pub verdict : answer.verdict ≡ outcome.verdict
   pub posts : answer.posts ≡ outcome.posts
   pub departing : new.departing ≡ with_left old.departing outcome.left
 
 -- The link heard an entry that says this, behind these: the directory then stands for the list with
 -- it, without a claim; its answer is what the entry comes to; and where it asks, those that are
--- known are the others. This profile.
-pub record IsHeard (old new : Kept) (entries : List Entry) (notice : Notice) (answer : Answer)
+-- known are the others.
+pub record IsHeard (old new : DirectoryKept) (entries : List Entry) (notice : Notice) (answer : Answer)
     : Type 0 where
   pub stands : StandsFor new (entries ++ unclaimed notice ∷ [])
   pub outcome : HasOutcome old new answer
@@ -106,9 +105,8 @@ pub record IsHeard (old new : Kept) (entries : List Entry) (notice : Notice) (an
       ≡ others_at (past_at old.setup (entries ++ unclaimed notice ∷ []) (length entries))
 
 -- The request of the last entry, behind these, was settled by this claim: the directory then stands
--- for the list in which the entry has it, and its answer is what the request comes to. This
--- profile.
-pub record IsSettled (old new : Kept) (entries : List Entry) (entry : Entry) (answer : Answer)
+-- for the list in which the entry has it, and its answer is what the request comes to.
+pub record IsSettled (old new : DirectoryKept) (entries : List Entry) (entry : Entry) (answer : Answer)
     : Type 0 where
   pub stands : StandsFor new (entries ++ entry ∷ [])
   pub outcome : HasOutcome old new answer
@@ -119,8 +117,8 @@ abbrev pub has_departing : Peer → List Departed → Bool
 has_departing x departing = list_any (λ d. is_peer x d.peer) departing
 
 -- A request must wait: one is asked, and its peer has a departing member, or 512 are known and
--- departing. This profile.
-abbrev pub must_wait : Kept → Bool
+-- departing.
+abbrev pub must_wait : DirectoryKept → Bool
 must_wait kept = option_map_or (λ asked. has_departing asked.peer kept.departing
     || (length kept.known + length kept.departing) == most_members) kept.asked false
 

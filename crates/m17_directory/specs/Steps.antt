@@ -41,14 +41,14 @@ abbrev pub IsEarliest : ℕ → List Known → Type 0
 IsEarliest moment [] = Unit {0}
 IsEarliest moment (k ∷ rows) = (moment ≤ k.heard_at) × IsEarliest moment rows
 
--- the rows of a table with room for so many
+-- the rows of a table with room for `capacity` of them
 pub record IsTable (capacity : ℕ) (rows : List Known) (earliest : ℕ) : Type 0 where
   pub room : 256 ≤ capacity
   pub few : length rows ≤ 256
   pub order : IsInOrder rows
   pub first : IsEarliest earliest rows
 
--- so many may be known, and so many known and departing together
+-- at most 256 are known, and at most 512 known and departing together
 pub record AreFew (known : List Known) (departing : List Departed) : Type 0 where
   pub few : length known ≤ 256
   pub together : length known + length departing ≤ most_members

@@ -7,7 +7,7 @@ use m17_values::{Member, NoMemory, Peer};
 use std::alloc::Global;
 use std::marker::Model;
 
-/// How many members may be known and departing together. This profile.
+/// How many members may be known and departing together.
 pub(crate) const MOST_MEMBERS: usize = 512;
 
 // The members that have left, and whose leaving was not reported yet. Contracts see the list.

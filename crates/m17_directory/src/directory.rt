@@ -17,12 +17,11 @@ use m17_values::{Heard, Member, NoMemory};
 use std::alloc::Global;
 use std::marker::Model;
 
-/// A link ends at the last of so many failures of its socket in a row. This profile.
+/// A link ends at the last of so many failures of its socket in a row.
 pub const MOST_FAULTS: u32 = 16;
 
 /// One link's table of the peers that are known, and its departing members: those that have left and whose leaving was
 /// not reported yet. Contracts see what it keeps, and relate that to the list of all that the link heard (`StandsFor`).
-/// This profile.
 #[derive(Debug, Drop)]
 pub struct Directory {
     link: u8,
@@ -36,9 +35,9 @@ pub struct Directory {
 }
 
 impl Model for Directory {
-    ghost use Rattle.m17_directory.specs.StandsFor.{Kept};
+    ghost use Rattle.m17_directory.specs.StandsFor.{DirectoryKept};
 
-    ghost Value = { Kept };
+    ghost Value = { DirectoryKept };
 
     ghost use Rattle.m17_directory.specs.Sound.{kept_of, IsSound};
 
@@ -81,7 +80,7 @@ fn ends_by(h: &Heard, faults: u32) -> bool
 impl Directory {
     /// The directory of a link that has heard nothing: `link` is its number from 0, `name` the reflector's address,
     /// `places` how many places there are, 1 to 256, and `modules` those that are served. It fails only where there is
-    /// no memory. This profile.
+    /// no memory.
     pub fn make(
         alloc: Global,
         link: u8,
@@ -117,7 +116,7 @@ impl Directory {
     /// number of entries heard before. For every list of entries that the directory may have come from, and for what the
     /// entry says, it is what the entry at this position comes to, and the directory then stands for the list with the
     /// entry. After `Asks` the peer's request stands asked, and `settle` says what becomes of it; after `Ended` nothing
-    /// more is heard. This profile.
+    /// more is heard.
     pub fn hear(&mut self, index: u64, h: &Heard, post: &mut Post) -> LinkVerdict
         requires nothing_posted { post.old ≡ [] }
         requires nothing_asked { self.old.asked ≡ None }
@@ -148,7 +147,7 @@ impl Directory {
     }
 
     /// Whether a request is asked that must wait: its peer has a departing member, or known and departing together are
-    /// 512. This profile.
+    /// 512.
     pub fn waits(&self) -> bool
         ensures { result ≡ must_wait self.now }
     {
@@ -159,7 +158,7 @@ impl Directory {
     /// greeted after `after` reported members; another peer that this link knows at the same place leaves first, as
     /// replaced. Without one a NACK goes to the door, and the verdict is `Full`. For every list of entries that the
     /// directory may have come from, it is what the request of the last entry comes to by this claim, and the directory
-    /// then stands for the list in which the entry has the claim. This profile.
+    /// then stands for the list in which the entry has the claim.
     pub fn settle(&mut self, claimed: Option<Member>, after: u64, post: &mut Post) -> LinkVerdict
         requires asked { IsSome self.old.asked }
         requires ready { must_wait self.old ≡ false }
@@ -184,8 +183,7 @@ impl Directory {
     }
 
     /// The member's leaving was reported: it isn't departing any more. Another member is passed over. The directory may
-    /// have come from what it may have come from before, and a request that needs to wait no more goes on so. This
-    /// profile.
+    /// have come from what it may have come from before, and a request that needs to wait no more goes on so.
     pub fn noted(&mut self, m: Member)
         ensures noted { self.new ≡ record {
           setup = self.old.setup;
@@ -204,7 +202,7 @@ impl Directory {
         self.people.noted(m);
     }
 
-    /// How many peers are known, at most as many as there are places. This profile.
+    /// How many peers are known, at most as many as there are places.
     pub fn known(&self) -> u32
         ensures count { result ≡ length self.now.known }
         ensures bounds { IsBounded self.now }
@@ -212,21 +210,21 @@ impl Directory {
         self.people.known() as u32
     }
 
-    /// Whether a member is departing: it has left, and its leaving was not reported yet. This profile.
+    /// Whether a member is departing: it has left, and its leaving was not reported yet.
     pub fn has_departing(&self) -> bool
         ensures { IsTrue result ↔ (0 < length self.now.departing) }
     {
         self.people.has_departing()
     }
 
-    /// Whether a known peer has this place. This profile.
+    /// Whether a known peer has this place.
     pub fn has_place(&self, place: u32) -> bool
         ensures { result ≡ list_any (has_place place) self.now.known }
     {
         self.people.has_place(place)
     }
 
-    /// Whether the link has ended. This profile.
+    /// Whether the link has ended.
     pub fn has_ended(&self) -> bool
         ensures { result ≡ self.now.ended }
     {

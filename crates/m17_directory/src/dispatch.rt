@@ -1,6 +1,6 @@
 use m17_control::{Direct, Event, ModuleLetter};
 
-/// Something that an entry of a link becomes. This profile.
+/// Something that an entry of a link becomes.
 #[derive(Clone, Copy, Debug, PartialEq, Eq)]
 pub enum Dispatch {
     /// An event of the module with this letter.

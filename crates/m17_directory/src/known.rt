@@ -3,7 +3,7 @@ use m17_control::ModuleLetter;
 use m17_values::{Member, Peer};
 
 /// A known peer: which member it is of which module, what it joined as, and the moment at which it was last heard, in
-/// milliseconds. This profile.
+/// milliseconds.
 #[derive(Clone, Copy, Debug, PartialEq, Eq)]
 pub struct Known {
     /// The peer.
@@ -20,7 +20,7 @@ pub struct Known {
     pub heard_at: u64,
 }
 
-/// A member that has left, and whose leaving was not reported yet. This profile.
+/// A member that has left, and whose leaving was not reported yet.
 #[derive(Clone, Copy, Debug, PartialEq, Eq)]
 pub struct Departed {
     /// The member.
@@ -29,7 +29,7 @@ pub struct Departed {
     pub peer: Peer,
 }
 
-/// What a peer asks for by a CONN, or by a LSTN to listen only. This profile.
+/// What a peer asks for by a CONN, or by a LSTN to listen only.
 #[derive(Clone, Copy, Debug, PartialEq, Eq)]
 pub struct Request {
     /// The letter of the module.

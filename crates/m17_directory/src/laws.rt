@@ -1,5 +1,4 @@
-//! What the definitions promise of all that a link may hear. Each function does nothing: its clause is the law. This
-//! profile.
+//! What the definitions promise of all that a link may hear. Each function does nothing: its clause is the law.
 ghost use Rattle.m17_directory.specs.Fits.{OthersFitThePlaces};
 ghost use Rattle.m17_directory.specs.Laws as law;
 
@@ -138,31 +137,30 @@ pub fn leavers_were_known()
 
 /// Where each entry that asks while a place is free gets some free place, and no member is given twice, it doesn't matter
 /// which places are given, nor their generations, nor how many departed members a greeting waits for: each verdict is
-/// the same, and what is answered past all modules, and who is known and what is routed but for the members. This
-/// profile.
+/// the same, and what is answered past all modules, and who is known and what is routed but for the members.
 pub fn members_change_no_verdict()
     ensures { law.PlacesChangeNoVerdict }
 {}
 
-/// Whoever joins a module so takes one of the places, and whoever joined the module at it before has left. This profile.
+/// Whoever joins a module so takes one of the places, and whoever joined the module at it before has left.
 pub fn joins_take_free_places()
     ensures { law.JoinsTakeFreePlaces }
 {}
 
 /// Where an entry asks for a place and as many others are still known as there are places, each place was claimed by an
-/// entry before it. This profile.
+/// entry before it.
 pub fn all_places_are_claimed()
     ensures { law.AllPlacesAreClaimed }
 {}
 
 /// A Leave that a module is routed stands behind a Join of its member there; and where the member is replaced, a later
-/// entry's claim is of its place again. This profile.
+/// entry's claim is of its place again.
 pub fn leaves_follow_joins()
     ensures { law.LeavesFollowJoins }
 {}
 
 /// Where each claim is of a place, and entries that ask have claims alone, no more others are still known to an entry
-/// that asks than there are places. This profile.
+/// that asks than there are places.
 pub fn others_fit_the_places()
     ensures { OthersFitThePlaces }
 {}

@@ -9,10 +9,10 @@ use std::alloc::Global;
 use std::collections::VecDeque;
 use std::marker::Model;
 
-/// How much a post has room for: an entry posts less. This profile.
+/// How much a post has room for: an entry posts less.
 pub const POST_ROOM: usize = 300;
 
-/// What an entry posted and nobody took yet, the oldest first. Contracts see the list. This profile.
+/// What an entry posted and nobody took yet, the oldest first. Contracts see the list.
 #[derive(Debug, Drop)]
 pub struct Post {
     items: VecDeque<Dispatch>,
@@ -31,7 +31,7 @@ impl Model for Post {
 }
 
 impl Post {
-    /// An empty post, with room for 300. It fails only where there is no memory. This profile.
+    /// An empty post, with room for 300. It fails only where there is no memory.
     pub fn make(alloc: Global) -> Result<Post, NoMemory>
         ensures { IfOk result (λ post. post ≡ []) }
     {
@@ -41,14 +41,14 @@ impl Post {
         }
     }
 
-    /// Whether nothing is left in it. This profile.
+    /// Whether nothing is left in it.
     pub fn is_empty(&self) -> bool
         ensures { IsTrue result ↔ (self.now ≡ []) }
     {
         self.items.is_empty()
     }
 
-    /// Takes the first out; none exactly where the post is empty. This profile.
+    /// Takes the first out; none exactly where the post is empty.
     pub fn take(&mut self) -> Option<Dispatch>
         ensures first { self.old ≡ option_to_list result ++ self.new }
         ensures none { IsNone result ↔ (self.old ≡ []) }

@@ -1,6 +1,6 @@
 use m17_control::{ModuleLetter, Refusal};
 
-/// What was routed to a module. This profile.
+/// What was routed to a module.
 #[derive(Clone, Copy, Debug, PartialEq, Eq)]
 pub enum Act {
     /// A peer joined.
@@ -15,7 +15,7 @@ pub enum Act {
     Packet,
 }
 
-/// What an entry of a link became. This profile.
+/// What an entry of a link became.
 #[derive(Clone, Copy, Debug, PartialEq, Eq)]
 pub enum LinkVerdict {
     /// It went to this module.

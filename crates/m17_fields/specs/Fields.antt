@@ -16,7 +16,7 @@ be_48 number = drop 2 (to_be_bytes w64 number)
 abbrev pub be_64 : ℕ → List ℕ
 be_64 number = to_be_bytes w64 number
 
--- the field of so many bytes from this place on
+-- the field of `size` bytes from this place on
 abbrev pub field_at : ℕ → ℕ → List ℕ → List ℕ
 field_at place size bytes = take size (drop place bytes)
 
@@ -24,7 +24,7 @@ field_at place size bytes = take size (drop place bytes)
 abbrev pub IsBytes : List ℕ → Type 0
 IsBytes bytes = All (λ byte. byte < 2 ^ 8) bytes
 
--- Numbers of so many bits and fields of so many bytes give each other: no two numbers have the same bytes, and all
+-- Numbers of `bits` bits and fields of `size` bytes give each other: no two numbers have the same bytes, and all
 -- bytes of that length are those of a number.
 pub record IsExactField (bits size : ℕ) (bytes_of : ℕ → List ℕ) : Type 0 where
   pub one_number : (a b : ℕ) → a < 2 ^ bits → b < 2 ^ bits → bytes_of a ≡ bytes_of b → a ≡ b

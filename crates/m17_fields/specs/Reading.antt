@@ -1,4 +1,4 @@
--- What bytes are to a reader that is exact: one value, or one refusal, and not both. This profile.
+-- What bytes are to a reader that is exact: one value, or one refusal, and not both.
 use Rattle.std.specs.Prelude.{◌≡◌, ◌⊎◌, ℕ, List}
 
 module _ {Value Reason : Type 0} where

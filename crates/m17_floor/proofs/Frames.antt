@@ -15,7 +15,7 @@ use Rattle.m17_floor.specs.Floor.{Past, was_admitted, joined, is_in_since, frame
 use Rattle.m17_floor.specs.StandsFor.{packet_act}
 use Rattle.m17_lookup.proofs.LastBelow.{last_below_suc, last_below_same, last_below_none, last_below_lt, and_then_same}
 use Rattle.m17_floor.proofs.Members.{is_same_self}
-use Rattle.m17_floor.proofs.OneMore.{grown, IsWhole, kind_end, length_more, moment_of, moment_end, was_before, was_end, last_admitted_more, since_more}
+use Rattle.m17_floor.proofs.OneMore.{grown, IsWhole, kind_end, length_more, moment_there, moment_end, was_before, was_end, last_admitted_more, since_more}
 use Rattle.m17_floor.proofs.Prefix.{kind_before, moment_at_same, joined_lt}
 
 -- the act doesn't decide whether the frame's sender is in
@@ -61,7 +61,7 @@ floor_kept past act len =
     ap (option_and_then (stayed_at (grown past act false))) (last_admitted_more past act false len)
     ∙ and_then_only_if (leaves_in act.kind) (last_admitted past) _ _ (λ a e. stayed_before past act false a (last_below_lt (was_admitted past) (length past.acts) a e))
 
-pub frame_end : (acts : List Act) (moment : ℕ) (k : Member) (p : StreamPacket) → frame_at (with_act acts (packet_act moment k p)) (length acts) ≡ Some (frame_from (incoming k (moment_of acts moment) p))
+pub frame_end : (acts : List Act) (moment : ℕ) (k : Member) (p : StreamPacket) → frame_at (with_act acts (packet_act moment k p)) (length acts) ≡ Some (frame_from (incoming k (moment_there acts moment) p))
 frame_end acts moment k p =
     let act : Act = packet_act moment k p in
     ap (λ kind. frame_of kind (moment_at (with_act acts act) (length acts))) (kind_end acts act)
@@ -74,7 +74,7 @@ in_since_end past k j e =
     ∙ lt-ltb j (length past.acts) (joined_lt past.places past.acts k (length past.acts) j e)
 
 -- An admitted packet of one that is in becomes the floor's frame.
-pub floor_admitted : (past : Past) (moment : ℕ) (k : Member) (p : StreamPacket) (j : ℕ) → IsWhole past → joined past k ≡ Some j → floor_frame (grown past (packet_act moment k p) true) ≡ Some (frame_from (incoming k (moment_of past.acts moment) p))
+pub floor_admitted : (past : Past) (moment : ℕ) (k : Member) (p : StreamPacket) (j : ℕ) → IsWhole past → joined past k ≡ Some j → floor_frame (grown past (packet_act moment k p) true) ≡ Some (frame_from (incoming k (moment_there past.acts moment) p))
 unfolding floor_frame
 floor_admitted past moment k p j len e =
     let n : ℕ = length past.acts in
@@ -133,7 +133,7 @@ own_kept past act b k len s r =
     ∙ and_then_same (last_own past k) _ _ (λ a e. frame_before past.acts act a (last_below_lt (own_test past k) n a e))
 
 -- An admitted packet of one that is in becomes its sender's own frame.
-pub own_admitted : (past : Past) (moment : ℕ) (k : Member) (p : StreamPacket) (j : ℕ) → IsWhole past → joined past k ≡ Some j → own_frame (grown past (packet_act moment k p) true) k ≡ Some (frame_from (incoming k (moment_of past.acts moment) p))
+pub own_admitted : (past : Past) (moment : ℕ) (k : Member) (p : StreamPacket) (j : ℕ) → IsWhole past → joined past k ≡ Some j → own_frame (grown past (packet_act moment k p) true) k ≡ Some (frame_from (incoming k (moment_there past.acts moment) p))
 unfolding own_frame
 own_admitted past moment k p j len e =
     let n : ℕ = length past.acts in

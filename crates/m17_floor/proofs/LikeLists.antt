@@ -15,7 +15,7 @@ use Rattle.m17_floor.proofs.Frames.{leaves_in, floor_admitted, own_admitted}
 use Rattle.m17_floor.proofs.InRule.{only_if_all, after_stranger, after_listener, after_speaker}
 use Rattle.m17_floor.proofs.Members.{same_from_is_same}
 use Rattle.m17_floor.proofs.NoPacket.{no_floor_frame, no_own_frame}
-use Rattle.m17_floor.proofs.OneMore.{grown, whole, moment_of, kind_end, membership_more, admits_last, past_more, verdict_end}
+use Rattle.m17_floor.proofs.OneMore.{grown, whole, moment_there, kind_end, membership_more, admits_last, past_more, verdict_end}
 use Rattle.m17_floor.proofs.Prefix.{kind_before, joined_lt}
 use Rattle.m17_floor.proofs.Standing.{floor_more, own_more_settled, own_more_kept, no_packet_admitted}
 
@@ -90,7 +90,7 @@ pub verdict_left : (places : ℕ) (acts : List Act) (at : ℕ) (k : Member) (p :
 unfolding verdict_given stay_of
 verdict_left places acts at k p =
     verdict_end places acts (packet_act at k p)
-    ∙ ap Some (verdict_of_join (past_of places acts) (incoming k (moment_of acts at) p) (its_join places acts k) refl)
+    ∙ ap Some (verdict_of_join (past_of places acts) (incoming k (moment_there acts at) p) (its_join places acts k) refl)
 
 nobody_yet : (o : Option ℕ) → ((j : ℕ) → o ≡ Some j → j < 0) → option_map (listens_at []) o ≡ None
 nobody_yet None h = refl
@@ -213,14 +213,14 @@ heard_is_in (Some j) f floor own new e = (j, refl)
 
 -- what is left behind by an admitted packet
 record Heard (places : ℕ) (acts : List Act) (at : ℕ) (k : Member) (p : StreamPacket) : Type 0 where
-  floor : floor_frame (past_of places (with_act acts (packet_act at k p))) ≡ Some (frame_from (incoming k (moment_of acts at) p))
-  owns : (x : Member) → own_frame (past_of places (with_act acts (packet_act at k p))) x ≡ cond (is_same k x) (Some (frame_from (incoming k (moment_of acts at) p))) (own_frame (past_of places acts) x)
+  floor : floor_frame (past_of places (with_act acts (packet_act at k p))) ≡ Some (frame_from (incoming k (moment_there acts at) p))
+  owns : (x : Member) → own_frame (past_of places (with_act acts (packet_act at k p))) x ≡ cond (is_same k x) (Some (frame_from (incoming k (moment_there acts at) p))) (own_frame (past_of places acts) x)
 
 heard : (places : ℕ) (acts : List Act) (at : ℕ) (k : Member) (p : StreamPacket) (j : ℕ) → its_join places acts k ≡ Some j → admits_last places acts (packet_act at k p) ≡ true → Heard places acts at k p
 heard places acts at k p j is_in admitted =
     let act : Act = packet_act at k p in
     let past : Past = past_of places acts in
-    let frame : Option Frame = Some (frame_from (incoming k (moment_of acts at) p)) in
+    let frame : Option Frame = Some (frame_from (incoming k (moment_there acts at) p)) in
     let longer : past_of places (with_act acts act) ≡ grown past act true = past_more places acts act ∙ ap (grown past act) admitted in
     let mine : own_frame (past_of places (with_act acts act)) k ≡ frame = ap (λ x. own_frame x k) longer ∙ own_admitted past at k p j (whole places acts) is_in in
     record {
@@ -231,30 +231,30 @@ heard places acts at k p j is_in admitted =
       ];
     }
 
-verdicts_alike : (places : ℕ) (acts : List Act) (other_places : ℕ) (others : List Act) (at later : ℕ) (k : Member) (p : StreamPacket) → moment_of acts at ≡ moment_of others later → LeaveTheSame places acts other_places others → verdict_at places (with_act acts (packet_act at k p)) (length acts) ≡ verdict_at other_places (with_act others (packet_act later k p)) (length others)
+verdicts_alike : (places : ℕ) (acts : List Act) (other_places : ℕ) (others : List Act) (at later : ℕ) (k : Member) (p : StreamPacket) → moment_there acts at ≡ moment_there others later → LeaveTheSame places acts other_places others → verdict_at places (with_act acts (packet_act at k p)) (length acts) ≡ verdict_at other_places (with_act others (packet_act later k p)) (length others)
 verdicts_alike places acts other_places others at later k p now same =
     verdict_left places acts at k p
-    ∙ ap (λ stay. Some (verdict_by_stay stay (floor_frame (past_of places acts)) (own_frame (past_of places acts) k) (incoming k (moment_of acts at) p))) (same.stays k)
-    ∙ ap (λ floor. Some (verdict_by_stay (stay_of other_places others k) floor (own_frame (past_of places acts) k) (incoming k (moment_of acts at) p))) same.floor
-    ∙ ap (λ own. Some (verdict_by_stay (stay_of other_places others k) (floor_frame (past_of other_places others)) own (incoming k (moment_of acts at) p))) (same.owns k)
+    ∙ ap (λ stay. Some (verdict_by_stay stay (floor_frame (past_of places acts)) (own_frame (past_of places acts) k) (incoming k (moment_there acts at) p))) (same.stays k)
+    ∙ ap (λ floor. Some (verdict_by_stay (stay_of other_places others k) floor (own_frame (past_of places acts) k) (incoming k (moment_there acts at) p))) same.floor
+    ∙ ap (λ own. Some (verdict_by_stay (stay_of other_places others k) (floor_frame (past_of other_places others)) own (incoming k (moment_there acts at) p))) (same.owns k)
     ∙ ap (λ x. Some (verdict_by_stay (stay_of other_places others k) (floor_frame (past_of other_places others)) (own_frame (past_of other_places others) k) (incoming k x p))) now
     ∙ sym (verdict_left other_places others later k p)
 
 -- an admitted packet's sender is in
 admitted_join : (places : ℕ) (acts : List Act) (at : ℕ) (k : Member) (p : StreamPacket) → admits_last places acts (packet_act at k p) ≡ true → (j : ℕ) × (its_join places acts k ≡ Some j)
 unfolding stay_of
-admitted_join places acts at k p a = heard_is_in (its_join places acts k) (listens_at acts) (floor_frame (past_of places acts)) (own_frame (past_of places acts) k) (incoming k (moment_of acts at) p) (ap admits (sym (verdict_left places acts at k p)) ∙ a)
+admitted_join places acts at k p a = heard_is_in (its_join places acts k) (listens_at acts) (floor_frame (past_of places acts)) (own_frame (past_of places acts) k) (incoming k (moment_there acts at) p) (ap admits (sym (verdict_left places acts at k p)) ∙ a)
 
-heard_alike : (places : ℕ) (acts : List Act) (other_places : ℕ) (others : List Act) (at later : ℕ) (k : Member) (p : StreamPacket) → moment_of acts at ≡ moment_of others later → LeaveTheSame places acts other_places others → admits_last places acts (packet_act at k p) ≡ true → admits_last other_places others (packet_act later k p) ≡ true → LeaveTheSame places (with_act acts (packet_act at k p)) other_places (with_act others (packet_act later k p))
+heard_alike : (places : ℕ) (acts : List Act) (other_places : ℕ) (others : List Act) (at later : ℕ) (k : Member) (p : StreamPacket) → moment_there acts at ≡ moment_there others later → LeaveTheSame places acts other_places others → admits_last places acts (packet_act at k p) ≡ true → admits_last other_places others (packet_act later k p) ≡ true → LeaveTheSame places (with_act acts (packet_act at k p)) other_places (with_act others (packet_act later k p))
 heard_alike places acts other_places others at later k p now same a b =
     let one = admitted_join places acts at k p a in
     let other = admitted_join other_places others later k p b in
     let mine : Heard places acts at k p = heard places acts at k p one.0 one.1 a in
     let its : Heard other_places others later k p = heard other_places others later k p other.0 other.1 b in
-    let frame : Some (frame_from (incoming k (moment_of acts at) p)) ≡ Some (frame_from (incoming k (moment_of others later) p)) = ap (λ x. Some (frame_from (incoming k x p))) now in
+    let frame : Some (frame_from (incoming k (moment_there acts at) p)) ≡ Some (frame_from (incoming k (moment_there others later) p)) = ap (λ x. Some (frame_from (incoming k x p))) now in
     record {
       stays = λ x. stay_by_kind places acts at (Packet k p) x ∙ same.stays x ∙ sym (stay_by_kind other_places others later (Packet k p) x);
-      owns = λ x. mine.owns x ∙ ap (λ f. cond (is_same k x) f (own_frame (past_of places acts) x)) frame ∙ ap (λ f. cond (is_same k x) (Some (frame_from (incoming k (moment_of others later) p))) f) (same.owns x) ∙ sym (its.owns x);
+      owns = λ x. mine.owns x ∙ ap (λ f. cond (is_same k x) f (own_frame (past_of places acts) x)) frame ∙ ap (λ f. cond (is_same k x) (Some (frame_from (incoming k (moment_there others later) p))) f) (same.owns x) ∙ sym (its.owns x);
       floor = mine.floor ∙ frame ∙ sym its.floor;
     }
 
@@ -272,7 +272,7 @@ refused_alike places acts other_places others at later k p same a b = record {
   floor = refused_floor places acts at k p a ∙ same.floor ∙ sym (refused_floor other_places others later k p b);
 }
 
-pub packets_alike : (places : ℕ) (acts : List Act) (other_places : ℕ) (others : List Act) (at later : ℕ) (k : Member) (p : StreamPacket) → moment_of acts at ≡ moment_of others later → LeaveTheSame places acts other_places others →
+pub packets_alike : (places : ℕ) (acts : List Act) (other_places : ℕ) (others : List Act) (at later : ℕ) (k : Member) (p : StreamPacket) → moment_there acts at ≡ moment_there others later → LeaveTheSame places acts other_places others →
     LeaveTheSame places (with_act acts (packet_act at k p)) other_places (with_act others (packet_act later k p))
     × (verdict_at places (with_act acts (packet_act at k p)) (length acts) ≡ verdict_at other_places (with_act others (packet_act later k p)) (length others))
 packets_alike places acts other_places others at later k p now same =

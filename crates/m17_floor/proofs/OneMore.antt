@@ -27,10 +27,10 @@ pub kind_end : (acts : List Act) (act : Act) → kind_at (with_act acts act) (le
 kind_end acts act = ap kind_or_other (slice_get_end acts act)
 
 -- the moment of the new act, as it is counted
-abbrev pub moment_of : List Act → ℕ → ℕ
-moment_of acts moment = max (moment_before acts (length acts)) moment
+abbrev pub moment_there : List Act → ℕ → ℕ
+moment_there acts moment = max (moment_before acts (length acts)) moment
 
-pub moment_end : (acts : List Act) (act : Act) → moment_at (with_act acts act) (length acts) ≡ moment_of acts act.at
+pub moment_end : (acts : List Act) (act : Act) → moment_at (with_act acts act) (length acts) ≡ moment_there acts act.at
 moment_end acts act =
     let l : length (with_act acts act) ≤ suc (length acts) = omega (arith, length_more acts act) in
     let whole : take (suc (length acts)) (with_act acts act) ≡ with_act acts act = take_all _ _ l in
@@ -40,7 +40,7 @@ moment_end acts act =
     ∙ fold-append max 0 (map (λ (a : Act). a.at) acts) (act.at ∷ [])
     ∙ ap (λ front. max (greatest_moment front) act.at) (sym old))
 
-pub moment_after : (acts : List Act) (act : Act) → moment_before (with_act acts act) (length (with_act acts act)) ≡ moment_of acts act.at
+pub moment_after : (acts : List Act) (act : Act) → moment_before (with_act acts act) (length (with_act acts act)) ≡ moment_there acts act.at
 moment_after acts act = ap (moment_before (with_act acts act)) (length_more acts act) ∙ moment_end acts act
 
 swap_cond : (l j : Bool) (n : ℕ) → cond l (cond j (Some n) None) None ≡ cond (j && l) (Some n) None
@@ -122,14 +122,14 @@ past_end places acts more =
     past_at_same places acts more (length acts) (omega arith)
     ∙ ap with_acts (take_all (length acts) acts (omega arith))
 
-pub verdict_end : (places : ℕ) (acts : List Act) (act : Act) → verdict_at places (with_act acts act) (length acts) ≡ verdict_given (past_of places acts) (moment_of acts act.at) act.kind
+pub verdict_end : (places : ℕ) (acts : List Act) (act : Act) → verdict_at places (with_act acts act) (length acts) ≡ verdict_given (past_of places acts) (moment_there acts act.at) act.kind
 unfolding verdict_at
 verdict_end places acts act =
     let longer : List Act = with_act acts act in
     let n : ℕ = length acts in
     ap (λ p. verdict_given p (moment_at longer n) (kind_at longer n)) (past_end places acts (act ∷ []))
     ∙ ap (λ at. verdict_given (past_of places acts) at (kind_at longer n)) (moment_end acts act)
-    ∙ ap (verdict_given (past_of places acts) (moment_of acts act.at)) (kind_end acts act)
+    ∙ ap (verdict_given (past_of places acts) (moment_there acts act.at)) (kind_end acts act)
 
 pub bit_before : (xs : List Bool) (b : Bool) (m : ℕ) → m < length xs → unwrap_or (slice_get (xs ++ b ∷ []) m) false ≡ unwrap_or (slice_get xs m) false
 bit_before xs b m h = ap (λ o. unwrap_or o false) (slice_get_before xs (b ∷ []) m h)

@@ -13,7 +13,7 @@ use Rattle.m17_floor.specs.StandsFor.{past_of, FloorStandsFor, OwnStandsFor, May
 use Rattle.m17_floor.proofs.Frames.{leaves_in, floor_kept, floor_admitted, own_settled, own_kept, own_admitted}
 use Rattle.m17_floor.proofs.InRule.{floor_is_in, own_out, only_if_all, after_stranger, after_listener, after_speaker, none_given}
 use Rattle.m17_floor.proofs.Members.{same_from_is_same}
-use Rattle.m17_floor.proofs.OneMore.{grown, whole, moment_of, membership_more, admits_last, past_more, verdict_end}
+use Rattle.m17_floor.proofs.OneMore.{grown, whole, moment_there, membership_more, admits_last, past_more, verdict_end}
 use Rattle.m17_floor.proofs.Prefix.{kind_before, joined_lt}
 
 -- The floor's frame after an act that isn't admitted.
@@ -51,7 +51,7 @@ member_kept places acts act k s r = record {
 }
 
 pub no_packet_admitted : (places : ℕ) (acts : List Act) (act : Act) → is_packet act.kind ≡ false → admits_last places acts act ≡ false
-no_packet_admitted places acts act h = ap admits (verdict_end places acts act ∙ none_given (past_of places acts) (moment_of acts act.at) act.kind h)
+no_packet_admitted places acts act h = ap admits (verdict_end places acts act ∙ none_given (past_of places acts) (moment_there acts act.at) act.kind h)
 
 -- the floor stays where the act decides of nobody that is in
 pub floor_same : (places : ℕ) (acts : List Act) (act : Act) → admits_last places acts act ≡ false → ((k : Member) → settles k act.kind ≡ true → joined_at places acts k (length acts) ≡ None) → floor_frame (past_of places (with_act acts act)) ≡ floor_frame (past_of places acts)
@@ -93,11 +93,11 @@ other_keeps places acts act e =
     settles_nobody places acts act (no_packet_admitted places acts act (ap is_packet e)) (λ k. ap (settles k) e)
 
 -- a packet of one that may not speak
-unheard : (places : ℕ) (acts : List Act) (at : ℕ) (k : Member) (p : StreamPacket) (o : Option ℕ) → joined_at places acts k (length acts) ≡ o → (MaySpeak places acts k → ⊥) → admits (Some (verdict_after (past_of places acts) (incoming k (moment_of acts at) p))) ≡ false
-unheard places acts at k p None e silent = ap (λ v. admits (Some v)) (after_stranger (past_of places acts) (incoming k (moment_of acts at) p) e)
+unheard : (places : ℕ) (acts : List Act) (at : ℕ) (k : Member) (p : StreamPacket) (o : Option ℕ) → joined_at places acts k (length acts) ≡ o → (MaySpeak places acts k → ⊥) → admits (Some (verdict_after (past_of places acts) (incoming k (moment_there acts at) p))) ≡ false
+unheard places acts at k p None e silent = ap (λ v. admits (Some v)) (after_stranger (past_of places acts) (incoming k (moment_there acts at) p) e)
 unheard places acts at k p (Some j) e silent =
     elim (cases_Bool (listens (kind_at acts j))) [
-      | inl h ↦ ap (λ v. admits (Some v)) (after_listener (past_of places acts) (incoming k (moment_of acts at) p) j e h)
+      | inl h ↦ ap (λ v. admits (Some v)) (after_listener (past_of places acts) (incoming k (moment_there acts at) p) j e h)
       | inr h ↦ absurd (silent (j, e, h))
     ]
 
@@ -151,21 +151,21 @@ other_own_kept places acts at sender p k ne =
 
 -- The verdict on a new packet of one that may speak, beside the two frames that are kept.
 verdict_kept : (places : ℕ) (acts : List Act) (moment : ℕ) (k : Member) (p : StreamPacket) (floor own : Option Frame) (at : ℕ) (verdict : Verdict) →
-    FloorStandsFor places acts floor → OwnStandsFor places acts k own → MaySpeak places acts k → at ≡ moment_of acts moment → verdict ≡ verdict_by_frames floor own (incoming k at p) →
+    FloorStandsFor places acts floor → OwnStandsFor places acts k own → MaySpeak places acts k → at ≡ moment_there acts moment → verdict ≡ verdict_by_frames floor own (incoming k at p) →
     verdict_at places (with_act acts (packet_act moment k p)) (length acts) ≡ Some verdict
 unfolding verdict_given
 verdict_kept places acts moment k p floor own at verdict f o s t v =
     let past : Past = past_of places acts in
     verdict_end places acts (packet_act moment k p)
     ∙ ap Some
-    (after_speaker past (incoming k (moment_of acts moment) p) s.0 s.1 s.2
-    ∙ ap (λ x. verdict_by_frames x (own_frame past k) (incoming k (moment_of acts moment) p)) (sym f)
-    ∙ ap (λ x. verdict_by_frames floor x (incoming k (moment_of acts moment) p)) (sym o)
+    (after_speaker past (incoming k (moment_there acts moment) p) s.0 s.1 s.2
+    ∙ ap (λ x. verdict_by_frames x (own_frame past k) (incoming k (moment_there acts moment) p)) (sym f)
+    ∙ ap (λ x. verdict_by_frames floor x (incoming k (moment_there acts moment) p)) (sym o)
     ∙ ap (λ x. verdict_by_frames floor own (incoming k x p)) (sym t)
     ∙ sym v)
 
 pub judged_admitted : (places : ℕ) (acts : List Act) (moment : ℕ) (k : Member) (p : StreamPacket) (floor own : Option Frame) (at : ℕ) (verdict : Verdict) →
-    FloorStandsFor places acts floor → OwnStandsFor places acts k own → MaySpeak places acts k → at ≡ moment_of acts moment → verdict ≡ verdict_by_frames floor own (incoming k at p) → admits (Some verdict) ≡ true →
+    FloorStandsFor places acts floor → OwnStandsFor places acts k own → MaySpeak places acts k → at ≡ moment_there acts moment → verdict ≡ verdict_by_frames floor own (incoming k at p) → admits (Some verdict) ≡ true →
     IsJudged places acts (packet_act moment k p) k verdict (Some (frame_from (incoming k at p))) (Some (frame_from (incoming k at p)))
 judged_admitted places acts moment k p floor own at verdict f o s t v a =
     let act : Act = packet_act moment k p in
@@ -173,7 +173,7 @@ judged_admitted places acts moment k p floor own at verdict f o s t v a =
     let is : verdict_at places (with_act acts act) (length acts) ≡ Some verdict = verdict_kept places acts moment k p floor own at verdict f o s t v in
     let admitted : admits_last places acts act ≡ true = ap admits is ∙ a in
     let longer : past_of places (with_act acts act) ≡ grown past act true = past_more places acts act ∙ ap (grown past act) admitted in
-    let frame : Some (frame_from (incoming k at p)) ≡ Some (frame_from (incoming k (moment_of acts moment) p)) = ap (λ x. Some (frame_from (incoming k x p))) t in
+    let frame : Some (frame_from (incoming k at p)) ≡ Some (frame_from (incoming k (moment_there acts moment) p)) = ap (λ x. Some (frame_from (incoming k x p))) t in
     record {
       verdict_is = is;
       floor_stands = frame ∙ sym (ap floor_frame longer ∙ floor_admitted past moment k p s.0 (whole places acts) s.1);
@@ -184,7 +184,7 @@ judged_admitted places acts moment k p floor own at verdict f o s t v a =
     }
 
 pub judged_refused : (places : ℕ) (acts : List Act) (moment : ℕ) (k : Member) (p : StreamPacket) (floor own : Option Frame) (at : ℕ) (verdict : Verdict) →
-    FloorStandsFor places acts floor → OwnStandsFor places acts k own → MaySpeak places acts k → at ≡ moment_of acts moment → verdict ≡ verdict_by_frames floor own (incoming k at p) → admits (Some verdict) ≡ false →
+    FloorStandsFor places acts floor → OwnStandsFor places acts k own → MaySpeak places acts k → at ≡ moment_there acts moment → verdict ≡ verdict_by_frames floor own (incoming k at p) → admits (Some verdict) ≡ false →
     IsJudged places acts (packet_act moment k p) k verdict floor own
 judged_refused places acts moment k p floor own at verdict f o s t v a =
     let act : Act = packet_act moment k p in

@@ -1,5 +1,5 @@
 -- What a list of acts leaves behind for the acts to come: of each member whether it is in, and its own last frame; and
--- the floor's. Lists that leave the same go on alike. This profile.
+-- the floor's. Lists that leave the same go on alike.
 use Rattle.std.specs.Prelude.{◌≡◌, ◌≢◌, ◌==◌, ◌&&◌, ℕ, ◌-◌, ◌<◌, Bool, true, false, max, List, length, nat_lt, Option, None, Some, IsSome, option_map, if◌then◌else◌}
 use Rattle.m17_values.specs.declared.member.Member.{Member}
 use Rattle.m17_stream.specs.declared.packet.StreamPacket.{StreamPacket}
@@ -45,7 +45,7 @@ pub record LeaveTheSame (places : ℕ) (acts : List Act) (other_places : ℕ) (o
       own_frame (past_of places acts) k ≡ own_frame (past_of other_places others) k
   pub floor : floor_frame (past_of places acts) ≡ floor_frame (past_of other_places others)
 
--- The verdict on a packet that comes after these acts, in a module of so many places, by what they leave behind.
+-- The verdict on a packet that comes after these acts, in a module of `places` places, by what they leave behind.
 abbrev pub verdict_then : ℕ → List Act → ℕ → Member → StreamPacket → Verdict
 verdict_then places acts at k p =
     verdict_by_stay (stay_of places acts k) (floor_frame (past_of places acts))

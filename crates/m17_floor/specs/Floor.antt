@@ -1,5 +1,5 @@
 -- The floor rule at each position of the list of all acts. The two frames that matter are looked up
--- in the acts before the position, and the rest is the rule beside them. This profile.
+-- in the acts before the position, and the rest is the rule beside them.
 use Rattle.std.specs.Prelude.{◌&&◌, ℕ, zero, suc, Bool, true, false, List, [], ◌∷◌, ◌++◌, length, take, slice_get, count_by, nat_lt, Option, None, Some, IsTrue, unwrap_or, option_and_then, if◌then◌else◌}
 use Rattle.std.specs.Option.{option_map_or}
 use Rattle.m17_values.specs.declared.member.Member.{Member}
@@ -119,7 +119,7 @@ admitted_before places acts (suc n) =
 abbrev pub past_at : ℕ → List Act → ℕ → Past
 past_at places acts n = past_with places acts n (admitted_before places acts n)
 
--- The verdict at position n, in a module of so many places: none but for a packet.
+-- The verdict at position n, in a module of `places` places: none but for a packet.
 unfoldable pub verdict_at : ℕ → List Act → ℕ → Option Verdict
 verdict_at places acts n =
     verdict_given (past_at places acts n) (moment_at acts n) (kind_at acts n)

@@ -1,5 +1,5 @@
 -- What follows from the floor rule for every list of acts, and what one act more makes of what is
--- looked up. This profile.
+-- looked up.
 use Rattle.std.specs.Prelude.{◌≡◌, ◌≢◌, ◌+◌, ℕ, ◌<◌, ◌≤◌, ◌⊎◌, ◌&&◌, Bool, true, false, List, [], ◌++◌, length, max, nat_lt, Option, None, Some, is_none, if◌then◌else◌}
 use Rattle.m17_values.specs.declared.member.Member.{Member}
 use Rattle.m17_stream.specs.declared.packet.StreamPacket.{StreamPacket}

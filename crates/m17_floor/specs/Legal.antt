@@ -1,5 +1,5 @@
 -- Which books are legal: what a book keeps, act by act, held against the floor rule over all of it. Positions count
--- from 0. This profile.
+-- from 0.
 use Rattle.std.specs.Prelude.{◌≡◌, ◌≢◌, ℕ, ◌-◌, ◌<◌, List, length, map, slice_get, Option}
 use Rattle.std.specs.Option.{option_and_then, option_map_or}
 use Rattle.m17_values.specs.declared.member.Member.{Member}
@@ -17,7 +17,7 @@ pub record KeptAct : Type 0 where
   pub act : Act
   pub verdict : Option Verdict
 
--- a book can name so many places
+-- a book can name 256 places
 abbrev pub book_places : ℕ
 book_places = 256
 
@@ -51,13 +51,13 @@ HasOtherVerdict kept n (Packet k p) =
     verdict_written kept n ≢ verdict_at book_places (acts_in kept) n
 HasOtherVerdict kept n _ = ⊥
 
--- Position n breaks the rule. This profile.
+-- Position n breaks the rule.
 abbrev pub HasBreach : List KeptAct → ℕ → Rule → Type 0
 HasBreach kept n rules.Moment = FallsBehind (acts_in kept) n
 HasBreach kept n rules.Member = BreaksMembership (acts_in kept) n (kind_at (acts_in kept) n)
 HasBreach kept n rules.Verdict = HasOtherVerdict kept n (kind_at (acts_in kept) n)
 
--- No position breaks a rule. This profile.
+-- No position breaks a rule.
 abbrev pub IsLegal : List KeptAct → Type 0
 IsLegal kept = (n : ℕ) (rule : Rule) → ¬ HasBreach kept n rule
 
@@ -67,7 +67,7 @@ turn_of rules.Moment = 0
 turn_of rules.Member = 1
 turn_of rules.Verdict = 2
 
--- Position n breaks the rule, no earlier position breaks any, and n none that is tried before. This profile.
+-- Position n breaks the rule, no earlier position breaks any, and n none that is tried before.
 pub record IsFirstBreach (kept : List KeptAct) (n : ℕ) (rule : Rule) : Type 0 where
   pub breach : HasBreach kept n rule
   pub none_before : (m : ℕ) (other : Rule) → m < n → ¬ HasBreach kept m other

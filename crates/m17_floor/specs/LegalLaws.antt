@@ -1,4 +1,4 @@
--- What follows for books, act by act. This profile.
+-- What follows for books, act by act.
 use Rattle.std.specs.Prelude.{◌≡◌, ◌↔◌, ℕ, ◌<◌, Bool, max, List, [], ◌∷◌, ◌++◌, length, None, Some}
 use Rattle.m17_values.specs.declared.member.Member.{Member}
 use Rattle.m17_stream.specs.declared.packet.StreamPacket.{StreamPacket}

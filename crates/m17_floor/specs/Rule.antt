@@ -1,5 +1,5 @@
 -- The floor rule: the verdict on a packet beside the two frames that matter, the floor's last one
--- and the sender's own last one. This profile.
+-- and the sender's own last one.
 use Rattle.std.specs.Prelude.{◌==◌, ◌&&◌, ℕ, ◌-◌, Bool, not, List, [], ◌∷◌, nat_lt, nat_le, Option, None, Some, if◌then◌else◌}
 use Rattle.m17_values.specs.declared.member.Member.{Member}
 use Rattle.m17_stream.specs.declared.packet.StreamPacket.{StreamPacket}
@@ -8,16 +8,15 @@ use Rattle.m17_floor.specs.declared.verdict.Verdict.{Verdict}
 use Rattle.m17_floor.specs.declared.verdict.Verdict.TheVariants.{Opened, Continued, Busy, Repeat, Late, AfterEnd}
 use Rattle.m17_floor.specs.Acts.{is_same}
 
--- A floor is free after so many milliseconds without an admitted frame. This profile.
+-- A floor is free after 1,600 milliseconds without an admitted frame.
 abbrev pub floor_timeout_ms : ℕ
 floor_timeout_ms = 1600
 
--- The stream of a sender's last admitted frame is remembered for so many milliseconds. This
--- profile.
+-- The stream of a sender's last admitted frame is remembered for 10,000 milliseconds.
 abbrev pub stream_memory_ms : ℕ
 stream_memory_ms = 10000
 
--- A frame number that is so many ahead or more, counted round 32,768, is late. This profile.
+-- A frame number that is 16,384 ahead or more, counted round 32,768, is late.
 abbrev pub late_from : ℕ
 late_from = 16384
 

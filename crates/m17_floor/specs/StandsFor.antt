@@ -1,5 +1,5 @@
 -- What the small state of a floor stands for: the one frame that matters to the floor, and one for
--- each member, out of the whole list of acts that it came from. This profile.
+-- each member, out of the whole list of acts that it came from.
 use Rattle.std.specs.Prelude.{◌≡◌, ◌≢◌, ℕ, Bool, false, not, List, length, Option, Some}
 use Rattle.std.specs.List.{AllByRecursion}
 use Rattle.m17_values.specs.declared.member.Member.{Member}
@@ -16,7 +16,7 @@ abbrev pub past_of : ℕ → List Act → Past
 past_of places acts =
     record { places = places; acts = acts; admitted = admitted_before places acts (length acts) }
 
--- The floor stands for the list: it may have come from these acts in a module of so many places.
+-- The floor stands for the list: it may have come from these acts in a module of `places` places.
 abbrev pub FloorStandsFor : ℕ → List Act → Option Frame → Type 0
 FloorStandsFor places acts floor = floor ≡ floor_frame (past_of places acts)
 

@@ -1,7 +1,7 @@
 use m17_stream::StreamPacket;
 use m17_values::Member;
 
-/// What a module's floor sees of an event. This profile.
+/// What a module's floor sees of an event.
 #[derive(Clone, Copy, Debug, PartialEq, Eq)]
 pub enum ActKind {
     /// A member joins, perhaps to listen only.
@@ -22,7 +22,7 @@ pub enum ActKind {
     Other,
 }
 
-/// What a module's floor sees of an event, and its moment. This profile.
+/// What a module's floor sees of an event, and its moment.
 #[derive(Clone, Copy, Debug, PartialEq, Eq)]
 pub struct Act {
     /// The moment that came with it, in milliseconds. It may be below that of an earlier act.

@@ -12,10 +12,10 @@ use m17_stream::{StreamPacket, ahead};
 use m17_values::Member;
 use std::marker::Model;
 
-/// A floor is given up when so many milliseconds went by without an admitted frame. This profile.
+/// A floor is given up when so many milliseconds went by without an admitted frame.
 pub const FLOOR_TIMEOUT_MS: u64 = 1_600;
 
-/// The stream of a member's last admitted frame is remembered for so many milliseconds. This profile.
+/// The stream of a member's last admitted frame is remembered for so many milliseconds.
 pub const STREAM_MEMORY_MS: u64 = 10_000;
 
 // An admitted frame: of whom it is, its stream, its number, whether it ended the stream, and its moment.
@@ -45,7 +45,7 @@ impl AdmittedFrame {
     }
 }
 
-/// The floor of a module: its last admitted frame, unless its sender has left. This profile.
+/// The floor of a module: its last admitted frame, unless its sender has left.
 #[derive(Debug, Drop)]
 pub struct Floor {
     frame: Option<AdmittedFrame>,
@@ -61,7 +61,7 @@ impl Model for Floor {
     ghost view = { λ f. option_map frame_seen f.frame };
 }
 
-/// One sender's last admitted frame since it joined. This profile.
+/// One sender's last admitted frame since it joined.
 #[derive(Debug, Drop)]
 pub struct Last {
     frame: Option<AdmittedFrame>,
@@ -78,7 +78,7 @@ impl Model for Last {
 }
 
 impl Last {
-    /// Nothing admitted: what is kept of a sender that joins, also of one that was in before. This profile.
+    /// Nothing admitted: what is kept of a sender that joins, also of one that was in before.
     pub fn new() -> Last
         ensures none { result ≡ None }
         // It stands for every list without a packet, and for every one that ends with the member's Join.
@@ -122,7 +122,7 @@ impl Last {
 }
 
 impl Floor {
-    /// A free floor. This profile.
+    /// A free floor.
     pub fn new() -> Floor
         ensures free { result ≡ None }
         // It stands for every list of acts without a packet.
@@ -161,7 +161,7 @@ impl Floor {
     /// moment at the packet, in milliseconds; `own` is what is kept of the sender since it joined, and the sender did
     /// not join to listen only. A floor that another stream holds is `Busy`; a packet of a stream that the sender's own
     /// frame belongs to is `AfterEnd`, `Repeat` or `Late` beside that frame; any other is `Opened` or `Continued`, and
-    /// so admitted. This profile.
+    /// so admitted.
     pub fn judge(&mut self, sender: Member, at: u64, p: &StreamPacket, own: &mut Last) -> Verdict
         // Whatever the two frames are, the verdict is that of the floor rule beside them.
         ensures by_frames { result ≡ verdict_by_frames self.old own.old (incoming sender at p.now) }
@@ -189,7 +189,7 @@ impl Floor {
     }
 
     /// Learns that a member is in no more: because it left, or because its place was taken by a Join, its own or
-    /// another's. A floor that it held becomes free; any other floor stays as it is. This profile.
+    /// another's. A floor that it held becomes free; any other floor stays as it is.
     pub fn left(&mut self, m: Member)
         ensures freed { self.new ≡ without m self.old }
         // What stood for a list stands for the list with that Leave, whoever m is, ..

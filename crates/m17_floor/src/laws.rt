@@ -1,5 +1,5 @@
 //! What the floor rule promises of every list of acts, and what one act more makes of what is looked up in it. Each
-//! function has no body: its clause is the law. This profile.
+//! function has no body: its clause is the law.
 ghost use Rattle.m17_floor.specs.Laws as law;
 ghost use Rattle.m17_floor.specs.LegalLaws as legal;
 

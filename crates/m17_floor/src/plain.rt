@@ -1,6 +1,6 @@
 //! The floor rule as it is stated, by looking back through the whole list of acts at each position. It is slow, and
 //! there to compare the fast way with. The rule beside two frames is that of the fast way; which frames these are is
-//! looked up anew each time. This profile.
+//! looked up anew each time.
 ghost use Rattle.std.specs.Prelude.{◌≡◌, ℕ, ◌&&◌, ◌<◌, take, length, Some, IfOk, IfSome, slice_get};
 ghost use Rattle.m17_lookup.specs.Lookup.{last_below};
 ghost use Rattle.m17_floor.specs.Acts.{kind_at, greatest_moment, settles, joined_at};
@@ -14,8 +14,8 @@ use m17_stream::StreamPacket;
 use m17_values::Member;
 use std::alloc::{AllocError, Global};
 
-/// The verdicts of a list of acts in a module of so many places: one for each act, and none but for a packet. It fails
-/// only where there is no memory for the answer. This profile.
+/// The verdicts of a list of acts in a module of `places` places: one for each act, and none but for a packet. It fails
+/// only where there is no memory for the answer.
 pub fn verdicts(
     alloc: Global,
     places: u32,

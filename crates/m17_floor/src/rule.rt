@@ -1,4 +1,4 @@
-/// The rules that a book can break, in the order in which they are tried at a record. This profile.
+/// The rules that a book can break, in the order in which they are tried at a record.
 #[derive(Clone, Copy, Debug, PartialEq, Eq)]
 pub enum Rule {
     /// The moment of a record isn't below that of the record before it.

@@ -1,7 +1,6 @@
 use m17_values::Member;
 
-/// What the floor rule says of a stream packet. A packet is admitted where it is `Opened` or `Continued`. This
-/// profile.
+/// What the floor rule says of a stream packet. A packet is admitted where it is `Opened` or `Continued`.
 #[derive(Clone, Copy, Debug, PartialEq, Eq)]
 pub enum Verdict {
     /// The packet is admitted, and opens the floor for its stream.
@@ -26,7 +25,7 @@ impl Verdict {
     ghost use Rattle.std.specs.Prelude.{◌≡◌, Some};
     ghost use Rattle.m17_floor.specs.Floor.{admits};
 
-    /// Whether a packet with this verdict is admitted: `Opened` or `Continued`. This profile.
+    /// Whether a packet with this verdict is admitted: `Opened` or `Continued`.
     pub fn is_admitted(self) -> bool
         ensures { result ≡ admits (Some self) }
     {

@@ -6,7 +6,7 @@ use Rattle.m17_grid.specs.Columns.{row_at, IsGrid}
 
 module _ {T : Type 0} where
   -- A grid of new lanes of that capacity, with a column for each producer: each lane's row is its new
-  -- pushers, numbered in the order of the columns. This profile.
+  -- pushers, numbered in the order of the columns.
   pub record IsLaid (producers capacity : ℕ) (columns : List (List (PushEnd T)))
       (poppers : List (PopEnd T)) : Type 0 where
     pub grid : IsGrid columns poppers

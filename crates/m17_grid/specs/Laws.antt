@@ -9,7 +9,7 @@ use Rattle.m17_grid.specs.Trails.{IsTrailOf}
 use Rattle.m17_grid.specs.Interleavings.{IsInterleaving}
 
 -- How a grid comes to be: from empty columns, by the row of one more lane; and it stays one whatever
--- goes through its ends. This profile.
+-- goes through its ends.
 pub record GridsStand (T : Type 0) : Type 0 where
   pub empty : (n : ℕ) → IsGrid {T = T} (replicate n []) []
   pub dealt : (columns : List (List (PushEnd T))) (poppers : List (PopEnd T))
@@ -27,7 +27,7 @@ pub record GridsStand (T : Type 0) : Type 0 where
       → columns' ≡ push_grid f 0 columns
 
 -- The rows of a grid: the one that was dealt last, those before it, what pushes make of one, and how
--- many ends it has; and what the logs of a lane show whose ends were new. This profile.
+-- many ends it has; and what the logs of a lane show whose ends were new.
 pub record RowsStand (T : Type 0) : Type 0 where
   pub last : (columns : List (List (PushEnd T))) (row : List (PushEnd T)) (m : ℕ)
       → All (λ column. length column ≡ m) columns → length row ≡ length columns
@@ -44,7 +44,7 @@ pub record RowsStand (T : Type 0) : Type 0 where
       → logs_of (push_each f 0 (new_pushers p n)) ≡ numbered f n
 
 -- Where f tells of each item the place of the pusher that pushed it, the order of a finished lane is
--- one interleaving of what its pushers pushed. This profile.
+-- one interleaving of what its pushers pushed.
 abbrev pub OrderIsInterleaving : (T : Type 0) → Type 0
 OrderIsInterleaving T =
     (f : T → ℕ) (row : List (PushEnd T)) (p : PopEnd T) (t : TrailEnd T) → IsTrailOf row p t

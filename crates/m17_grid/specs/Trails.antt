@@ -6,7 +6,6 @@ use Rattle.m17_grid.specs.Columns.{row_at}
 
 module _ {T : Type 0} where
   -- The trail of the lane whose pushers are this row, and whose popper is p: what each of them has.
-  -- This profile.
   pub record IsTrailOf (row : List (PushEnd T)) (p : PopEnd T) (t : TrailEnd T) : Type 0 where
     pub logs : t.logs ≡ logs_of row
     pub refused : t.refused ≡ refused_of row
@@ -14,14 +13,14 @@ module _ {T : Type 0} where
     pub whole : (rest : List T) × IsWhole t.logs t.popped t.order rest
 
   -- The trail of a lane of one producer: the order is what that pushed, and begins with what was
-  -- popped. This profile.
+  -- popped.
   pub record IsTrailOfOne (q : PushEnd T) (p : PopEnd T) (t : TrailEnd T) : Type 0 where
     pub trail : IsTrailOf (q ∷ []) p t
     pub order : items_of t.order ≡ q.pushed
     pub settled : (rest : List T) × (q.pushed ≡ p.popped ++ rest)
 
   -- One trail for each popper, in order: that of its lane, whose pushers stand in the columns at its
-  -- place. This profile.
+  -- place.
   pub record AreTrails (columns : List (List (PushEnd T))) (poppers : List (PopEnd T))
       (trails : List (TrailEnd T)) : Type 0 where
     pub count : length trails ≡ length poppers
@@ -29,7 +28,6 @@ module _ {T : Type 0} where
         → slice_get trails m ≡ Some t → IsTrailOf (row_at m columns) p t
 
   -- One trail for each pusher and its popper, in order.
-  -- This profile.
   pub record AreTrailsOfOnes (pushers : List (PushEnd T)) (poppers : List (PopEnd T))
       (trails : List (TrailEnd T)) : Type 0 where
     pub count : length trails ≡ length poppers

@@ -4,7 +4,7 @@ ghost use Rattle.std.specs.List.{AllZip};
 ghost use Rattle.m17_grid.specs.Columns.{each_with};
 
 /// Puts each item of the row at the end of the column with its place. It empties the row, and wants an item for each
-/// column and room in each. This profile.
+/// column and room in each.
 pub fn deal<T>(columns: &mut Vec<Vec<T>>, row: &mut Vec<T>)
     requires count { vec_len row.old ≡ vec_len columns.old }
     requires room { All (λ column. vec_len column < vec_capacity column) columns.old.items }
@@ -22,7 +22,7 @@ pub fn deal<T>(columns: &mut Vec<Vec<T>>, row: &mut Vec<T>)
 }
 
 /// Takes the last item of each column into the row, in the order of the columns. No column may be empty, and the row,
-/// which is to be empty, has to have room for an item of each. This profile.
+/// which is to be empty, has to have room for an item of each.
 pub fn collect<T>(columns: &mut Vec<Vec<T>>, row: &mut Vec<T>)
     requires some { All (λ column. 0 < vec_len column) columns.old.items }
     requires empty { row.old.items ≡ [] }

@@ -1,5 +1,5 @@
 //! How grids, their rows and the orders of their lanes hang together. Each function does nothing: its clause is the
-//! law, for ends of lanes of any items. This profile.
+//! law, for ends of lanes of any items.
 ghost use Rattle.m17_grid.specs.Laws.{GridsStand, RowsStand, OrderIsInterleaving};
 
 use m17_lane::laws::order_is_a_shuffle;

@@ -7,7 +7,7 @@ use m17_lane::{Popper, Pusher, make};
 use m17_values::NoMemory;
 use std::alloc::Global;
 
-/// The ends of new lanes, and the empty vectors that `finish_each` wants. This profile.
+/// The ends of new lanes, and the empty vectors that `finish_each` wants.
 #[derive(Drop)]
 pub struct Laid<T> {
     /// For each producer its ends, one for each lane.
@@ -19,7 +19,7 @@ pub struct Laid<T> {
 }
 
 /// Makes that many lanes, each for that many producers and with room for that many items, and deals their ends out: a
-/// column for each producer. `NoMemory` where there is none for them; nothing else is refused. This profile.
+/// column for each producer. `NoMemory` where there is none for them; nothing else is refused.
 pub fn lay<T: Drop>(
     alloc: Global,
     producers: u32,

@@ -9,7 +9,7 @@ use m17_lane::{Popper, Pusher, Trail, finish, finish_one};
 /// Takes all ends of many lanes back: a column of pushers for each producer, with an end for each lane, and the poppers
 /// of the lanes. It gives the lanes' trails, in the order of the poppers. `shells` are empty vectors with room for a
 /// lane's pushers, one for each lane, and `trails` is to be empty with room for all. It waits for nothing, and
-/// allocates nothing. This profile.
+/// allocates nothing.
 pub fn finish_each<T: Drop>(
     columns: &mut Vec<Vec<Pusher<T>>>,
     poppers: &mut Vec<Popper<T>>,
@@ -59,7 +59,6 @@ fn take_row<T>(columns: &mut Vec<Vec<T>>, shells: &mut Vec<Vec<T>>) -> Vec<T>
 
 /// Takes the ends of lanes of one producer back: a pusher and a popper for each lane, in the same order. It gives the
 /// lanes' trails in that order. `trails` is to be empty with room for all. It waits for nothing, and allocates nothing.
-/// This profile.
 pub fn finish_row<T: Drop>(
     pushers: &mut Vec<Pusher<T>>,
     poppers: &mut Vec<Popper<T>>,

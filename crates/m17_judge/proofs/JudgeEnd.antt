@@ -6,7 +6,7 @@ use Rattle.m17_print.specs.declared.ending.TextEnding.{TextEnding}
 use Rattle.m17_print.specs.declared.ending.TextEnding.TheVariants.{Finished, Refused, ReadFailed, WriteFailed}
 use Rattle.m17_judge.specs.declared.reason.JudgeReason.{JudgeReason}
 use Rattle.m17_judge.specs.declared.reason.JudgeReason.TheVariants.{Cut, Large}
-use Rattle.m17_fill.specs.Fill.{IsFilled, IsCutShort}
+use Rattle.m17_io.specs.Fill.{IsFilled, IsCutShort}
 use Rattle.m17_judge.specs.Judge.{SaysJudge, PrintsJudge}
 use Rattle.m17_judge.specs.Records.{most_records, AreRecords, RefusesRecords}
 use Rattle.m17_judge.specs.Run.{AreJudged, LooksPast}

@@ -10,16 +10,16 @@ use Rattle.m17_print.specs.Texts.{IsTextOf}
 use Rattle.m17_print.specs.declared.ending.TextEnding.TheVariants.{Finished, Refused, ReadFailed, WriteFailed}
 use Rattle.m17_print.proofs.TextsOfLines.{slice_get_longer, no_lines, same_lines, one_more_line, cut_line}
 use Rattle.m17_judge.specs.declared.reason.JudgeReason.TheVariants.{Cut}
-use Rattle.m17_fill.specs.Fill.{IsFilled, IsCutShort}
+use Rattle.m17_io.specs.Fill.{IsFilled, IsCutShort}
 use Rattle.m17_judge.specs.Judge.{joins, talkers, acts_with, IsRecordLine, HasRecordLine, IsTextOfRecords, SaysJudge, PrintsJudge}
 use Rattle.m17_judge.specs.Records.{most_records, record_at, AreRecords, RefusesRecords}
 use Rattle.m17_judge.specs.Run.{AreJudged}
-use Rattle.m17_judge.specs.Table.{Kept, TableStandsFor, JudgesRecord}
+use Rattle.m17_judge.specs.Table.{TableKept, TableStandsFor, JudgesRecord}
 use Rattle.m17_judge.proofs.Joins.{length-joins}
 
 -- So many records of the input were judged, and the table stands for their acts. What was written before the run and what
 -- is written now are told or not.
-pub record IsAfter (bytes : List ℕ) (count : ℕ) (kept : Kept) (rest first written : Option (List ℕ)) : Type 0 where
+pub record IsAfter (bytes : List ℕ) (count : ℕ) (kept : TableKept) (rest first written : Option (List ℕ)) : Type 0 where
   pub within : 64 * count ≤ length bytes
   pub rest_left : rest ≡ Some (drop (64 * count) bytes)
   pub more : List Act
@@ -29,7 +29,7 @@ pub record IsAfter (bytes : List ℕ) (count : ℕ) (kept : Kept) (rest first wr
   pub lines : IsTextOf (HasRecordLine bytes more) count text
   pub printed : (before : List ℕ) → first ≡ Some before → written ≡ Some (before ++ text)
 
-pub at_start : (bytes : List ℕ) (kept : Kept) (rest first : Option (List ℕ)) → rest ≡ Some bytes → TableStandsFor (joins talkers) kept
+pub at_start : (bytes : List ℕ) (kept : TableKept) (rest first : Option (List ℕ)) → rest ≡ Some bytes → TableStandsFor (joins talkers) kept
     → IsAfter bytes 0 kept rest first first
 at_start bytes kept rest first told stands = record {
   within = omega arith;
@@ -72,7 +72,7 @@ record_filled bytes buffer bytes' count rest size filled =
     filled.front ∙ ap (λ xs. take 64 (drop (64 * count) bytes) ++ xs) (drop_all 64 buffer (omega arith)) ∙ append-nil (take 64 (drop (64 * count) bytes))
 
 -- The next record with its act and its line, before the line is written.
-pub record IsJudgedNext (bytes : List ℕ) (count : ℕ) (kept : Kept) (rest : Option (List ℕ)) (text line : List ℕ) : Type 0 where
+pub record IsJudgedNext (bytes : List ℕ) (count : ℕ) (kept : TableKept) (rest : Option (List ℕ)) (text line : List ℕ) : Type 0 where
   pub within : 64 * (count + 1) ≤ length bytes
   pub rest_left : rest ≡ Some (drop (64 * (count + 1)) bytes)
   pub more : List Act
@@ -81,7 +81,7 @@ pub record IsJudgedNext (bytes : List ℕ) (count : ℕ) (kept : Kept) (rest : O
   pub lines : IsTextOf (HasRecordLine bytes more) count text
   pub newest : HasRecordLine bytes more count line
 
-pub next_judged : LaterActsChangeNoVerdict → (bytes : List ℕ) (count : ℕ) (kept kept' : Kept) (rest rest' first written : Option (List ℕ)) (buffer bytes' line : List ℕ)
+pub next_judged : LaterActsChangeNoVerdict → (bytes : List ℕ) (count : ℕ) (kept kept' : TableKept) (rest rest' first written : Option (List ℕ)) (buffer bytes' line : List ℕ)
     → (after : IsAfter bytes count kept rest first written) → length buffer ≡ 64 → IsFilled (drop (64 * count) bytes) 64 buffer bytes' rest'
     → JudgesRecord count bytes' kept kept' line → IsJudgedNext bytes count kept' rest' after.text line
 next_judged law bytes count kept kept' rest rest' first written buffer bytes' line after size filled judges =
@@ -100,7 +100,7 @@ next_judged law bytes count kept kept' rest rest' first written buffer bytes' li
     }
 
 -- its line was written
-pub one_more : (bytes : List ℕ) (count : ℕ) (kept : Kept) (rest first written written' : Option (List ℕ)) (text line : List ℕ)
+pub one_more : (bytes : List ℕ) (count : ℕ) (kept : TableKept) (rest first written written' : Option (List ℕ)) (text line : List ℕ)
     → IsJudgedNext bytes count kept rest text line → ((before : List ℕ) → first ≡ Some before → written ≡ Some (before ++ text))
     → ((before : List ℕ) → written ≡ Some before → written' ≡ Some (before ++ line)) → IsAfter bytes (count + 1) kept rest first written'
 one_more bytes count kept rest first written written' text line next printed writes = record {
@@ -115,11 +115,11 @@ one_more bytes count kept rest first written written' text line next printed wri
 }
 
 -- the text so far
-text_after : (bytes : List ℕ) (count : ℕ) (kept : Kept) (rest first written : Option (List ℕ)) → (after : IsAfter bytes count kept rest first written) → IsTextOfRecords bytes count after.text
+text_after : (bytes : List ℕ) (count : ℕ) (kept : TableKept) (rest first written : Option (List ℕ)) → (after : IsAfter bytes count kept rest first written) → IsTextOfRecords bytes count after.text
 text_after bytes count kept rest first written after = record { more = after.more; acts_count = after.acts_count; lines = after.lines }
 
 -- as many records as may come were judged
-pub all_judged : (bytes : List ℕ) (count : ℕ) (kept : Kept) (rest first written : Option (List ℕ)) → count ≡ most_records → IsAfter bytes count kept rest first written
+pub all_judged : (bytes : List ℕ) (count : ℕ) (kept : TableKept) (rest first written : Option (List ℕ)) → count ≡ most_records → IsAfter bytes count kept rest first written
     → AreJudged bytes most_records rest first written
 all_judged bytes count kept rest first written full after =
     subst (λ (n : ℕ). AreJudged bytes n rest first written) full (record {
@@ -131,7 +131,7 @@ all_judged bytes count kept rest first written full after =
     })
 
 -- nothing came any more: the records are all there
-pub finished : (bytes : List ℕ) (count : ℕ) (kept : Kept) (rest rest' first written written' : Option (List ℕ)) (buffer filled : List ℕ) (n : ℕ)
+pub finished : (bytes : List ℕ) (count : ℕ) (kept : TableKept) (rest rest' first written written' : Option (List ℕ)) (buffer filled : List ℕ) (n : ℕ)
     → n ≡ 0 → count < most_records → length buffer ≡ 64 → written' ≡ written → IsAfter bytes count kept rest first written → IsFilled (drop (64 * count) bytes) n buffer filled rest'
     → Comes SaysJudge PrintsJudge Finished bytes rest' first written'
 finished bytes count kept rest rest' first written written' buffer filled n none few size same after is_filled =
@@ -144,7 +144,7 @@ finished bytes count kept rest rest' first written written' buffer filled n none
     }
 
 -- a part of a record came, and then the end
-pub cut : (bytes : List ℕ) (count : ℕ) (kept : Kept) (rest rest' first written written' : Option (List ℕ)) (buffer filled : List ℕ) (n : ℕ)
+pub cut : (bytes : List ℕ) (count : ℕ) (kept : TableKept) (rest rest' first written written' : Option (List ℕ)) (buffer filled : List ℕ) (n : ℕ)
     → 0 < n → n < 64 → count < most_records → length buffer ≡ 64 → written' ≡ written → IsAfter bytes count kept rest first written → IsFilled (drop (64 * count) bytes) n buffer filled rest'
     → Comes SaysJudge PrintsJudge (Refused (64 * count + n) Cut) bytes rest' first written'
 cut bytes count kept rest rest' first written written' buffer filled n some part few size same after is_filled =
@@ -157,7 +157,7 @@ cut bytes count kept rest rest' first written written' buffer filled n some part
     }
 
 -- the source failed inside a record
-pub read_failed : (bytes : List ℕ) (count : ℕ) (kept : Kept) (rest rest' first written written' : Option (List ℕ)) (size : ℕ)
+pub read_failed : (bytes : List ℕ) (count : ℕ) (kept : TableKept) (rest rest' first written written' : Option (List ℕ)) (size : ℕ)
     → count < most_records → size ≡ 64 → written' ≡ written → IsAfter bytes count kept rest first written → IsCutShort (drop (64 * count) bytes) size rest'
     → Comes SaysJudge PrintsJudge ReadFailed bytes rest' first written'
 read_failed bytes count kept rest rest' first written written' size few whole same after short = record {
@@ -179,7 +179,7 @@ read_failed bytes count kept rest rest' first written written' size few whole sa
 }
 
 -- the sink failed between two lines
-pub write_failed : (bytes : List ℕ) (count : ℕ) (kept : Kept) (rest rest' first written written' : Option (List ℕ))
+pub write_failed : (bytes : List ℕ) (count : ℕ) (kept : TableKept) (rest rest' first written written' : Option (List ℕ))
     → count ≤ most_records → written' ≡ written → IsAfter bytes count kept rest first written → Comes SaysJudge PrintsJudge WriteFailed bytes rest' first written'
 write_failed bytes count kept rest rest' first written written' few same after = record {
   said = tt;
@@ -191,7 +191,7 @@ write_failed bytes count kept rest rest' first written written' few same after =
 }
 
 -- the sink failed inside a line
-pub line_failed : (bytes : List ℕ) (count : ℕ) (kept : Kept) (rest first written written' : Option (List ℕ)) (text line : List ℕ)
+pub line_failed : (bytes : List ℕ) (count : ℕ) (kept : TableKept) (rest first written written' : Option (List ℕ)) (text line : List ℕ)
     → count < most_records → IsJudgedNext bytes count kept rest text line → ((before : List ℕ) → first ≡ Some before → written ≡ Some (before ++ text))
     → ((before : List ℕ) → written ≡ Some before → AppendsPrefix before line written') → Comes SaysJudge PrintsJudge WriteFailed bytes rest first written'
 line_failed bytes count kept rest first written written' text line few next printed writes = record {

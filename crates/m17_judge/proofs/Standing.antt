@@ -13,7 +13,7 @@ use Rattle.m17_floor.specs.Laws.{OtherActsChangeNothing}
 use Rattle.m17_floor.specs.Rule.{Frame}
 use Rattle.m17_floor.specs.StandsFor.{FloorStandsFor, OwnStandsFor, MaySpeak, IsJudged}
 use Rattle.m17_judge.specs.Judge.{talker, talkers}
-use Rattle.m17_judge.specs.Table.{Kept, TableStandsFor}
+use Rattle.m17_judge.specs.Table.{TableKept, TableStandsFor}
 use Rattle.m17_judge.proofs.Joins.{moment_more}
 
 -- after a write at one place, what stands at a place is what was written, or what stood there at another place
@@ -27,7 +27,7 @@ set_cases xs at y t x within e =
     ]
 
 -- a talker's packet that was judged
-pub judged_more : (acts : List Act) (act : Act) (t : ℕ) (verdict : Verdict) (kept : Kept) (floor' own' : Option Frame)
+pub judged_more : (acts : List Act) (act : Act) (t : ℕ) (verdict : Verdict) (kept : TableKept) (floor' own' : Option Frame)
     → t < length kept.owns → TableStandsFor acts kept → IsJudged talkers acts act (talker t) verdict floor' own'
     → TableStandsFor (acts ++ act ∷ []) (record { floor = floor'; owns = slice_set kept.owns t own'; moment = max kept.moment act.at })
 judged_more acts act t verdict kept floor' own' within stands judged = record {
@@ -41,7 +41,7 @@ judged_more acts act t verdict kept floor' own' within stands judged = record {
 }
 
 -- a moment that came with nothing that matters to the floor
-pub passed_more : OtherActsChangeNothing → (acts : List Act) (at : ℕ) (kept : Kept) → TableStandsFor acts kept
+pub passed_more : OtherActsChangeNothing → (acts : List Act) (at : ℕ) (kept : TableKept) → TableStandsFor acts kept
     → TableStandsFor (acts ++ (record { at = at; kind = Other }) ∷ []) (record kept { moment = max kept.moment at })
 passed_more law acts at kept stands =
     let act : Act = record { at = at; kind = Other } in
@@ -54,7 +54,7 @@ passed_more law acts at kept stands =
     }
 
 -- a talker's packet is judged by the floor rule of these acts
-pub ruled_at : (acts : List Act) (at t q : ℕ) (p : StreamPacket) (verdict : Verdict) (kept : Kept) (floor' own own' : Option Frame) (moment' : ℕ)
+pub ruled_at : (acts : List Act) (at t q : ℕ) (p : StreamPacket) (verdict : Verdict) (kept : TableKept) (floor' own own' : Option Frame) (moment' : ℕ)
     → q ≡ t → own ≡ get_or kept.owns t own → t < length kept.owns → t < talkers → moment' ≡ max kept.moment at → TableStandsFor acts kept
     → ((places : ℕ) (before : List Act) (m : ℕ) → FloorStandsFor places before kept.floor → OwnStandsFor places before (talker q) own → MaySpeak places before (talker q)
     → moment' ≡ max (moment_before before (length before)) m → IsJudged places before (record { at = m; kind = Packet (talker q) p }) (talker q) verdict floor' own')

@@ -1,4 +1,4 @@
--- What `judge` prints: a line for each record, over one list of acts. This profile.
+-- What `judge` prints: a line for each record, over one list of acts.
 use Rattle.std.specs.Prelude.{◌≡◌, ◌⊎◌, ℕ, ◌+◌, ◌*◌, ◌<◌, ◌≤◌, false, List, [], ◌∷◌, ◌++◌, length, drop, map, slice_get, Option, Some, codes, decimal}
 use Rattle.std.specs.List.{range_with_len}
 use Rattle.m17_values.specs.declared.member.Member.{Member}
@@ -17,7 +17,7 @@ use Rattle.m17_print.specs.declared.ending.TextEnding.{TextEnding}
 use Rattle.m17_print.specs.declared.ending.TextEnding.TheVariants.{Finished, Refused, ReadFailed, WriteFailed}
 use Rattle.m17_judge.specs.declared.reason.JudgeReason.{JudgeReason}
 use Rattle.m17_judge.specs.Reasons.{judge_reason_words}
-use Rattle.m17_judge.specs.Records.{most_records, record_at, moment_of, talker_of, packet_of, AreRecords, RefusesRecords}
+use Rattle.m17_judge.specs.Records.{most_records, record_at, moment_of_record, talker_of, packet_of, AreRecords, RefusesRecords}
 
 -- talker t is the member with place t and generation 0
 abbrev pub talker : ℕ → Member
@@ -27,7 +27,7 @@ talker t = record { place = t; generation = 0 }
 abbrev pub talkers : ℕ
 talkers = 65536
 
--- a Join of each of so many talkers, who may all speak, at moment 0
+-- a Join of each of the first `count` talkers, who may all speak, at moment 0
 unfoldable pub joins : ℕ → List Act
 joins count = map (λ t. record { at = 0; kind = Join (talker t) false }) (range_with_len 0 count)
 
@@ -38,14 +38,14 @@ acts_with more = joins talkers ++ more
 -- the act of a record whose packet is this one: its talker sends it
 abbrev pub packet_act : List ℕ → StreamPacket → Act
 packet_act bytes packet = record {
-  at = moment_of bytes;
+  at = moment_of_record bytes;
   kind = Packet (talker (talker_of bytes))
       packet;
 }
 
 -- the act of a record whose packet is refused
 abbrev pub passed_act : List ℕ → Act
-passed_act bytes = record { at = moment_of bytes; kind = Other }
+passed_act bytes = record { at = moment_of_record bytes; kind = Other }
 
 -- a line: the record's number, a space, what it says, and a line feed
 abbrev pub numbered_line : ℕ → List ℕ → List ℕ
@@ -83,7 +83,7 @@ pub record IsTextOfRecords (input : List ℕ) (count : ℕ) (text : List ℕ) : 
   pub lines : IsTextOf (HasRecordLine input more) count text
 
 -- What `judge` prints for the input: the lines of its records, and where it is refused the line
--- that says so. This profile.
+-- that says so.
 abbrev pub IsJudgeText : List ℕ → List ℕ → Type 0
 IsJudgeText input text = ((count : ℕ) × AreRecords input count × IsTextOfRecords input count text)
     ⊎ ((count place : ℕ) × (reason : JudgeReason) × (before : List ℕ)

@@ -1,4 +1,4 @@
--- What holds of every input of `judge`. This profile.
+-- What holds of every input of `judge`.
 use Rattle.std.specs.Prelude.{◌≡◌, ℕ, List}
 use Rattle.m17_fields.specs.Fields.{IsBytes}
 use Rattle.m17_judge.specs.Judge.{IsJudgeText}

@@ -1,4 +1,4 @@
--- The words of the reasons of `judge`. This profile.
+-- The words of the reasons of `judge`.
 use Rattle.std.specs.Prelude.{ℕ, List, codes}
 use Rattle.m17_judge.specs.declared.reason.JudgeReason.{JudgeReason}
 use Rattle.m17_judge.specs.declared.reason.JudgeReason.TheVariants.{Cut, Large}

@@ -8,13 +8,13 @@ use Rattle.m17_floor.specs.StandsFor.{FloorStandsFor, OwnStandsFor, MaySpeak, Ha
 use Rattle.m17_judge.specs.Judge.{talkers, talker, IsRecordLine}
 
 -- what is kept of the talkers: the floor, a frame of each of them, and the greatest moment so far
-pub record Kept : Type 0 where
+pub record TableKept : Type 0 where
   pub floor : Option Frame
   pub owns : List (Option Frame)
   pub moment : ℕ
 
 -- The table may have come from these acts, and all of its talkers may speak.
-pub record TableStandsFor (acts : List Act) (kept : Kept) : Type 0 where
+pub record TableStandsFor (acts : List Act) (kept : TableKept) : Type 0 where
   pub floor_stands : FloorStandsFor talkers acts kept.floor
   pub each_stands : (t : ℕ) (own : Option Frame) → slice_get kept.owns t ≡ Some own
       → OwnStandsFor talkers acts (talker t) own
@@ -27,7 +27,7 @@ StandsAtFirst own = (places : ℕ) (acts : List Act) (k : Member) → HasNoPacke
     → OwnStandsFor places acts k own
 
 -- Record n is judged: the table then stands for one more act, and the line is that of the record.
-abbrev pub JudgesRecord : ℕ → List ℕ → Kept → Kept → List ℕ → Type 0
+abbrev pub JudgesRecord : ℕ → List ℕ → TableKept → TableKept → List ℕ → Type 0
 JudgesRecord n bytes kept kept' line = (acts : List Act) → length acts ≡ talkers + n
     → TableStandsFor acts kept →
     (act : Act) × TableStandsFor (acts ++ act ∷ []) kept'

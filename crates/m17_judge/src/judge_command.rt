@@ -9,9 +9,8 @@ ghost use Rattle.m17_judge.specs.Table.{TableStandsFor};
 use crate::JudgeReason;
 use crate::judging::{RECORD_BYTES, judge_record};
 use crate::table::Table;
-use m17_fill::fill;
 use m17_floor::laws;
-use m17_io::{Fault, Input, Sink};
+use m17_io::{Fault, Input, Sink, fill};
 use m17_print::{Line, TextEnding};
 use m17_values::NoMemory;
 use std::alloc::Global;
@@ -26,15 +25,17 @@ fn judge_records<S: Input<K>, K: Sink>(
     out: &mut K,
 ) -> Option<TextEnding<JudgeReason>>
     requires { TableStandsFor (joins talkers) table.old }
-    ensures causes { HasCauses (S.faults input.old, K.faults out.old)
-        (S.faults input.new, K.faults out.new) (option_and_then failed_device result) }
-    ensures ended { IfSome result (λ ending. (bytes : List ℕ) → S.left input.old ≡ Some bytes →
-        Comes SaysJudge PrintsJudge ending bytes (S.left input.new)
-        (K.written out.old) (K.written out.new)) }
-    ensures full { IfNone result ((bytes : List ℕ) → S.left input.old ≡ Some bytes →
-        AreJudged bytes most_records (S.left input.new)
-        (K.written out.old) (K.written out.new)) }
-    ensures appended { Grows (K.written out.old) (K.written out.new) }
+    ensures causes { HasCauses ((S.told input.old).faults, (K.told out.old).faults)
+        ((S.told input.new).faults, (K.told out.new).faults)
+        (option_and_then failed_device result) }
+    ensures ended { IfSome result (λ ending. (bytes : List ℕ)
+        → (S.told input.old).left ≡ Some bytes →
+        Comes SaysJudge PrintsJudge ending bytes (S.told input.new).left
+        (K.told out.old).written (K.told out.new).written) }
+    ensures full { IfNone result ((bytes : List ℕ) → (S.told input.old).left ≡ Some bytes →
+        AreJudged bytes most_records (S.told input.new).left
+        (K.told out.old).written (K.told out.new).written) }
+    ensures appended { Grows (K.told out.old).written (K.told out.new).written }
 {
     laws::later_acts_change_no_verdict();
     let mut line = Line::new();
@@ -63,11 +64,11 @@ fn judge_records<S: Input<K>, K: Sink>(
 
 // Looks whether there is a byte past the last record that may come.
 fn look_past<S: Input<K>, K: Sink>(input: &mut S, out: &mut K) -> TextEnding<JudgeReason>
-    ensures causes { HasCauses (S.faults input.old, K.faults out.old)
-        (S.faults input.new, K.faults out.new) (failed_device result) }
-    ensures looks { (left : List ℕ) → S.left input.old ≡ Some left
-        → LooksPast result left (S.left input.new) }
-    ensures nothing_written { K.written out.new ≡ K.written out.old }
+    ensures causes { HasCauses ((S.told input.old).faults, (K.told out.old).faults)
+        ((S.told input.new).faults, (K.told out.new).faults) (failed_device result) }
+    ensures looks { (left : List ℕ) → (S.told input.old).left ≡ Some left
+        → LooksPast result left (S.told input.new).left }
+    ensures nothing_written { (K.told out.new).written ≡ (K.told out.old).written }
 {
     let mut next = [0u8; 1];
     match fill(input, out, &mut next) {
@@ -85,20 +86,21 @@ fn look_past<S: Input<K>, K: Sink>(input: &mut S, out: &mut K) -> TextEnding<Jud
 /// stream packet (54 bytes), and writes a line for each: the verdict of the floor rule, or why the packet is refused.
 /// Each record is read, judged and printed before the next is read, as the tests show. The input is refused as `Cut`
 /// where it ends inside a record, at its length, and as `Large` where there is a byte of record 1,000,000, at 64,000,000;
-/// the lines before that stand. `NoMemory` where there is none for the talkers. This profile.
+/// the lines before that stand. `NoMemory` where there is none for the talkers.
 pub fn judge<S: Input<K>, K: Sink>(
     alloc: Global,
     input: &mut S,
     out: &mut K,
 ) -> Result<TextEnding<JudgeReason>, NoMemory>
     // A device is told to have failed exactly where its count of faults rose.
-    ensures causes { IfOk result (λ ending. HasCauses (S.faults input.old, K.faults out.old)
-        (S.faults input.new, K.faults out.new) (failed_device ending)) }
+    ensures causes { IfOk result (λ ending. HasCauses
+        ((S.told input.old).faults, (K.told out.old).faults)
+        ((S.told input.new).faults, (K.told out.new).faults) (failed_device ending)) }
     // What the ending says of the input holds, and what it prints stands written.
-    ensures ended { IfOk result (λ ending. (bytes : List ℕ) → S.left input.old ≡ Some bytes →
-        Comes SaysJudge PrintsJudge ending bytes (S.left input.new)
-        (K.written out.old) (K.written out.new)) }
-    ensures appended { Grows (K.written out.old) (K.written out.new) }
+    ensures ended { IfOk result (λ ending. (bytes : List ℕ) → (S.told input.old).left ≡ Some bytes →
+        Comes SaysJudge PrintsJudge ending bytes (S.told input.new).left
+        (K.told out.old).written (K.told out.new).written) }
+    ensures appended { Grows (K.told out.old).written (K.told out.new).written }
     // Want of memory comes before the devices are touched.
     ensures untouched { OnErr result ((input.new ≡ input.old) × (out.new ≡ out.old)) }
 {

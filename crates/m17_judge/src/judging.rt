@@ -1,6 +1,6 @@
 ghost use Rattle.std.specs.Prelude.{◌≡◌, ◌++◌, codes, decimal};
 ghost use Rattle.m17_print.specs.Line.{IsBegun};
-ghost use Rattle.m17_judge.specs.Records.{moment_of, talker_of, packet_of};
+ghost use Rattle.m17_judge.specs.Records.{moment_of_record, talker_of, packet_of};
 ghost use Rattle.m17_judge.specs.Table.{JudgesRecord};
 
 use crate::table::Table;
@@ -16,7 +16,7 @@ const PACKET_AT: usize = 10;
 // The moment of a record, in milliseconds.
 #[inline]
 fn record_moment(bytes: &[u8; RECORD_BYTES]) -> u64
-    ensures { result ≡ moment_of bytes.now }
+    ensures { result ≡ moment_of_record bytes.now }
 {
     u64::from_be_bytes(*bytes[..TALKER_AT].as_array().unwrap())
 }

@@ -1,7 +1,7 @@
 //! What holds of every input of `judge`. Each is a function without arguments, which does nothing and ensures the law.
 ghost use Rattle.m17_judge.specs.Laws.{OneJudgeText};
 
-/// An input has one text. This profile.
+/// An input has one text.
 #[inline]
 pub fn one_judge_text()
     ensures { OneJudgeText }

@@ -1,6 +1,6 @@
 use m17_print::{Line, Reason};
 
-/// Why `judge` refuses its input. This profile.
+/// Why `judge` refuses its input.
 #[derive(Clone, Copy, Debug, PartialEq, Eq)]
 pub enum JudgeReason {
     /// The input ends inside a record.

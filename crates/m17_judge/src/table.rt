@@ -24,9 +24,9 @@ pub(crate) struct Table {
 
 impl Model for Table {
     ghost use Rattle.std.specs.Prelude.{◌≡◌, length};
-    ghost use Rattle.m17_judge.specs.Table.{Kept};
+    ghost use Rattle.m17_judge.specs.Table.{TableKept};
 
-    ghost Value = { Kept };
+    ghost Value = { TableKept };
 
     ghost view = { λ t. record { floor = t.floor; owns = t.owns.items; moment = t.moment } };
 

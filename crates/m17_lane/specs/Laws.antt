@@ -3,7 +3,6 @@ use Rattle.std.specs.Prelude.{◌≡◌, ◌<◌, ℕ, List, [], ◌∷◌, ◌+
 use Rattle.m17_lane.specs.Orders.{items_of, IsWhole, IsShuffle, EachRow, picked}
 
 -- In a lane of one producer the order is that producer's list, and what was popped stands in it before the rest.
--- This profile.
 abbrev pub OneProducerKeepsOrder : (T : Type 0) → Type 0
 OneProducerKeepsOrder T =
     (p : ℕ) (l popped rest : List T) (order : List (ℕ × T))
@@ -11,7 +10,7 @@ OneProducerKeepsOrder T =
     → (items_of order ≡ l) × (l ≡ popped ++ rest)
 
 -- Where f tells of each item in which row it stands, each row is the part of the order with that number, and the order has
--- no other numbers. This profile.
+-- no other numbers.
 abbrev pub OrderIsAShuffle : (T : Type 0) → Type 0
 OrderIsAShuffle T =
     (logs : List (ℕ × List T)) (order : List (ℕ × T)) → IsShuffle logs order

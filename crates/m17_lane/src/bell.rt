@@ -31,7 +31,7 @@ use std::sync::{Arc, Wait};
 ///
 /// Where to look is a hint, and no clause of any contract rests on it. `marks.rt` says why no push is missed.
 ///
-/// All that is to wake this thread has to come by a lane of this bell. This profile.
+/// All that is to wake this thread has to come by a lane of this bell.
 #[derive(Drop)]
 pub struct Bell {
     rung: Arc<Rung, Global>,
@@ -165,7 +165,7 @@ impl Bell {
 /// sleep, also one that has not begun, or finds that another push took the announcement and ends it. Where it comes after,
 /// the item is in the queue when the lanes are tried. The sleep is counted before it is announced, so who takes the
 /// announcement finds somebody to wake. A lane that was tried before the announcement tells nothing: its item could come in
-/// between, and the thread would sleep on it. This profile.
+/// between, and the thread would sleep on it.
 pub struct Announced<'a> {
     key: Key<'a>,
 }

@@ -1,5 +1,5 @@
 //! What follows from the definitions for every lane. Each function has no body: its clause is the law, for lists of any
-//! items. This profile.
+//! items.
 ghost use Rattle.m17_lane.specs.Laws.{OneProducerKeepsOrder, OrderIsAShuffle};
 
 /// In a lane of one producer the order is that producer's list, and what was popped is the first part of it.

@@ -20,8 +20,7 @@ use std::sync::Arc;
 const ENOUGH: u32 = 8;
 
 /// A lane for that many producers, which holds that many items, with a bell of its own: the pushers, numbered from 0 on
-/// in the order of the answer, and the popper. `NoMemory` where there is none for it; nothing else is refused. This
-/// profile.
+/// in the order of the answer, and the popper. `NoMemory` where there is none for it; nothing else is refused.
 pub fn make<T: Drop>(
     alloc: Global,
     producers: u32,
@@ -37,7 +36,7 @@ pub fn make<T: Drop>(
     make_with(alloc, &bell, producers, capacity)
 }
 
-/// `make` with a bell that other lanes ring too, so that one thread can wait for all of them: see `Bell`. This profile.
+/// `make` with a bell that other lanes ring too, so that one thread can wait for all of them: see `Bell`.
 pub fn make_with<T: Drop>(
     alloc: Global,
     bell: &Bell,
@@ -53,8 +52,7 @@ pub fn make_with<T: Drop>(
     make_for(alloc, bell.share()?, producers, capacity)
 }
 
-/// `make_with` whose pushes also set a mark of the bell, the same whichever producer pushes: see `make_one_marked`. This
-/// profile.
+/// `make_with` whose pushes also set a mark of the bell, the same whichever producer pushes: see `make_one_marked`.
 pub fn make_marked<T: Drop>(
     alloc: Global,
     bell: &Bell,
@@ -112,7 +110,7 @@ fn make_for<T: Drop>(
     Ok((pushers, popper))
 }
 
-/// A lane of one producer, with a bell of its own. This profile.
+/// A lane of one producer, with a bell of its own.
 pub fn make_one<T: Drop>(alloc: Global, capacity: u32) -> Result<(Pusher<T>, Popper<T>), NoMemory>
     requires { 0 < capacity }
     ensures popper { IfOk result (λ r. r.1 ≡ new_popper r.1.lane capacity 1) }
@@ -122,7 +120,7 @@ pub fn make_one<T: Drop>(alloc: Global, capacity: u32) -> Result<(Pusher<T>, Pop
     make_one_with(alloc, &bell, capacity)
 }
 
-/// `make_one` with a bell that other lanes ring too. This profile.
+/// `make_one` with a bell that other lanes ring too.
 pub fn make_one_with<T: Drop>(
     alloc: Global,
     bell: &Bell,
@@ -137,7 +135,7 @@ pub fn make_one_with<T: Drop>(
 
 /// `make_one_with` whose pushes also set a mark of the bell, after the item is in the queue, so that a consumer of very
 /// many lanes knows where to look. The mark is to be below the number of lanes that the bell was made for, and no other
-/// lane's: else the marks tell the wrong lane, or none, and nothing more. This profile.
+/// lane's: else the marks tell the wrong lane, or none, and nothing more.
 pub fn make_one_marked<T: Drop>(
     alloc: Global,
     bell: &Bell,

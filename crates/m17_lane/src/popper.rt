@@ -16,7 +16,7 @@ const FEWEST_ROUNDS: u32 = 3;
 pub(crate) const MOST_ROUNDS: u32 = 11;
 
 /// The consumer's end of a lane. Contracts see the lane, its capacity and number of producers, and the items that were
-/// popped, oldest first. It may go to another thread. This profile.
+/// popped, oldest first. It may go to another thread.
 #[derive(Drop)]
 pub struct Popper<T> {
     pub(crate) lane: Arc<Lane<T>, Global>,
@@ -50,7 +50,7 @@ impl<T> Model for Popper<T> {
 }
 
 impl<T> Popper<T> {
-    /// The oldest item of the lane, or None where the lane is empty; it never waits for an item. This profile.
+    /// The oldest item of the lane, or None where the lane is empty; it never waits for an item.
     pub fn try_pop<R: Wait>(&mut self, rt: &R) -> Option<T>
         ensures { MatchOption result (self.new ≡ self.old)
             (λ x. self.new ≡ popped_from self.old x) }
@@ -60,7 +60,7 @@ impl<T> Popper<T> {
 
     /// The oldest item of the lane. While the lane is empty it waits: a short while awake, longer where that paid off the
     /// last time, and then asleep until a producer pushes. It returns only with an item, so it waits for ever where no
-    /// producer pushes. This profile.
+    /// producer pushes.
     pub fn pop_waiting<R: Wait>(&mut self, rt: &R) -> T
         ensures { self.new ≡ popped_from self.old result }
     {
@@ -69,7 +69,7 @@ impl<T> Popper<T> {
 
     /// `pop_waiting` for a consumer that need not have at once what is pushed quietly: such items wake it only once eight
     /// are there (see `Pusher::push_quietly`), and any other push does at once. It may wait for ever though items are
-    /// there, where all were pushed quietly and are too few: a producer is to end with another push. This profile.
+    /// there, where all were pushed quietly and are too few: a producer is to end with another push.
     pub fn pop_dozing<R: Wait>(&mut self, rt: &R) -> T
         ensures { self.new ≡ popped_from self.old result }
     {

@@ -14,7 +14,7 @@ use std::marker::{Brand, Model};
 use std::sync::{Arc, Wait};
 
 /// One producer's end of a lane. Contracts see the lane, its capacity and number of producers, and which items this end
-/// pushed and which it got back, oldest first. It may go to another thread. This profile.
+/// pushed and which it got back, oldest first. It may go to another thread.
 #[derive(Drop)]
 pub struct Pusher<T> {
     pub(crate) lane: Arc<Lane<T>, Global>,
@@ -44,7 +44,7 @@ impl<T> Model for Pusher<T> {
 impl<T> Pusher<T> {
     /// Pushes `item` where there is room, and hands it back where the lane is full; it never waits for room. An item
     /// that is handed back counts as refused, and the lane is as it was. In a lane of one producer that happens only
-    /// after at least `capacity` pushes. This profile.
+    /// after at least `capacity` pushes.
     pub fn try_push<R: Wait>(&mut self, rt: &R, item: T) -> Result<(), T>
         ensures pushed { MatchResult result (λ _. self.new ≡ pushed_to self.old item)
             (λ back. (back ≡ item) × (self.new ≡ refused_by self.old item)) }
@@ -62,7 +62,7 @@ impl<T> Pusher<T> {
 
     /// Pushes `item`, and waits while the lane is full: a short while awake, and then asleep until the consumer has made
     /// room, half of it in a lane of one producer. It returns only once the item is pushed, so a consumer that stops
-    /// popping holds it for ever. This profile.
+    /// popping holds it for ever.
     pub fn push_waiting<R: Wait>(&mut self, rt: &R, item: T)
         ensures { self.new ≡ pushed_to self.old item }
     {
@@ -70,7 +70,7 @@ impl<T> Pusher<T> {
     }
 
     /// `push_waiting` of an item that can wait: a consumer that dozes (`Popper::pop_dozing`) is left asleep by it while
-    /// fewer than eight items are in the lane, or fewer than half of what it holds where that is less. This profile.
+    /// fewer than eight items are in the lane, or fewer than half of what it holds where that is less.
     pub fn push_quietly<R: Wait>(&mut self, rt: &R, item: T)
         ensures { self.new ≡ pushed_to self.old item }
     {

@@ -13,7 +13,7 @@ use std::sync::atomic::{AtomicBool, Ordering};
 /// No room is missed. A producer says first that it wants room, tries then, and sleeps only where the queue was full. So
 /// each pop behind that try finds that room is wanted, up to the one that takes the want and wakes all who sleep, also one
 /// that has not begun; and a consumer that empties what it pops comes to that one. A want that is said behind it was said
-/// before another try. This profile.
+/// before another try.
 #[derive(Drop)]
 pub struct Room {
     count: EventCount,

@@ -17,7 +17,7 @@ use std::sync::{Arc, Wait};
 
 /// A lane whose ends are all taken back. Contracts see all that was pushed, in the order of the queue, each item with its
 /// producer's number; the items that were popped; and for each pusher, in the order handed in, its number with what it
-/// pushed, and what it got back. This profile.
+/// pushed, and what it got back.
 #[derive(Drop)]
 pub struct Trail<T> {
     lane: Arc<Lane<T>, Global>,
@@ -46,8 +46,7 @@ impl<T> Model for Trail<T> {
 }
 
 impl<T> Trail<T> {
-    /// The next item that was pushed and not popped, in the order of the queue. None exactly where all is popped. This
-    /// profile.
+    /// The next item that was pushed and not popped, in the order of the queue. None exactly where all is popped.
     pub fn left<R: Wait>(&mut self, rt: &R) -> Option<T>
         ensures left { MatchOption result (self.new ≡ self.old)
             (λ x. self.new ≡ left_of self.old x) }
@@ -61,7 +60,7 @@ impl<T> Trail<T> {
 
 /// Takes all ends of one lane back, from whichever threads they came. The trail shows each pusher's items and refused
 /// items in the order handed in, and the popped items as the first part of the order, of which each pusher's items are
-/// its part. It waits for nothing. This profile.
+/// its part. It waits for nothing.
 pub fn finish<T: Drop>(pushers: Vec<Pusher<T>>, popper: Popper<T>) -> Trail<T>
     requires of_one_lane { AreOf popper.lane pushers.items }
     requires all { length pushers.items ≡ popper.producers }
@@ -84,7 +83,6 @@ pub fn finish<T: Drop>(pushers: Vec<Pusher<T>>, popper: Popper<T>) -> Trail<T>
 }
 
 /// `finish` for a lane of one producer: the order is what the pusher pushed, and what was popped is the first part of it.
-/// This profile.
 pub fn finish_one<T: Drop>(pusher: Pusher<T>, popper: Popper<T>) -> Trail<T>
     requires of_one_lane { pusher.lane ≡ popper.lane }
     requires only { popper.producers ≡ 1 }

@@ -1,4 +1,4 @@
--- Looking back through a list by position. Positions count from 0. This profile.
+-- Looking back through a list by position. Positions count from 0.
 use Rattle.std.specs.Prelude.{ℕ, zero, suc, Bool, Option, None, Some, if◌then◌else◌}
 
 -- the greatest position below n that passes the test

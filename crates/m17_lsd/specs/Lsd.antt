@@ -15,7 +15,7 @@ pub record FitsFields (l : Lsd) : Type 0 where
 abbrev pub lsd_bytes : Lsd → List ℕ
 lsd_bytes l = be_48 l.dst ++ be_48 l.src ++ be_16 l.kind ++ l.meta
 
--- so many bits of TYPE, from this one on, as a number; bit 0 is the least significant
+-- `count` bits of TYPE from bit `low` on, as a number; bit 0 is the least significant
 abbrev pub bits_at : ℕ → ℕ → ℕ → ℕ
 bits_at kind low count = kind / 2 ^ low % 2 ^ count
 

@@ -8,7 +8,7 @@ use Rattle.m17_make.specs.declared.made.Made.TheVariants.{Conn, Pong}
 use Rattle.m17_make.specs.declared.talk.Talk.{Talk}
 use Rattle.m17_make.specs.Draws.{number_after}
 use Rattle.m17_make.specs.Streams.{Stand, Turn, turn}
-use Rattle.m17_make.specs.Moments.{hotspots, moment_of}
+use Rattle.m17_make.specs.Moments.{hotspots, entry_moment}
 use Rattle.m17_make.specs.Made.{heard_as, IsSound}
 use Rattle.m17_make.specs.Make.{Found, is_pong, comes_at, found_after, found_at, entry_made, entry_heard}
 use Rattle.m17_make.specs.Talk.{silent, taken}
@@ -117,6 +117,6 @@ drawn_on seed e e' is drawn =
     let next : e'.entry ≡ suc e.entry = ap (λ (e : Evening). e.entry) is ∙ entry_after e ∙ add-one e.entry in
     is ∙ ap after drawn ∙ ap (kept_before seed) (sym next)
 
-pub heard_is : (seed : ℕ) (e : Evening) → IsDrawnFrom seed e → heard_as (moment_of e.entry) (made_at e) ≡ entry_heard seed e.entry
+pub heard_is : (seed : ℕ) (e : Evening) → IsDrawnFrom seed e → heard_as (entry_moment e.entry) (made_at e) ≡ entry_heard seed e.entry
 heard_is seed e drawn =
-    ap (λ (e' : Evening). heard_as (moment_of e.entry) (made_at e')) drawn ∙ ap (heard_as (moment_of e.entry)) (made_same seed e.entry)
+    ap (λ (e' : Evening). heard_as (entry_moment e.entry) (made_at e')) drawn ∙ ap (heard_as (entry_moment e.entry)) (made_same seed e.entry)

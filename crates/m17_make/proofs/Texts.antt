@@ -11,7 +11,7 @@ use Rattle.m17_values.specs.declared.heard.Heard.{Heard}
 use Rattle.m17_book.specs.Limits.{SpellsEach}
 use Rattle.m17_book.specs.Entries.{SpellsEntry, entry_bytes}
 use Rattle.m17_book.specs.Book.{trace_magic}
-use Rattle.m17_make.specs.Moments.{hotspots, moment_of}
+use Rattle.m17_make.specs.Moments.{hotspots, entry_moment}
 use Rattle.m17_make.specs.Made.{entry_length}
 use Rattle.m17_make.specs.Make.{entry_made, entry_heard, entries_of, make_text}
 use Rattle.m17_make.specs.Maker.{Evening, IsDrawnFrom}
@@ -138,7 +138,7 @@ lengths_from : (seed a n : ℕ) → length (flat_map entry_bytes (map (entry_hea
 lengths_from seed a zero = refl
 lengths_from seed a (suc n) =
     length-append (entry_bytes (entry_heard seed a)) (flat_map entry_bytes (map (entry_heard seed) (range_with_len (a + 1) n)))
-    ∙ ap₂ (λ (x y : ℕ). x + y) (length_entry (moment_of a) (entry_made seed a)) (lengths_from seed (a + 1) n)
+    ∙ ap₂ (λ (x y : ℕ). x + y) (length_entry (entry_moment a) (entry_made seed a)) (lengths_from seed (a + 1) n)
     ∙ sym (sum_by-cons (λ j. entry_length (entry_made seed j)) a (range_with_len (a + 1) n))
 
 pub length_by_kinds : LengthIsByKinds
@@ -152,7 +152,7 @@ at_most_71 seed a (suc n) =
 
 -- ---- a trace
 
-moment_fits : (j : ℕ) → j ≤ 100000 → moment_of j < 2 ^ 64
+moment_fits : (j : ℕ) → j ≤ 100000 → entry_moment j < 2 ^ 64
 moment_fits j h = by_test (λ (at : ℕ). at < 2 ^ 64) (nat_lt j hotspots) _ _ (λ t. omega arith) (λ t. omega arith)
 
 spells_from : (seed a n : ℕ) → a + n ≤ 100000
@@ -161,7 +161,7 @@ spells_from seed a zero h = refl
 spells_from seed a (suc n) h = (
   entry_bytes (entry_heard seed a),
   flat_map entry_bytes (map (entry_heard seed) (range_with_len (a + 1) n)),
-  (fits_entry (moment_of a) (entry_made seed a) (moment_fits a (omega arith)) (entry_fits seed a), refl),
+  (fits_entry (entry_moment a) (entry_made seed a) (moment_fits a (omega arith)) (entry_fits seed a), refl),
   spells_from seed (a + 1) n (omega arith),
   refl,
 )

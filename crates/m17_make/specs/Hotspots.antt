@@ -1,4 +1,4 @@
--- The twelve hotspots of an evening, counted from 0. This profile.
+-- The twelve hotspots of an evening, counted from 0.
 use Rattle.std.specs.Prelude.{ℕ, false, ◌+◌, ◌*◌, ◌%◌, [], ◌∷◌}
 use Rattle.m17_values.specs.declared.peer.Peer.{Peer}
 

@@ -1,4 +1,4 @@
--- What is made is a trace, and how long it is. This profile.
+-- What is made is a trace, and how long it is.
 use Rattle.std.specs.Prelude.{◌≡◌, ℕ, ◌+◌, ◌≤◌, length}
 use Rattle.std.specs.List.{sum_by, range_with_len}
 use Rattle.m17_book.specs.Book.{IsTrace}

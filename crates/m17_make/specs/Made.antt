@@ -1,4 +1,4 @@
--- What an entry of an evening is, and what is heard of it. This profile.
+-- What an entry of an evening is, and what is heard of it.
 use Rattle.std.specs.Prelude.{◌<◌, ℕ, Bool, ◌%◌, ◌^◌, ◌-◌, List, [], ◌∷◌, ◌++◌, codes, replicate}
 use Rattle.m17_fields.specs.Fields.{be_16}
 use Rattle.m17_callsign.specs.AddressBytes.{address_bytes}

@@ -1,4 +1,4 @@
--- The trace of an evening: twelve hotspots on the modules A, B and C, which are 0, 1 and 2 here. This profile.
+-- The trace of an evening: twelve hotspots on the modules A, B and C, which are 0, 1 and 2 here.
 use Rattle.std.specs.Prelude.{ℕ, zero, suc, Bool, ◌==◌, ◌+◌, ◌-◌, ◌%◌, List, [], ◌∷◌, ◌++◌, nat_lt, map, if◌then◌else◌}
 use Rattle.std.specs.List.{flat_map, range_with_len}
 use Rattle.m17_values.specs.declared.heard.Heard.{Heard}
@@ -7,7 +7,7 @@ use Rattle.m17_book.specs.Book.{trace_magic}
 use Rattle.m17_book.specs.Entries.{entry_bytes}
 use Rattle.m17_make.specs.declared.made.Made.{Made}
 use Rattle.m17_make.specs.declared.made.Made.TheVariants.{Conn, Pong}
-use Rattle.m17_make.specs.Moments.{hotspots, moment_of}
+use Rattle.m17_make.specs.Moments.{hotspots, entry_moment}
 use Rattle.m17_make.specs.Made.{heard_as}
 use Rattle.m17_make.specs.Streams.{Stand, Turn, turn}
 
@@ -41,12 +41,12 @@ unfoldable pub found_at : ℕ → ℕ → Found
 found_at seed zero = record { drawn = 0; stands = λ k. Stand.Rests 0 }
 found_at seed (suc j) = found_after (j % 3) (comes_at seed j (found_at seed j)) (found_at seed j)
 
--- What entry j is, and what is heard of it. This profile.
+-- What entry j is, and what is heard of it.
 abbrev pub entry_made : ℕ → ℕ → Made
 entry_made seed j = (comes_at seed j (found_at seed j)).made
 
 abbrev pub entry_heard : ℕ → ℕ → Heard
-entry_heard seed j = heard_as (moment_of j) (entry_made seed j)
+entry_heard seed j = heard_as (entry_moment j) (entry_made seed j)
 
 -- the entries, and all that the link heard
 abbrev pub entries_of : ℕ → ℕ → List Heard
@@ -55,6 +55,6 @@ entries_of seed count = map (entry_heard seed) (range_with_len 0 count)
 abbrev pub heard_of : ℕ → ℕ → List Heard
 heard_of seed count = entries_of seed count ++ End ∷ []
 
--- The trace that is made with this seed, of so many entries. This profile.
+-- The trace that is made with this seed, of this number of entries.
 unfoldable pub make_text : ℕ → ℕ → List ℕ
 make_text seed count = trace_magic ++ flat_map entry_bytes (entries_of seed count)

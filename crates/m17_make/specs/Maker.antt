@@ -43,6 +43,6 @@ unfoldable pub kept_before : ℕ → ℕ → Evening
 kept_before seed zero = begun_with seed
 kept_before seed (suc j) = after (kept_before seed j)
 
--- The maker draws from this seed: it keeps what one that began with the seed keeps before the same entry. This profile.
+-- The maker draws from this seed: it keeps what one that began with the seed keeps before the same entry.
 abbrev pub IsDrawnFrom : ℕ → Evening → Type 0
 IsDrawnFrom seed maker = maker ≡ kept_before seed maker.entry

@@ -1,4 +1,4 @@
--- The streams of a module: what is drawn for one as it begins, and what comes at a turn. This profile.
+-- The streams of a module: what is drawn for one as it begins, and what comes at a turn.
 use Rattle.std.specs.Prelude.{ℕ, zero, suc, Bool, false, ◌==◌, ◌&&◌, nat_lt, nat_le, ◌+◌, ◌-◌, ◌*◌, ◌%◌, bit_xor, if◌then◌else◌}
 use Rattle.m17_make.specs.declared.made.Made.{Made}
 use Rattle.m17_make.specs.declared.made.Made.TheVariants.{Frame, Quiet}
@@ -11,7 +11,7 @@ pub record Stream : Type 0 where
   pub frames : ℕ
 
 -- The stream of module m that begins with draw n: one of the module's four hotspots talks, which are m, m + 3, m + 6
--- and m + 9. This profile.
+-- and m + 9.
 abbrev pub stream : ℕ → ℕ → ℕ → Stream
 stream seed m n = record {
   who = m + 3 * draw seed n 4;
@@ -42,7 +42,7 @@ own s number last = Frame s.who s.sid number last
 
 -- A turn of a stream with a draw d of 20, the first line that fits: 0 sends the last frame again, if there is one; 1
 -- interrupts, under the id whose lowest bit differs; 2 sends the frame after the next one first, if three are left; and
--- else comes the next frame, the last one with the end bit, after which the module rests for five turns. This profile.
+-- else comes the next frame, the last one with the end bit, after which the module rests for five turns.
 abbrev pub talk_turn : (s : Stream) (next draws d : ℕ) → Turn
 talk_turn s next draws d =
     if d == 0 && nat_lt 0 next
@@ -66,7 +66,7 @@ talk_turn s next draws d =
     }))
 
 -- A turn of module m that stands so, where n numbers were drawn before: four numbers are drawn where a stream begins,
--- and one where it goes on. This profile.
+-- and one where it goes on.
 unfoldable pub turn : (seed m n : ℕ) → Stand → Turn
 turn seed m n (Stand.Rests zero) = talk_turn (stream seed m n) 0 4 (draw seed (n + 3) 20)
 turn seed m n (Stand.Rests (suc turns)) =

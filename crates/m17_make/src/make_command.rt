@@ -14,14 +14,14 @@ use m17_values::{Failed, Heard};
 pub const ENTRIES_MAX: u32 = 100_000;
 
 /// Writes the trace of an evening that is drawn from this seed: its header, and `count` entries, 0 to 100,000. `Failed`
-/// where the sink failed, and then a first part of the trace stands written. This profile.
+/// where the sink failed, and then a first part of the trace stands written.
 pub fn make<K: Sink>(seed: u64, count: u32, out: &mut K) -> Result<(), Failed>
     requires { count ≤ 100000 }
-    ensures cause { HasCause (K.faults out.old) (K.faults out.new) result }
-    ensures ok { OnOk result ((before : List ℕ) → K.written out.old ≡ Some before
-        → K.written out.new ≡ Some (before ++ make_text seed count)) }
-    ensures err { OnErr result ((before : List ℕ) → K.written out.old ≡ Some before
-        → AppendsPrefix before (make_text seed count) (K.written out.new)) }
+    ensures cause { HasCause (K.told out.old).faults (K.told out.new).faults result }
+    ensures ok { OnOk result ((before : List ℕ) → (K.told out.old).written ≡ Some before
+        → (K.told out.new).written ≡ Some (before ++ make_text seed count)) }
+    ensures err { OnErr result ((before : List ℕ) → (K.told out.old).written ≡ Some before
+        → AppendsPrefix before (make_text seed count) (K.told out.new).written) }
 {
     let header = write_trace_header();
     match out.write(&header) {
@@ -41,11 +41,11 @@ pub fn make<K: Sink>(seed: u64, count: u32, out: &mut K) -> Result<(), Failed>
 // Writes the entry of what was heard.
 fn write_heard<K: Sink>(heard: Heard, out: &mut K) -> Result<(), Failed>
     requires { heard ≢ End }
-    ensures cause { HasCause (K.faults out.old) (K.faults out.new) result }
-    ensures ok { OnOk result ((before : List ℕ) → K.written out.old ≡ Some before
-        → K.written out.new ≡ Some (before ++ entry_bytes heard)) }
-    ensures err { OnErr result ((before : List ℕ) → K.written out.old ≡ Some before
-        → AppendsPrefix before (entry_bytes heard) (K.written out.new)) }
+    ensures cause { HasCause (K.told out.old).faults (K.told out.new).faults result }
+    ensures ok { OnOk result ((before : List ℕ) → (K.told out.old).written ≡ Some before
+        → (K.told out.new).written ≡ Some (before ++ entry_bytes heard)) }
+    ensures err { OnErr result ((before : List ℕ) → (K.told out.old).written ≡ Some before
+        → AppendsPrefix before (entry_bytes heard) (K.told out.new).written) }
 {
     out.write(write_entry(&heard).unwrap().as_slice())
 }

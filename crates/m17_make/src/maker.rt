@@ -1,6 +1,6 @@
 ghost use Rattle.std.specs.Prelude.{◌≡◌, ◌≢◌, ◌<◌, ◌+◌, ℕ};
 ghost use Rattle.m17_values.specs.declared.heard.Heard.TheVariants.{End};
-ghost use Rattle.m17_make.specs.Moments.{moment_of};
+ghost use Rattle.m17_make.specs.Moments.{entry_moment};
 
 use crate::draws::Draws;
 use crate::hotspot::{HOTSPOTS, Hotspot, MODULES};
@@ -20,7 +20,7 @@ const ROUND: u32 = 300;
 const TURN_MS: u64 = 40;
 
 /// Makes the entries of an evening one by one, without memory. Contracts see the evening: the index of the next entry,
-/// the last number drawn with, and what each of the three modules has. This profile.
+/// the last number drawn with, and what each of the three modules has.
 #[derive(Clone, Copy, Debug)]
 pub struct Maker {
     entry: u32,
@@ -51,7 +51,7 @@ impl Maker {
     ghost use Rattle.m17_make.specs.Make.{entry_heard};
     ghost use Rattle.m17_make.specs.Maker.{made_at, after, IsDrawnFrom};
 
-    /// An evening that is drawn from this seed, before its first entry. This profile.
+    /// An evening that is drawn from this seed, before its first entry.
     #[tactic(auto, unfolding(crate::specs::Maker::kept_before))]
     pub fn new(seed: u64) -> Maker
         ensures drawn { IsDrawnFrom seed result }
@@ -64,7 +64,7 @@ impl Maker {
         }
     }
 
-    /// How many entries were made. This profile.
+    /// How many entries were made.
     pub fn entry(&self) -> u32
         ensures { result ≡ self.now.entry }
     {
@@ -72,7 +72,7 @@ impl Maker {
     }
 
     /// What is heard at the next entry, of 100,000: a datagram, or quiet, as the rule has it for the seed that the
-    /// evening was begun with. This profile.
+    /// evening was begun with.
     pub fn next(&mut self) -> Heard
         requires { self.old.entry < 100000 }
         ensures heard { (seed : ℕ) → IsDrawnFrom seed self.old
@@ -113,7 +113,7 @@ impl Maker {
 
 // The moment of entry j, in milliseconds: all joins come at once.
 fn moment(j: u32) -> u64
-    ensures { result ≡ moment_of j }
+    ensures { result ≡ entry_moment j }
 {
     if j < JOINS {
         0

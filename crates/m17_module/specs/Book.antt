@@ -1,4 +1,4 @@
--- What a module's book keeps of its events, act by act. Positions count from 0. This profile.
+-- What a module's book keeps of its events, act by act. Positions count from 0.
 use Rattle.std.specs.Prelude.{ℕ, ◌≤◌, List, [], ◌∷◌, ◌++◌, length, slice_get, nat_lt, Option, None, Some, if◌then◌else◌}
 use Rattle.std.specs.List.{flat_map, range_with_len}
 use Rattle.m17_control.specs.declared.event.Body.{Body}
@@ -14,7 +14,7 @@ use Rattle.m17_module.specs.Events.{acts_of}
 use Rattle.m17_module.specs.Seats.{seats_at, seat_in, seat_of}
 
 -- What a position is kept by: the number of the module's places, the moment there, who is in before it, and the
--- verdict, which a packet alone has. This profile.
+-- verdict, which a packet alone has.
 pub record Keeping : Type 0 where
   pub places : ℕ
   pub moment : ℕ
@@ -27,7 +27,7 @@ leave_kept at None = []
 leave_kept at (Some seat) = record { act = leave_act at seat.member; verdict = None } ∷ []
 
 -- Who joins one of the places is kept, behind the Leave of who is in there; who leaves, if it is in; and each packet,
--- with its verdict. All else is left out. This profile.
+-- with its verdict. All else is left out.
 abbrev pub kept_by : Keeping → Body → List KeptAct
 kept_by now (Join k peer callsign listens after) =
     if nat_lt k.place now.places
@@ -41,7 +41,7 @@ kept_by now (Reply k control) = []
 kept_by now Tick = []
 kept_by now Stop = []
 
--- position n, in a module of so many places
+-- position n, in a module of `places` places
 abbrev pub keeping_at : ℕ → List Event → ℕ → Keeping
 keeping_at places events n = record {
   places = places;
@@ -54,14 +54,14 @@ abbrev pub kept_from : ℕ → List Event → ℕ → Option Event → List Kept
 kept_from places events n None = []
 kept_from places events n (Some event) = kept_by (keeping_at places events n) event.body
 
--- What is kept of position n, and of all the events, in order. This profile.
+-- What is kept of position n, and of all the events, in order.
 unfoldable pub kept_at : ℕ → List Event → ℕ → List KeptAct
 kept_at places events n = kept_from places events n (slice_get events n)
 
 unfoldable pub kept_of : ℕ → List Event → List KeptAct
 kept_of places events = flat_map (kept_at places events) (range_with_len 0 (length events))
 
--- A module of at most 256 places keeps a legal book of every list of events. This profile.
+-- A module of at most 256 places keeps a legal book of every list of events.
 abbrev pub RecordsAreLegal : Type 0
 RecordsAreLegal =
     (places : ℕ) (events : List Event) → places ≤ book_places → IsLegal (kept_of places events)

@@ -1,5 +1,4 @@
 -- How the code's recorder follows the room: who leaves by an event, what the floor is then, and what is recorded.
--- This profile.
 use Rattle.std.specs.Prelude.{◌≡◌, ℕ, ◌-◌, List, nat_le, Option, None, Some, option_and_then, option_map, if◌then◌else◌}
 use Rattle.m17_values.specs.declared.member.Member.{Member}
 use Rattle.m17_stream.specs.declared.packet.StreamPacket.{StreamPacket}

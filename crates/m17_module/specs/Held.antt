@@ -1,4 +1,4 @@
--- The row of the held places that the code keeps beside the seats. This profile.
+-- The row of the held places that the code keeps beside the seats.
 use Rattle.std.specs.Prelude.{◌≡◌, ◌≤◌, ℕ, ◌+◌, List, [], ◌∷◌, length, nat_lt, count_by, insert, remove, Option, None, Some, if◌then◌else◌}
 use Rattle.m17_values.specs.declared.member.Member.{Member}
 use Rattle.m17_control.specs.declared.item.Item.{Item}

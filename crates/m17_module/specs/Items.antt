@@ -1,4 +1,4 @@
--- What each event of a module gives to whom, in order. This profile.
+-- What each event of a module gives to whom, in order.
 use Rattle.std.specs.Prelude.{ℕ, ◌/◌, Bool, false, List, [], ◌∷◌, ◌++◌, length, map, filter, slice_get, nat_lt, Option, None, Some, if◌then◌else◌}
 use Rattle.std.specs.List.{flat_map, range_with_len}
 use Rattle.m17_values.specs.declared.member.Member.{Member}
@@ -17,16 +17,16 @@ use Rattle.m17_module.specs.Events.{acts_of}
 use Rattle.m17_module.specs.Seats.{seats_at, members_of, seat_in, seat_of, others_than}
 use Rattle.m17_module.specs.Echoes.{echo_at}
 
--- How a module was made: its number of places, and whether it is a parrot. This profile.
+-- How a module was made: its number of places, and whether it is a parrot.
 pub record Setup : Type 0 where
   pub places : ℕ
   pub parrot : Bool
 
--- Members are asked whether they are there each time the moment passes a multiple of so many ms. This profile.
+-- Members are asked whether they are there each time the moment passes a multiple of 3,000 ms.
 abbrev pub ping_every_ms : ℕ
 ping_every_ms = 3000
 
--- What is said to a member goes to the peer and the link of its Join. This profile.
+-- What is said to a member goes to the peer and the link of its Join.
 abbrev pub item_to : Said → Seat → Item
 item_to what seat =
     record { member = seat.member; link = seat.link; peer = seat.peer; body = what }
@@ -36,7 +36,7 @@ to_one what None = []
 to_one what (Some seat) = item_to what seat ∷ []
 
 -- What a position is known by: who is in before it, the number of the position, the link of its event, and
--- whether its packet is admitted. This profile.
+-- whether its packet is admitted.
 pub record Setting : Type 0 where
   pub seats : List (Option Seat)
   pub position : ℕ
@@ -44,7 +44,7 @@ pub record Setting : Type 0 where
   pub admitted : Bool
 
 -- Who joins takes a place of the module: who is in there leaves first, with a Bye, and then comes the Hello. At a
--- place that is none of the module's nothing happens. This profile.
+-- place that is none of the module's nothing happens.
 abbrev pub greets : List (Option Seat) → Seat → ℕ → List Item
 greets seats seat after =
     if nat_lt seat.member.place (length seats)
@@ -53,7 +53,7 @@ greets seats seat after =
     else []
 
 -- What an event says by what it is: to the member that a Join replaces and to the new one, to a member that
--- leaves, to all but the sender of an admitted packet, and to one that is answered. This profile.
+-- leaves, to all but the sender of an admitted packet, and to one that is answered.
 abbrev pub says : Setting → Body → List Item
 says now (Join k peer callsign listens after) =
     greets now.seats (record { member = k; link = now.link; peer = peer; listens = listens }) after
@@ -64,7 +64,7 @@ says now (Reply k control) = to_one (said.Reply control) (seat_of now.seats k)
 says now Tick = []
 says now Stop = []
 
--- Position n, in a module of so many places. This profile.
+-- Position n, in a module of `places` places.
 abbrev pub setting_at : ℕ → List Event → ℕ → ℕ → Setting
 setting_at places events n link = record {
   seats = seats_at places events n;
@@ -74,7 +74,7 @@ setting_at places events n link = record {
 }
 
 -- The first part: where the moment passes a multiple of 3,000 ms, a Ping for each member that is in, in order
--- of place. This profile.
+-- of place.
 unfoldable pub pings_at : ℕ → List Event → ℕ → List Item
 pings_at places events n =
     if nat_lt (moment_before (acts_of events) n / ping_every_ms)
@@ -83,7 +83,6 @@ pings_at places events n =
     else []
 
 -- The second part: in a parrot module, what it plays back at position n, to the member whose recording it is.
--- This profile.
 abbrev pub echo_items : ℕ → List (Option Seat) → Option (Member × StreamPacket) → List Item
 echo_items n seats None = []
 echo_items n seats (Some echo) = to_one (said.Echo n echo.1) (seat_of seats echo.0)
@@ -94,7 +93,7 @@ echoes_at setup events n =
     then echo_items n (seats_at setup.places events n) (echo_at setup.places (acts_of events) n)
     else []
 
--- The third part: what the event itself says. This profile.
+-- The third part: what the event itself says.
 abbrev pub said_by : ℕ → List Event → ℕ → Option Event → List Item
 said_by places events n None = []
 said_by places events n (Some event) = says (setting_at places events n event.tag.link) event.body
@@ -102,23 +101,23 @@ said_by places events n (Some event) = says (setting_at places events n event.ta
 unfoldable pub said_at : ℕ → List Event → ℕ → List Item
 said_at places events n = said_by places events n (slice_get events n)
 
--- What the event at position n gives, in order. This profile.
+-- What the event at position n gives, in order.
 unfoldable pub items_at : Setup → List Event → ℕ → List Item
 items_at setup events n =
     pings_at setup.places events n ++ echoes_at setup events n ++ said_at setup.places events n
 
--- All that the events give, in order. This profile.
+-- All that the events give, in order.
 unfoldable pub items_given : Setup → List Event → List Item
 items_given setup events = flat_map (items_at setup events) (range_with_len 0 (length events))
 
--- The share of a member: all that is for it, in order. This profile.
+-- The share of a member: all that is for it, in order.
 abbrev pub is_for : Member → Item → Bool
 is_for k item = is_same item.member k
 
 unfoldable pub items_for : Setup → List Event → Member → List Item
 items_for setup events k = filter (is_for k) (items_given setup events)
 
--- The frames among what is for a member, in order. This profile.
+-- The frames among what is for a member, in order.
 abbrev pub is_frame : Said → Bool
 is_frame (said.Frame position packet) = Bool.true
 is_frame _ = false

@@ -1,4 +1,4 @@
--- What the small state of a module stands for, out of the whole list of its events. This profile.
+-- What the small state of a module stands for, out of the whole list of its events.
 use Rattle.std.specs.Prelude.{◌≡◌, ℕ, List, [], ◌∷◌, ◌++◌, length, slice_get, Option, None, Some, if◌then◌else◌}
 use Rattle.m17_control.specs.declared.event.Event.{Event}
 use Rattle.m17_control.specs.declared.item.Item.{Item}
@@ -14,13 +14,13 @@ use Rattle.m17_module.specs.Seats.{seats_at}
 use Rattle.m17_module.specs.Echoes.{recording_at}
 use Rattle.m17_module.specs.Items.{Setup, items_at}
 
--- Who is in, place by place, the last admitted frame of each, and the floor's. This profile.
+-- Who is in, place by place, the last admitted frame of each, and the floor's.
 pub record People : Type 0 where
   pub seats : List (Option Seat)
   pub lasts : List (Option Frame)
   pub floor : Option Frame
 
--- They may have come from these events in a module of so many places. This profile.
+-- They may have come from these events in a module of `places` places.
 pub record PeopleStandFor (places : ℕ) (people : People) (events : List Event) : Type 0 where
   -- the members are those that are in at the end
   pub seats : people.seats ≡ seats_at places events (length events)
@@ -32,8 +32,8 @@ pub record PeopleStandFor (places : ℕ) (people : People) (events : List Event)
   pub floor : FloorStandsFor places (acts_of events) people.floor
 
 -- What a module keeps: how it was made, its moment, its people, how many events it has had and packets it has
--- admitted, and, as a parrot, what it has recorded. This profile.
-pub record Kept : Type 0 where
+-- admitted, and, as a parrot, what it has recorded.
+pub record ModuleKept : Type 0 where
   pub setup : Setup
   pub moment : ℕ
   pub people : People
@@ -41,13 +41,13 @@ pub record Kept : Type 0 where
   pub admitted : ℕ
   pub recording : Option Recording
 
--- What a module has recorded of its events: nothing, unless it is a parrot. This profile.
+-- What a module has recorded of its events: nothing, unless it is a parrot.
 abbrev pub recorded : Setup → List Event → Option Recording
 recorded setup events =
     if setup.parrot then recording_at setup.places (acts_of events) (length events) else None
 
--- The module may have come from these events. This profile.
-pub record StandsFor (kept : Kept) (events : List Event) : Type 0 where
+-- The module may have come from these events.
+pub record StandsFor (kept : ModuleKept) (events : List Event) : Type 0 where
   pub moment : kept.moment ≡ moment_before (acts_of events) (length events)
   pub people : PeopleStandFor kept.setup.places kept.people events
   pub count : kept.count ≡ length events
@@ -55,17 +55,17 @@ pub record StandsFor (kept : Kept) (events : List Event) : Type 0 where
   -- a parrot's recording is of what was opened last: its held frames, its close, and how many were given
   pub recording : kept.recording ≡ recorded kept.setup events
 
--- What came of a step: what it answered, what the module keeps then, and what it gave. This profile.
+-- What came of a step: what it answered, what the module keeps then, and what it gave.
 pub record Stepped : Type 0 where
   pub answer : Option Verdict
-  pub kept : Kept
+  pub kept : ModuleKept
   pub given : List Item
 
-abbrev pub stepped : Option Verdict → Kept → List Item → Stepped
+abbrev pub stepped : Option Verdict → ModuleKept → List Item → Stepped
 stepped answer kept given = record { answer = answer; kept = kept; given = given }
 
 -- The step by an event after these: the module then stands for the list with the event, what it gave is what the
--- event at this position gives, and its answer is the verdict there, which only a packet has. This profile.
+-- event at this position gives, and its answer is the verdict there, which only a packet has.
 pub record IsStep (setup : Setup) (events : List Event) (event : Event) (to : Stepped) : Type 0
   where
     pub stands : StandsFor to.kept (events ++ event ∷ [])

@@ -7,7 +7,7 @@ use m17_values::NoMemory;
 use std::alloc::Global;
 use std::marker::Model;
 
-/// For how many items a basket has room: one event of a module gives fewer. This profile.
+/// For how many items a basket has room: one event of a module gives fewer.
 pub const BASKET_ROOM: usize = 520;
 
 // Items in a row, which never grows past its room.
@@ -70,7 +70,7 @@ impl Tray {
     }
 }
 
-/// What one event of a module gave, in order: contracts see the list of what is still to be taken. This profile.
+/// What one event of a module gave, in order: contracts see the list of what is still to be taken.
 #[derive(Debug, Drop)]
 pub struct Basket {
     pub(crate) tray: Tray,
@@ -89,7 +89,7 @@ impl Model for Basket {
 }
 
 impl Basket {
-    /// An empty basket, with room for 520 items. It fails only where there is no memory. This profile.
+    /// An empty basket, with room for 520 items. It fails only where there is no memory.
     pub fn make(alloc: Global) -> Result<Basket, NoMemory>
         ensures { IfOk result (λ b. b ≡ []) }
     {
@@ -99,14 +99,14 @@ impl Basket {
         }
     }
 
-    /// Whether nothing is left in it. This profile.
+    /// Whether nothing is left in it.
     pub fn is_empty(&self) -> bool
         ensures { IsTrue result ↔ (self.now ≡ []) }
     {
         self.next == self.tray.len()
     }
 
-    /// Takes the first item out; none exactly where the basket is empty. This profile.
+    /// Takes the first item out; none exactly where the basket is empty.
     #[inline]
     pub fn take(&mut self) -> Option<Item>
         ensures first { self.old ≡ option_to_list result ++ self.new }

@@ -1,5 +1,4 @@
-//! What the definitions promise of every list of events. Each function does nothing: its clause is the law. This
-//! profile.
+//! What the definitions promise of every list of events. Each function does nothing: its clause is the law.
 ghost use Rattle.m17_module.specs.Book as book;
 ghost use Rattle.m17_module.specs.Laws as law;
 
@@ -50,30 +49,30 @@ pub fn share_is_the_others_frames()
 }
 
 /// A member that joins once, at one of the module's places, is told a Bye at the first position behind its Join that is a
-/// Leave of it or a Join at its place. This profile.
+/// Leave of it or a Join at its place.
 pub fn who_is_settled_is_told_a_bye()
     ensures { law.WhoIsSettledIsToldABye }
 {}
 
-/// Each item is for a member at one of the module's places. This profile.
+/// Each item is for a member at one of the module's places.
 pub fn items_are_at_places()
     ensures { law.ItemsAreAtPlaces }
 {}
 
 /// Each item follows a Join of its member: it goes to the peer that the Join names, by the link of the Join's event, and a
-/// Hello waits for as many notes as the Join says. This profile.
+/// Hello waits for as many notes as the Join says.
 pub fn items_follow_their_joins()
     ensures { law.ItemsFollowTheirJoins }
 {}
 
 /// Where the links of the events are below a number, those of the items are: each item goes by the link of its member's
-/// Join. This profile.
+/// Join.
 pub fn items_keep_links()
     ensures { law.ItemsKeepLinks }
 {}
 
 /// A Busy's holder is at one of the module's places, and a Late's number is below 32,768 where the packets' numbers
-/// are. This profile.
+/// are.
 pub fn verdicts_fit()
     ensures { law.VerdictsFit }
 {}
@@ -81,7 +80,7 @@ pub fn verdicts_fit()
 /// Where the same events come at the same moments, but of other members, one for one, and each of them joins at a place
 /// of the module that whoever had it before has left: the same packets reach each peer, in the same order, pings, echoes and replies
 /// among them, and each packet gets the same verdict, but for the member that a busy one names. So it doesn't matter
-/// which places are given, nor how many departed members a greeting waits for. This profile.
+/// which places are given, nor how many departed members a greeting waits for.
 pub fn renaming_changes_nothing_said()
     ensures said { law.RenamingChangesNothingSaid }
     ensures verdicts { law.RenamingChangesNoVerdict }
@@ -91,7 +90,7 @@ pub fn renaming_changes_nothing_said()
 
 /// What a module of at most 256 places keeps in its book is legal, whatever the events are: each Join at a place at which
 /// nobody is in any more, each Leave of a member that is in, and each packet with the verdict that the floor rule gives
-/// for what is kept, in a book of 256 places. This profile.
+/// for what is kept, in a book of 256 places.
 pub fn records_are_legal()
     ensures { book.RecordsAreLegal }
 {

@@ -24,7 +24,7 @@ use m17_values::{Member, NoMemory};
 use std::alloc::Global;
 use std::marker::Model;
 
-/// How many places a module has at most. This profile.
+/// How many places a module has at most.
 pub const MOST_PLACES: usize = 256;
 
 // Who is in, by place, with the places in a row that are held; the last admitted frame of each; and the floor.

@@ -1,6 +1,6 @@
 use m17_values::{Member, Peer};
 
-/// A member that is in a module, as its Join named it. This profile.
+/// A member that is in a module, as its Join named it.
 #[derive(Clone, Copy, Debug)]
 pub struct Seat {
     /// The member.

@@ -18,12 +18,11 @@ use m17_values::NoMemory;
 use std::alloc::Global;
 use std::marker::Model;
 
-/// Each member is asked whether it is there where the module's moment passes a multiple of so many milliseconds. This
-/// profile.
+/// Each member is asked whether it is there where the module's moment passes a multiple of so many milliseconds.
 pub const PING_EVERY_MS: u64 = 3_000;
 
 /// A module of the reflector: who is in it, who may speak, and what each event gives to whom. Contracts see what it
-/// keeps, and relate that to the list of all its events (`StandsFor`). This profile.
+/// keeps, and relate that to the list of all its events (`StandsFor`).
 #[derive(Debug, Drop)]
 pub struct Module {
     room: Room,
@@ -35,9 +34,9 @@ pub struct Module {
 
 impl Model for Module {
     ghost use Rattle.std.specs.Prelude.{◌≤◌, length, is_some, option_and_then};
-    ghost use Rattle.m17_module.specs.StandsFor.{Kept};
+    ghost use Rattle.m17_module.specs.StandsFor.{ModuleKept};
 
-    ghost Value = { Kept };
+    ghost Value = { ModuleKept };
 
     ghost view = { λ m. record {
       setup = record { places = length m.room.seats; parrot = is_some m.recorder };
@@ -100,7 +99,7 @@ impl Module {
     ghost use Rattle.m17_module.specs.Items.{Setup};
 
     /// An empty module of so many places, 1 to 256; a `parrot` plays back what it hears. It fails only where there is no
-    /// memory. This profile.
+    /// memory.
     pub fn make(alloc: Global, places: u32, parrot: bool) -> Result<Module, NoMemory>
         requires some { 0 < places }
         requires at_most { places ≤ 256 }
@@ -125,21 +124,21 @@ impl Module {
         })
     }
 
-    /// The module's moment: the greatest of its events' moments so far. This profile.
+    /// The module's moment: the greatest of its events' moments so far.
     pub fn moment(&self) -> u64
         ensures { result ≡ self.now.moment }
     {
         self.moment
     }
 
-    /// How many packets the module has admitted. This profile.
+    /// How many packets the module has admitted.
     pub fn admitted(&self) -> u64
         ensures { result ≡ self.now.admitted }
     {
         self.admitted
     }
 
-    /// Whether the module plays back what it hears. This profile.
+    /// Whether the module plays back what it hears.
     pub fn is_parrot(&self) -> bool
         ensures { result ≡ self.now.setup.parrot }
     {
@@ -149,7 +148,7 @@ impl Module {
     /// Takes in the next event: puts what it gives into the basket, in order, and answers the verdict on a packet, and
     /// nothing for any other event. For every list of events that the module may have come from, of fewer than 2^64 - 1,
     /// the basket then holds what the event at this position gives (`items_at`), and the module stands for the list with
-    /// the event. This profile.
+    /// the event.
     pub fn step(&mut self, event: &Event, out: &mut Basket) -> Option<Verdict>
         requires { out.old ≡ [] }
         ensures by_rule { (events : List Event) →

@@ -6,16 +6,16 @@ use m17_values::{Member, NoMemory};
 use std::alloc::Global;
 use std::marker::Model;
 
-/// A recording holds so many frames at most: half a minute of voice. This profile.
+/// A recording holds so many frames at most: half a minute of voice.
 pub const MOST_FRAMES: usize = 750;
 
-/// The first frame of a recording is due so many milliseconds after its close. This profile.
+/// The first frame of a recording is due so many milliseconds after its close.
 pub const FIRST_AFTER_MS: u64 = 1_000;
 
-/// Each further frame is due so many milliseconds after the one before. This profile.
+/// Each further frame is due so many milliseconds after the one before.
 pub const FRAME_EVERY_MS: u64 = 40;
 
-/// What became of a frame that was to be kept. This profile.
+/// What became of a frame that was to be kept.
 #[derive(Clone, Copy, Debug, PartialEq, Eq)]
 pub enum Kept {
     /// It is held.
@@ -25,7 +25,7 @@ pub enum Kept {
 }
 
 /// The recording of a parrot module: of whom it is, the frames held, its close, and how many frames were given. There is
-/// none at first, and none once its member has gone. Contracts see the recording. This profile.
+/// none at first, and none once its member has gone. Contracts see the recording.
 #[derive(Debug, Drop)]
 pub struct Parrot {
     member: Option<Member>,
@@ -67,7 +67,7 @@ fn played_back(p: &StreamPacket, is_last: bool) -> StreamPacket
 }
 
 impl Parrot {
-    /// A parrot without a recording, with room for 750 frames. It fails only where there is no memory. This profile.
+    /// A parrot without a recording, with room for 750 frames. It fails only where there is no memory.
     pub fn make(alloc: Global) -> Result<Parrot, NoMemory>
         ensures { IfOk result (λ parrot. parrot ≡ None) }
     {
@@ -82,7 +82,7 @@ impl Parrot {
         }
     }
 
-    /// Forgets all, and records for this member from now on. This profile.
+    /// Forgets all, and records for this member from now on.
     pub fn opened(&mut self, m: Member)
         ensures { self.new ≡ Some (begun m) }
     {
@@ -93,7 +93,7 @@ impl Parrot {
     }
 
     /// Holds a frame of the recording that is going on. It is full exactly where it holds 750 frames, and then nothing
-    /// changes. This profile.
+    /// changes.
     pub fn keep(&mut self, p: &StreamPacket) -> Kept
         requires { IsTrue (is_going_on self.old) }
         ensures full { (result ≡ Kept.Full) ↔ (frames_held self.old ≡ most_frames) }
@@ -106,7 +106,7 @@ impl Parrot {
         Kept::Held
     }
 
-    /// Ends a recording that is going on, at this moment in milliseconds; any other stays as it is. This profile.
+    /// Ends a recording that is going on, at this moment in milliseconds; any other stays as it is.
     pub fn close(&mut self, at: u64)
         ensures { self.new ≡ option_map (closed at) self.old }
     {
@@ -115,7 +115,7 @@ impl Parrot {
         }
     }
 
-    /// Forgets all, if this member is the one recorded; else nothing changes. This profile.
+    /// Forgets all, if this member is the one recorded; else nothing changes.
     pub fn gone(&mut self, m: Member)
         ensures { self.new ≡ option_and_then (unless_of m) self.old }
     {
@@ -128,8 +128,7 @@ impl Parrot {
 
     /// The next frame not yet given, and the member that it is for, if it is due at this moment in milliseconds: frame n,
     /// counted from 0, is due where `at` is at least 1,000 + 40 n past the close. It has the complement of its stream id,
-    /// and as the last one held the end bit. None exactly where no further frame is due, and then nothing changes. This
-    /// profile.
+    /// and as the last one held the end bit. None exactly where no further frame is due, and then nothing changes.
     pub fn due(&mut self, at: u64) -> Option<(Member, StreamPacket)>
         ensures frame { result ≡ option_and_then (due_of at) self.old }
         ensures given { self.new ≡ option_map (with_given at) self.old }

@@ -1,4 +1,4 @@
--- The texts of peers. This profile.
+-- The texts of peers.
 use Rattle.std.specs.Prelude.{◌≡◌, ℕ, ◌+◌, ◌/◌, ◌%◌, ◌<◌, ◌^◌, false, List, [], ◌∷◌, ◌++◌, decimal, drop, length, replicate, slice_index, nat_lt, All, if◌then◌else◌}
 use Rattle.m17_values.specs.declared.peer.Peer.{Peer}
 

@@ -8,7 +8,7 @@ use crate::text;
 use m17_values::Peer;
 
 /// The peer whose text this is; none where it is the text of no peer, as one with a leading zero, a capital, a space, or
-/// an IPv6 address that is cut short. The bytes behind an IPv4 address are 0. This profile.
+/// an IPv6 address that is cut short. The bytes behind an IPv4 address are 0.
 pub fn read(words: &str) -> Option<Peer>
     ensures some { (p : Peer) → (result ≡ Some p) ↔ IsTextOf p words.now }
 {

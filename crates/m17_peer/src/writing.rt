@@ -10,7 +10,7 @@ use m17_values::Peer;
 const MAX_TEXT: usize = 48;
 
 /// The text of a peer: `a.b.c.d:port` with decimal numbers, or for IPv6 `[`, eight groups of four lower-case hex digits
-/// joined by `:`, and `]:port`. This profile.
+/// joined by `:`, and `]:port`.
 pub fn text(peer: &Peer) -> ArrayString<48>
     ensures text { result.bytes ≡ text_of peer.now }
 {

@@ -1,4 +1,4 @@
--- The seats of a roll brought together again, and what is shown then. This profile.
+-- The seats of a roll brought together again, and what is shown then.
 use Rattle.std.specs.Prelude.{ℕ, ◌<◌, List, [], ◌∷◌, ◌++◌, length}
 use Rattle.std.specs.List.{All, Contains}
 use Rattle.atomic_table.specs.Seated.{TableId}

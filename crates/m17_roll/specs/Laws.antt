@@ -1,4 +1,4 @@
--- What a run of a roll means for its members. This profile.
+-- What a run of a roll means for its members.
 use Rattle.std.specs.Prelude.{ℕ, List, length, slice_index, ◌≡◌, ◌≢◌, ◌*◌, ◌<◌}
 use Rattle.std.specs.List.{AllPairs, Contains}
 use Rattle.m17_values.specs.declared.member.Member.{Member}

@@ -1,4 +1,4 @@
--- What contracts see of a seat, and what each call does to it. This profile.
+-- What contracts see of a seat, and what each call does to it.
 use Rattle.std.specs.Prelude.{◌≡◌, ◌≢◌, ℕ, ◌+◌, ◌-◌, ◌*◌, ◌^◌, ◌<◌, ◌≤◌, ◌⊎◌, List, [], ◌∷◌, ◌++◌, length, replicate}
 use Rattle.atomic_table.specs.Seated.{TableId}
 use Rattle.m17_values.specs.declared.member.Member.{Member}
@@ -31,7 +31,7 @@ new_seat roll seats places = record {
   seen = [];
 }
 
--- These are new seats of one roll, as many as it has, with so many places. This profile.
+-- These are new seats of one roll, as many as it has, with so many places.
 abbrev pub AreNew : ℕ → ℕ → List RollView → Type 0
 AreNew places seats all = (roll : TableId) × (all ≡ replicate seats (new_seat roll seats places))
 
@@ -44,7 +44,7 @@ abbrev pub IsSameSeat : RollView → RollView → Type 0
 IsSameSeat before after = IsSeatOf before.roll before.seats before.places after
 
 -- The seat's claims, the members that it gave back, and its refused askers are these. What it saw is
--- not said. This profile.
+-- not said.
 abbrev pub HasLists : List Member → List Member → List ℕ → RollView → Type 0
 HasLists claimed given refused s =
     (s.claimed ≡ claimed) × (s.given ≡ given) × (s.refused ≡ refused)

@@ -1,4 +1,4 @@
-//! What one run of a roll promises. Each function has no body: its clause is the law. This profile.
+//! What one run of a roll promises. Each function has no body: its clause is the law.
 ghost use Rattle.m17_roll.specs.Laws.{GivenBackIsFree, NoMemberIsClaimedTwice};
 
 /// In a run of a roll no member stands twice among the claimed members, whichever seats claimed it.

@@ -15,7 +15,7 @@ pub struct Shape {
 }
 
 /// A word that a seat found at a place. The word of a place is 2 g while the place is free for its generation g, and
-/// 2 g + 1 while that generation has it. This profile.
+/// 2 g + 1 while that generation has it.
 pub struct Sighting {
     /// The place, from 0.
     pub place: u32,

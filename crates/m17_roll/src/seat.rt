@@ -52,7 +52,7 @@ impl RollSeat {
     /// that names who asks, such as a link's. Looks at each place in turn, and tries one exchange where it is free. None
     /// comes only where every place of the roll was seen taken in this call, and then the asker is noted as refused: a
     /// place was seen taken where its word was odd, or is at its last value, or another seat took it between this call's
-    /// look and its exchange. This profile.
+    /// look and its exchange.
     pub fn claim(&mut self, asker: u64) -> Option<Member>
         ensures claimed { IfSome result (λ m. IsClaim self.old m self.new) }
         ensures refused { IfNone result (IsRefusal self.old asker self.new) }
@@ -75,7 +75,7 @@ impl RollSeat {
 
     /// Claims this place and no other, for its next generation. One look, and one exchange where the place is free. None
     /// comes only where the roll has no such place, and then nothing is done, or where the place was seen taken in this
-    /// call, as in `claim`. Nobody is noted as refused: whoever asks may try another place. This profile.
+    /// call, as in `claim`. Nobody is noted as refused: whoever asks may try another place.
     pub fn claim_at(&mut self, place: u32) -> Option<Member>
         ensures claimed { IfSome result (λ m. TakesAt self.old place m self.new) }
         ensures refused { IfNone result (IsNotClaimed self.old place self.new) }
@@ -96,8 +96,7 @@ impl RollSeat {
     }
 
     /// Gives a member back, so that its place is free for the next generation: true where the place's word was that of the
-    /// member. False comes where there is no such place, or the word was another one, and nothing changes then. This
-    /// profile.
+    /// member. False comes where there is no such place, or the word was another one, and nothing changes then.
     pub fn give(&mut self, member: Member) -> bool
         ensures given { OnTrue result (self.new ≡ with_gift self.old member) }
         ensures refused { OnFalse result (IsNotGiven self.old member self.new) }
@@ -119,7 +118,7 @@ impl RollSeat {
     }
 
     /// The word of a place: 2 g while it is free for its generation g, and 2 g + 1 while that generation has it. None comes
-    /// exactly where there is no such place. This profile.
+    /// exactly where there is no such place.
     pub fn look(&mut self, place: u32) -> Option<u64>
         ensures some { IfSome result (λ w. self.new ≡ with_looks self.old (sighting place w ∷ [])) }
         ensures none { IfNone result (self.new ≡ self.old) }
@@ -174,7 +173,7 @@ impl RollSeat {
 }
 
 /// Makes a roll of places that are all free for generation 0, and its seats. `places` is 1 to 256, and there is at least
-/// one seat; each thread takes one. `NoMemory` where there is none for the words, the seats or their count. This profile.
+/// one seat; each thread takes one. `NoMemory` where there is none for the words, the seats or their count.
 pub fn make(alloc: Global, places: u32, seats: u32) -> Result<Vec<RollSeat>, NoMemory>
     requires places { (0 < places) × (places ≤ 256) }
     requires seats { 0 < seats }

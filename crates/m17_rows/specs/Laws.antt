@@ -8,7 +8,7 @@ use Rattle.m17_crew.specs.declared.order.Order.{Order}
 use Rattle.m17_crew.specs.declared.order.Order.TheVariants.{Go, Quit, Stop}
 
 -- How pushes at the ends of a row compose: none, one, one lot after another, and place by place; and
--- what an end of a new row has pushed then. This profile.
+-- what an end of a new row has pushed then.
 pub record RowsPush (T : Type 0) : Type 0 where
   pub none : (f : ℕ → List T) (k : ℕ) (ps : List (PushEnd T)) → ((i : ℕ) → f i ≡ [])
       → push_each f k ps ≡ ps
@@ -30,7 +30,6 @@ pub record RowsPush (T : Type 0) : Type 0 where
       → slice_get (push_each f 0 ps) m ≡ Some q → q.pushed ≡ f m
 
 -- The same of pushes and refusals at the ends of a row; without refusals they are pushes alone.
--- This profile.
 pub record RowsGrow (T : Type 0) : Type 0 where
   pub none : (f g : ℕ → List T) (k : ℕ) (ps : List (PushEnd T)) → ((i : ℕ) → f i ≡ [])
       → ((i : ℕ) → g i ≡ []) → grow_each f g k ps ≡ ps
@@ -58,7 +57,6 @@ pub record RowsGrow (T : Type 0) : Type 0 where
       → grow_each f nowhere k ps ≡ push_each f k ps
 
 -- The same of pops at the ends of a row.
--- This profile.
 pub record RowsPop (T : Type 0) : Type 0 where
   pub none : (f : ℕ → List T) (k : ℕ) (ps : List (PopEnd T)) → ((i : ℕ) → f i ≡ [])
       → pop_each f k ps ≡ ps
@@ -80,7 +78,6 @@ pub record RowsPop (T : Type 0) : Type 0 where
       → slice_get (pop_each f 0 ps) m ≡ Some q → q.popped ≡ f m
 
 -- The same of pops at the ends of a grid; of one row it is a row's.
--- This profile.
 pub record GridsPop (T : Type 0) : Type 0 where
   pub none : (f : ℕ → ℕ → List T) (k : ℕ) (rows : List (List (PopEnd T)))
       → ((m q : ℕ) → f m q ≡ []) → pop_grid f k rows ≡ rows
@@ -99,7 +96,7 @@ pub record GridsPop (T : Type 0) : Type 0 where
       → IsSameGrid rows (pop_grid f k rows)
 
 -- A job obeys the first order of its lane, where that is no Stop, and pops it alone before it
--- starts. This profile.
+-- starts.
 abbrev pub FirstOrderDecides : Type 0
 FirstOrderDecides =
     (before after : PopEnd Order) (goes : Bool) (first : Order) (more rest : List Order)

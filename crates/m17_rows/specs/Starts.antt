@@ -6,7 +6,6 @@ use Rattle.m17_lane.specs.Ends.{PopEnd}
 use Rattle.m17_rows.specs.Rows.{pops}
 
 -- Some Stops were popped, and then the order that says whether the job goes: Go or Quit. No more.
--- This profile.
 pub record HasStarted (before : PopEnd Order) (goes : Bool) (after : PopEnd Order) : Type 0 where
   pub stops : ℕ
   pub orders : after ≡ pops before (replicate stops Stop ++ (if goes then Go else Quit) ∷ [])

@@ -5,7 +5,7 @@ use crossbeam_utils::sync::EventCount;
 use std::sync::Wait;
 
 /// One more than `count`. Where that is no number of 64 bits it waits for ever, asleep: a job that counts so before
-/// it takes what it counts never takes more than 2^64 - 1. This profile.
+/// it takes what it counts never takes more than 2^64 - 1.
 pub fn count_one<R: Wait>(rt: &R, count: u64) -> u64
     ensures { result ≡ count + 1 }
 {

@@ -1,5 +1,5 @@
 //! How what came to a row composes, and which order a job obeys. Each function has no body: its clause is the law, for
-//! ends of lanes of any items. This profile.
+//! ends of lanes of any items.
 ghost use Rattle.m17_rows.specs.Laws.{RowsPush, RowsGrow, RowsPop, GridsPop, FirstOrderDecides};
 
 /// Pushes at a row's ends.

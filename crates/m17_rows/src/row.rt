@@ -7,7 +7,7 @@ use m17_lane::{Popper, Pusher};
 use std::sync::Wait;
 
 /// Pushes `item` at the end of the row with that index, and waits while its lane is full: see `Pusher::push_waiting`.
-/// All other ends of the row are as they were. This profile.
+/// All other ends of the row are as they were.
 pub fn push_at<T, R: Wait>(rt: &R, row: &mut Vec<Pusher<T>>, at: usize, item: T)
     requires { at < vec_len row.old }
     ensures row { row.new.items ≡ push_each (only at item) 0 row.old.items }
@@ -17,7 +17,7 @@ pub fn push_at<T, R: Wait>(rt: &R, row: &mut Vec<Pusher<T>>, at: usize, item: T)
     row[at].push_waiting(rt, item);
 }
 
-/// `push_at` of an item that can wait: see `Pusher::push_quietly`. This profile.
+/// `push_at` of an item that can wait: see `Pusher::push_quietly`.
 pub fn push_quietly_at<T, R: Wait>(rt: &R, row: &mut Vec<Pusher<T>>, at: usize, item: T)
     requires { at < vec_len row.old }
     ensures row { row.new.items ≡ push_each (only at item) 0 row.old.items }
@@ -29,7 +29,7 @@ pub fn push_quietly_at<T, R: Wait>(rt: &R, row: &mut Vec<Pusher<T>>, at: usize, 
 
 /// Pushes `item` at the end of the row with that index where there is room, and hands it back where the lane is full;
 /// it then counts as refused at that end. It never waits. All other ends of the row are as they were. In a lane of one
-/// producer a refusal comes only after at least `capacity` pushes. This profile.
+/// producer a refusal comes only after at least `capacity` pushes.
 pub fn try_push_at<T, R: Wait>(
     rt: &R,
     row: &mut Vec<Pusher<T>>,
@@ -50,7 +50,7 @@ pub fn try_push_at<T, R: Wait>(
 }
 
 /// The oldest item of the lane whose end has that index in the row, or None where that lane is empty; it never waits.
-/// All other ends of the row are as they were. This profile.
+/// All other ends of the row are as they were.
 pub fn pop_at<T, R: Wait>(rt: &R, row: &mut Vec<Popper<T>>, at: usize) -> Option<T>
     requires { at < vec_len row.old }
     ensures row { MatchOption result (row.new.items ≡ row.old.items)
@@ -62,7 +62,7 @@ pub fn pop_at<T, R: Wait>(rt: &R, row: &mut Vec<Popper<T>>, at: usize) -> Option
 }
 
 /// `pop_at` in a row of rows: at the end with index `at` of the row with index `row`. All other ends of the grid are as
-/// they were, and each row is as long as it was. This profile.
+/// they were, and each row is as long as it was.
 pub fn pop_in<T, R: Wait>(
     rt: &R,
     grid: &mut Vec<Vec<Popper<T>>>,

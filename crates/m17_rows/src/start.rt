@@ -6,7 +6,7 @@ use m17_lane::Popper;
 use std::sync::Wait;
 
 /// Waits for the order to go or to quit, and answers whether the job goes; a `Stop` before it is passed over. It pops
-/// nothing behind that order, and waits for ever where none comes. This profile.
+/// nothing behind that order, and waits for ever where none comes.
 pub fn starts<R: Wait>(rt: &R, orders: &mut Popper<Order>) -> bool
     ensures { HasStarted orders.old result orders.new }
 {

@@ -9,7 +9,7 @@ use m17_values::Member;
 use std::alloc::Global;
 use std::process::Abort;
 
-// The Join of who is in at a place after these events, in a module of so many places: the last one there, unless its
+// The Join of who is in at a place after these events, in a module of `places` places: the last one there, unless its
 // member has left since.
 fn seat(places: u32, events: &[Event], place: u32) -> Option<Event> {
     let mut found: Option<Event> = None;

@@ -1,4 +1,4 @@
--- What holds of every input of `show`. This profile.
+-- What holds of every input of `show`.
 use Rattle.std.specs.Prelude.{◌≡◌, ℕ, List}
 use Rattle.m17_show.specs.Show.{IsShowText}
 

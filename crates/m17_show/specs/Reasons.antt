@@ -1,4 +1,4 @@
--- The words of the reasons of `show`. This profile.
+-- The words of the reasons of `show`.
 use Rattle.std.specs.Prelude.{ℕ, List, codes}
 use Rattle.m17_show.specs.declared.reason.ShowReason.{ShowReason}
 use Rattle.m17_show.specs.declared.reason.ShowReason.TheVariants.{Large, Long, Odd, Digit}

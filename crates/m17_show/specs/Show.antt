@@ -1,4 +1,4 @@
--- What `show` prints: a line for each line of hex digits. This profile.
+-- What `show` prints: a line for each line of hex digits.
 use Rattle.std.specs.Prelude.{◌≡◌, ◌⊎◌, ℕ, ◌≤◌, List, [], ◌∷◌, ◌++◌, length, take, drop, slice_get, Option, Some, Ok}
 use Rattle.hex.specs.Hex.{decode_of}
 use Rattle.m17_control.specs.declared.packet.Packet.{Packet}
@@ -38,7 +38,7 @@ abbrev pub IsTextOfFirst : List ℕ → ℕ → List ℕ → Type 0
 IsTextOfFirst input count text = IsTextOf (HasPrintedLine input) count text
 
 -- What `show` prints for the input: a line for each of its lines, and where one is refused a line
--- for each line before it and the line that says so, with its number as the place. This profile.
+-- for each line before it and the line that says so, with its number as the place.
 abbrev pub IsShowText : List ℕ → List ℕ → Type 0
 IsShowText input text = ((count : ℕ) × AreLineCount input count × IsTextOfFirst input count text)
     ⊎ ((place : ℕ) × (reason : ShowReason) × (before : List ℕ) × RefusesLine input place reason

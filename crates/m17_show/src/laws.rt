@@ -1,7 +1,7 @@
 //! What holds of every input of `show`. Each is a function without arguments, which does nothing and ensures the law.
 ghost use Rattle.m17_show.specs.Laws.{OneShowText};
 
-/// An input has one text. This profile.
+/// An input has one text.
 #[inline]
 pub fn one_show_text()
     ensures { OneShowText }

@@ -8,7 +8,7 @@ use memchr::memchr;
 
 const SIZE: usize = 8192;
 
-/// How many bytes a line may have before its line feed: 256 hex digits and a carriage return. This profile.
+/// How many bytes a line may have before its line feed: 256 hex digits and a carriage return.
 pub(crate) const LINE_ROOM: usize = 257;
 
 /// What stands next before a reader of lines.
@@ -91,16 +91,16 @@ impl LineReader {
         out: &mut K,
     ) -> Result<usize, Fault>
         requires { length (pending self.old) < 8192 }
-        ensures causes { HasCauses (S.faults input.old, K.faults out.old)
-            (S.faults input.new, K.faults out.new) (fault_of result) }
+        ensures causes { HasCauses ((S.told input.old).faults, (K.told out.old).faults)
+            ((S.told input.new).faults, (K.told out.new).faults) (fault_of result) }
         ensures longer { IfOk result (λ n. length (pending self.new) ≡ length (pending self.old) +
             n) }
         ensures none { result ≡ Ok 0 → pending self.new ≡ pending self.old }
-        ensures more { IfOk result (λ n. (rest : List ℕ) → S.left input.old ≡ Some rest
-            → IsMoreOf rest n (pending self.old) (pending self.new) (S.left input.new)) }
-        ensures nothing_taken { OnErr result (S.left input.new ≡ S.left input.old) }
+        ensures more { IfOk result (λ n. (rest : List ℕ) → (S.told input.old).left ≡ Some rest
+            → IsMoreOf rest n (pending self.old) (pending self.new) (S.told input.new).left) }
+        ensures nothing_taken { OnErr result ((S.told input.new).left ≡ (S.told input.old).left) }
         ensures held { OnErr result (pending self.new ≡ pending self.old) }
-        ensures nothing_written { K.written out.new ≡ K.written out.old }
+        ensures nothing_written { (K.told out.new).written ≡ (K.told out.old).written }
     {
         self.move_to_front();
         let end = self.end;
@@ -115,15 +115,16 @@ impl LineReader {
         input: &mut S,
         out: &mut K,
     ) -> Result<Next, Fault>
-        ensures causes { HasCauses (S.faults input.old, K.faults out.old)
-            (S.faults input.new, K.faults out.new) (fault_of result) }
+        ensures causes { HasCauses ((S.told input.old).faults, (K.told out.old).faults)
+            ((S.told input.new).faults, (K.told out.new).faults) (fault_of result) }
         ensures found { MatchResult result
             (λ next. IsNext next (pending self.new)) (λ _. HasNoFeed (pending self.new)) }
-        ensures kept { (ahead : List ℕ) → IsAhead (pending self.old) (S.left input.old) ahead
-            → IsAhead (pending self.new) (S.left input.new) ahead }
+        ensures kept { (ahead : List ℕ) → IsAhead (pending self.old) (S.told input.old).left ahead
+            → IsAhead (pending self.new) (S.told input.new).left ahead }
         ensures at_end { result ≡ Ok Next.Last → (ahead : List ℕ)
-            → IsAhead (pending self.old) (S.left input.old) ahead → S.left input.new ≡ Some [] }
-        ensures nothing_written { K.written out.new ≡ K.written out.old }
+            → IsAhead (pending self.old) (S.told input.old).left ahead
+            → (S.told input.new).left ≡ Some [] }
+        ensures nothing_written { (K.told out.new).written ≡ (K.told out.old).written }
     {
         'reads: loop {
             match self.first_feed() {

@@ -1,6 +1,6 @@
 use m17_print::{Line, Reason};
 
-/// Why `show` refuses its input. This profile.
+/// Why `show` refuses its input.
 #[derive(Clone, Copy, Debug, PartialEq, Eq)]
 pub enum ShowReason {
     /// The input has more lines than `show` takes.

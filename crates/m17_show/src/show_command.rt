@@ -23,16 +23,15 @@ pub const LINES_MAX: u64 = 1_000_000;
 /// The ending is `Finished` where the whole input was shown; `Refused` at the number of the first line, from 0, that is
 /// `Large` (line 1,000,000), `Long` (more than 256 bytes), `Odd` (an odd number of bytes) or that has a byte that is no
 /// hex `Digit`, in this order; `ReadFailed` or `WriteFailed` where a device failed. The lines before stand written.
-/// This profile.
 pub fn show<S: Input<K>, K: Sink>(input: &mut S, out: &mut K) -> TextEnding<ShowReason>
     // A device is told to have failed exactly where its count of faults rose.
-    ensures causes { HasCauses (S.faults input.old, K.faults out.old)
-        (S.faults input.new, K.faults out.new) (failed_device result) }
+    ensures causes { HasCauses ((S.told input.old).faults, (K.told out.old).faults)
+        ((S.told input.new).faults, (K.told out.new).faults) (failed_device result) }
     // What the ending says of the input holds, and what it prints stands written.
-    ensures ended { (bytes : List ℕ) → S.left input.old ≡ Some bytes →
-        Comes SaysShow PrintsShow result bytes (S.left input.new)
-        (K.written out.old) (K.written out.new) }
-    ensures appended { Grows (K.written out.old) (K.written out.new) }
+    ensures ended { (bytes : List ℕ) → (S.told input.old).left ≡ Some bytes →
+        Comes SaysShow PrintsShow result bytes (S.told input.new).left
+        (K.told out.old).written (K.told out.new).written }
+    ensures appended { Grows (K.told out.old).written (K.told out.new).written }
 {
     let mut reader = LineReader::new();
     match show_lines(&mut reader, input, out) {
@@ -47,16 +46,20 @@ fn show_lines<S: Input<K>, K: Sink>(
     input: &mut S,
     out: &mut K,
 ) -> Option<TextEnding<ShowReason>>
-    ensures causes { HasCauses (S.faults input.old, K.faults out.old)
-        (S.faults input.new, K.faults out.new) (option_and_then failed_device result) }
+    ensures causes { HasCauses ((S.told input.old).faults, (K.told out.old).faults)
+        ((S.told input.new).faults, (K.told out.new).faults)
+        (option_and_then failed_device result) }
     ensures shows { IfSome result (λ ending. (bytes : List ℕ) (first : Option (List ℕ))
-        → AreShown bytes 0 (pending reader.old) (S.left input.old) first (K.written out.old)
-        → Comes SaysShow PrintsShow ending bytes (S.left input.new) first (K.written out.new)) }
+        → AreShown bytes 0 (pending reader.old) (S.told input.old).left first
+        (K.told out.old).written
+        → Comes SaysShow PrintsShow ending bytes (S.told input.new).left first
+        (K.told out.new).written) }
     ensures full { IfNone result ((bytes : List ℕ) (first : Option (List ℕ))
-        → AreShown bytes 0 (pending reader.old) (S.left input.old) first (K.written out.old)
-        → AreShown bytes most_lines (pending reader.new) (S.left input.new) first (K.written
-        out.new)) }
-    ensures appended { Grows (K.written out.old) (K.written out.new) }
+        → AreShown bytes 0 (pending reader.old) (S.told input.old).left first
+        (K.told out.old).written
+        → AreShown bytes most_lines (pending reader.new) (S.told input.new).left first
+        (K.told out.new).written) }
+    ensures appended { Grows (K.told out.old).written (K.told out.new).written }
 {
     let mut printed = Line::new();
     for number in 0..LINES_MAX {
@@ -77,13 +80,15 @@ fn show_next<S: Input<K>, K: Sink>(
     out: &mut K,
 ) -> Option<TextEnding<ShowReason>>
     requires { number < most_lines }
-    ensures causes { HasCauses (S.faults input.old, K.faults out.old)
-        (S.faults input.new, K.faults out.new) (option_and_then failed_device result) }
+    ensures causes { HasCauses ((S.told input.old).faults, (K.told out.old).faults)
+        ((S.told input.new).faults, (K.told out.new).faults)
+        (option_and_then failed_device result) }
     ensures goes_on { (bytes : List ℕ) (first : Option (List ℕ))
-        → AreShown bytes number (pending reader.old) (S.left input.old) first (K.written out.old)
-        → GoesOn bytes number first result (pending reader.new) (S.left input.new) (K.written
-        out.new) }
-    ensures appended { Grows (K.written out.old) (K.written out.new) }
+        → AreShown bytes number (pending reader.old) (S.told input.old).left first
+        (K.told out.old).written
+        → GoesOn bytes number first result (pending reader.new) (S.told input.new).left
+        (K.told out.new).written }
+    ensures appended { Grows (K.told out.old).written (K.told out.new).written }
 {
     match reader.next(input, out) {
         Ok(Next::Line(size)) => match show_line(&reader.pending()[..size], printed, out) {
@@ -112,12 +117,12 @@ fn show_last<K: Sink>(
 ) -> TextEnding<ShowReason>
     requires few { number < most_lines }
     requires no_feed { HasNoFeed rest.now }
-    ensures causes { (reads : ℕ) → HasCauses (reads, K.faults out.old)
-        (reads, K.faults out.new) (failed_device result) }
+    ensures causes { (reads : ℕ) → HasCauses (reads, (K.told out.old).faults)
+        (reads, (K.told out.new).faults) (failed_device result) }
     ensures shows { (bytes : List ℕ) (first : Option (List ℕ))
-        → AreShown bytes number rest.now (Some []) first (K.written out.old)
-        → Comes SaysShow PrintsShow result bytes (Some []) first (K.written out.new) }
-    ensures appended { Grows (K.written out.old) (K.written out.new) }
+        → AreShown bytes number rest.now (Some []) first (K.told out.old).written
+        → Comes SaysShow PrintsShow result bytes (Some []) first (K.told out.new).written }
+    ensures appended { Grows (K.told out.old).written (K.told out.new).written }
 {
     if rest.is_empty() {
         return TextEnding::Finished;
@@ -134,13 +139,14 @@ fn end_at_limit<S: Input<K>, K: Sink>(
     input: &mut S,
     out: &mut K,
 ) -> TextEnding<ShowReason>
-    ensures causes { HasCauses (S.faults input.old, K.faults out.old)
-        (S.faults input.new, K.faults out.new) (failed_device result) }
+    ensures causes { HasCauses ((S.told input.old).faults, (K.told out.old).faults)
+        ((S.told input.new).faults, (K.told out.new).faults) (failed_device result) }
     ensures shows { (bytes : List ℕ) (first : Option (List ℕ))
-        → AreShown bytes most_lines (pending reader.old) (S.left input.old) first (K.written
-        out.old)
-        → Comes SaysShow PrintsShow result bytes (S.left input.new) first (K.written out.new) }
-    ensures nothing_written { K.written out.new ≡ K.written out.old }
+        → AreShown bytes most_lines (pending reader.old) (S.told input.old).left first
+        (K.told out.old).written
+        → Comes SaysShow PrintsShow result bytes (S.told input.new).left first
+        (K.told out.new).written }
+    ensures nothing_written { (K.told out.new).written ≡ (K.told out.old).written }
 {
     let large = TextEnding::Refused {
         place: LINES_MAX,

@@ -12,7 +12,7 @@ use hex::FromHexError;
 use m17_io::Sink;
 use m17_print::Line;
 
-/// How many hex digits a line may have, two for each byte of the packet. This profile.
+/// How many hex digits a line may have, two for each byte of the packet.
 pub const LINE_DIGITS: usize = 256;
 
 // What a line holds: its bytes, but for one carriage return at its end.
@@ -69,10 +69,10 @@ pub(crate) fn show_line<K: Sink>(
     printed: &mut Line,
     out: &mut K,
 ) -> Result<(), NotShown>
-    ensures comes { ComesOfLine line.now (K.written out.old) (K.written out.new) result }
-    ensures causes { (reads : ℕ) → HasCauses (reads, K.faults out.old)
-        (reads, K.faults out.new) (failed_at_line result) }
-    ensures appended { Grows (K.written out.old) (K.written out.new) }
+    ensures comes { ComesOfLine line.now (K.told out.old).written (K.told out.new).written result }
+    ensures causes { (reads : ℕ) → HasCauses (reads, (K.told out.old).faults)
+        (reads, (K.told out.new).faults) (failed_at_line result) }
+    ensures appended { Grows (K.told out.old).written (K.told out.new).written }
 {
     if let Err(reason) = make_line(line, printed) {
         return Err(NotShown::Refused(reason));

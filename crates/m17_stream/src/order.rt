@@ -7,7 +7,7 @@ use crate::FRAME_NUMBERS;
 const MOST_AHEAD: u16 = FRAME_NUMBERS / 2 - 1;
 
 /// Whether the frame number `new` comes after `old`, counted round 32,768: 1 to 16,383 steps. The same number is not
-/// ahead of itself. This profile.
+/// ahead of itself.
 #[inline]
 pub fn ahead(new: u16, old: u16) -> bool
     ensures { IsTrue result ↔ IsAhead new old }

@@ -42,7 +42,7 @@ pub struct StreamPacket {
     ghost numbered: { number < 32768 },
 }
 
-/// Why bytes are no stream packet: the first reason that fits, in this order. This profile.
+/// Why bytes are no stream packet: the first reason that fits, in this order.
 #[derive(Clone, Copy, Debug, PartialEq, Eq)]
 pub enum StreamRefusal {
     /// Their number, which isn't 54.

@@ -1,7 +1,7 @@
-/// A device did not do what it was asked to do. This profile.
+/// A device did not do what it was asked to do.
 #[derive(Clone, Copy, Debug, PartialEq, Eq)]
 pub struct Failed;
 
-/// There was no memory for what was asked. This profile.
+/// There was no memory for what was asked.
 #[derive(Clone, Copy, Debug, PartialEq, Eq)]
 pub struct NoMemory;

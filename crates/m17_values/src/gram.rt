@@ -7,7 +7,6 @@ use std::marker::Model;
 const GRAM_BYTES: usize = 64;
 
 /// The bytes of a datagram, its first 64 where there are more: no packet has so many. Contracts see the list of bytes.
-/// This profile.
 #[derive(Clone, Debug, PartialEq, Eq, Drop)]
 pub struct Gram(ArrayVec<u8, GRAM_BYTES>);
 
@@ -22,7 +21,7 @@ impl Model for Gram {
 }
 
 impl Gram {
-    /// The datagram of these bytes, or of the first 64 where there are more. This profile.
+    /// The datagram of these bytes, or of the first 64 where there are more.
     pub fn of(bytes: &[u8]) -> Gram
         ensures first { result ≡ take 64 bytes.now }
     {
@@ -32,7 +31,7 @@ impl Gram {
         Gram(gram)
     }
 
-    /// Its bytes, 64 at the most. This profile.
+    /// Its bytes, 64 at the most.
     pub fn bytes(&self) -> &[u8]
         ensures same { result.now ≡ self.now }
         ensures short { length result.now ≤ 64 }

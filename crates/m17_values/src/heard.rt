@@ -1,7 +1,7 @@
 use super::gram::Gram;
 use super::peer::Peer;
 
-/// What the receiving half of a socket tells at a call. Moments are milliseconds. This profile.
+/// What the receiving half of a socket tells at a call. Moments are milliseconds.
 #[derive(Clone, Debug, PartialEq, Eq, Drop)]
 pub enum Heard {
     /// A datagram came from this peer at this moment.

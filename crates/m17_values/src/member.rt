@@ -1,4 +1,4 @@
-/// One membership: a place of the reflector's table, and which of the memberships at that place it is. This profile.
+/// One membership: a place of the reflector's table, and which of the memberships at that place it is.
 #[derive(Clone, Copy, Debug, PartialEq, Eq)]
 pub struct Member {
     /// The place, from 0.

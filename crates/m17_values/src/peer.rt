@@ -8,7 +8,7 @@ ghost use Rattle.std.specs.Ordering.{nat_cmp, bool_cmp, on, then_cmp, as_partial
 
 use std::cmp::Ordering;
 
-/// A peer: who a datagram came from, or goes to. Peers are ordered by their fields in turn. This profile.
+/// A peer: who a datagram came from, or goes to. Peers are ordered by their fields in turn.
 #[derive(Clone, Copy, Debug, PartialEq, Eq)]
 pub struct Peer {
     /// Whether the address is one of IPv6.

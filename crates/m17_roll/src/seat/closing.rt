@@ -14,7 +14,7 @@ use std::marker::Model;
 use std::sync::Arc;
 
 /// A closed roll: the words that the places have in the end, all members that were claimed and that were given back, and
-/// for each seat its refused askers. Contracts see them; nobody else holds a seat of the roll. This profile.
+/// for each seat its refused askers. Contracts see them; nobody else holds a seat of the roll.
 #[derive(Drop)]
 pub struct RollEnd {
     table: Arc<Words, Global>,
@@ -36,7 +36,7 @@ impl Model for RollEnd {
 
 impl RollEnd {
     /// The word that the place has in the end: 2 g where it is free for its generation g, and 2 g + 1 where that generation
-    /// still has it. This profile.
+    /// still has it.
     pub fn word(&mut self, place: u32) -> u64
         requires { place < length self.old.words }
         ensures word { result ≡ slice_index self.old.words place }
@@ -116,7 +116,7 @@ impl Gathering {
 
 /// Ends a roll: takes all its seats, as many as `make` gave, in any order, and shows what was claimed and given back in
 /// all, the words of the places, and each seat's refused askers, in the order of the seats. Of two claims of a seat at one
-/// place the later has the greater generation. This profile.
+/// place the later has the greater generation.
 pub fn close(mut seats: Vec<RollSeat>) -> RollEnd
     requires { (roll : TableId) × (places : ℕ) × AreAll roll places seats.items }
     ensures claimed { result.claimed ≡ claims_of seats.items }

@@ -1,6 +1,6 @@
 use Rattle.std.proofs.Common.{◌≡◌, ℕ, ◌+◌, ◌*◌, ◌++◌, Some, Err, drop, refl, ap, subst, ◌∙◌, arith}
 use Rattle.m17_print.proofs.Grown.{grows_none, grows_then, grows_line, grows_part}
-use Rattle.m17_fill.specs.Fill.{IsFilled}
+use Rattle.m17_io.specs.Fill.{IsFilled}
 use Rattle.m17_judge.proofs.JudgeRun.{at_start, next_judged, one_more, all_judged, finished, cut, read_failed, write_failed, line_failed}
 use Rattle.m17_judge.proofs.judge_command.judge_records.Goals as goal
 
@@ -54,9 +54,9 @@ pub returns-in-Err-clause-ended : goal.returns-in-Err-clause-ended
 returns-in-Err-clause-ended g c = λ bytes told.
     let after = c.loop-index.invariant.after bytes told in
     let whole : c.in-Ok-eq64.field-0 ≡ 64 = omega arith in
-    let filled = subst (λ (n : ℕ). IsFilled (drop (64 * c.loop-index.index) bytes) n c.loop-index.record c.fill.new.into (g.S.Input.left c.fill.new.input)) whole (c.in-Ok-eq64.ensures.filled (drop (64 * c.loop-index.index) bytes) after.rest_left) in
+    let filled = subst (λ (n : ℕ). IsFilled (drop (64 * c.loop-index.index) bytes) n c.loop-index.record c.fill.new.into (g.S.Input.told c.fill.new.input).left) whole (c.in-Ok-eq64.ensures.filled (drop (64 * c.loop-index.index) bytes) after.rest_left) in
     let next = next_judged c.later_acts_change_no_verdict.ensures bytes c.loop-index.index _ _ _ _ _ _ c.loop-index.record c.fill.new.into c.judge_record.new.line after c.loop-index.invariant.size filled c.judge_record.ensures in
-    line_failed bytes c.loop-index.index _ _ (g.K.Sink.written c.args.out.now) (g.K.Sink.written c.fill.new.out) (g.K.Sink.written c.write.new.self) after.text c.judge_record.new.line (omega arith) next
+    line_failed bytes c.loop-index.index _ _ (g.K.Sink.told c.args.out.now).written (g.K.Sink.told c.fill.new.out).written (g.K.Sink.told c.write.new.self).written after.text c.judge_record.new.line (omega arith) next
     (λ before told_now. c.in-Ok-eq64.ensures.nothing_written ∙ after.printed before told_now)
     (λ before told_now. rw (← c.bytes.ensures.value) (c.in-Err.ensures.err before told_now))
 
@@ -69,9 +69,9 @@ loop-index-preserved g c = record {
   after = λ bytes told.
       let after = c.loop-index.invariant.after bytes told in
       let whole : c.in-Ok-eq64.field-0 ≡ 64 = omega arith in
-      let filled = subst (λ (n : ℕ). IsFilled (drop (64 * c.loop-index.index) bytes) n c.loop-index.record c.fill.new.into (g.S.Input.left c.fill.new.input)) whole (c.in-Ok-eq64.ensures.filled (drop (64 * c.loop-index.index) bytes) after.rest_left) in
+      let filled = subst (λ (n : ℕ). IsFilled (drop (64 * c.loop-index.index) bytes) n c.loop-index.record c.fill.new.into (g.S.Input.told c.fill.new.input).left) whole (c.in-Ok-eq64.ensures.filled (drop (64 * c.loop-index.index) bytes) after.rest_left) in
       let next = next_judged c.later_acts_change_no_verdict.ensures bytes c.loop-index.index _ _ _ _ _ _ c.loop-index.record c.fill.new.into c.judge_record.new.line after c.loop-index.invariant.size filled c.judge_record.ensures in
-      one_more bytes c.loop-index.index _ _ (g.K.Sink.written c.args.out.now) (g.K.Sink.written c.fill.new.out) (g.K.Sink.written c.write.new.self) after.text c.judge_record.new.line next
+      one_more bytes c.loop-index.index _ _ (g.K.Sink.told c.args.out.now).written (g.K.Sink.told c.fill.new.out).written (g.K.Sink.told c.write.new.self).written after.text c.judge_record.new.line next
       (λ before told_now. c.in-Ok-eq64.ensures.nothing_written ∙ after.printed before told_now)
       (λ before told_now. c.in-Ok-write.ensures.ok before told_now ∙ ap (λ xs. Some (before ++ xs)) c.bytes.ensures.value);
   appended = grows_then _ _ _ c.loop-index.invariant.appended (grows_then _ _ _ (grows_none _ _ c.in-Ok-eq64.ensures.nothing_written) (grows_line _ _ _ c.in-Ok-write.ensures.ok));

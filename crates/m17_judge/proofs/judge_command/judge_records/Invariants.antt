@@ -6,9 +6,9 @@ use Rattle.m17_judge.proofs.judge_command.judge_records.Given as goal
 -- so many records of the input were judged, and no device failed
 abbrev pub invariant-loop-index : goal.invariant-loop-index
 invariant-loop-index g l = record {
-  after : (bytes : List ℕ) → g.S.Input.left l.fn.input ≡ Some bytes → IsAfter bytes l.index l.table (g.S.Input.left l.input) (g.K.Sink.written l.fn.out) (g.K.Sink.written l.out);
-  appended : Grows (g.K.Sink.written l.fn.out) (g.K.Sink.written l.out);
+  after : (bytes : List ℕ) → (g.S.Input.told l.fn.input).left ≡ Some bytes → IsAfter bytes l.index l.table (g.S.Input.told l.input).left (g.K.Sink.told l.fn.out).written (g.K.Sink.told l.out).written;
+  appended : Grows (g.K.Sink.told l.fn.out).written (g.K.Sink.told l.out).written;
   size : length l.record ≡ 64;
-  reads : g.S.Input.faults l.input ≡ g.S.Input.faults l.fn.input;
-  writes : g.K.Sink.faults l.out ≡ g.K.Sink.faults l.fn.out;
+  reads : (g.S.Input.told l.input).faults ≡ (g.S.Input.told l.fn.input).faults;
+  writes : (g.K.Sink.told l.out).faults ≡ (g.K.Sink.told l.fn.out).faults;
 }

@@ -17,7 +17,7 @@ next-requires g c = omega (arith, c.loop-entry.invariant.entry_is)
 pub returns-in-Err-write_heard-clause-cause : goal.returns-in-Err-write_heard-clause-cause
 returns-in-Err-write_heard-clause-cause g c = record {
   counted = omega (arith, c.in-Err-write_heard.ensures.cause.counted);
-  failed = subst (λ (n : ℕ). HasRisen n (g.K.Sink.faults c.write_heard.new.out)) c.loop-entry.invariant.no_fault c.in-Err-write_heard.ensures.cause.failed;
+  failed = subst (λ (n : ℕ). HasRisen n (g.K.Sink.told c.write_heard.new.out).faults) c.loop-entry.invariant.no_fault c.in-Err-write_heard.ensures.cause.failed;
   no_fault = tt;
 }
 

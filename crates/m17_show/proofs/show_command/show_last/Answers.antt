@@ -21,11 +21,11 @@ returns-in-Ok-clause-shows g c = λ bytes first so_far.
 
 pub returns-in-Err-clause-causes : goal.returns-in-Err-clause-causes
 returns-in-Err-clause-causes g c = λ reads.
-    subst (λ (ending : TextEnding ShowReason). HasCauses (reads, g.K.Sink.faults c.args.out.now) (reads, g.K.Sink.faults c.show_line.new.out) (failed_device ending))
+    subst (λ (ending : TextEnding ShowReason). HasCauses (reads, (g.K.Sink.told c.args.out.now).faults) (reads, (g.K.Sink.told c.show_line.new.out).faults) (failed_device ending))
     (sym c.ending_at.ensures) (failed_at c.args.number c.in-Err.not_shown _ _ (c.in-Err.ensures.causes reads))
 
 pub returns-in-Err-clause-shows : goal.returns-in-Err-clause-shows
 returns-in-Err-clause-shows g c = λ bytes first so_far.
     let some : 0 < length c.args.rest.now = grind arith in
-    subst (λ (ending : TextEnding ShowReason). Comes SaysShow PrintsShow ending bytes (Some []) first (g.K.Sink.written c.show_line.new.out)) (sym c.ending_at.ensures)
+    subst (λ (ending : TextEnding ShowReason). Comes SaysShow PrintsShow ending bytes (Some []) first (g.K.Sink.told c.show_line.new.out).written) (sym c.ending_at.ensures)
     (last_not_shown bytes c.args.rest.now c.args.number c.in-Err.not_shown (Some []) first _ _ c.requires.few so_far c.requires.no_feed some refl c.in-Err.ensures.comes)

@@ -7,9 +7,9 @@ use Rattle.m17_show.proofs.show_command.show_lines.Given as goal
 -- so many lines were shown, and no device failed
 abbrev pub invariant-loop-number : goal.invariant-loop-number
 invariant-loop-number g l = record {
-  shown : (bytes : List ℕ) (first : Option (List ℕ)) → AreShown bytes 0 (pending l.fn.reader) (g.S.Input.left l.fn.input) first (g.K.Sink.written l.fn.out)
-      → AreShown bytes l.number (pending l.reader) (g.S.Input.left l.input) first (g.K.Sink.written l.out);
-  appended : Grows (g.K.Sink.written l.fn.out) (g.K.Sink.written l.out);
-  reads : g.S.Input.faults l.input ≡ g.S.Input.faults l.fn.input;
-  writes : g.K.Sink.faults l.out ≡ g.K.Sink.faults l.fn.out;
+  shown : (bytes : List ℕ) (first : Option (List ℕ)) → AreShown bytes 0 (pending l.fn.reader) (g.S.Input.told l.fn.input).left first (g.K.Sink.told l.fn.out).written
+      → AreShown bytes l.number (pending l.reader) (g.S.Input.told l.input).left first (g.K.Sink.told l.out).written;
+  appended : Grows (g.K.Sink.told l.fn.out).written (g.K.Sink.told l.out).written;
+  reads : (g.S.Input.told l.input).faults ≡ (g.S.Input.told l.fn.input).faults;
+  writes : (g.K.Sink.told l.out).faults ≡ (g.K.Sink.told l.fn.out).faults;
 }

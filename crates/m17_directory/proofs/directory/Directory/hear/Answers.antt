@@ -4,7 +4,7 @@ use Rattle.m17_directory.specs.declared.known.Known.{Known}
 use Rattle.m17_directory.specs.Entries.{Notice, Entry, Says, moment_of, is_end}
 use Rattle.m17_directory.specs.Outcome.{Here}
 use Rattle.m17_directory.specs.Sound.{kept_of}
-use Rattle.m17_directory.specs.StandsFor.{Kept, StandsFor, IsHeard, IsBounded, HasGrown}
+use Rattle.m17_directory.specs.StandsFor.{DirectoryKept, StandsFor, IsHeard, IsBounded, HasGrown}
 use Rattle.m17_directory.specs.Steps.{IsTaken}
 use Rattle.m17_directory.proofs.Bounds.{IsSeated, seated_known}
 use Rattle.m17_directory.proofs.Heard.{hear_stands}
@@ -12,7 +12,7 @@ use Rattle.m17_directory.proofs.Kept.{bounded_by, seated_of, below_most}
 use Rattle.m17_directory.proofs.Told.{asked_iff, asked_index, ended_iff, has_grown, still_together}
 use Rattle.m17_directory.proofs.directory.Directory.hear.Goals as goal
 
-abbrev new_of : goal.After-hear → Kept
+abbrev new_of : goal.After-hear → DirectoryKept
 new_of c = kept_of (record c.self.inside {
   moment = c.max-moment.result;
   faults = c.faults_with-faults.result;
@@ -27,7 +27,7 @@ moment_is : (c : goal.After-hear) (notice : Notice) → Says c.args.h.now notice
 moment_is c notice says = c.max-moment.ensures ∙ ap (max c.self.inside.moment) (c.moment_of.ensures notice says)
 
 stamp_is : (c : goal.After-hear) → c.stamp-stamp.result ≡ here_of c c.args.index
-stamp_is c = c.stamp-stamp.ensures ∙ ap (λ (k : Kept). record { setup = k.setup; index = c.args.index; moment = c.max-moment.result }) (sym c.self.view_is)
+stamp_is c = c.stamp-stamp.ensures ∙ ap (λ (k : DirectoryKept). record { setup = k.setup; index = c.args.index; moment = c.max-moment.result }) (sym c.self.view_is)
 
 taken : (c : goal.After-hear) (notice : Notice) → Says c.args.h.now notice → IsTaken (here_of c c.args.index) c.self.inside.moment c.ends_by-ends.result c.self.inside.people c.hear.new.self notice c.hear.new.post c.hear.result
 taken c notice says =
@@ -57,7 +57,7 @@ returns-clause-says c = c.hear.ensures.says
 
 pub returns-clause-heard : goal.returns-clause-heard
 returns-clause-heard c = λ notice says.
-    subst (λ (k : Kept). (entries : List Entry) → StandsFor k entries → c.args.index ≡ length entries → IsHeard k (new_of c) entries notice (record { verdict = c.hear.result; posts = c.hear.new.post })) c.self.view_is
+    subst (λ (k : DirectoryKept). (entries : List Entry) → StandsFor k entries → c.args.index ≡ length entries → IsHeard k (new_of c) entries notice (record { verdict = c.hear.result; posts = c.hear.new.post })) c.self.view_is
     (λ entries stood at.
     let ends : c.ends_by-ends.result ≡ (is_end notice || leb 16 c.faults_with-faults.result) = c.ends_by-ends.ensures notice says in
     let first = subst (λ (e : Bool). IsTaken (here_of c c.args.index) c.self.inside.moment e c.self.inside.people c.hear.new.self notice c.hear.new.post c.hear.result) ends (taken c notice says) in
@@ -85,12 +85,12 @@ pub returns-clause-together : goal.returns-clause-together
 returns-clause-together c =
     let says = c.hear.ensures.says in
     still_together (here_of c c.args.index) c.self.inside.moment c.ends_by-ends.result c.self.inside.people c.hear.new.self says.0 c.hear.new.post c.hear.result (taken c says.0 says.1) c.hear.ensures.order
-    ∙ ap (λ (k : Kept). length k.known + length k.departing) c.self.view_is
+    ∙ ap (λ (k : DirectoryKept). length k.known + length k.departing) c.self.view_is
 
 pub returns-clause-departing : goal.returns-clause-departing
 returns-clause-departing c =
     let says = c.hear.ensures.says in
-    subst (λ (k : Kept). HasGrown k.departing c.hear.new.self.departing) c.self.view_is
+    subst (λ (k : DirectoryKept). HasGrown k.departing c.hear.new.self.departing) c.self.view_is
     (has_grown (here_of c c.args.index) c.self.inside.moment c.ends_by-ends.result c.self.inside.people c.hear.new.self says.0 c.hear.new.post c.hear.result (taken c says.0 says.1))
 
 pub returns-clause-bounds : goal.returns-clause-bounds

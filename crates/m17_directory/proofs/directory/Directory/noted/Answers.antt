@@ -1,5 +1,5 @@
 use Rattle.std.proofs.Common.{◌≡◌, false, not, sym, subst, arith}
-use Rattle.m17_directory.specs.StandsFor.{Kept, StandsFor, IsBounded, is_member, must_wait}
+use Rattle.m17_directory.specs.StandsFor.{DirectoryKept, StandsFor, IsBounded, is_member, must_wait}
 use Rattle.m17_directory.specs.Sound.{kept_of}
 use Rattle.m17_directory.specs.Steps.{Lists}
 use Rattle.m17_directory.proofs.Filters.{filter_le}
@@ -23,9 +23,9 @@ returns-clause-bounds c = bounded c
 
 pub returns-clause-stands : goal.returns-clause-stands
 returns-clause-stands c entries stood =
-    let stands = subst (λ (k : Kept). StandsFor k entries) (sym c.self.view_is) stood in
+    let stands = subst (λ (k : DirectoryKept). StandsFor k entries) (sym c.self.view_is) stood in
     subst (λ (p : Lists). StandsFor (kept_of (record c.self.inside { people = p })) entries) (sym c.noted.ensures.noted)
     (record { moment = stands.moment; known = stands.known; asked = stands.asked; faults = stands.faults })
 
 pub returns-clause-waits : goal.returns-clause-waits
-returns-clause-waits c = λ free. c.noted.ensures.waits (subst (λ (k : Kept). must_wait k ≡ false) (sym c.self.view_is) free)
+returns-clause-waits c = λ free. c.noted.ensures.waits (subst (λ (k : DirectoryKept). must_wait k ≡ false) (sym c.self.view_is) free)

@@ -3,16 +3,16 @@ use Rattle.m17_floor.specs.declared.act.Act.{Act}
 use Rattle.m17_floor.specs.declared.act.ActKind.TheVariants.{Packet}
 use Rattle.m17_floor.specs.StandsFor.{IsJudged}
 use Rattle.m17_judge.specs.Judge.{talker, talkers}
-use Rattle.m17_judge.specs.Table.{Kept, TableStandsFor}
+use Rattle.m17_judge.specs.Table.{TableKept, TableStandsFor}
 use Rattle.m17_judge.proofs.Standing.{judged_more, ruled_at}
 use Rattle.m17_judge.proofs.table.Table.judge.Goals as goal
 
 -- what was kept before
-abbrev kept : goal.After-self-2-1 → Kept
+abbrev kept : goal.After-self-2-1 → TableKept
 kept c = record { floor = c.self.inside.floor; owns = c.self.inside.owns.items; moment = c.self.inside.moment }
 
 kept_stands : (c : goal.After-self-2-1) (acts : List Act) → TableStandsFor acts c.args.self.now → TableStandsFor acts (kept c)
-kept_stands c acts stands = subst (λ (k : Kept). TableStandsFor acts k) (sym c.self.view_is) stands
+kept_stands c acts stands = subst (λ (k : TableKept). TableStandsFor acts k) (sym c.self.view_is) stands
 
 -- the judgement, by the rule of the acts that the table stands for
 judged : (c : goal.After-self-2-1) (acts : List Act) → TableStandsFor acts c.args.self.now

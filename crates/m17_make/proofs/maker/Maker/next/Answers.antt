@@ -1,6 +1,6 @@
 -- What is heard is what the rule has for the seed, and the maker goes on as it has.
 use Rattle.std.proofs.Common.{◌≡◌, ap, ap₂, ◌∙◌}
-use Rattle.m17_make.specs.Moments.{moment_of}
+use Rattle.m17_make.specs.Moments.{entry_moment}
 use Rattle.m17_make.specs.Made.{heard_as}
 use Rattle.m17_make.specs.Maker.{Evening}
 use Rattle.m17_make.proofs.Followed.{heard_is, drawn_on, entry_after}
@@ -8,7 +8,7 @@ use Rattle.m17_make.proofs.maker.Maker.next.Goals as goal
 
 pub returns-clause-heard : goal.returns-clause-heard
 returns-clause-heard c = λ seed drawn.
-    let at : c.moment-at.result ≡ moment_of c.args.self.now.entry = c.moment-at.ensures ∙ ap (λ (e : Evening). moment_of e.entry) c.self.view_is in
+    let at : c.moment-at.result ≡ entry_moment c.args.self.now.entry = c.moment-at.ensures ∙ ap (λ (e : Evening). entry_moment e.entry) c.self.view_is in
     c.heard.ensures.heard ∙ ap₂ heard_as at c.make.ensures.made ∙ heard_is seed c.args.self.now drawn
 
 pub returns-clause-drawn : goal.returns-clause-drawn

@@ -1,6 +1,6 @@
 use Rattle.std.proofs.Common.{◌≡◌, ◌+◌, ◌<◌, ℕ, Bool, length, max, is_some, ap, sym, subst, ◌∙◌, arith}
 use Rattle.m17_module.specs.Items.{echo_items}
-use Rattle.m17_module.specs.StandsFor.{Kept, StandsFor, stepped, IsStep}
+use Rattle.m17_module.specs.StandsFor.{ModuleKept, StandsFor, stepped, IsStep}
 use Rattle.m17_module.proofs.EchoesBefore.{Later}
 use Rattle.m17_module.proofs.ModuleStep.{recording_in, due_in, before_is, EachStepped, played_end, recorded_end}
 use Rattle.m17_module.proofs.StepMore.{step_is}
@@ -15,9 +15,9 @@ pub returns-clause-by_rule : goal.returns-clause-by_rule
 returns-clause-by_rule c = λ events stands few.
     let places : ℕ = length c.self.inside.room.seats in
     let at : ℕ = c.max-moment.result in
-    let old : Kept = record { setup = record { places = places; parrot = is_some c.self.inside.recorder }; moment = c.self.inside.moment; people = c.self.inside.room; count = c.self.inside.count; admitted = c.self.inside.admitted; recording = recording_in c.self.inside.recorder } in
-    let now : ℕ → Bool → Kept = λ n b. record { setup = record { places = n; parrot = b }; moment = c.max-moment.result; people = c.happen-answer.new.room; count = c.saturating_add-self-inside.result; admitted = c.count_admitted-self-inside.result; recording = recording_in c.happen-answer.new.recorder } in
-    let inside : StandsFor old events = subst (λ (k : Kept). StandsFor k events) (sym c.self.view_is) stands in
+    let old : ModuleKept = record { setup = record { places = places; parrot = is_some c.self.inside.recorder }; moment = c.self.inside.moment; people = c.self.inside.room; count = c.self.inside.count; admitted = c.self.inside.admitted; recording = recording_in c.self.inside.recorder } in
+    let now : ℕ → Bool → ModuleKept = λ n b. record { setup = record { places = n; parrot = b }; moment = c.max-moment.result; people = c.happen-answer.new.room; count = c.saturating_add-self-inside.result; admitted = c.count_admitted-self-inside.result; recording = recording_in c.happen-answer.new.recorder } in
+    let inside : StandsFor old events = subst (λ (k : ModuleKept). StandsFor k events) (sym c.self.view_is) stands in
     let counted : c.self.inside.count ≡ length events = inside.count in
     let room : c.self.inside.admitted < 18446744073709551615 = omega (arith, c.self.invariant.0) in
     let next : c.saturating_add-self-inside.result ≡ c.self.inside.count + 1 = omega (arith, c.saturating_add-self-inside.ensures) in
@@ -38,7 +38,7 @@ returns-clause-by_rule c = λ events stands few.
       before = before_is c.self.inside.recorder r _ is inside.recording;
       tuned = turned_tuned c.self.inside.moment at r.heard c.self.inside.room.floor r.parrot (omega (arith, c.max-moment.ensures)) (c.self.invariant.1 r is);
     } in
-    subst (λ (k : Kept). IsStep k.setup events c.args.event.now (stepped c.happen-answer.result (now (length c.happen-answer.new.room.seats) (is_some c.happen-answer.new.recorder)) c.happen-answer.new.out)) c.self.view_is
+    subst (λ (k : ModuleKept). IsStep k.setup events c.args.event.now (stepped c.happen-answer.result (now (length c.happen-answer.new.room.seats) (is_some c.happen-answer.new.recorder)) c.happen-answer.new.out)) c.self.view_is
     (subst (λ (b : Bool). IsStep old.setup events c.args.event.now (stepped c.happen-answer.result (now (length c.happen-answer.new.room.seats) b) c.happen-answer.new.out)) (sym c.happen-answer.ensures.stays)
     (subst (λ (n : ℕ). IsStep old.setup events c.args.event.now (stepped c.happen-answer.result (now n (is_some c.self.inside.recorder)) c.happen-answer.new.out)) (sym c.happen-answer.ensures.length)
     (step_is c.the_greatest_moment_counts.ensures.here c.the_greatest_moment_counts.ensures.after c.later_acts_change_nothing_before.ensures.members c.admitted_positions_are_counted.ensures.one_more
