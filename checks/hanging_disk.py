@@ -1,8 +1,14 @@
 #!/usr/bin/env python3
-"""A reflector whose book is a pipe that takes 4 KiB and then nothing, and a talk beside it, for checks of what a disk that
-hangs does. The arguments are the program, how many frames are said, and, where the pipe is drained in the end, a file for
-what came out of it. It prints how many frames were heard, what the reflector printed, its status, and whether it ended
-within so many seconds as it may. The status is 1 where the talk could not begin.
+"""A reflector of two modules with a file that is a pipe, which takes 4 KiB and then nothing, and talks beside it, for checks
+of what a disk that hangs does. The arguments are the program, what hangs, how many datagrams are sent, and, where the pipe
+is drained in the end, a file for what came out of it. What hangs is one of
+
+    book     the book of module A, while the datagrams are said there as frames
+    other    the same, and seven seconds later 300 frames are said in module B
+    trace    the trace of the link, while the datagrams are ones that no packet is, and then somebody asks for a place
+
+It prints how many frames were heard, in module B too, or that who asked was let in; what the reflector printed, its status,
+and whether it ended in time. The status is 1 where a talk could not begin.
 """
 
 import fcntl
@@ -18,7 +24,7 @@ sys.path.insert(0, os.path.join(os.path.dirname(os.path.abspath(__file__)), ".."
 from make import address, stream_packet  # noqa: E402
 
 SET_PIPE_SIZE = 1031
-SERVES_SECONDS = 6
+SERVES_SECONDS = {"book": 6, "other": 14, "trace": 10}
 PATIENCE_SECONDS = 9
 
 
@@ -29,12 +35,14 @@ def free_port():
 
 
 class Member:
-    """One that is in module A. In a thread of its own it counts what it hears, and answers each PING."""
+    """One that is in a module. In a thread of its own it counts what it hears, and answers each PING."""
 
-    def __init__(self, port, call):
+    def __init__(self, port, call, module):
         self.socket = socket.socket(socket.AF_INET, socket.SOCK_DGRAM)
         self.socket.connect(("127.0.0.1", port))
+        self.name = call
         self.call = address(call)
+        self.module = module
         self.heard = 0
         self.is_in = threading.Event()
         threading.Thread(target=self.hear, daemon=True).start()
@@ -56,12 +64,36 @@ class Member:
     def join(self):
         for _ in range(25):
             try:
-                self.socket.send(b"CONN" + self.call + b"A")
+                self.socket.send(b"CONN" + self.call + self.module)
             except OSError:
                 pass
             if self.is_in.wait(0.2):
                 return
         sys.exit("not let in")
+
+    def say(self, frames):
+        for number in range(frames):
+            self.socket.send(stream_packet(0x1234, number, self.name))
+            time.sleep(0.0005)
+        time.sleep(0.5)
+
+
+def talk(port, module, frames, listener, talker):
+    """Two join a module, and one says so many frames. How many the other heard."""
+    members = [Member(port, call, module) for call in (listener, talker)]
+    for member in members:
+        member.join()
+    members[1].say(frames)
+    return members[0].heard
+
+
+def junk(port, count):
+    """So many datagrams that are no packets, some thousands a second."""
+    with socket.socket(socket.AF_INET, socket.SOCK_DGRAM) as stranger:
+        for number in range(count):
+            stranger.sendto(b"x" * 60, ("127.0.0.1", port))
+            if number % 100 == 0:
+                time.sleep(0.02)
 
 
 def hanging_pipe(path):
@@ -81,27 +113,30 @@ def drain(end, book):
 
 
 def main():
-    program, frames, book = sys.argv[1], int(sys.argv[2]), sys.argv[3:]
+    program, hangs, count, book = sys.argv[1], sys.argv[2], int(sys.argv[3]), sys.argv[4:]
     os.mkdir("kept")
-    os.symlink("/dev/null", "kept/link0.trace")
-    end = hanging_pipe("kept/A.book")
-    port = free_port()
-    words = ["serve", "--call", "M17-TST", "--modules", "A", "--for", str(SERVES_SECONDS), "--book", "kept"]
+    if hangs != "trace":
+        os.symlink("/dev/null", "kept/link0.trace")
+    end = hanging_pipe("kept/link0.trace" if hangs == "trace" else "kept/A.book")
+    port, seconds = free_port(), SERVES_SECONDS[hangs]
+    words = ["serve", "--call", "M17-TST", "--modules", "AB", "--for", str(seconds), "--book", "kept"]
     start = time.monotonic()
     serves = subprocess.Popen([program, *words, f"127.0.0.1:{port}"], stdout=subprocess.PIPE)
-    listener, talker = Member(port, "N0CALL"), Member(port, "AB1CD")
-    listener.join()
-    talker.join()
-    for number in range(frames):
-        talker.socket.send(stream_packet(0x1234, number, "AB1CD"))
-        time.sleep(0.0005)
-    time.sleep(0.5)
-    print("heard", listener.heard)
+    if hangs == "trace":
+        Member(port, "N0CALL", b"A").join()
+        junk(port, count)
+        Member(port, "AB1CD", b"B").join()
+        print("let in")
+    else:
+        print("heard", talk(port, b"A", count, "N0CALL", "AB1CD"))
+    if hangs == "other":
+        time.sleep(7)
+        print("heard in B", talk(port, b"B", 300, "N1CALL", "AB2CD"))
     if book:
         drain(end, book[0])
     printed = serves.communicate()[0].decode()
     print(printed, end="")
-    in_time = time.monotonic() - start < SERVES_SECONDS + PATIENCE_SECONDS
+    in_time = time.monotonic() - start < seconds + PATIENCE_SECONDS
     print("status", serves.returncode, "in time" if in_time else "late")
 
 

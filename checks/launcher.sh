@@ -264,7 +264,7 @@ installed() {
     done
     if command -v python3 >/dev/null; then
         for script in m17-log m17-book m17-crc m17-pcap; do
-            without_rt "a prefix/bin/$script" --help >got && has got "$script" || return 1
+            without_rt "a prefix/bin/$script" --help >helped && has helped "$script" || return 1
         done
     fi
     cmp "$top/docs/m17.1" 'a prefix/share/man/man1/m17.1' || return 1
