@@ -32,8 +32,10 @@ static inline void put64(uint8_t *p, uint64_t v)
         put16(p + 2 * i, (unsigned)(v >> (48 - 16 * i)) & 0xFFFF);
 }
 
-/* 40^9 is the first address without a text. */
-static inline int has_callsign(uint64_t address) { return address > 0 && address < UINT64_C(262144000000000); }
+/* Callsigns lie below 40^9, groups above it and below 40^9 + 40^8. */
+static inline int has_callsign(uint64_t address) {
+    return address > 0 && address < UINT64_C(268697600000000) && address != UINT64_C(262144000000000);
+}
 
 #ifdef CRC_SLICES
 #define CRC_TABLES 8
