@@ -13,6 +13,7 @@ pub mod LawEnds
 pub mod LawJoins
 pub mod LawLeaves
 pub mod LawMore
+pub mod LawNamed
 pub mod LawNames
 pub mod LawPeers
 pub mod LawPosts

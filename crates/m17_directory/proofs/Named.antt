@@ -14,15 +14,15 @@ use Rattle.m17_directory.proofs.Rows.{after_none, after_same}
 use Rattle.m17_directory.proofs.Later.{has_row, row_at_peer}
 
 -- peers in strict order, and whether one is among them
-abbrev AreAfter : Peer → List Peer → Type 0
+abbrev pub AreAfter : Peer → List Peer → Type 0
 AreAfter x [] = Unit {0}
 AreAfter x (y ∷ peers) = (peer_cmp x y ≡ Less) × AreAfter x peers
 
-abbrev AreInOrder : List Peer → Type 0
+abbrev pub AreInOrder : List Peer → Type 0
 AreInOrder [] = Unit {0}
 AreInOrder (y ∷ peers) = AreAfter y peers × AreInOrder peers
 
-abbrev is_named : Peer → List Peer → Bool
+abbrev pub is_named : Peer → List Peer → Bool
 is_named x [] = false
 is_named x (y ∷ peers) = cond (is_peer x y) true (is_named x peers)
 
@@ -55,7 +55,7 @@ order_with_sender (Notice.Quiet at) peers h = h
 order_with_sender Notice.Fault peers h = h
 order_with_sender Notice.End peers h = h
 
-peers_in_order : (entries : List Entry) (n : ℕ) → AreInOrder (peers_named entries n)
+pub peers_in_order : (entries : List Entry) (n : ℕ) → AreInOrder (peers_named entries n)
 unfolding peers_named
 peers_in_order entries zero = tt
 peers_in_order entries (suc n) = order_with_sender (notice_at entries n) (peers_named entries n) (peers_in_order entries n)
@@ -70,7 +70,7 @@ named_with_step x y z peers more Less e m h = elim (is_peer x y) as (λ b. cond 
 named_with_step x y z peers more Equal e m h = h
 named_with_step x y z peers more Greater e m h = named_rest (is_peer x z) (is_named x peers) (is_named x more) m h
 
-named_with : (x y : Peer) (peers : List Peer) → is_named x peers ≡ true → is_named x (with_peer y peers) ≡ true
+pub named_with : (x y : Peer) (peers : List Peer) → is_named x peers ≡ true → is_named x (with_peer y peers) ≡ true
 named_with x y [] h = absurd (false≢true h)
 named_with x y (z ∷ peers) h = named_with_step x y z peers (with_peer y peers) (peer_cmp y z) refl (named_with x y peers) h
 
@@ -79,7 +79,7 @@ named_new_step x z peers more Less e m = cond-true (is_peer x x) true (is_named 
 named_new_step x z peers more Equal e m = cond-true (is_peer x z) true (is_named x peers) (is_peer_from x z (peer_same x z (sym e)))
 named_new_step x z peers more Greater e m = elim (is_peer x z) as (λ b. cond b true (is_named x more) ≡ true) [ true ↦ refl | false ↦ m ]
 
-named_new : (x : Peer) (peers : List Peer) → is_named x (with_peer x peers) ≡ true
+pub named_new : (x : Peer) (peers : List Peer) → is_named x (with_peer x peers) ≡ true
 named_new x [] = cond-true (is_peer x x) true false (is_peer_self x)
 named_new x (z ∷ peers) = named_new_step x z peers (with_peer x peers) (peer_cmp x z) refl (named_new x peers)
 

@@ -1,6 +1,7 @@
 -- What follows from the definitions for all that a link may hear.
-use Rattle.std.specs.Prelude.{◌≡◌, ◌==◌, ◌&&◌, not, ℕ, suc, ◌+◌, ◌<◌, Bool, true, false, List, [], ◌∷◌, ◌++◌, ◌≤◌, length, map, filter, count_by, sum_by, take, is_some, Option, None, Some, slice_get, option_map, if◌then◌else◌}
+use Rattle.std.specs.Prelude.{◌≡◌, ◌↔◌, ◌==◌, ◌&&◌, not, ℕ, suc, ◌+◌, ◌<◌, Bool, true, false, List, [], ◌∷◌, ◌++◌, ◌≤◌, length, map, filter, count_by, sum_by, take, is_some, Option, None, Some, slice_get, option_map, if◌then◌else◌}
 use Rattle.std.specs.List.{filter_map, flat_map, range_with_len, AllByRecursion, AllZip}
+use Rattle.std.specs.declared.cmp.Ordering.TheVariants.{Less}
 use Rattle.m17_values.specs.declared.heard.Heard.{Heard}
 use Rattle.m17_values.specs.declared.heard.Heard.TheVariants as heard
 use Rattle.m17_values.specs.declared.member.Member.{Member}
@@ -25,7 +26,7 @@ use Rattle.m17_directory.specs.declared.known.Request.{Request}
 use Rattle.m17_directory.specs.declared.verdict.Act.TheVariants as act
 use Rattle.m17_directory.specs.declared.verdict.LinkVerdict.{LinkVerdict}
 use Rattle.m17_directory.specs.declared.verdict.LinkVerdict.TheVariants.{Routed, Full, Ended}
-use Rattle.m17_directory.specs.Entries.{Notice, Says, Claim, Entry, Setup, notice_at, claim_at, is_peer, is_from, ends_at}
+use Rattle.m17_directory.specs.Entries.{Notice, Says, Claim, Entry, Setup, notice_at, claim_at, peer_cmp, is_peer, is_from, ends_at, peers_named}
 use Rattle.m17_directory.specs.Known.{Past, request_in, known_at}
 use Rattle.m17_directory.specs.Given.{AreGivenFreely, SayTheSame, stands_for, IsRenamedRow}
 use Rattle.m17_directory.specs.Outcome.{Here}
@@ -354,6 +355,22 @@ pub record DoorCarriesReplies : Type 0 where
 pub record PeersAreToldApart : Type 0 where
   pub same : (a b : Peer) → is_peer a b ≡ true → a ≡ b
   pub itself : (x : Peer) → is_peer x x ≡ true
+
+-- the entry is a datagram from the peer, whatever its bytes say
+abbrev pub CameFrom : Peer → Notice → Type 0
+CameFrom x (Notice.Sent from at p) = x ≡ from
+CameFrom x (Notice.Garbled from at refusal) = x ≡ from
+CameFrom x _ = ⊥
+
+-- The peers that are named before a position stand in strict order, and are just those that a
+-- datagram came from there.
+pub record PeersAreNamedInOrder : Type 0 where
+  pub rising : (entries : List Entry) (n i j : ℕ) (x y : Peer) → i < j →
+      slice_get (peers_named entries n) i ≡ Some x → slice_get (peers_named entries n) j ≡ Some y →
+      peer_cmp x y ≡ Less
+  pub senders : (entries : List Entry) (n : ℕ) (x : Peer) →
+      ((i : ℕ) × (slice_get (peers_named entries n) i ≡ Some x))
+      ↔ ((i : ℕ) × (i < n) × CameFrom x (notice_at entries i))
 
 -- An entry that asks for a place comes to what it comes to before its claim, and then to what its
 -- request comes to by the claim; any other entry to the former alone.

@@ -114,6 +114,12 @@ pub fn peers_are_told_apart()
     ensures { law.PeersAreToldApart }
 {}
 
+/// The peers that are named before a position, in whose order those leave who leave together, stand in strict order, each
+/// once, and are just those that a datagram came from.
+pub fn peers_are_named_in_order()
+    ensures { law.PeersAreNamedInOrder }
+{}
+
 /// An entry that asks for a place comes to what it comes to before its claim, and then to what the claim makes of it; any
 /// other entry to the former alone.
 pub fn claims_complete_askers()
