@@ -1,5 +1,9 @@
 -- What is told of a run of the program whose streams and devices its caller doesn't see.
-use Rattle.std.specs.Prelude.{◌≡◌, ◌≢◌, ◌⊎◌, ℕ, List, Option, None, Some}
+use Rattle.std.specs.Prelude.{◌≡◌, ◌≢◌, ◌⊎◌, ◌↔◌, ℕ, List, reverse, All, Option, None, Some}
+use Rattle.std.specs.List.{AllZip}
+use Rattle.m17_disk.specs.Writing.{EndsAs, IsWritten}
+use Rattle.m17_disk.specs.declared.writer.Writer.{Writer}
+use Rattle.m17_net.specs.Devices.{BookKept, IsBegun, file_book_told}
 use Rattle.m17_reflect.specs.declared.returned.HouseRefusal.{HouseRefusal}
 use Rattle.m17_reflect.specs.Run as reflect
 use Rattle.m17_ports.specs.Ports.{PortsTold}
@@ -45,8 +49,16 @@ pub record EndsAsRun (E M B : Type 0) (code : ℕ) : Type 0 where
   pub crew : Count
   pub told : Tells code (λ status. HasRunIfAny E M B words status first last crew)
 
--- The number that a process ends with, by the one that its command ended with: the same, but that closing the books may
--- make 0 into 8, or into 4 where that could not be told.
-pub record IsClosed (ended code : ℕ) : Type 0 where
+-- What became of threads that were started for new books, the last first.
+pub record AreEnded {F : Type 0} (ended : List (Option (Writer (BookKept F)))) : Type 0 where
+  pub started : List (Writer (BookKept F))
+  pub new : All IsBegun started
+  pub each : AllZip (EndsAs file_book_told) (reverse started) ended
+
+-- The number that a process ends with, by what became of the threads of its books and by the number that its command ended
+-- with. It is the same, but where that is 0: then it is 0 exactly where each thread ended and no write failed, and else 8,
+-- or 4 where that could not be told.
+pub record IsClosed {B : Type 0} (books : List (Option (Writer B))) (ended code : ℕ) : Type 0 where
   pub kept : ended ≢ 0 → code ≡ ended
-  pub told : ended ≡ 0 → (code ≡ 0) ⊎ (code ≡ 8) ⊎ (code ≡ 4)
+  pub written : ended ≡ 0 → (code ≡ 0) ↔ All IsWritten books
+  pub failed : ended ≡ 0 → (All IsWritten books → ⊥) → (code ≡ 8) ⊎ (code ≡ 4)

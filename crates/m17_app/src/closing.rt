@@ -1,21 +1,50 @@
 //! What the program does for its books: it starts their threads before its command, and closes them when that has ended.
-ghost use Rattle.std.specs.Prelude.{◌≡◌, ◌≢◌, ◌⊎◌};
-ghost use Rattle.m17_net.specs.Devices.{AreWritten};
+ghost use Rattle.std.specs.Prelude.{◌≡◌, ◌⊎◌, [], reverse, All};
+ghost use Rattle.std.specs.List.{AllZip};
+ghost use Rattle.m17_disk.specs.Writing.{EndsAs};
+ghost use Rattle.m17_net.specs.Devices.{IsBegun, file_book_told};
+ghost use Rattle.m17_app.specs.Started.{IsClosed};
 ghost use Rattle.m17_app.specs.Status.{IsStatus};
 
 use crate::conclude::end_with;
 use crate::status::Status;
 use crate::std_out::StdOut;
 use m17_buffers::BufferedSink;
-use m17_net::UdpPorts;
+use m17_disk::{Hand, Writer, settle};
+use m17_net::{FileBook, LateFile, UdpPorts};
 use m17_words::{Command, read_words};
 use std::alloc::Global;
 use std::fs::File;
+use std::marker::Model;
 use std::net::Net;
 use std::rt::Files;
 use std::sync::Wait;
 use std::thread::Threads;
 use std::time::Clock;
+
+/// What became of the threads of books: of each the job, done, where it ended in time.
+pub(crate) type Ended = Vec<Option<Writer<FileBook<LateFile>>>>;
+
+/// The threads of the books that a command may keep, and the room for what becomes of them.
+#[derive(Drop)]
+pub(crate) struct Staff {
+    hands: Vec<Hand<FileBook<LateFile>>>,
+    ended: Ended,
+}
+
+impl Model for Staff {
+    ghost use Rattle.std.specs.Prelude.{◌≡◌, ◌≤◌, ◌+◌, List, [], vec_len, vec_capacity};
+    ghost use Rattle.m17_disk.specs.declared.writer.Writer.{Writer};
+    ghost use Rattle.m17_net.specs.declared.late_file.LateFile.{LateFile};
+    ghost use Rattle.m17_net.specs.Devices.{BookKept};
+
+    ghost Value = { List (Writer (BookKept LateFile)) };
+
+    ghost view = { λ s. s.hands.items };
+
+    ghost invariant = { λ s. (s.ended.items ≡ [])
+        × (vec_len s.ended + vec_len s.hands ≤ vec_capacity s.ended) };
+}
 
 // Starts a thread for each book and trace that the command of the words keeps, where there are words. Where one cannot be
 // started, the ports have no book for it.
@@ -30,15 +59,36 @@ pub(crate) fn staff_books<
         + Drop
         + Send
         + 'static,
->(ports: &mut UdpPorts<R>, alloc: Global, words: &Option<Vec<String>>) {
+>(ports: &mut UdpPorts<R>, alloc: Global, words: &Option<Vec<String>>) -> Staff
+    // Each of them is that of a new book, and its file has not failed.
+    ensures begun { All IsBegun result }
+{
     let count = match words {
         Some(words) => books_of(alloc, words),
         None => 0,
     };
-    for _book in 0..count {
-        if ports.staff().is_err() {
-            return;
+    let Ok(mut hands) = Vec::with_capacity(alloc, count) else {
+        return nobody(alloc);
+    };
+    let Ok(ended) = Vec::with_capacity(alloc, count) else {
+        return nobody(alloc);
+    };
+    while hands.len() < count {
+        match ports.staff() {
+            Ok(hand) => hands.push_reserved(hand),
+            Err(_) => return Staff { hands, ended },
         }
+    }
+    Staff { hands, ended }
+}
+
+// No threads.
+fn nobody(alloc: Global) -> Staff
+    ensures { result ≡ [] }
+{
+    Staff {
+        hands: Vec::new(alloc),
+        ended: Vec::new(alloc),
     }
 }
 
@@ -58,35 +108,31 @@ fn books_of(alloc: Global, words: &[String]) -> usize {
 }
 
 // Waits until the books are written, for a few seconds at the most, and answers the status of the program: that of its
-// command, but where this is 0 and some book could not be written whole. Then the last line says so.
-pub(crate) fn close_books<
-    R: Threads
-        + Wait
-        + Net
-        + Files<File = File>
-        + Clock
-        + AllocGlobal
-        + Copy
-        + Drop
-        + Send
-        + 'static,
-    P: Print,
->(ports: &mut UdpPorts<R>, alloc: Global, status: u8, to: &P) -> u8
+// command, but where this is 0 and some book could not be written whole. Then the last line says so. The jobs of the
+// threads are handed back, the last first.
+pub(crate) fn close_books<W: Threads + Wait + Clock, P: Print>(
+    waits: &W,
+    alloc: Global,
+    staff: Staff,
+    status: u8,
+    to: &P,
+) -> (u8, Ended)
     requires status { IsStatus status }
-    ensures status { IsStatus result }
-    // A run that has another cause to tell tells that one.
-    ensures kept { status ≢ 0 → result ≡ status }
-    ensures told { status ≡ 0 → (result ≡ 0) ⊎ (result ≡ 8) ⊎ (result ≡ 4) }
-    // 0 says that each thread came to its end and wrote all that it took.
-    ensures written { result ≡ 0 → AreWritten ports.old.writing }
+    ensures status { IsStatus result.0 }
+    ensures ended { AllZip (EndsAs file_book_told) (reverse staff) result.1.items }
+    ensures closed { IsClosed result.1.items status result.0 }
 {
-    let settled = ports.settle();
+    let Staff {
+        mut hands,
+        mut ended,
+    } = staff;
+    let settled = settle(waits, &mut hands, &mut ended);
     if status != 0 {
-        return status;
+        return (status, ended);
     }
     match settled {
-        Ok(()) => 0,
-        Err(_) => tell_failed(alloc, to).code(),
+        Ok(()) => (0, ended),
+        Err(_) => (tell_failed(alloc, to).code(), ended),
     }
 }
 

@@ -1,7 +1,9 @@
 -- What the thread of a book does.
-use Rattle.std.specs.Prelude.{◌≡◌, true, false, List, [], Contains}
+use Rattle.std.specs.Prelude.{◌≡◌, ◌↔◌, true, false, List, [], All, Contains, Option, None, Some, IfSome, Result, Ok, Err}
 use Rattle.m17_ports.specs.Book.{BookTold, HasText}
 use Rattle.m17_disk.specs.Queue.{QueueKept, joined}
+use Rattle.m17_disk.specs.declared.settling.Unsettled.{Unsettled}
+use Rattle.m17_disk.specs.declared.settling.Unsettled.TheVariants.{Failed}
 use Rattle.m17_disk.specs.declared.writer.Writer.{Writer}
 
 -- nothing was taken, and no write failed
@@ -20,14 +22,24 @@ pub record WriterDid {B L : Type 0} (told : B → BookTold L) (j k : Writer B) :
   pub slips : k.slips ≡ record j.slips { popped = k.slips.popped }
   pub text : HasText (told j.book) (joined k.slips.popped) k.failed (told k.book)
 
--- The thread ended, and no write failed: all that it took was written.
-abbrev pub ComesToEnd : {B L : Type 0} → (B → BookTold L) → Writer B → Type 0
-ComesToEnd {B} told j = (k : Writer B) × WriterDid told j k × (k.failed ≡ false)
+-- What became of a thread that was to come to its end: it ended, and this is its job, done; or it did not end in time.
+abbrev pub EndsAs : {B L : Type 0} → (B → BookTold L) → Writer B → Option (Writer B) → Type 0
+EndsAs told j end = IfSome end (λ k. WriterDid told j k)
 
--- The thread ended, and a write of its book failed.
-abbrev pub FailsToWrite : {B L : Type 0} → (B → BookTold L) → Writer B → Type 0
-FailsToWrite {B} told j = (k : Writer B) × WriterDid told j k × (k.failed ≡ true)
+-- It ended, and no write of its book failed: all that it took was written.
+abbrev pub IsWritten : {B : Type 0} → Option (Writer B) → Type 0
+IsWritten None = ⊥
+IsWritten (Some k) = k.failed ≡ false
 
--- one of these threads ended, and a write of its book failed
-abbrev pub OneFailsToWrite : {B L : Type 0} → (B → BookTold L) → List (Writer B) → Type 0
-OneFailsToWrite {B} told jobs = (j : Writer B) × Contains jobs j × FailsToWrite told j
+-- It ended, and a write of its book failed.
+abbrev pub FailsToWrite : {B : Type 0} → Option (Writer B) → Type 0
+FailsToWrite None = ⊥
+FailsToWrite (Some k) = k.failed ≡ true
+
+-- What is said of these together: that all is well exactly where each of them ended and no write failed; that one failed
+-- exactly where a write of one that ended did; and else that one was late.
+pub record SaysOf {B : Type 0} (ended : List (Option (Writer B)))
+    (said : Result (Unit {0}) Unsettled) : Type 0 where
+  pub well : (said ≡ Ok tt) ↔ All IsWritten ended
+  pub failed : (said ≡ Err Failed)
+      ↔ ((one : Option (Writer B)) × Contains ended one × FailsToWrite one)

@@ -1,6 +1,7 @@
 //! How the threads of books come to their end.
-ghost use Rattle.std.specs.Prelude.{◌≡◌, ◌⊎◌, All, Ok, Err, OnOk, IfSome};
-ghost use Rattle.m17_disk.specs.Writing.{ComesToEnd, FailsToWrite, OneFailsToWrite, WriterDid};
+ghost use Rattle.std.specs.Prelude.{◌≡◌, ◌⊎◌, ◌↔◌, ◌+◌, ◌≤◌, [], reverse, Ok, Err, IfSome, vec_len, vec_capacity};
+ghost use Rattle.std.specs.List.{AllZip};
+ghost use Rattle.m17_disk.specs.Writing.{EndsAs, IsWritten, FailsToWrite, SaysOf, WriterDid};
 
 use crate::opening::Hand;
 use crate::writer::Writer;
@@ -31,35 +32,39 @@ pub enum Unsettled {
     Late,
 }
 
-/// Brings the threads of these books to their end, when nothing is handed over any more, and takes them out of the list.
-/// `Unsettled` where one failed to write what it took, or did not come to its end within five seconds, which all of them
-/// have together; each has a tenth of a second at the least. One that doesn't end is left behind: it ends with the program.
+/// Brings the threads of these books to their end, when nothing is handed over any more, the last first, and takes them out
+/// of the list. Their jobs are handed back in `ended`, done, which has to be empty and to have room for all; none stands
+/// there for a thread that did not come to its end within five seconds, which all of them have together; each has a tenth
+/// of a second at the least. Such a one is left behind: it ends with the program. `Unsettled` where one failed to write
+/// what it took, or did not end.
 pub fn settle<B: Book + Drop + Send + 'static, R: Threads + Wait + Clock>(
     rt: &R,
     hands: &mut Vec<Hand<B>>,
+    ended: &mut Vec<Option<Writer<B>>>,
 ) -> Result<(), Unsettled>
-    ensures written { OnOk result (All (ComesToEnd B.told) hands.old.items) }
-    ensures failed { result ≡ Err Unsettled.Failed → OneFailsToWrite B.told hands.old.items }
+    requires nothing { ended.old.items ≡ [] }
+    requires room { vec_len ended.old + vec_len hands.old ≤ vec_capacity ended.old }
+    ensures ended { AllZip (EndsAs B.told) (reverse hands.old.items) ended.new.items }
+    ensures all { hands.new.items ≡ [] }
+    ensures said { SaysOf ended.new.items result }
 {
     let mut rests = RESTS;
-    let mut settled = Ok(());
+    let mut said = Ok(());
     while let Some(hand) = hands.pop() {
         rests = rests.max(FEWEST_RESTS);
-        settled = both(end_of(rt, hand, &mut rests), settled);
+        let end = hand.end(rt, &mut rests);
+        said = both(said_of(&end), said);
+        ended.push_reserved(end);
     }
-    settled
+    said
 }
 
-// Brings one to its end, and says whether it wrote all that it took.
-fn end_of<B: Book + Drop + Send + 'static, R: Threads + Wait + Clock>(
-    rt: &R,
-    hand: Hand<B>,
-    rests: &mut u32,
-) -> Result<(), Unsettled>
-    ensures written { result ≡ Ok tt → ComesToEnd B.told hand }
-    ensures failed { result ≡ Err Unsettled.Failed → FailsToWrite B.told hand }
+// What is said of one thread.
+fn said_of<B>(end: &Option<Writer<B>>) -> Result<(), Unsettled>
+    ensures well { (result ≡ Ok tt) ↔ IsWritten end.now }
+    ensures failed { (result ≡ Err Unsettled.Failed) ↔ FailsToWrite end.now }
 {
-    match hand.end(rt, rests) {
+    match end {
         Some(writer) if writer.failed => Err(Unsettled::Failed),
         Some(_writer) => Ok(()),
         None => Err(Unsettled::Late),
@@ -68,9 +73,9 @@ fn end_of<B: Book + Drop + Send + 'static, R: Threads + Wait + Clock>(
 
 // What is said of both together: that a write failed comes before that one did not end.
 fn both(one: Result<(), Unsettled>, other: Result<(), Unsettled>) -> Result<(), Unsettled>
-    ensures written { result ≡ Ok tt → (one ≡ Ok tt) × (other ≡ Ok tt) }
-    ensures failed { result ≡ Err Unsettled.Failed
-        → (one ≡ Err Unsettled.Failed) ⊎ (other ≡ Err Unsettled.Failed) }
+    ensures well { (result ≡ Ok tt) ↔ ((one ≡ Ok tt) × (other ≡ Ok tt)) }
+    ensures failed { (result ≡ Err Unsettled.Failed)
+        ↔ ((one ≡ Err Unsettled.Failed) ⊎ (other ≡ Err Unsettled.Failed)) }
 {
     match (one, other) {
         (Ok(()), said) => said,

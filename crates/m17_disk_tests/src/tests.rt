@@ -13,17 +13,26 @@ use std::thread;
 use std::thread::Threads;
 use std::time::{Clock, Duration};
 
-// A book over one that a test can shut, and the list with its thread.
+// A book over one that a test can shut, and its thread.
 fn opened<R: Threads + Wait + Clock + Abort + Copy + Drop + Send + 'static>(
     rt: R,
     alloc: Global,
     shared: &Arc<Shared, Global>,
-) -> (QueuedBook<R>, Vec<Hand<Gated<R>>>) {
+) -> (QueuedBook<R>, Hand<Gated<R>>) {
     let gated = Gated::new(rt, must(&rt, Arc::try_clone(shared)));
-    let (book, hand) = must(&rt, open(rt, alloc, gated, 7));
-    let mut hands = Vec::new(alloc);
-    assert!(rt; hands.push(hand).is_ok());
-    (book, hands)
+    must(&rt, open(rt, alloc, gated, 7))
+}
+
+// Brings the thread to its end: what is said of it.
+fn settled<R: Threads + Wait + Clock + Abort + Drop + Send + 'static>(
+    rt: &R,
+    alloc: Global,
+    hand: Hand<Gated<R>>,
+) -> Result<(), Unsettled> {
+    let mut hands = must(rt, Vec::with_capacity(alloc, 1));
+    hands.push_reserved(hand);
+    let mut ended = must(rt, Vec::with_capacity(alloc, 1));
+    settle(rt, &mut hands, &mut ended)
 }
 
 // Writes the next bytes, one at a time, up to so many or to the first that is not taken: how many were taken.
@@ -40,10 +49,10 @@ fn write_bytes<B: Book>(book: &mut B, count: u32) -> u32 {
 #[test]
 fn a_book_whose_thread_hangs_fails_when_its_lane_is_full(rt: HostRuntime) {
     let shared = Shared::make(&rt, rt.alloc(), true);
-    let (mut book, mut hands) = opened(rt, rt.alloc(), &shared);
+    let (mut book, hand) = opened(rt, rt.alloc(), &shared);
     let taken = write_bytes(&mut book, 3000);
     let more = book.write(b"0").is_ok();
-    let late = settle(&rt, &mut hands) == Err(Unsettled::Late);
+    let late = settled(&rt, rt.alloc(), hand) == Err(Unsettled::Late);
     let seen = shared.seen();
     shared.shut.store(false, Ordering::SeqCst);
     assert!(rt; taken >= 2048 && taken <= 2080 && !more && late && seen == (0, 0));
@@ -52,10 +61,10 @@ fn a_book_whose_thread_hangs_fails_when_its_lane_is_full(rt: HostRuntime) {
 #[test]
 fn a_thread_that_comes_back_writes_all_that_waits(rt: HostRuntime) {
     let shared = Shared::make(&rt, rt.alloc(), true);
-    let (mut book, mut hands) = opened(rt, rt.alloc(), &shared);
+    let (mut book, hand) = opened(rt, rt.alloc(), &shared);
     let taken = write_bytes(&mut book, 2048);
     shared.shut.store(false, Ordering::SeqCst);
-    let settled = settle(&rt, &mut hands).is_ok();
+    let settled = settled(&rt, rt.alloc(), hand).is_ok();
     assert!(rt; taken == 2048 && settled && shared.seen() == (2048, 0));
 }
 
@@ -75,12 +84,12 @@ fn comes_to_fail<B: Book, R: Clock>(rt: &R, book: &mut B) -> bool {
 fn a_book_whose_thread_failed_fails(rt: HostRuntime) {
     let shared = Shared::make(&rt, rt.alloc(), false);
     shared.fails.store(true, Ordering::SeqCst);
-    let (mut book, mut hands) = opened(rt, rt.alloc(), &shared);
+    let (mut book, hand) = opened(rt, rt.alloc(), &shared);
     let first = book.write(&[0]).is_ok();
     let fails = comes_to_fail(&rt, &mut book);
     shared.fails.store(false, Ordering::SeqCst);
     let more = book.write(&[0]).is_ok();
-    let failed = settle(&rt, &mut hands) == Err(Unsettled::Failed);
+    let failed = settled(&rt, rt.alloc(), hand) == Err(Unsettled::Failed);
     assert!(rt; first && fails && !more && failed && shared.seen() == (0, 0));
 }
 
@@ -110,9 +119,9 @@ fn a_book_that_is_back_with_its_thread_is_known_whole(rt: HostRuntime) {
 #[test]
 fn a_long_write_fails(rt: HostRuntime) {
     let shared = Shared::make(&rt, rt.alloc(), false);
-    let (mut book, mut hands) = opened(rt, rt.alloc(), &shared);
+    let (mut book, hand) = opened(rt, rt.alloc(), &shared);
     let longest = book.write(&[0; 112]).is_ok();
     let long = book.write(&[0; 113]) == Err(Failed);
-    let settled = settle(&rt, &mut hands).is_ok();
+    let settled = settled(&rt, rt.alloc(), hand).is_ok();
     assert!(rt; longest && long && settled && shared.seen().0 == 112);
 }

@@ -1,5 +1,5 @@
 -- What contracts see of an ear, a mouth and a book of a real machine, and of its ports.
-use Rattle.std.specs.Prelude.{◌≡◌, ◌≢◌, ◌⊎◌, ℕ, suc, min, ◌-◌, ◌^◌, ◌≤◌, List, [], ◌∷◌, ◌++◌, take, All, Bool, Option, option_map, None, Some}
+use Rattle.std.specs.Prelude.{◌≡◌, ◌≢◌, ◌⊎◌, ℕ, suc, min, ◌-◌, ◌^◌, ◌≤◌, List, [], ◌∷◌, take, Bool, Option, option_map, None, Some}
 use Rattle.std.specs.Net.Addr.{is_ipv6}
 use Rattle.std.specs.Net.Grammar.{IsSocketText}
 use Rattle.std.specs.Net.Socket.{socket_ip}
@@ -13,7 +13,7 @@ use Rattle.m17_ports.specs.Mouth.{Datagram, MouthTold}
 use Rattle.m17_ports.specs.Book.{BookTold}
 use Rattle.m17_ports.specs.Ports.{PortsTold, next_number}
 use Rattle.m17_disk.specs.Queue.{IsNewQueue, QueueKept}
-use Rattle.m17_disk.specs.Writing.{ComesToEnd, IsOfBook, IsReady}
+use Rattle.m17_disk.specs.Writing.{IsOfBook, IsReady}
 use Rattle.m17_disk.specs.declared.writer.Writer.{Writer}
 use Rattle.m17_net.specs.Address.{IsPeerAt, IsAddressOf}
 use Rattle.m17_net.specs.Moments.{ReadsMoment}
@@ -88,32 +88,26 @@ file_book_told book = record {
   device = record { mark = Some book.number; label = tt };
 }
 
--- ports: the instant that they read when they were made, if their clock gave one, how many calls there were, how often
--- they have failed, and the jobs of the threads that they started for books
-pub record PortsKept (J : Type 0) : Type 0 where
+-- ports: the instant that they read when they were made, if their clock gave one, how many calls there were, and how often
+-- they have failed
+pub record PortsKept : Type 0 where
   pub start : Option Instant
   pub calls : ℕ
   pub faults : ℕ
-  pub writing : List J
 
 -- what ports of a system tell: their calls and their faults, and nothing of what was asked
-abbrev pub udp_ports_told : {J : Type 0} → PortsKept J → PortsTold
+abbrev pub udp_ports_told : PortsKept → PortsTold
 udp_ports_told ports =
     record { asked = None; calls = ports.calls; faults = min ports.faults (2 ^ 64 - 1) }
 
--- One thread more was started for a book: it is that of a new book, it took nothing, and its file has not failed.
-pub record IsBegun {F : Type 0} (before after : List (Writer (BookKept F))) : Type 0 where
-  pub job : Writer (BookKept F)
-  pub last : after ≡ before ++ job ∷ []
+-- The job is that of a thread which was started for a book: it is that of a new book, it took nothing, and its file has
+-- not failed.
+pub record IsBegun {F : Type 0} (job : Writer (BookKept F)) : Type 0 where
   pub book : QueueKept
   pub new : IsNewQueue 0 book
   pub of_book : IsOfBook book job
   pub ready : IsReady job
   pub no_fault : job.book.faults ≡ 0
-
--- Each of these threads came to its end, and no write of its file failed.
-abbrev pub AreWritten : {F : Type 0} → List (Writer (BookKept F)) → Type 0
-AreWritten {F} jobs = All (ComesToEnd (file_book_told {F = F})) jobs
 
 -- An ear that ends at a moment, or never, is over where its last moment is this one.
 abbrev pub IsOver : Option ℕ → ℕ → Type 0

@@ -1,4 +1,4 @@
-ghost use Rattle.std.specs.Prelude.{◌≡◌, ◌-◌, ◌^◌, ◌≤◌, min, [], ◌∷◌, Err, IfSome, IfOk, OnOk, OnErr};
+ghost use Rattle.std.specs.Prelude.{◌≡◌, ◌-◌, ◌^◌, ◌≤◌, min, [], ◌∷◌, IfSome, IfOk, OnOk, OnErr};
 ghost use Rattle.m17_io.specs.Faults.{HasCause};
 ghost use Rattle.m17_ports.specs.declared.question.Question.{Question};
 ghost use Rattle.m17_ports.specs.Ear.{IsNewEar};
@@ -6,13 +6,12 @@ ghost use Rattle.m17_ports.specs.Mouth.{IsNewMouth};
 ghost use Rattle.m17_ports.specs.Book.{IsNewBook};
 ghost use Rattle.m17_ports.specs.Ports.{HasAsked, next_number};
 ghost use Rattle.m17_disk.specs.Queue.{IsNewQueue, queue_told};
-ghost use Rattle.m17_disk.specs.Writing.{OneFailsToWrite};
 ghost use Rattle.m17_net.specs.Devices.{IsNewLink};
 
 use crate::ear::WAIT_MS;
 use crate::late_file::LateFile;
 use crate::{FileBook, UdpEar, UdpMouth};
-use m17_disk::{Hand, QueuedBook, Unsettled};
+use m17_disk::{Hand, QueuedBook};
 use m17_ports::Ports;
 use m17_values::Failed;
 use std::alloc::Global;
@@ -27,7 +26,7 @@ use std::{fs, io};
 
 /// Links on UDP sockets, and books in files, of the system that `rt` stands for. Each link and each book has the number
 /// of the call that made it. A book's writes are made by a thread of its own, which `staff` starts before the book is asked
-/// for, and `settle` ends.
+/// for, and `m17_disk::settle` ends.
 #[derive(Drop)]
 pub struct UdpPorts<R: Drop> {
     rt: R,
@@ -35,7 +34,6 @@ pub struct UdpPorts<R: Drop> {
     calls: u64,
     faults: u64,
     spares: Vec<Spare<R>>,
-    hands: Vec<Hand<FileBook<LateFile>>>,
 }
 
 // A book that was not asked for yet, and where its thread looks for the file.
@@ -47,17 +45,14 @@ struct Spare<R: Drop> {
 }
 
 impl<R: Drop> Model for UdpPorts<R> {
-    ghost use Rattle.m17_disk.specs.declared.writer.Writer.{Writer};
-    ghost use Rattle.m17_net.specs.declared.late_file.LateFile.{LateFile};
-    ghost use Rattle.m17_net.specs.Devices.{BookKept, PortsKept};
+    ghost use Rattle.m17_net.specs.Devices.{PortsKept};
 
-    ghost Value = { PortsKept (Writer (BookKept LateFile)) };
+    ghost Value = { PortsKept };
 
     ghost view = { λ p. record {
       start = p.start;
       calls = p.calls;
       faults = p.faults;
-      writing = p.hands.items;
     } };
 }
 
@@ -66,7 +61,7 @@ impl<R: Net + Files<File = File> + Clock + AllocGlobal + Copy + Drop> UdpPorts<R
 
     /// Ports that were asked for nothing yet. The moments of their ears are counted from now.
     pub fn new(rt: R) -> UdpPorts<R>
-        ensures { result ≡ record { start = result.start; calls = 0; faults = 0; writing = [] } }
+        ensures { result ≡ record { start = result.start; calls = 0; faults = 0 } }
     {
         UdpPorts {
             rt,
@@ -74,7 +69,6 @@ impl<R: Net + Files<File = File> + Clock + AllocGlobal + Copy + Drop> UdpPorts<R
             calls: 0,
             faults: 0,
             spares: Vec::new(rt.alloc()),
-            hands: Vec::new(rt.alloc()),
         }
     }
 
@@ -135,13 +129,13 @@ impl<
         + Send
         + 'static,
 > UdpPorts<R> {
-    ghost use Rattle.m17_net.specs.Devices.{AreWritten, IsBegun, PortsKept, file_book_told};
+    ghost use Rattle.m17_net.specs.Devices.{IsBegun, PortsKept};
 
-    /// Starts the thread of a book that is still to be asked for. As many books can be asked for as threads were started.
-    /// `Failed` where there is no thread or no memory for it.
-    pub fn staff(&mut self) -> Result<(), Failed>
-        ensures begun { OnOk result (IsBegun self.old.writing self.new.writing) }
-        ensures same { self.new ≡ record self.old { writing = self.new.writing } }
+    /// Starts the thread of a book that is still to be asked for, and hands it out, for `m17_disk::settle`. As many books can
+    /// be asked for as threads were started. `Failed` where there is no thread or no memory for it.
+    pub fn staff(&mut self) -> Result<Hand<FileBook<LateFile>>, Failed>
+        ensures begun { IfOk result IsBegun }
+        ensures same { self.new ≡ self.old }
     {
         let alloc = self.rt.alloc();
         let Ok(late) = LateFile::make(alloc) else {
@@ -151,21 +145,10 @@ impl<
             return Err(Failed);
         };
         let (book, hand) = m17_disk::open(self.rt, alloc, FileBook::new(late, 0), 0)?;
-        if self.hands.push(hand).is_err() || self.spares.push(Spare { book, file }).is_err() {
-            return Err(Failed);
+        match self.spares.push(Spare { book, file }) {
+            Ok(()) => Ok(hand),
+            Err(_) => Err(Failed),
         }
-        Ok(())
-    }
-
-    /// Brings the threads of the books to their end, when nobody writes to a book any more, and waits for that: for five
-    /// seconds together, or a tenth of a second for each where those before it took them all. `Unsettled` where one
-    /// could not write all that it took, or did not come to its end; it is left behind then.
-    pub fn settle(&mut self) -> Result<(), Unsettled>
-        ensures written { OnOk result (AreWritten self.old.writing) }
-        ensures failed { result ≡ Err Unsettled.Failed
-            → OneFailsToWrite file_book_told self.old.writing }
-    {
-        m17_disk::settle(&self.rt, &mut self.hands)
     }
 }
 
@@ -217,7 +200,6 @@ impl<
         ensures made { IfOk result
             (IsNewLink bind.now until self.old.start self.old.calls) }
         ensures same_start { self.new.start ≡ self.old.start }
-        ensures same_books { self.new.writing ≡ self.old.writing }
 
         // The call is counted, and so is its failure.
         ensures no_fault { OnOk result (self.new.faults ≡ self.old.faults) }
@@ -237,7 +219,6 @@ impl<
             (udp_ports_told self.new) }
         ensures book { IfOk result (λ book. IsNewBook self.old.calls (queue_told book)) }
         ensures same_start { self.new.start ≡ self.old.start }
-        ensures same_books { self.new.writing ≡ self.old.writing }
 
         // The call is counted, and so is its failure.
         ensures no_fault { OnOk result (self.new.faults ≡ self.old.faults) }

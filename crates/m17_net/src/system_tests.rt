@@ -1,8 +1,8 @@
 //! The devices of the system: sockets over the loopback, and files.
 use crate::ports::sockets;
 use crate::tests::must;
-use crate::{UdpEar, UdpMouth, UdpPorts, peer_at};
-use m17_disk::Unsettled;
+use crate::{FileBook, LateFile, UdpEar, UdpMouth, UdpPorts, peer_at};
+use m17_disk::{Hand, Unsettled, settle};
 use m17_ports::{Book, Ear, Mouth, Ports};
 use m17_values::{Failed, Heard, Peer};
 use std::alloc::{AllocGlobal, Global};
@@ -279,6 +279,18 @@ where
     ports.book(path).is_ok()
 }
 
+// Brings the thread of a book to its end: what is said of it.
+fn settled<R: Threads + Wait + Clock + Abort>(
+    rt: &R,
+    alloc: Global,
+    hand: Hand<FileBook<LateFile>>,
+) -> Result<(), Unsettled> {
+    let mut hands = must(rt, Vec::with_capacity(alloc, 1));
+    hands.push_reserved(hand);
+    let mut ended = must(rt, Vec::with_capacity(alloc, 1));
+    settle(rt, &mut hands, &mut ended)
+}
+
 #[test]
 fn a_book_is_made_anew_and_holds_what_was_written(rt: HostRuntime) {
     let mut path = place_of_book(&rt, process::id(rt.process()));
@@ -287,14 +299,14 @@ fn a_book_is_made_anew_and_holds_what_was_written(rt: HostRuntime) {
         fs::write(&rt, path.as_path(), "what stood there before"),
     );
     let mut ports = UdpPorts::new(rt);
-    must(&rt, ports.staff());
+    let hand = must(&rt, ports.staff());
     let written = writes_anew(&rt, &mut ports, path.as_str());
-    let settled = ports.settle().is_ok();
+    let settled = settled(&rt, rt.alloc(), hand).is_ok();
     let anew = written && settled && holds(&rt, path.as_str(), b"headerrecord");
     must(&rt, fs::remove_file(&rt, path.as_path()));
     must(&rt, path.push("below"));
     for _other in 0..3 {
-        must(&rt, ports.staff());
+        let _hand = must(&rt, ports.staff());
     }
     let below = makes_book(&mut ports, path.as_str());
     let other = makes_book(&mut ports, "") || makes_book(&mut ports, "a\0b");
@@ -329,12 +341,12 @@ where
 fn a_book_on_a_full_device_fails(rt: HostRuntime) {
     if fs::metadata(&rt, "/dev/full").is_ok() {
         let mut ports = UdpPorts::new(rt);
-        must(&rt, ports.staff());
-        must(&rt, ports.staff());
+        let hands = [must(&rt, ports.staff()), must(&rt, ports.staff())];
         let failed = write_to_full(&rt, &mut ports);
         let taken = write_once_to_full(&rt, &mut ports);
         let more = makes_book(&mut ports, "/dev/full");
-        assert!(rt; failed && taken && !more && ports.settle() == Err(Unsettled::Failed));
+        let ends = hands.map(|hand| settled(&rt, rt.alloc(), hand));
+        assert!(rt; failed && taken && !more && ends == [Err(Unsettled::Failed); 2]);
     }
 }
 

@@ -2,11 +2,15 @@ use Rattle.std.proofs.Common.{◌∙◌, sym, subst}
 use Rattle.m17_app.specs.Started.{IsClosed}
 use Rattle.m17_app.proofs.start.Goals as goal
 
-pub close_books-closed-requires-clause-status : goal.close_books-closed-requires-clause-status
-close_books-closed-requires-clause-status g c κs within = (c.run_words-status.ensures.0, c.run_words-status.ensures.1)
-
 pub returns-clause-status : goal.returns-clause-status
 returns-clause-status g c = (c.close_books-closed.ensures.status.0, c.from.ensures ∙ c.close_books-closed.ensures.status.1)
+
+pub returns-clause-books : goal.returns-clause-books
+returns-clause-books g c = record {
+  started = c.staff_books-staff.result;
+  new = c.staff_books-staff.ensures.begun;
+  each = c.close_books-closed.ensures.ended;
+}
 
 pub returns-clause-ran : goal.returns-clause-ran
 returns-clause-ran g c = (
@@ -18,6 +22,5 @@ returns-clause-ran g c = (
     crew = _;
     told = c.run_words-status.ensures;
   },
-  subst (IsClosed c.run_words-status.result) (sym c.from.ensures)
-      (record { kept = c.close_books-closed.ensures.kept; told = c.close_books-closed.ensures.told }),
+  subst (IsClosed c.close_books-closed.result.1.items c.run_words-status.result) (sym c.from.ensures) c.close_books-closed.ensures.closed,
 )
