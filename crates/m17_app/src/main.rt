@@ -1,7 +1,7 @@
 //! The program. `run` reads the words, runs their command over any source and sink, writes the last line and answers
 //! the status; it promises what was written for the bytes that came in, the cause of each status, and that the sink
 //! holds nothing back at the end. `main` hands it the standard streams, the ports of the machine (`m17_net`) and the
-//! system's threads (`m17_crew`), closes the books of the ports, and ends with its answer. `StdIn` and `StdOut` are the
+//! system's threads (`m17_crew`), closes its books, and ends with its answer. `StdIn` and `StdOut` are the
 //! trusted edge: one call of the system each, counted faults, and no content told. What lies between them and `run` is left
 //! to `m17_buffers`, sockets and files to `m17_net`, and what the commands print to their own crates.
 #![tactic(auto)]
@@ -24,10 +24,10 @@ mod words;
 
 ghost use Rattle.std.specs.Prelude.{ℕ};
 ghost use Rattle.std.specs.Process.{exit_status};
-ghost use Rattle.m17_app.specs.Started.{EndsAsRun, IsClosed};
+ghost use Rattle.m17_app.specs.Started.{AreEnded, EndsAsRun, IsClosed};
 ghost use Rattle.m17_app.specs.Status.{IsStatus};
 
-use closing::{close_books, staff_books};
+use closing::{Ended, close_books, staff_books};
 use m17_devices::StdCrew;
 use m17_net::UdpPorts;
 use std::env;
@@ -41,11 +41,11 @@ use std::time::Clock;
 use words::{run_words, words_of};
 
 fn main(rt: HostRuntime) -> ExitCode {
-    start(rt, &rt)
+    start(rt, &rt).0
 }
 
-// Runs the program on the standard streams, over sockets, files and the system's threads, and closes its books. It starts
-// threads and waits by `waits`, which is the runtime too.
+// Runs the program on the standard streams, over sockets, files and the system's threads, and closes its books, of whose
+// threads it hands back the jobs. It starts threads and waits by `waits`, which is the runtime too.
 fn start<
     W: Threads
         + Wait
@@ -57,16 +57,18 @@ fn start<
         + Drop
         + Send
         + 'static,
->(rt: HostRuntime, waits: &W) -> ExitCode
-    ensures status { IsStatus (exit_status result) }
-    // The process ends with the status of a run of the program; but 0 may become 8, or 4, when its books are closed.
+>(rt: HostRuntime, waits: &W) -> (ExitCode, Ended)
+    ensures status { IsStatus (exit_status result.0) }
+    // The jobs are those of threads that were started for new books, each as it ended.
+    ensures books { AreEnded result.1.items }
+    // The process ends with the status of a run of the program; but 0 becomes 8, or 4, where a book was not written.
     ensures ran { (ended : ℕ) × EndsAsRun (Unit {0}) (Unit {0}) (Unit {0}) ended
-        × IsClosed ended (exit_status result) }
+        × IsClosed result.1.items ended (exit_status result.0) }
 {
     let mut ports = UdpPorts::new(*waits);
     let mut crew = StdCrew::new();
     let words = words_of(rt.alloc(), env::args(&rt));
-    staff_books(&mut ports, rt.alloc(), &words);
+    let staff = staff_books(&mut ports, rt.alloc(), &words);
     let status = run_words(
         waits,
         rt.alloc(),
@@ -76,14 +78,16 @@ fn start<
         rt.stdin(),
         &rt,
     );
-    let closed = close_books(&mut ports, rt.alloc(), status, &rt);
-    ExitCode::from(closed)
+    let (closed, ended) = close_books(waits, rt.alloc(), staff, status, &rt);
+    (ExitCode::from(closed), ended)
 }
 
 #[cfg(test)]
 mod check_tests;
 #[cfg(test)]
 mod evening_tests;
+#[cfg(test)]
+mod failing_tests;
 #[cfg(test)]
 mod faults_tests;
 #[cfg(test)]
