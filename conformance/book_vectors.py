@@ -10,8 +10,8 @@ def book(*parts):
     return BOOK_MAGIC + b"A" + b"".join(parts)
 
 
-def joined(moment, place, generation=0, listens=0):
-    return book_record(1, 0, 0, moment, (place, generation), bytes([listens]) + encode("AB1CD").to_bytes(6, "big"))
+def joined(moment, place, generation=0, listens=0, callsign="AB1CD"):
+    return book_record(1, 0, 0, moment, (place, generation), bytes([listens]) + encode(callsign).to_bytes(6, "big"))
 
 
 def left(moment, place, generation=0, why=1):
@@ -61,6 +61,17 @@ BOOKS = (
     ("nothing", book(), "A book without records."),
     ("legal", book(*TALK), "Each verdict once."),
     ("all-places", book(*[joined(0, place, place) for place in range(256)]), "256 members are in."),
+    (
+        "groups",
+        book(
+            joined(0, 0, callsign="#A"),
+            joined(0, 1, listens=1, callsign="#........"),
+            joined(0, 2, callsign="........."),
+            judged(0, 0, stream(1, 0, True, encode("#A")), 1),
+            judged(0, 2, stream(2, 0, True, encode("#AB")), 1),
+        ),
+        "A group's callsign is one as that of a station is.",
+    ),
     ("last-moment", book(joined(MOST, 0), judged(MOST, 0, stream(1, 0), 1)), "The last moment."),
     # moments and members
     ("moment", book(joined(10, 0), joined(9, 0, 1)), "A moment that falls, and then a held place."),

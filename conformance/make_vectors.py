@@ -295,6 +295,23 @@ vector(
     "Each packet from a member: a CONN again is acknowledged again, a PING is answered, a CONN for a module that isn't"
     " served leaves the membership as it is.",
 )
+vector(
+    "replay-groups",
+    "replay --call #AB --summary",
+    trace(
+        datagram(0, P1, conn("#A", "A")),
+        datagram(0, P2, lstn("#........", "A")),
+        datagram(0, P3, conn_from(0xEE6B28000000)),
+        datagram(0, P4, conn_from(0xF46109000000)),
+        datagram(0, P1, stream(1, 0, False, encode("#A"))),
+        datagram(40, P1, stream(1, 1, True, encode("#AB"))),
+        datagram(40, P1, conn("#B", "A")),
+        datagram(3000, P2, pong("#........")),
+        datagram(3000, P1, disc("#B")),
+    ),
+    "A group connects, speaks and listens as a station does, and a reflector may have the callsign of one; the addresses"
+    " beside those of groups are refused.",
+)
 MOVES = trace(
     datagram(0, P1, conn("AB1CD", "A")),
     datagram(10, P1, conn("AB1CD", "B")),

@@ -207,6 +207,40 @@ fn bad_fields_are_refused_at_their_places(rt: HostRuntime) {
     }
 }
 
+/// Callsigns in the Join of the book, and whether they are taken: the first and the last of stations and of groups, and
+/// what lies beside these.
+const CALLSIGNS: [([u8; 6], bool); 7] = [
+    (*b"\x00\x00\x00\x00\x00\x00", false),
+    (*b"\x00\x00\x00\x00\x00\x01", true),
+    (*b"\xee\x6b\x27\xff\xff\xff", true),
+    (*b"\xee\x6b\x28\x00\x00\x00", false),
+    (*b"\xee\x6b\x28\x00\x00\x01", true),
+    (*b"\xf4\x61\x08\xff\xff\xff", true),
+    (*b"\xf4\x61\x09\x00\x00\x00", false),
+];
+
+/// How many records of the book with this callsign in its Join a reader gives, and its refusal.
+fn read_with<R: Abort>(rt: &R, alloc: Global, callsign: &[u8]) -> (usize, Option<FormRefusal>) {
+    let book: &[u8] = BOOK;
+    let mut bytes = must(rt, book[..40].to_vec(alloc));
+    must(rt, bytes.extend_from_slice(callsign));
+    must(rt, bytes.extend_from_slice(&book[46..]));
+    read_all(rt, alloc, &bytes, &[])
+}
+
+#[test]
+fn a_join_has_the_callsign_of_a_station_or_of_a_group(rt: HostRuntime) {
+    for (callsign, is_taken) in CALLSIGNS {
+        let read = read_with(&rt, rt.alloc(), &callsign);
+        let wanted = if is_taken {
+            (4, None)
+        } else {
+            (0, Some(FormRefusal::Field { at: 40 }))
+        };
+        assert!(rt; read == wanted, "{callsign:?}");
+    }
+}
+
 #[test]
 fn a_failed_source_is_told_once_and_for_all(rt: HostRuntime) {
     let read = read_all(&rt, rt.alloc(), BOOK, &[0]);

@@ -1,5 +1,5 @@
 //! Each option and each argument at the edges of what it may be.
-use crate::tests::expect_all;
+use crate::tests::{expect_all, expect_each};
 
 // A value that is missing, one that stands twice, values just past their bounds, also past those of 64 bits, and words
 // that no command has.
@@ -64,4 +64,28 @@ const TAKEN: [&str; 13] = [
 fn each_value_is_taken_up_to_its_edge(rt: HostRuntime) {
     expect_all(&rt, rt.alloc(), &TAKEN, true);
     expect_all(&rt, rt.alloc(), &REFUSED, false);
+}
+
+// Callsigns of groups, and whether they are taken.
+const GROUPS: [(&str, bool); 8] = [
+    ("--call #AB", true),
+    ("--call=#AB", true),
+    ("--call=#........", true),
+    ("--call=#", false),
+    ("--call=##", false),
+    ("--call=A#", false),
+    ("--call=#ABCDEFGHI", false),
+    ("--call=# ", false),
+];
+
+#[test]
+fn groups_are_callsigns_in_each_command(rt: HostRuntime) {
+    const BEGINS: [&str; 3] = [
+        "replay ",
+        "serve x ",
+        "talk --module A --bind x --to 10.0.0.9:17000 ",
+    ];
+    for begin in BEGINS {
+        expect_each(&rt, rt.alloc(), begin, &GROUPS);
+    }
 }
