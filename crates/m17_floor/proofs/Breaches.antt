@@ -13,7 +13,7 @@ use Rattle.m17_floor.specs.declared.rule.Rule.TheVariants as rules
 use Rattle.m17_floor.specs.declared.verdict.Verdict.{Verdict}
 use Rattle.m17_floor.specs.Acts.{kind_or_other, kind_at}
 use Rattle.m17_floor.specs.Floor.{verdict_at}
-use Rattle.m17_floor.specs.Legal.{KeptAct, book_places, acts_in, moment_written, verdict_written, FallsBehind, BreaksMembership, HasOtherVerdict, HasBreach, IsLegal, turn_of, IsFirstBreach}
+use Rattle.m17_floor.specs.Legal.{KeptAct, book_places, book_setup, acts_in, moment_written, verdict_written, FallsBehind, BreaksMembership, HasOtherVerdict, HasBreach, IsLegal, turn_of, IsFirstBreach}
 use Rattle.m17_floor.proofs.Prefix.{slice_get_before, kind_before, joined_before, verdict_same}
 
 pub acts_append : (kept more : List KeptAct) → acts_in (kept ++ more) ≡ acts_in kept ++ acts_in more
@@ -54,36 +54,36 @@ abbrev pub Differs : ActKind → Option Verdict → Option Verdict → Type 0
 Differs (Packet k p) written is = written ≢ is
 Differs _ written is = ⊥
 
-pub other_is : (kept : List KeptAct) (n : ℕ) (kind : ActKind) → HasOtherVerdict kept n kind ↔ Differs kind (verdict_written kept n) (verdict_at book_places (acts_in kept) n)
-other_is kept n (Packet k p) = (λ d. d, λ d. d)
-other_is kept n (Join k only) = (λ d. d, λ d. d)
-other_is kept n (Leave k) = (λ d. d, λ d. d)
-other_is kept n Other = (λ d. d, λ d. d)
+pub other_is : (limit : ℕ) (kept : List KeptAct) (n : ℕ) (kind : ActKind) → HasOtherVerdict limit kept n kind ↔ Differs kind (verdict_written kept n) (verdict_at (book_setup limit) (acts_in kept) n)
+other_is limit kept n (Packet k p) = (λ d. d, λ d. d)
+other_is limit kept n (Join k only) = (λ d. d, λ d. d)
+other_is limit kept n (Leave k) = (λ d. d, λ d. d)
+other_is limit kept n Other = (λ d. d, λ d. d)
 
 written_verdict_before : (kept more : List KeptAct) (n : ℕ) → n < length kept → verdict_written (kept ++ more) n ≡ verdict_written kept n
 written_verdict_before kept more n h = ap (option_and_then (λ (one : KeptAct). one.verdict)) (slice_get_before kept more n h)
 
-differs_same : (kept more : List KeptAct) (n : ℕ) → n < length kept → Differs (kind_at (acts_in (kept ++ more)) n) (verdict_written (kept ++ more) n) (verdict_at book_places (acts_in (kept ++ more)) n) ≡ Differs (kind_at (acts_in kept) n) (verdict_written kept n) (verdict_at book_places (acts_in kept) n)
-differs_same kept more n h =
+differs_same : (limit : ℕ) (kept more : List KeptAct) (n : ℕ) → n < length kept → Differs (kind_at (acts_in (kept ++ more)) n) (verdict_written (kept ++ more) n) (verdict_at (book_setup limit) (acts_in (kept ++ more)) n) ≡ Differs (kind_at (acts_in kept) n) (verdict_written kept n) (verdict_at (book_setup limit) (acts_in kept) n)
+differs_same limit kept more n h =
     let within : n < length (acts_in kept) = omega (arith, length_acts kept) in
     let longer : List Act = acts_in kept ++ acts_in more in
-    ap (λ acts. Differs (kind_at acts n) (verdict_written (kept ++ more) n) (verdict_at book_places acts n)) (acts_append kept more)
-    ∙ ap (λ kind. Differs kind (verdict_written (kept ++ more) n) (verdict_at book_places longer n)) (kind_before (acts_in kept) (acts_in more) n within)
-    ∙ ap (λ o. Differs (kind_at (acts_in kept) n) o (verdict_at book_places longer n)) (written_verdict_before kept more n h)
-    ∙ ap (Differs (kind_at (acts_in kept) n) (verdict_written kept n)) (verdict_same book_places (acts_in kept) (acts_in more) n within)
+    ap (λ acts. Differs (kind_at acts n) (verdict_written (kept ++ more) n) (verdict_at (book_setup limit) acts n)) (acts_append kept more)
+    ∙ ap (λ kind. Differs kind (verdict_written (kept ++ more) n) (verdict_at (book_setup limit) longer n)) (kind_before (acts_in kept) (acts_in more) n within)
+    ∙ ap (λ o. Differs (kind_at (acts_in kept) n) o (verdict_at (book_setup limit) longer n)) (written_verdict_before kept more n h)
+    ∙ ap (Differs (kind_at (acts_in kept) n) (verdict_written kept n)) (verdict_same (book_setup limit) (acts_in kept) (acts_in more) n within)
 
 -- What is kept later changes no breach.
-pub breach_same : (kept more : List KeptAct) (n : ℕ) (rule : Rule) → n < length kept → HasBreach (kept ++ more) n rule ↔ HasBreach kept n rule
-breach_same kept more n rules.Moment h =
+pub breach_same : (limit : ℕ) (kept more : List KeptAct) (n : ℕ) (rule : Rule) → n < length kept → HasBreach limit (kept ++ more) n rule ↔ HasBreach limit kept n rule
+breach_same limit kept more n rules.Moment h =
     let P : List Act → Type 0 = λ acts. FallsBehind acts n ↔ FallsBehind (acts_in kept) n in
     subst P (sym (acts_append kept more)) (falls_same (acts_in kept) (acts_in more) n (omega (arith, length_acts kept)))
-breach_same kept more n rules.Member h =
+breach_same limit kept more n rules.Member h =
     let P : List Act → Type 0 = λ acts. BreaksMembership acts n (kind_at acts n) ↔ BreaksMembership (acts_in kept) n (kind_at (acts_in kept) n) in
     subst P (sym (acts_append kept more)) (breaks_here (acts_in kept) (acts_in more) n (omega (arith, length_acts kept)))
-breach_same kept more n rules.Verdict h =
-    let same = differs_same kept more n h in
-    let longer = other_is (kept ++ more) n (kind_at (acts_in (kept ++ more)) n) in
-    let here = other_is kept n (kind_at (acts_in kept) n) in
+breach_same limit kept more n rules.Verdict h =
+    let same = differs_same limit kept more n h in
+    let longer = other_is limit (kept ++ more) n (kind_at (acts_in (kept ++ more)) n) in
+    let here = other_is limit kept n (kind_at (acts_in kept) n) in
     let Same : Type 0 → Type 0 = λ T. T in
     (λ d. here.1 (subst Same same (longer.0 d)), λ d. longer.1 (subst Same (sym same) (here.0 d)))
 
@@ -91,24 +91,24 @@ other_past : (acts : List Act) (n : ℕ) → length acts ≤ n → kind_at acts 
 other_past acts n h = ap kind_or_other (slice_get_past acts n h)
 
 -- A breach is at a position of the list.
-pub breach_within : (kept : List KeptAct) (n : ℕ) (rule : Rule) → HasBreach kept n rule → n < length kept
-breach_within kept n rules.Moment b = omega (arith, length_acts kept)
-breach_within kept n rules.Member b = elim (cases_lt n (length kept)) [
+pub breach_within : (limit : ℕ) (kept : List KeptAct) (n : ℕ) (rule : Rule) → HasBreach limit kept n rule → n < length kept
+breach_within limit kept n rules.Moment b = omega (arith, length_acts kept)
+breach_within limit kept n rules.Member b = elim (cases_lt n (length kept)) [
   | inl l ↦ l
   | inr g ↦ absurd (subst (λ kind. BreaksMembership (acts_in kept) n kind) (other_past (acts_in kept) n (omega (arith, length_acts kept))) b)
 ]
-breach_within kept n rules.Verdict b = elim (cases_lt n (length kept)) [
+breach_within limit kept n rules.Verdict b = elim (cases_lt n (length kept)) [
   | inl l ↦ l
-  | inr g ↦ absurd (subst (λ kind. HasOtherVerdict kept n kind) (other_past (acts_in kept) n (omega (arith, length_acts kept))) b)
+  | inr g ↦ absurd (subst (λ kind. HasOtherVerdict limit kept n kind) (other_past (acts_in kept) n (omega (arith, length_acts kept))) b)
 ]
 
 -- A legal list with one act more that breaks no rule is legal.
-pub legal_more : (kept : List KeptAct) (one : KeptAct) → IsLegal kept → ((rule : Rule) → HasBreach (kept ++ one ∷ []) (length kept) rule → ⊥) → IsLegal (kept ++ one ∷ [])
-legal_more kept one legal keeps n rule b = elim (cases_order n (length kept)) [
-  | inl e ↦ keeps rule (subst (λ m. HasBreach (kept ++ one ∷ []) m rule) e b)
+pub legal_more : (limit : ℕ) (kept : List KeptAct) (one : KeptAct) → IsLegal limit kept → ((rule : Rule) → HasBreach limit (kept ++ one ∷ []) (length kept) rule → ⊥) → IsLegal limit (kept ++ one ∷ [])
+legal_more limit kept one legal keeps n rule b = elim (cases_order n (length kept)) [
+  | inl e ↦ keeps rule (subst (λ m. HasBreach limit (kept ++ one ∷ []) m rule) e b)
   | inr away ↦ elim away [
-    | inl l ↦ legal n rule ((breach_same kept (one ∷ []) n rule l).0 b)
-    | inr g ↦ omega (arith, breach_within (kept ++ one ∷ []) n rule b, length-append kept (one ∷ []))
+    | inl l ↦ legal n rule ((breach_same limit kept (one ∷ []) n rule l).0 b)
+    | inr g ↦ omega (arith, breach_within limit (kept ++ one ∷ []) n rule b, length-append kept (one ∷ []))
   ]
 ]
 
@@ -124,8 +124,8 @@ same_turn rules.Verdict rules.Member e = absurd (omega arith)
 same_turn rules.Verdict rules.Verdict e = refl
 
 -- A list has one first breach at most.
-first_place : (kept : List KeptAct) (n m : ℕ) (rule other : Rule) → IsFirstBreach kept n rule → IsFirstBreach kept m other → n ≡ m
-first_place kept n m rule other a b = elim (cases_order n m) [
+first_place : (limit : ℕ) (kept : List KeptAct) (n m : ℕ) (rule other : Rule) → IsFirstBreach limit kept n rule → IsFirstBreach limit kept m other → n ≡ m
+first_place limit kept n m rule other a b = elim (cases_order n m) [
   | inl e ↦ e
   | inr away ↦ elim away [
     | inl l ↦ absurd (b.none_before n rule l a.breach)
@@ -133,8 +133,8 @@ first_place kept n m rule other a b = elim (cases_order n m) [
   ]
 ]
 
-first_rule : (kept : List KeptAct) (n : ℕ) (rule other : Rule) → IsFirstBreach kept n rule → IsFirstBreach kept n other → rule ≡ other
-first_rule kept n rule other a b = elim (cases_order (turn_of rule) (turn_of other)) [
+first_rule : (limit : ℕ) (kept : List KeptAct) (n : ℕ) (rule other : Rule) → IsFirstBreach limit kept n rule → IsFirstBreach limit kept n other → rule ≡ other
+first_rule limit kept n rule other a b = elim (cases_order (turn_of rule) (turn_of other)) [
   | inl e ↦ same_turn rule other e
   | inr away ↦ elim away [
     | inl l ↦ absurd (b.first_rule rule l a.breach)
@@ -142,7 +142,7 @@ first_rule kept n rule other a b = elim (cases_order (turn_of rule) (turn_of oth
   ]
 ]
 
-pub one_first : (kept : List KeptAct) (n m : ℕ) (rule other : Rule) → IsFirstBreach kept n rule → IsFirstBreach kept m other → (n ≡ m) × (rule ≡ other)
-one_first kept n m rule other a b =
-    let place : n ≡ m = first_place kept n m rule other a b in
-    (place, first_rule kept n rule other a (subst (λ x. IsFirstBreach kept x other) (sym place) b))
+pub one_first : (limit : ℕ) (kept : List KeptAct) (n m : ℕ) (rule other : Rule) → IsFirstBreach limit kept n rule → IsFirstBreach limit kept m other → (n ≡ m) × (rule ≡ other)
+one_first limit kept n m rule other a b =
+    let place : n ≡ m = first_place limit kept n m rule other a b in
+    (place, first_rule limit kept n rule other a (subst (λ x. IsFirstBreach limit kept x other) (sym place) b))

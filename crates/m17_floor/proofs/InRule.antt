@@ -11,7 +11,7 @@ use Rattle.m17_floor.specs.declared.verdict.Verdict.{Verdict}
 use Rattle.m17_floor.specs.declared.verdict.Verdict.TheVariants.{NotMember, ListenOnly}
 use Rattle.m17_floor.specs.Acts.{kind_at, moment_at, is_packet}
 use Rattle.m17_floor.specs.Rule.{Frame, Incoming, incoming, frame_from, only_if, first_fit, verdict_by_frames}
-use Rattle.m17_floor.specs.Floor.{Past, was_admitted, joined, is_in_since, frame_of, frame_at, has_stayed, last_admitted, floor_frame, is_packet_of, own_frame, not_member, listens, listen_only, verdict_after, verdict_given}
+use Rattle.m17_floor.specs.Floor.{Past, was_admitted, joined, is_in_since, opened_at, frame_of, frame_at, has_stayed, last_admitted, floor_frame, is_packet_of, own_frame, not_member, listens, listen_only, verdict_after, verdict_given}
 use Rattle.m17_floor.proofs.Frames.{stayed_at, own_test}
 use Rattle.m17_lookup.proofs.LastBelow.{last_below_none}
 
@@ -26,11 +26,11 @@ pub record IsStayed (past : Past) (a : ℕ) (frame : Frame) : Type 0 where
   pub packet : StreamPacket
   pub kind_is : kind_at past.acts a ≡ Packet sender packet
   pub since : is_in_since past sender a ≡ true
-  pub frame_is : frame_from (incoming sender (moment_at past.acts a) packet) ≡ frame
+  pub frame_is : frame_from (opened_at past a) (incoming sender (moment_at past.acts a) packet) ≡ frame
 
-stayed_kind_from : (past : Past) (a : ℕ) (kind : ActKind) (frame : Frame) → kind_at past.acts a ≡ kind → cond (has_stayed past a kind) (frame_of kind (moment_at past.acts a)) None ≡ Some frame → IsStayed past a frame
+stayed_kind_from : (past : Past) (a : ℕ) (kind : ActKind) (frame : Frame) → kind_at past.acts a ≡ kind → cond (has_stayed past a kind) (frame_of kind (moment_at past.acts a) (opened_at past a)) None ≡ Some frame → IsStayed past a frame
 stayed_kind_from past a (Packet k p) frame is e =
-    let parts = cond_some (is_in_since past k a) (frame_from (incoming k (moment_at past.acts a) p)) frame e in
+    let parts = cond_some (is_in_since past k a) (frame_from (opened_at past a) (incoming k (moment_at past.acts a) p)) frame e in
     record { sender = k; packet = p; kind_is = is; since = parts.0; frame_is = parts.1 }
 stayed_kind_from past a (Join k only) frame is e = cc
 stayed_kind_from past a (Leave k) frame is e = cc
@@ -57,7 +57,7 @@ floor_is_in past frame e =
 pub own_out : (past : Past) (k : Member) → joined past k ≡ None → own_frame past k ≡ None
 unfolding own_frame
 own_out past k e =
-    ap (option_and_then (frame_at past.acts))
+    ap (option_and_then (frame_at past))
     (last_below_none (own_test past k) (length past.acts)
     (λ a l. and_right (was_admitted past a && is_packet_of k (kind_at past.acts a)) _ (ap (λ o. option_map_or (λ j. nat_lt j a) o false) e)))
 
@@ -66,7 +66,7 @@ only_if_all test None h = refl
 only_if_all test (Some f) h = cond-true (test f) (Some f) None (h f refl)
 
 pub after_stranger : (past : Past) (new : Incoming) → joined past new.sender ≡ None → verdict_after past new ≡ NotMember
-after_stranger past new e = ap (λ o. first_fit (not_member o ∷ listen_only past.acts o ∷ []) (verdict_by_frames (floor_frame past) (own_frame past new.sender) new)) e
+after_stranger past new e = ap (λ o. first_fit (not_member o ∷ listen_only past.acts o ∷ []) (verdict_by_frames past.setup.limit (floor_frame past) (own_frame past new.sender) new)) e
 
 listener_line : (b : Bool) (v : Verdict) → b ≡ true → first_fit (cond b (Some ListenOnly) None ∷ []) v ≡ ListenOnly
 listener_line true v e = refl
@@ -78,13 +78,13 @@ speaker_line false v e = refl
 
 pub after_listener : (past : Past) (new : Incoming) (j : ℕ) → joined past new.sender ≡ Some j → listens (kind_at past.acts j) ≡ true → verdict_after past new ≡ ListenOnly
 after_listener past new j e h =
-    let rest : Verdict = verdict_by_frames (floor_frame past) (own_frame past new.sender) new in
+    let rest : Verdict = verdict_by_frames past.setup.limit (floor_frame past) (own_frame past new.sender) new in
     ap (λ o. first_fit (not_member o ∷ listen_only past.acts o ∷ []) rest) e
     ∙ listener_line (listens (kind_at past.acts j)) rest h
 
-pub after_speaker : (past : Past) (new : Incoming) (j : ℕ) → joined past new.sender ≡ Some j → listens (kind_at past.acts j) ≡ false → verdict_after past new ≡ verdict_by_frames (floor_frame past) (own_frame past new.sender) new
+pub after_speaker : (past : Past) (new : Incoming) (j : ℕ) → joined past new.sender ≡ Some j → listens (kind_at past.acts j) ≡ false → verdict_after past new ≡ verdict_by_frames past.setup.limit (floor_frame past) (own_frame past new.sender) new
 after_speaker past new j e h =
-    let rest : Verdict = verdict_by_frames (floor_frame past) (own_frame past new.sender) new in
+    let rest : Verdict = verdict_by_frames past.setup.limit (floor_frame past) (own_frame past new.sender) new in
     ap (λ o. first_fit (not_member o ∷ listen_only past.acts o ∷ []) rest) e
     ∙ speaker_line (listens (kind_at past.acts j)) rest h
 

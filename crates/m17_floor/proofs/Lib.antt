@@ -6,6 +6,7 @@ mod Lines
 mod Members
 mod NoPacket
 mod OneMore
+mod Opened
 mod Openings
 mod Positions
 mod Prefix

@@ -5,29 +5,43 @@ use Rattle.std.proofs.lemmas.Option.{cond_some}
 use Rattle.m17_stream.specs.Stream.{steps_ahead}
 use Rattle.m17_floor.specs.declared.act.Act.{Act}
 use Rattle.m17_floor.specs.declared.verdict.Verdict.{Verdict}
-use Rattle.m17_floor.specs.declared.verdict.Verdict.TheVariants.{Opened, Continued, Busy, Repeat, Late, AfterEnd, NotMember, ListenOnly}
+use Rattle.m17_floor.specs.declared.verdict.Verdict.TheVariants.{Opened, Continued, Busy, Repeat, Late, AfterEnd, TimedOut, NotMember, ListenOnly}
 use Rattle.m17_floor.specs.Acts.{kind_at}
-use Rattle.m17_floor.specs.Rule.{late_from, Frame, Incoming, is_of_stream, after_end, repeated, late, first_fit, verdict_beside, only_if}
+use Rattle.m17_floor.specs.Rule.{late_from, Frame, Incoming, is_of_stream, after_end, repeated, late, timed_out, has_run_out, first_fit, verdict_beside, only_if}
 use Rattle.m17_floor.specs.Floor.{not_member, listens, listen_only, admits}
 
--- the three lines that look at the sender's own frame
-abbrev pub own_lines : Bool → Bool → Bool → ℕ → List (Option Verdict) → List (Option Verdict)
-own_lines ended same far y rest = cond ended (Some AfterEnd) None ∷ cond same (Some Repeat) None ∷ cond far (Some (Late y)) None ∷ rest
+-- the four lines that look at the sender's own frame
+abbrev pub own_lines : Bool → Bool → Bool → ℕ → Bool → List (Option Verdict) → List (Option Verdict)
+own_lines ended same far y out rest = cond ended (Some AfterEnd) None ∷ cond same (Some Repeat) None ∷ cond far (Some (Late y)) None ∷ cond out (Some TimedOut) None ∷ rest
 
-own_lines_refuse : (ended same far : Bool) (y : ℕ) (rest : List (Option Verdict)) → (ended ≡ true) ⊎ ((same ≡ true) ⊎ (far ≡ true)) → admits (Some (first_fit (own_lines ended same far y rest) Opened)) ≡ false
-own_lines_refuse true same far y rest h = refl
-own_lines_refuse false true far y rest h = refl
-own_lines_refuse false false true y rest h = refl
-own_lines_refuse false false false y rest h = elim h [ inl e ↦ absurd (false≢true e) | inr g ↦ elim g [ inl e ↦ absurd (false≢true e) | inr e ↦ absurd (false≢true e) ] ]
+own_lines_refuse : (ended same far : Bool) (y : ℕ) (out : Bool) (rest : List (Option Verdict)) → (ended ≡ true) ⊎ ((same ≡ true) ⊎ ((far ≡ true) ⊎ (out ≡ true))) → admits (Some (first_fit (own_lines ended same far y out rest) Opened)) ≡ false
+own_lines_refuse true same far y out rest h = refl
+own_lines_refuse false true far y out rest h = refl
+own_lines_refuse false false true y out rest h = refl
+own_lines_refuse false false false y true rest h = refl
+own_lines_refuse false false false y false rest h = elim h [
+  | inl e ↦ absurd (false≢true e)
+  | inr g ↦ elim g [
+    | inl e ↦ absurd (false≢true e)
+    | inr i ↦ elim i [ inl e ↦ absurd (false≢true e) | inr e ↦ absurd (false≢true e) ]
+  ]
+]
 
 busy_or_refused : (b : Bool) (v : Verdict) (rest : List (Option Verdict)) → admits (Some v) ≡ false → admits (Some (first_fit rest Opened)) ≡ false → admits (Some (first_fit (cond b None (Some v) ∷ rest) Opened)) ≡ false
 busy_or_refused true v rest h g = g
 busy_or_refused false v rest h g = h
 
+-- the sender's own frame ended its stream, has the number or is past it, or is of an opening that has run out
+abbrev pub StandsAgainst : ℕ → Frame → Incoming → Type 0
+StandsAgainst limit own new =
+    (own.last ≡ true)
+    ⊎ (((new.packet.number == own.number) ≡ true)
+    ⊎ ((nat_le late_from (steps_ahead new.packet.number own.number) ≡ true) ⊎ (has_run_out limit new.at own.opened ≡ true)))
+
 -- Where the sender's own frame stands against the packet, it isn't admitted.
-pub beside_refused : (holder : Option Frame) (own : Frame) (new : Incoming) → (own.last ≡ true) ⊎ (((new.packet.number == own.number) ≡ true) ⊎ (nat_le late_from (steps_ahead new.packet.number own.number) ≡ true)) → admits (Some (verdict_beside holder (Some own) new)) ≡ false
-beside_refused None own new h = own_lines_refuse _ _ _ own.number (None ∷ []) h
-beside_refused (Some holder) own new h = busy_or_refused (is_of_stream holder new) (Busy holder.member) _ refl (own_lines_refuse _ _ _ own.number (Some Continued ∷ []) h)
+pub beside_refused : (limit : ℕ) (holder : Option Frame) (own : Frame) (new : Incoming) → StandsAgainst limit own new → admits (Some (verdict_beside limit holder (Some own) new)) ≡ false
+beside_refused limit None own new h = own_lines_refuse _ _ _ own.number _ (None ∷ []) h
+beside_refused limit (Some holder) own new h = busy_or_refused (is_of_stream holder new) (Busy holder.member) _ refl (own_lines_refuse _ _ _ own.number _ (Some Continued ∷ []) h)
 
 late_from_past : (x y : ℕ) → x < 32768 → y < 32768 → steps_ahead y x ≤ 16384 → (x ≡ y → ⊥) → 16384 ≤ steps_ahead x y
 late_from_past x y hx hy h ne = omega arith
@@ -63,17 +77,18 @@ pub record Passes (own : Frame) (number : ℕ) : Type 0 where
   pub other : (number == own.number) ≡ false
   pub near : nat_le late_from (steps_ahead number own.number) ≡ false
 
-own_lines_let : (ended same far : Bool) (y : ℕ) (rest : List (Option Verdict)) (w : Verdict) → admits (Some w) ≡ true → first_fit (own_lines ended same far y rest) Opened ≡ w → (ended ≡ false) × (same ≡ false) × (far ≡ false) × (first_fit rest Opened ≡ w)
-own_lines_let true same far y rest w a e = absurd (false≢true (ap (λ x. admits (Some x)) e ∙ a))
-own_lines_let false true far y rest w a e = absurd (false≢true (ap (λ x. admits (Some x)) e ∙ a))
-own_lines_let false false true y rest w a e = absurd (false≢true (ap (λ x. admits (Some x)) e ∙ a))
-own_lines_let false false false y rest w a e = (refl, refl, refl, e)
+own_lines_let : (ended same far : Bool) (y : ℕ) (out : Bool) (rest : List (Option Verdict)) (w : Verdict) → admits (Some w) ≡ true → first_fit (own_lines ended same far y out rest) Opened ≡ w → (ended ≡ false) × (same ≡ false) × (far ≡ false) × (first_fit rest Opened ≡ w)
+own_lines_let true same far y out rest w a e = absurd (false≢true (ap (λ x. admits (Some x)) e ∙ a))
+own_lines_let false true far y out rest w a e = absurd (false≢true (ap (λ x. admits (Some x)) e ∙ a))
+own_lines_let false false true y out rest w a e = absurd (false≢true (ap (λ x. admits (Some x)) e ∙ a))
+own_lines_let false false false y true rest w a e = absurd (false≢true (ap (λ x. admits (Some x)) e ∙ a))
+own_lines_let false false false y false rest w a e = (refl, refl, refl, e)
 
 -- the lines beside the sender's own frame let an admitted packet pass
-own_passes : (own : Option Frame) (number : ℕ) (rest : List (Option Verdict)) (w : Verdict) → admits (Some w) ≡ true → first_fit (after_end own ∷ repeated own number ∷ late own number ∷ rest) Opened ≡ w → ((f : Frame) → own ≡ Some f → Passes f number) × (first_fit rest Opened ≡ w)
-own_passes None number rest w a e = (λ f is. absurd (cc), e)
-own_passes (Some own) number rest w a e =
-    let parts = own_lines_let own.last (number == own.number) (nat_le late_from (steps_ahead number own.number)) own.number rest w a e in
+own_passes : (limit at : ℕ) (own : Option Frame) (number : ℕ) (rest : List (Option Verdict)) (w : Verdict) → admits (Some w) ≡ true → first_fit (after_end own ∷ repeated own number ∷ late own number ∷ timed_out limit at own ∷ rest) Opened ≡ w → ((f : Frame) → own ≡ Some f → Passes f number) × (first_fit rest Opened ≡ w)
+own_passes limit at None number rest w a e = (λ f is. absurd (cc), e)
+own_passes limit at (Some own) number rest w a e =
+    let parts = own_lines_let own.last (number == own.number) (nat_le late_from (steps_ahead number own.number)) own.number (has_run_out limit at own.opened) rest w a e in
     let passes : Passes own number = record { open_ = parts.0; other = parts.1; near = parts.2 } in
     (λ f is. let same : own ≡ f = cc in rw (← same) passes, parts.3)
 
@@ -84,31 +99,35 @@ pub record IsContinued (holder own : Option Frame) (new : Incoming) : Type 0 whe
   pub of_stream : is_of_stream frame new ≡ true
   pub passes : (f : Frame) → own ≡ Some f → Passes f new.packet.number
 
-continued_from : (b : Bool) (holder : Frame) (own : Option Frame) (new : Incoming) → is_of_stream holder new ≡ b → first_fit (cond b None (Some (Busy holder.member)) ∷ after_end own ∷ repeated own new.packet.number ∷ late own new.packet.number ∷ Some Continued ∷ []) Opened ≡ Continued → IsContinued (Some holder) own new
-continued_from true holder own new b e = record {
+-- the lines after the first one
+abbrev after_busy : ℕ → Option Frame → Incoming → Option Verdict → List (Option Verdict)
+after_busy limit own new last = after_end own ∷ repeated own new.packet.number ∷ late own new.packet.number ∷ timed_out limit new.at own ∷ last ∷ []
+
+continued_from : (b : Bool) (limit : ℕ) (holder : Frame) (own : Option Frame) (new : Incoming) → is_of_stream holder new ≡ b → first_fit (cond b None (Some (Busy holder.member)) ∷ after_busy limit own new (Some Continued)) Opened ≡ Continued → IsContinued (Some holder) own new
+continued_from true limit holder own new b e = record {
   frame = holder;
   holder_is = refl;
   of_stream = b;
-  passes = (own_passes own new.packet.number (Some Continued ∷ []) Continued refl e).0;
+  passes = (own_passes limit new.at own new.packet.number (Some Continued ∷ []) Continued refl e).0;
 }
-continued_from false holder own new b e = absurd (cc)
+continued_from false limit holder own new b e = absurd (cc)
 
-pub beside_continued : (holder own : Option Frame) (new : Incoming) → verdict_beside holder own new ≡ Continued → IsContinued holder own new
-beside_continued None own new e =
-    let rest : Opened ≡ Continued = (own_passes own new.packet.number (None ∷ []) Continued refl e).1 in
+pub beside_continued : (limit : ℕ) (holder own : Option Frame) (new : Incoming) → verdict_beside limit holder own new ≡ Continued → IsContinued holder own new
+beside_continued limit None own new e =
+    let rest : Opened ≡ Continued = (own_passes limit new.at own new.packet.number (None ∷ []) Continued refl e).1 in
     absurd (cc)
-beside_continued (Some holder) own new e = continued_from (is_of_stream holder new) holder own new refl e
+beside_continued limit (Some holder) own new e = continued_from (is_of_stream holder new) limit holder own new refl e
 
-opened_from : (b : Bool) (holder : Frame) (own : Option Frame) (new : Incoming) → first_fit (cond b None (Some (Busy holder.member)) ∷ after_end own ∷ repeated own new.packet.number ∷ late own new.packet.number ∷ Some Continued ∷ []) Opened ≡ Opened → ⊥
-opened_from true holder own new e =
-    let rest : Continued ≡ Opened = (own_passes own new.packet.number (Some Continued ∷ []) Opened refl e).1 in
+opened_from : (b : Bool) (limit : ℕ) (holder : Frame) (own : Option Frame) (new : Incoming) → first_fit (cond b None (Some (Busy holder.member)) ∷ after_busy limit own new (Some Continued)) Opened ≡ Opened → ⊥
+opened_from true limit holder own new e =
+    let rest : Continued ≡ Opened = (own_passes limit new.at own new.packet.number (Some Continued ∷ []) Opened refl e).1 in
     cc
-opened_from false holder own new e = cc
+opened_from false limit holder own new e = cc
 
 -- A packet opens the floor only where no frame has it.
-pub beside_opened : (holder own : Option Frame) (new : Incoming) → verdict_beside holder own new ≡ Opened → holder ≡ None
-beside_opened None own new e = refl
-beside_opened (Some holder) own new e = absurd (opened_from (is_of_stream holder new) holder own new e)
+pub beside_opened : (limit : ℕ) (holder own : Option Frame) (new : Incoming) → verdict_beside limit holder own new ≡ Opened → holder ≡ None
+beside_opened limit None own new e = refl
+beside_opened limit (Some holder) own new e = absurd (opened_from (is_of_stream holder new) limit holder own new e)
 
 pub only_if_from : (test : Frame → Bool) (o : Option Frame) (f : Frame) → only_if test o ≡ Some f → (o ≡ Some f) × (test f ≡ true)
 only_if_from test None f e = cc
@@ -127,5 +146,18 @@ continued_is (Busy m) a ne = absurd (false≢true a)
 continued_is Repeat a ne = absurd (false≢true a)
 continued_is (Late y) a ne = absurd (false≢true a)
 continued_is AfterEnd a ne = absurd (false≢true a)
+continued_is TimedOut a ne = absurd (false≢true a)
 continued_is NotMember a ne = absurd (false≢true a)
 continued_is ListenOnly a ne = absurd (false≢true a)
+
+-- an admitted verdict is one of the two
+pub admitted_is : (v : Verdict) → admits (Some v) ≡ true → (v ≡ Opened) ⊎ (v ≡ Continued)
+admitted_is Opened a = inl refl
+admitted_is Continued a = inr refl
+admitted_is (Busy m) a = absurd (false≢true a)
+admitted_is Repeat a = absurd (false≢true a)
+admitted_is (Late y) a = absurd (false≢true a)
+admitted_is AfterEnd a = absurd (false≢true a)
+admitted_is TimedOut a = absurd (false≢true a)
+admitted_is NotMember a = absurd (false≢true a)
+admitted_is ListenOnly a = absurd (false≢true a)

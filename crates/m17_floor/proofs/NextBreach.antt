@@ -12,7 +12,7 @@ use Rattle.m17_floor.specs.declared.verdict.Verdict.{Verdict}
 use Rattle.m17_floor.specs.Acts.{with_act, kind_at, joined_at}
 use Rattle.m17_floor.specs.Floor.{listens, verdict_at}
 use Rattle.m17_floor.specs.StandsFor.{its_join}
-use Rattle.m17_floor.specs.Legal.{KeptAct, book_places, acts_in, moment_written, verdict_written, FallsBehind, BreaksMembership, HasBreach}
+use Rattle.m17_floor.specs.Legal.{KeptAct, book_places, book_setup, acts_in, moment_written, verdict_written, FallsBehind, BreaksMembership, HasBreach}
 use Rattle.m17_floor.specs.Alike.{stay_of, ComesOrGoesWrong, IsJudgedWrong, BreaksNext}
 use Rattle.m17_floor.proofs.Breaches.{acts_append, length_acts, written_before, Differs, other_is}
 use Rattle.m17_floor.proofs.LikeLists.{verdict_left}
@@ -58,13 +58,13 @@ comes_end acts act (Leave k) = (λ out is. out (in_before acts act k ∙ is), λ
 comes_end acts act (Packet k p) = (λ b. b, λ b. b)
 comes_end acts act Other = (λ b. b, λ b. b)
 
-judged_end : (acts : List Act) (at : ℕ) (written : Option Verdict) (kind : ActKind) → Differs kind written (verdict_at book_places (with_act acts (record { at = at; kind = kind })) (length acts)) ↔ IsJudgedWrong acts at written kind
-judged_end acts at written (Packet k p) =
-    let same = verdict_left book_places acts at k p in
+judged_end : (limit : ℕ) (acts : List Act) (at : ℕ) (written : Option Verdict) (kind : ActKind) → Differs kind written (verdict_at (book_setup limit) (with_act acts (record { at = at; kind = kind })) (length acts)) ↔ IsJudgedWrong limit acts at written kind
+judged_end limit acts at written (Packet k p) =
+    let same = verdict_left (book_setup limit) acts at k p in
     (λ differs e. differs (e ∙ sym same), λ differs e. differs (e ∙ same))
-judged_end acts at written (Join k only) = (λ d. d, λ d. d)
-judged_end acts at written (Leave k) = (λ d. d, λ d. d)
-judged_end acts at written Other = (λ d. d, λ d. d)
+judged_end limit acts at written (Join k only) = (λ d. d, λ d. d)
+judged_end limit acts at written (Leave k) = (λ d. d, λ d. d)
+judged_end limit acts at written Other = (λ d. d, λ d. d)
 
 verdict_written_end : (kept : List KeptAct) (one : KeptAct) → verdict_written (kept ++ one ∷ []) (length kept) ≡ one.verdict
 verdict_written_end kept one = ap (option_and_then (λ (x : KeptAct). x.verdict)) (slice_get_end kept one)
@@ -74,25 +74,25 @@ acts_more : (kept : List KeptAct) (one : KeptAct) → acts_in (kept ++ one ∷ [
 acts_more kept one = acts_append kept (one ∷ [])
 
 -- What is kept next is a breach exactly where it breaks the rule by what is left behind.
-pub breach_next : (kept : List KeptAct) (one : KeptAct) (rule : Rule) → HasBreach (kept ++ one ∷ []) (length kept) rule ↔ BreaksNext (acts_in kept) one rule
-breach_next kept one rules.Moment =
+pub breach_next : (limit : ℕ) (kept : List KeptAct) (one : KeptAct) (rule : Rule) → HasBreach limit (kept ++ one ∷ []) (length kept) rule ↔ BreaksNext limit (acts_in kept) one rule
+breach_next limit kept one rules.Moment =
     let acts : List Act = acts_in kept in
     iff_then (iff_path (ap (λ xs. FallsBehind xs (length kept)) (acts_more kept one) ∙ ap (FallsBehind (with_act acts one.act)) (sym (length_acts kept))))
     (falls_end acts one.act)
-breach_next kept one rules.Member =
+breach_next limit kept one rules.Member =
     let acts : List Act = acts_in kept in
     iff_then
     (iff_path (ap (λ xs. BreaksMembership xs (length kept) (kind_at xs (length kept))) (acts_more kept one)
     ∙ ap (λ n. BreaksMembership (with_act acts one.act) n (kind_at (with_act acts one.act) n)) (sym (length_acts kept))
     ∙ ap (BreaksMembership (with_act acts one.act) (length acts)) (kind_end acts one.act)))
     (comes_end acts one.act one.act.kind)
-breach_next kept one rules.Verdict =
+breach_next limit kept one rules.Verdict =
     let acts : List Act = acts_in kept in
     let more : List KeptAct = kept ++ one ∷ [] in
-    iff_then (other_is more (length kept) (kind_at (acts_in more) (length kept)))
+    iff_then (other_is limit more (length kept) (kind_at (acts_in more) (length kept)))
     (iff_then
-    (iff_path (ap (λ xs. Differs (kind_at xs (length kept)) (verdict_written more (length kept)) (verdict_at book_places xs (length kept))) (acts_more kept one)
-    ∙ ap (λ n. Differs (kind_at (with_act acts one.act) n) (verdict_written more (length kept)) (verdict_at book_places (with_act acts one.act) n)) (sym (length_acts kept))
-    ∙ ap (λ kind. Differs kind (verdict_written more (length kept)) (verdict_at book_places (with_act acts one.act) (length acts))) (kind_end acts one.act)
-    ∙ ap (λ o. Differs one.act.kind o (verdict_at book_places (with_act acts one.act) (length acts))) (verdict_written_end kept one)))
-    (judged_end acts one.act.at one.verdict one.act.kind))
+    (iff_path (ap (λ xs. Differs (kind_at xs (length kept)) (verdict_written more (length kept)) (verdict_at (book_setup limit) xs (length kept))) (acts_more kept one)
+    ∙ ap (λ n. Differs (kind_at (with_act acts one.act) n) (verdict_written more (length kept)) (verdict_at (book_setup limit) (with_act acts one.act) n)) (sym (length_acts kept))
+    ∙ ap (λ kind. Differs kind (verdict_written more (length kept)) (verdict_at (book_setup limit) (with_act acts one.act) (length acts))) (kind_end acts one.act)
+    ∙ ap (λ o. Differs one.act.kind o (verdict_at (book_setup limit) (with_act acts one.act) (length acts))) (verdict_written_end kept one)))
+    (judged_end limit acts one.act.at one.verdict one.act.kind))

@@ -7,13 +7,15 @@ use Rattle.std.specs.List.{fold}
 use Rattle.std.specs.Option.{option_and_then, option_map_or}
 use Rattle.m17_values.specs.declared.member.Member.{Member}
 use Rattle.m17_floor.specs.declared.act.Act.{Act}
+use Rattle.m17_floor.specs.declared.verdict.Verdict.{Verdict}
 use Rattle.m17_lookup.specs.Lookup.{last_below}
+use Rattle.m17_floor.specs.Setup.{FloorSetup}
 use Rattle.m17_floor.specs.Acts.{with_act, kind_or_other, kind_at, greatest_moment, moment_before, moment_at, is_join_of, settles, joined_at}
-use Rattle.m17_floor.specs.Floor.{Past, was_admitted, is_in_since, last_admitted, joined, verdict_given, admits, past_at, admitted_before, verdict_at}
+use Rattle.m17_floor.specs.Floor.{Past, given, was_admitted, is_in_since, last_admitted, joined, verdict_given, admits, past_at, verdicts_before, verdict_at}
 use Rattle.m17_floor.specs.Laws.{joined_with}
 use Rattle.m17_floor.specs.StandsFor.{past_of}
 use Rattle.m17_lookup.proofs.LastBelow.{last_below_suc, last_below_same}
-use Rattle.m17_floor.proofs.Prefix.{slice_get_before, joined_before, past_at_same, admitted_same}
+use Rattle.m17_floor.proofs.Prefix.{slice_get_before, joined_before, past_at_same, verdicts_same}
 
 pub slice_get_end : {A : Type 0} (xs : List A) (y : A) → slice_get (xs ++ y ∷ []) (length xs) ≡ Some y
 slice_get_end [] y = refl
@@ -90,74 +92,83 @@ membership_more places acts act k =
     (λ (h : s ≡ false). joined_unsettled places acts act k h ∙ sym (cond-false s there old h))
     (cases_Bool s)
 
-pub length_admitted : (places : ℕ) (acts : List Act) (n : ℕ) → length (admitted_before places acts n) ≡ n
-unfolding admitted_before
-length_admitted places acts zero = refl
-length_admitted places acts (suc n) = length_more _ _ ∙ ap suc (length_admitted places acts n)
+pub length_verdicts : (setup : FloorSetup) (acts : List Act) (n : ℕ) → length (verdicts_before setup acts n) ≡ n
+unfolding verdicts_before
+length_verdicts setup acts zero = refl
+length_verdicts setup acts (suc n) = length_more _ _ ∙ ap suc (length_verdicts setup acts n)
 
--- whether the new act is admitted
-abbrev pub admits_last : ℕ → List Act → Act → Bool
-admits_last places acts act = admits (verdict_at places (with_act acts act) (length acts))
+-- the verdict on the new act, and whether it is admitted
+abbrev pub verdict_last : FloorSetup → List Act → Act → Option Verdict
+verdict_last setup acts act = verdict_at setup (with_act acts act) (length acts)
 
-pub admitted_more : (places : ℕ) (acts : List Act) (act : Act) → admitted_before places (with_act acts act) (length (with_act acts act)) ≡ admitted_before places acts (length acts) ++ admits_last places acts act ∷ []
-unfolding admitted_before verdict_at
-admitted_more places acts act =
-    ap (admitted_before places (with_act acts act)) (length_more acts act)
-    ∙ ap (λ bits. bits ++ admits_last places acts act ∷ []) (admitted_same places acts (act ∷ []) (length acts) (omega arith))
+abbrev pub admits_last : FloorSetup → List Act → Act → Bool
+admits_last setup acts act = admits (verdict_last setup acts act)
 
--- these acts with what was admitted of them, and then one act more
-abbrev pub grown : Past → Act → Bool → Past
-grown past act b = record { places = past.places; acts = with_act past.acts act; admitted = past.admitted ++ b ∷ [] }
+pub verdicts_more : (setup : FloorSetup) (acts : List Act) (act : Act) → verdicts_before setup (with_act acts act) (length (with_act acts act)) ≡ verdicts_before setup acts (length acts) ++ verdict_last setup acts act ∷ []
+unfolding verdicts_before verdict_at
+verdicts_more setup acts act =
+    ap (verdicts_before setup (with_act acts act)) (length_more acts act)
+    ∙ ap (λ vs. vs ++ verdict_last setup acts act ∷ []) (verdicts_same setup acts (act ∷ []) (length acts) (omega arith))
 
-pub past_more : (places : ℕ) (acts : List Act) (act : Act) → past_of places (with_act acts act) ≡ grown (past_of places acts) act (admits_last places acts act)
-past_more places acts act =
+-- these acts with the verdicts on them, and then one act more
+abbrev pub grown : Past → Act → Option Verdict → Past
+grown past act v = record { setup = past.setup; acts = with_act past.acts act; verdicts = past.verdicts ++ v ∷ [] }
+
+pub past_more : (setup : FloorSetup) (acts : List Act) (act : Act) → past_of setup (with_act acts act) ≡ grown (past_of setup acts) act (verdict_last setup acts act)
+past_more setup acts act =
     let longer : List Act = with_act acts act in
-    let with_bits : List Bool → Past = λ bits. record { places = places; acts = longer; admitted = bits } in
-    ap with_bits (admitted_more places acts act)
+    let with_verdicts : List (Option Verdict) → Past = λ vs. record { setup = setup; acts = longer; verdicts = vs } in
+    ap with_verdicts (verdicts_more setup acts act)
 
 -- what is looked back on at the new act
-pub past_end : (places : ℕ) (acts more : List Act) → past_at places (acts ++ more) (length acts) ≡ past_of places acts
-past_end places acts more =
-    let with_acts : List Act → Past = λ front. record { places = places; acts = front; admitted = admitted_before places acts (length acts) } in
-    past_at_same places acts more (length acts) (omega arith)
+pub past_end : (setup : FloorSetup) (acts more : List Act) → past_at setup (acts ++ more) (length acts) ≡ past_of setup acts
+past_end setup acts more =
+    let with_acts : List Act → Past = λ front. record { setup = setup; acts = front; verdicts = verdicts_before setup acts (length acts) } in
+    past_at_same setup acts more (length acts) (omega arith)
     ∙ ap with_acts (take_all (length acts) acts (omega arith))
 
-pub verdict_end : (places : ℕ) (acts : List Act) (act : Act) → verdict_at places (with_act acts act) (length acts) ≡ verdict_given (past_of places acts) (moment_there acts act.at) act.kind
+pub verdict_end : (setup : FloorSetup) (acts : List Act) (act : Act) → verdict_at setup (with_act acts act) (length acts) ≡ verdict_given (past_of setup acts) (moment_there acts act.at) act.kind
 unfolding verdict_at
-verdict_end places acts act =
+verdict_end setup acts act =
     let longer : List Act = with_act acts act in
     let n : ℕ = length acts in
-    ap (λ p. verdict_given p (moment_at longer n) (kind_at longer n)) (past_end places acts (act ∷ []))
-    ∙ ap (λ at. verdict_given (past_of places acts) at (kind_at longer n)) (moment_end acts act)
-    ∙ ap (verdict_given (past_of places acts) (moment_there acts act.at)) (kind_end acts act)
+    ap (λ p. verdict_given p (moment_at longer n) (kind_at longer n)) (past_end setup acts (act ∷ []))
+    ∙ ap (λ at. verdict_given (past_of setup acts) at (kind_at longer n)) (moment_end acts act)
+    ∙ ap (verdict_given (past_of setup acts) (moment_there acts act.at)) (kind_end acts act)
 
-pub bit_before : (xs : List Bool) (b : Bool) (m : ℕ) → m < length xs → unwrap_or (slice_get (xs ++ b ∷ []) m) false ≡ unwrap_or (slice_get xs m) false
-bit_before xs b m h = ap (λ o. unwrap_or o false) (slice_get_before xs (b ∷ []) m h)
+pub one_before : (xs : List (Option Verdict)) (v : Option Verdict) (m : ℕ) → m < length xs → unwrap_or (slice_get (xs ++ v ∷ []) m) None ≡ unwrap_or (slice_get xs m) None
+one_before xs v m h = ap (λ o. unwrap_or o None) (slice_get_before xs (v ∷ []) m h)
 
-pub bit_end : (xs : List Bool) (b : Bool) (n : ℕ) → length xs ≡ n → unwrap_or (slice_get (xs ++ b ∷ []) n) false ≡ b
-bit_end xs b n len = rw (← len) (ap (λ o. unwrap_or o false) (slice_get_end xs b))
+pub one_end : (xs : List (Option Verdict)) (v : Option Verdict) (n : ℕ) → length xs ≡ n → unwrap_or (slice_get (xs ++ v ∷ []) n) None ≡ v
+one_end xs v n len = rw (← len) (ap (λ o. unwrap_or o None) (slice_get_end xs v))
 
--- a past whose answers are as many as its acts
+-- a past whose verdicts are as many as its acts
 abbrev pub IsWhole : Past → Type 0
-IsWhole past = length past.admitted ≡ length past.acts
+IsWhole past = length past.verdicts ≡ length past.acts
 
-pub whole : (places : ℕ) (acts : List Act) → IsWhole (past_of places acts)
-whole places acts = length_admitted places acts (length acts)
+pub whole : (setup : FloorSetup) (acts : List Act) → IsWhole (past_of setup acts)
+whole setup acts = length_verdicts setup acts (length acts)
 
-pub was_before : (past : Past) (act : Act) (b : Bool) (m : ℕ) → IsWhole past → m < length past.acts → was_admitted (grown past act b) m ≡ was_admitted past m
-was_before past act b m len h = bit_before past.admitted b m (omega arith)
+pub given_before : (past : Past) (act : Act) (v : Option Verdict) (m : ℕ) → IsWhole past → m < length past.acts → given (grown past act v) m ≡ given past m
+given_before past act v m len h = one_before past.verdicts v m (omega arith)
 
-pub was_end : (past : Past) (act : Act) (b : Bool) → IsWhole past → was_admitted (grown past act b) (length past.acts) ≡ b
-was_end past act b len = bit_end past.admitted b (length past.acts) len
+pub given_end : (past : Past) (act : Act) (v : Option Verdict) → IsWhole past → given (grown past act v) (length past.acts) ≡ v
+given_end past act v len = one_end past.verdicts v (length past.acts) len
 
-pub last_admitted_more : (past : Past) (act : Act) (b : Bool) → IsWhole past → last_admitted (grown past act b) ≡ cond b (Some (length past.acts)) (last_admitted past)
-last_admitted_more past act b len =
+pub was_before : (past : Past) (act : Act) (v : Option Verdict) (m : ℕ) → IsWhole past → m < length past.acts → was_admitted (grown past act v) m ≡ was_admitted past m
+was_before past act v m len h = ap admits (given_before past act v m len h)
+
+pub was_end : (past : Past) (act : Act) (v : Option Verdict) → IsWhole past → was_admitted (grown past act v) (length past.acts) ≡ admits v
+was_end past act v len = ap admits (given_end past act v len)
+
+pub last_admitted_more : (past : Past) (act : Act) (v : Option Verdict) → IsWhole past → last_admitted (grown past act v) ≡ cond (admits v) (Some (length past.acts)) (last_admitted past)
+last_admitted_more past act v len =
     let n : ℕ = length past.acts in
-    let test : ℕ → Bool = was_admitted (grown past act b) in
+    let test : ℕ → Bool = was_admitted (grown past act v) in
     ap (last_below test) (length_more past.acts act)
     ∙ last_below_suc test n
-    ∙ ap (λ c. cond c (Some n) (last_below test n)) (was_end past act b len)
-    ∙ ap (cond b (Some n)) (last_below_same _ _ n (λ m l. was_before past act b m len l))
+    ∙ ap (λ c. cond c (Some n) (last_below test n)) (was_end past act v len)
+    ∙ ap (cond (admits v) (Some n)) (last_below_same _ _ n (λ m l. was_before past act v m len l))
 
 since_by_cases : (s j : Bool) (n a : ℕ) (old : Option ℕ) → a ≤ n → option_map_or (λ i. nat_lt i a) (cond s (cond j (Some n) None) old) false ≡ (not s && option_map_or (λ i. nat_lt i a) old false)
 since_by_cases true true n a old h = le-ltb n a h
@@ -165,7 +176,7 @@ since_by_cases true false n a old h = refl
 since_by_cases false j n a old h = refl
 
 -- Since when a member has been in, after one act more.
-pub since_more : (past : Past) (act : Act) (b : Bool) (k : Member) (a : ℕ) → a ≤ length past.acts → is_in_since (grown past act b) k a ≡ (not (settles k act.kind) && is_in_since past k a)
-since_more past act b k a h =
-    ap (λ o. option_map_or (λ i. nat_lt i a) o false) (membership_more past.places past.acts act k)
-    ∙ since_by_cases (settles k act.kind) (is_join_of k act.kind && nat_lt k.place past.places) (length past.acts) a (joined past k) h
+pub since_more : (past : Past) (act : Act) (v : Option Verdict) (k : Member) (a : ℕ) → a ≤ length past.acts → is_in_since (grown past act v) k a ≡ (not (settles k act.kind) && is_in_since past k a)
+since_more past act v k a h =
+    ap (λ o. option_map_or (λ i. nat_lt i a) o false) (membership_more past.setup.places past.acts act k)
+    ∙ since_by_cases (settles k act.kind) (is_join_of k act.kind && nat_lt k.place past.setup.places) (length past.acts) a (joined past k) h

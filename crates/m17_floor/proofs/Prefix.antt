@@ -4,9 +4,11 @@ use Rattle.std.proofs.lemmas.List.{take-append-le}
 use Rattle.std.specs.Option.{option_and_then}
 use Rattle.m17_values.specs.declared.member.Member.{Member}
 use Rattle.m17_floor.specs.declared.act.Act.{Act}
+use Rattle.m17_floor.specs.declared.verdict.Verdict.{Verdict}
 use Rattle.m17_lookup.specs.Lookup.{last_below}
+use Rattle.m17_floor.specs.Setup.{FloorSetup}
 use Rattle.m17_floor.specs.Acts.{kind_or_other, kind_at, greatest_moment, moment_before, moment_at, is_join_of, settles, joined_at}
-use Rattle.m17_floor.specs.Floor.{Past, verdict_given, admits, past_with, admitted_before, past_at, verdict_at}
+use Rattle.m17_floor.specs.Floor.{Past, verdict_given, past_with, verdicts_before, past_at, verdict_at}
 use Rattle.m17_lookup.proofs.LastBelow.{last_below_same, last_below_lt, and_then_same, kept_is, some_from_cond}
 
 pub slice_get_before : {A : Type 0} (xs ys : List A) (m : ℕ) → m < length xs → slice_get (xs ++ ys) m ≡ slice_get xs m
@@ -43,34 +45,34 @@ joined_lt places acts k n j e =
     last_below_lt _ n j (kept_is (λ i. is_join_of k (kind_at acts i)) (last_below (λ i. settles k (kind_at acts i)) n) j (some_from_cond (nat_lt k.place places) _ j e))
 
 -- the acts before a position
-abbrev past_from : ℕ → List Bool → List Act → Past
-past_from places bits front = record { places = places; acts = front; admitted = bits }
+abbrev past_from : FloorSetup → List (Option Verdict) → List Act → Past
+past_from setup verdicts front = record { setup = setup; acts = front; verdicts = verdicts }
 
-pub past_with_same : (places : ℕ) (acts more : List Act) (n : ℕ) (bits : List Bool) → n ≤ length acts → past_with places (acts ++ more) n bits ≡ past_with places acts n bits
-past_with_same places acts more n bits h = ap (past_from places bits) (take-append-le n acts more h)
+pub past_with_same : (setup : FloorSetup) (acts more : List Act) (n : ℕ) (verdicts : List (Option Verdict)) → n ≤ length acts → past_with setup (acts ++ more) n verdicts ≡ past_with setup acts n verdicts
+past_with_same setup acts more n verdicts h = ap (past_from setup verdicts) (take-append-le n acts more h)
 
-pub admitted_same : (places : ℕ) (acts more : List Act) (n : ℕ) → n ≤ length acts → admitted_before places (acts ++ more) n ≡ admitted_before places acts n
-unfolding admitted_before
-admitted_same places acts more zero h = refl
-admitted_same places acts more (suc n) h =
+pub verdicts_same : (setup : FloorSetup) (acts more : List Act) (n : ℕ) → n ≤ length acts → verdicts_before setup (acts ++ more) n ≡ verdicts_before setup acts n
+unfolding verdicts_before
+verdicts_same setup acts more zero h = refl
+verdicts_same setup acts more (suc n) h =
     let longer : List Act = acts ++ more in
-    let before : List Bool = admitted_before places acts n in
-    let past : admitted_before places longer n ≡ before = admitted_same places acts more n (omega arith) in
-    ap (λ bits. bits ++ admits (verdict_given (past_with places longer n bits) (moment_at longer n) (kind_at longer n)) ∷ []) past
-    ∙ ap (λ p. before ++ admits (verdict_given p (moment_at longer n) (kind_at longer n)) ∷ []) (past_with_same places acts more n before (omega arith))
-    ∙ ap (λ at. before ++ admits (verdict_given (past_with places acts n before) at (kind_at longer n)) ∷ []) (moment_at_same acts more n (omega arith))
-    ∙ ap (λ kind. before ++ admits (verdict_given (past_with places acts n before) (moment_at acts n) kind) ∷ []) (kind_before acts more n (omega arith))
+    let before : List (Option Verdict) = verdicts_before setup acts n in
+    let past : verdicts_before setup longer n ≡ before = verdicts_same setup acts more n (omega arith) in
+    ap (λ vs. vs ++ verdict_given (past_with setup longer n vs) (moment_at longer n) (kind_at longer n) ∷ []) past
+    ∙ ap (λ p. before ++ verdict_given p (moment_at longer n) (kind_at longer n) ∷ []) (past_with_same setup acts more n before (omega arith))
+    ∙ ap (λ at. before ++ verdict_given (past_with setup acts n before) at (kind_at longer n) ∷ []) (moment_at_same acts more n (omega arith))
+    ∙ ap (λ kind. before ++ verdict_given (past_with setup acts n before) (moment_at acts n) kind ∷ []) (kind_before acts more n (omega arith))
 
-pub past_at_same : (places : ℕ) (acts more : List Act) (n : ℕ) → n ≤ length acts → past_at places (acts ++ more) n ≡ past_at places acts n
-past_at_same places acts more n h =
-    ap (past_with places (acts ++ more) n) (admitted_same places acts more n h)
-    ∙ past_with_same places acts more n (admitted_before places acts n) h
+pub past_at_same : (setup : FloorSetup) (acts more : List Act) (n : ℕ) → n ≤ length acts → past_at setup (acts ++ more) n ≡ past_at setup acts n
+past_at_same setup acts more n h =
+    ap (past_with setup (acts ++ more) n) (verdicts_same setup acts more n h)
+    ∙ past_with_same setup acts more n (verdicts_before setup acts n) h
 
 -- What happens later changes no verdict.
-pub verdict_same : (places : ℕ) (acts more : List Act) (n : ℕ) → n < length acts → verdict_at places (acts ++ more) n ≡ verdict_at places acts n
+pub verdict_same : (setup : FloorSetup) (acts more : List Act) (n : ℕ) → n < length acts → verdict_at setup (acts ++ more) n ≡ verdict_at setup acts n
 unfolding verdict_at
-verdict_same places acts more n h =
+verdict_same setup acts more n h =
     let longer : List Act = acts ++ more in
-    ap (λ p. verdict_given p (moment_at longer n) (kind_at longer n)) (past_at_same places acts more n (omega arith))
-    ∙ ap (λ at. verdict_given (past_at places acts n) at (kind_at longer n)) (moment_at_same acts more n h)
-    ∙ ap (verdict_given (past_at places acts n) (moment_at acts n)) (kind_before acts more n h)
+    ap (λ p. verdict_given p (moment_at longer n) (kind_at longer n)) (past_at_same setup acts more n (omega arith))
+    ∙ ap (λ at. verdict_given (past_at setup acts n) at (kind_at longer n)) (moment_at_same acts more n h)
+    ∙ ap (verdict_given (past_at setup acts n) (moment_at acts n)) (kind_before acts more n h)

@@ -9,34 +9,60 @@ use Rattle.m17_floor.specs.declared.act.ActKind.TheVariants.{Join, Packet}
 use Rattle.m17_floor.specs.declared.verdict.Verdict.{Verdict}
 use Rattle.m17_floor.specs.declared.verdict.Verdict.TheVariants.{Opened, Continued, NotMember, ListenOnly}
 use Rattle.m17_lookup.specs.Lookup.{last_below}
+use Rattle.m17_floor.specs.Setup.{FloorSetup}
 use Rattle.m17_floor.specs.Acts.{kind_at, moment_at, is_same, joined_at}
 use Rattle.m17_floor.specs.Rule.{Frame, Incoming, incoming, frame_from, first_fit, verdict_by_frames}
 
--- What the rule looks back on: the number of the module's places, what happened there so far, and
--- of each of these acts whether it was admitted.
+-- a packet with this verdict is admitted, and opens the floor
+abbrev pub opens : Option Verdict → Bool
+opens (Some Opened) = true
+opens _ = false
+
+-- a packet with this verdict is admitted
+abbrev pub admits : Option Verdict → Bool
+admits (Some Opened) = true
+admits (Some Continued) = true
+admits _ = false
+
+-- What the rule looks back on: what the module's floor is made with, what happened there so far, and
+-- the verdict on each of these acts.
 pub record Past : Type 0 where
-  pub places : ℕ
+  pub setup : FloorSetup
   pub acts : List Act
-  pub admitted : List Bool
+  pub verdicts : List (Option Verdict)
+
+-- the verdict that was given at position a, and whether that position was opened, or admitted
+abbrev pub given : Past → ℕ → Option Verdict
+given past a = unwrap_or (slice_get past.verdicts a) None
+
+abbrev pub was_opened : Past → ℕ → Bool
+was_opened past a = opens (given past a)
 
 abbrev pub was_admitted : Past → ℕ → Bool
-was_admitted past a = unwrap_or (slice_get past.admitted a) false
+was_admitted past a = admits (given past a)
 
 -- the position of the Join by which the member is in now
 abbrev pub joined : Past → Member → Option ℕ
-joined past k = joined_at past.places past.acts k (length past.acts)
+joined past k = joined_at past.setup.places past.acts k (length past.acts)
 
 -- the member is in now, by a Join below position a
 abbrev pub is_in_since : Past → Member → ℕ → Bool
 is_in_since past k a = option_map_or (λ j. nat_lt j a) (joined past k) false
 
--- the frame of the packet at position a, with the moment there
-abbrev pub frame_of : ActKind → ℕ → Option Frame
-frame_of (Packet k p) at = Some (frame_from (incoming k at p))
-frame_of _ at = None
+-- the last opened position at or below a, and the moment there
+abbrev pub opening_of : Past → ℕ → Option ℕ
+opening_of past a = last_below (was_opened past) (suc a)
 
-abbrev pub frame_at : List Act → ℕ → Option Frame
-frame_at acts a = frame_of (kind_at acts a) (moment_at acts a)
+abbrev pub opened_at : Past → ℕ → ℕ
+opened_at past a = option_map_or (moment_at past.acts) (opening_of past a) 0
+
+-- the frame of the packet at position a, with the moment there and that of its opening
+abbrev pub frame_of : ActKind → ℕ → ℕ → Option Frame
+frame_of (Packet k p) at opened = Some (frame_from opened (incoming k at p))
+frame_of _ at opened = None
+
+abbrev pub frame_at : Past → ℕ → Option Frame
+frame_at past a = frame_of (kind_at past.acts a) (moment_at past.acts a) (opened_at past a)
 
 -- the sender of the packet at position a has been in since before it
 abbrev pub has_stayed : Past → ℕ → ActKind → Bool
@@ -51,7 +77,7 @@ last_admitted past = last_below (was_admitted past) (length past.acts)
 unfoldable pub floor_frame : Past → Option Frame
 floor_frame past =
     option_and_then
-    (λ a. if has_stayed past a (kind_at past.acts a) then frame_at past.acts a else None)
+    (λ a. if has_stayed past a (kind_at past.acts a) then frame_at past a else None)
     (last_admitted past)
 
 -- the act is a packet of the member
@@ -68,7 +94,7 @@ last_own past k =
 
 -- The member's last admitted frame since its Join.
 unfoldable pub own_frame : Past → Member → Option Frame
-own_frame past k = option_and_then (frame_at past.acts) (last_own past k)
+own_frame past k = option_and_then (frame_at past) (last_own past k)
 
 -- The first two lines of the table, by the position of the sender's Join.
 abbrev pub not_member : Option ℕ → Option Verdict
@@ -89,46 +115,39 @@ abbrev pub verdict_after : Past → Incoming → Verdict
 verdict_after past new =
     first_fit
     (not_member (joined past new.sender) ∷ listen_only past.acts (joined past new.sender) ∷ [])
-    (verdict_by_frames (floor_frame past) (own_frame past new.sender) new)
+    (verdict_by_frames past.setup.limit (floor_frame past) (own_frame past new.sender) new)
 
 -- The verdict on what happens at this moment: none but for a packet.
 unfoldable pub verdict_given : Past → ℕ → ActKind → Option Verdict
 verdict_given past at (Packet k p) = Some (verdict_after past (incoming k at p))
 verdict_given past at _ = None
 
--- a packet with this verdict is admitted
-abbrev pub admits : Option Verdict → Bool
-admits (Some Opened) = true
-admits (Some Continued) = true
-admits _ = false
+-- the acts before position n, with the verdicts on them
+abbrev pub past_with : FloorSetup → List Act → ℕ → List (Option Verdict) → Past
+past_with setup acts n verdicts =
+    record { setup = setup; acts = take n acts; verdicts = verdicts }
 
--- the acts before position n, with what was admitted of them
-abbrev pub past_with : ℕ → List Act → ℕ → List Bool → Past
-past_with places acts n admitted =
-    record { places = places; acts = take n acts; admitted = admitted }
-
--- of each position below n, whether it is admitted
-unfoldable pub admitted_before : ℕ → List Act → ℕ → List Bool
-admitted_before places acts zero = []
-admitted_before places acts (suc n) =
-    let before = admitted_before places acts n in
-    let past = past_with places acts n before in
-    before ++ admits (verdict_given past (moment_at acts n) (kind_at acts n)) ∷ []
+-- of each position below n, the verdict there
+unfoldable pub verdicts_before : FloorSetup → List Act → ℕ → List (Option Verdict)
+verdicts_before setup acts zero = []
+verdicts_before setup acts (suc n) =
+    let before = verdicts_before setup acts n in
+    let past = past_with setup acts n before in
+    before ++ verdict_given past (moment_at acts n) (kind_at acts n) ∷ []
 
 -- what the rule looks back on at position n
-abbrev pub past_at : ℕ → List Act → ℕ → Past
-past_at places acts n = past_with places acts n (admitted_before places acts n)
+abbrev pub past_at : FloorSetup → List Act → ℕ → Past
+past_at setup acts n = past_with setup acts n (verdicts_before setup acts n)
 
--- The verdict at position n, in a module of `places` places: none but for a packet.
-unfoldable pub verdict_at : ℕ → List Act → ℕ → Option Verdict
-verdict_at places acts n =
-    verdict_given (past_at places acts n) (moment_at acts n) (kind_at acts n)
+-- The verdict at position n, in a module whose floor is made with this: none but for a packet.
+unfoldable pub verdict_at : FloorSetup → List Act → ℕ → Option Verdict
+verdict_at setup acts n =
+    verdict_given (past_at setup acts n) (moment_at acts n) (kind_at acts n)
 
 -- the packet at position n is admitted
-abbrev pub IsAdmitted : ℕ → List Act → ℕ → Type 0
-IsAdmitted places acts n = IsTrue (admits (verdict_at places acts n))
+abbrev pub IsAdmitted : FloorSetup → List Act → ℕ → Type 0
+IsAdmitted setup acts n = IsTrue (admits (verdict_at setup acts n))
 
 -- how many positions of the list are admitted
-unfoldable pub admitted_count : ℕ → List Act → ℕ
-admitted_count places acts =
-    count_by (λ admitted. admitted) (admitted_before places acts (length acts))
+unfoldable pub admitted_count : FloorSetup → List Act → ℕ
+admitted_count setup acts = count_by admits (verdicts_before setup acts (length acts))

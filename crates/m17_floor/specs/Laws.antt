@@ -7,8 +7,9 @@ use Rattle.m17_stream.specs.Stream.{steps_ahead, IsAhead}
 use Rattle.m17_floor.specs.declared.act.Act.{Act}
 use Rattle.m17_floor.specs.declared.act.ActKind.TheVariants.{Packet, Other}
 use Rattle.m17_floor.specs.declared.verdict.Verdict.TheVariants.{Opened, NotMember, ListenOnly}
+use Rattle.m17_floor.specs.Setup.{FloorSetup}
 use Rattle.m17_floor.specs.Acts.{with_act, kind_at, is_packet, moment_before, moment_at, is_join_of, settles, joined_at}
-use Rattle.m17_floor.specs.Rule.{Frame, floor_timeout_ms, stream_memory_ms, late_from, has_floor, only_if}
+use Rattle.m17_floor.specs.Rule.{FloorState, floor_timeout_ms, stream_memory_ms, late_from, has_floor, only_if}
 use Rattle.m17_floor.specs.Floor.{floor_frame, listens, admits, past_at, verdict_at, IsAdmitted, admitted_count}
 use Rattle.m17_floor.specs.Renamed.{AreFreelyRenamed, unnamed_verdict}
 use Rattle.m17_floor.specs.StandsFor.{FloorStandsFor, its_join, MaySpeak, join_act, leave_act, packet_act, MemberKeepsStanding, KeepsStanding}
@@ -16,8 +17,8 @@ use Rattle.m17_floor.specs.StandsFor.{FloorStandsFor, its_join, MaySpeak, join_a
 -- What happens later changes no verdict, ..
 abbrev pub LaterActsChangeNoVerdict : Type 0
 LaterActsChangeNoVerdict =
-    (places : ℕ) (acts more : List Act) (n : ℕ) → n < length acts →
-    verdict_at places (acts ++ more) n ≡ verdict_at places acts n
+    (setup : FloorSetup) (acts more : List Act) (n : ℕ) → n < length acts →
+    verdict_at setup (acts ++ more) n ≡ verdict_at setup acts n
 
 -- .. not who was in before, ..
 abbrev pub LaterActsChangeNoMembership : Type 0
@@ -79,79 +80,81 @@ OneMemberAtAPlace =
 -- No act without a packet has a verdict.
 abbrev pub OnlyPacketsHaveVerdicts : Type 0
 OnlyPacketsHaveVerdicts =
-    (places : ℕ) (acts : List Act) (n : ℕ) → is_packet (kind_at acts n) ≡ false →
-    verdict_at places acts n ≡ None
+    (setup : FloorSetup) (acts : List Act) (n : ℕ) → is_packet (kind_at acts n) ≡ false →
+    verdict_at setup acts n ≡ None
 
 -- A packet of one that is not in gets not-member, ..
 abbrev pub StrangersGetNotMember : Type 0
 StrangersGetNotMember =
-    (places : ℕ) (acts : List Act) (n : ℕ) (k : Member) (p : StreamPacket) →
-    kind_at acts n ≡ Packet k p → joined_at places acts k n ≡ None →
-    verdict_at places acts n ≡ Some NotMember
+    (setup : FloorSetup) (acts : List Act) (n : ℕ) (k : Member) (p : StreamPacket) →
+    kind_at acts n ≡ Packet k p → joined_at setup.places acts k n ≡ None →
+    verdict_at setup acts n ≡ Some NotMember
 
 -- .. and one of a member that joined to listen only gets listen-only.
 abbrev pub ListenersGetListenOnly : Type 0
 ListenersGetListenOnly =
-    (places : ℕ) (acts : List Act) (n : ℕ) (k : Member) (p : StreamPacket) (j : ℕ) →
-    kind_at acts n ≡ Packet k p → joined_at places acts k n ≡ Some j →
-    listens (kind_at acts j) ≡ true → verdict_at places acts n ≡ Some ListenOnly
+    (setup : FloorSetup) (acts : List Act) (n : ℕ) (k : Member) (p : StreamPacket) (j : ℕ) →
+    kind_at acts n ≡ Packet k p → joined_at setup.places acts k n ≡ Some j →
+    listens (kind_at acts j) ≡ true → verdict_at setup acts n ≡ Some ListenOnly
 
 -- One act more is counted where it is admitted; of no acts none is.
 abbrev pub CountOfOneMore : Type 0
 CountOfOneMore =
-    (places : ℕ) (acts : List Act) (act : Act) →
-    admitted_count places (with_act acts act)
-    ≡ admitted_count places acts
-    + (if admits (verdict_at places (with_act acts act) (length acts)) then 1 else 0)
+    (setup : FloorSetup) (acts : List Act) (act : Act) →
+    admitted_count setup (with_act acts act)
+    ≡ admitted_count setup acts
+    + (if admits (verdict_at setup (with_act acts act) (length acts)) then 1 else 0)
 
 abbrev pub CountOfNone : Type 0
-CountOfNone = (places : ℕ) → admitted_count places [] ≡ 0
+CountOfNone = (setup : FloorSetup) → admitted_count setup [] ≡ 0
 
 -- An act that is no Join, Leave or packet changes nothing of what is kept.
 abbrev pub OtherActsChangeNothing : Type 0
 OtherActsChangeNothing =
-    (places : ℕ) (acts : List Act) (act : Act) → act.kind ≡ Other →
-    KeepsStanding places acts (with_act acts act)
+    (setup : FloorSetup) (acts : List Act) (act : Act) → act.kind ≡ Other →
+    KeepsStanding setup acts (with_act acts act)
 
 -- Nor does a packet of one that may not speak, ..
 abbrev pub UnheardPacketsChangeNothing : Type 0
 UnheardPacketsChangeNothing =
-    (places : ℕ) (acts : List Act) (at : ℕ) (k : Member) (p : StreamPacket) →
-    ¬ MaySpeak places acts k → KeepsStanding places acts (with_act acts (packet_act at k p))
+    (setup : FloorSetup) (acts : List Act) (at : ℕ) (k : Member) (p : StreamPacket) →
+    ¬ MaySpeak setup acts k → KeepsStanding setup acts (with_act acts (packet_act at k p))
 
 -- .. a Leave of one that is not in, ..
 abbrev pub LeavesOfStrangersChangeNothing : Type 0
 LeavesOfStrangersChangeNothing =
-    (places : ℕ) (acts : List Act) (at : ℕ) (m : Member) → its_join places acts m ≡ None →
-    KeepsStanding places acts (with_act acts (leave_act at m))
+    (setup : FloorSetup) (acts : List Act) (at : ℕ) (m : Member) →
+    its_join setup.places acts m ≡ None →
+    KeepsStanding setup acts (with_act acts (leave_act at m))
 
 -- .. or a Join at a place that is none of the module's.
 abbrev pub JoinsPastThePlacesChangeNothing : Type 0
 JoinsPastThePlacesChangeNothing =
-    (places : ℕ) (acts : List Act) (at : ℕ) (k : Member) (listens_only : Bool) → places ≤ k.place →
-    KeepsStanding places acts (with_act acts (join_act at k listens_only))
+    (setup : FloorSetup) (acts : List Act) (at : ℕ) (k : Member) (listens_only : Bool) →
+    setup.places ≤ k.place →
+    KeepsStanding setup acts (with_act acts (join_act at k listens_only))
 
 -- A Leave changes nothing of what is kept of the others, ..
 abbrev pub LeavesLeaveOthers : Type 0
 LeavesLeaveOthers =
-    (places : ℕ) (acts : List Act) (at : ℕ) (m k : Member) → k ≢ m →
-    MemberKeepsStanding places acts (with_act acts (leave_act at m)) k
+    (setup : FloorSetup) (acts : List Act) (at : ℕ) (m k : Member) → k ≢ m →
+    MemberKeepsStanding setup acts (with_act acts (leave_act at m)) k
 
 -- .. nor a Join of what is kept of those at other places.
 abbrev pub JoinsLeaveOthers : Type 0
 JoinsLeaveOthers =
-    (places : ℕ) (acts : List Act) (at : ℕ) (m : Member) (listens_only : Bool) (k : Member) →
+    (setup : FloorSetup) (acts : List Act) (at : ℕ) (m : Member) (listens_only : Bool) (k : Member) →
     k.place ≢ m.place →
-    MemberKeepsStanding places acts (with_act acts (join_act at m listens_only)) k
+    MemberKeepsStanding setup acts (with_act acts (join_act at m listens_only)) k
 
 -- A Join at a place where nobody is in leaves the floor as it is.
 abbrev pub JoinsAtAFreePlaceLeaveTheFloor : Type 0
 JoinsAtAFreePlaceLeaveTheFloor =
-    (places : ℕ) (acts : List Act) (at : ℕ) (m : Member) (listens_only : Bool)
-    (floor : Option Frame) →
-    ((k : Member) → k.place ≡ m.place → its_join places acts k ≡ None) →
-    FloorStandsFor places acts floor →
-    FloorStandsFor places (with_act acts (join_act at m listens_only)) floor
+    (setup : FloorSetup) (acts : List Act) (at : ℕ) (m : Member) (listens_only : Bool)
+    (floor : FloorState) →
+    ((k : Member) → k.place ≡ m.place → its_join setup.places acts k ≡ None) →
+    FloorStandsFor setup acts floor →
+    FloorStandsFor setup (with_act acts (join_act at m listens_only)) floor
 
 -- the list, and then this member joins to speak at this moment
 abbrev pub then_joins : List Act → Member → ℕ → List Act
@@ -160,74 +163,92 @@ then_joins acts k at = with_act acts (join_act at k false)
 -- Who joins one of the module's places, and not to listen only, may speak.
 abbrev pub WhoJoinsMaySpeak : Type 0
 WhoJoinsMaySpeak =
-    (places : ℕ) (acts : List Act) (k : Member) (at : ℕ) → k.place < places →
-    MaySpeak places (then_joins acts k at) k
+    (setup : FloorSetup) (acts : List Act) (k : Member) (at : ℕ) → k.place < setup.places →
+    MaySpeak setup (then_joins acts k at) k
 
 -- A Join at another place takes no leave to speak away.
 abbrev pub OthersStillMaySpeak : Type 0
 OthersStillMaySpeak =
-    (places : ℕ) (acts : List Act) (k : Member) (at : ℕ) (m : Member) → m.place ≢ k.place →
-    MaySpeak places acts m → MaySpeak places (then_joins acts k at) m
+    (setup : FloorSetup) (acts : List Act) (k : Member) (at : ℕ) (m : Member) → m.place ≢ k.place →
+    MaySpeak setup acts m → MaySpeak setup (then_joins acts k at) m
 
 -- the position is a packet of this member, and admitted
-pub record IsAdmittedPacket (places : ℕ) (acts : List Act) (n : ℕ) (k : Member) (p : StreamPacket)
-    : Type 0 where
+pub record IsAdmittedPacket (setup : FloorSetup) (acts : List Act) (n : ℕ) (k : Member)
+    (p : StreamPacket) : Type 0 where
   pub packet_is : kind_at acts n ≡ Packet k p
-  pub admitted : IsAdmitted places acts n
+  pub admitted : IsAdmitted setup acts n
 
 -- the position is admitted, and opened the floor
-abbrev pub IsOpened : ℕ → List Act → ℕ → Type 0
-IsOpened places acts n = verdict_at places acts n ≡ Some Opened
+abbrev pub IsOpened : FloorSetup → List Act → ℕ → Type 0
+IsOpened setup acts n = verdict_at setup acts n ≡ Some Opened
 
 -- no position between the two is admitted
-abbrev pub NoneAdmittedBetween : ℕ → List Act → ℕ → ℕ → Type 0
-NoneAdmittedBetween places acts a n = (m : ℕ) → a < m → m < n → ¬ IsAdmitted places acts m
+abbrev pub NoneAdmittedBetween : FloorSetup → List Act → ℕ → ℕ → Type 0
+NoneAdmittedBetween setup acts a n = (m : ℕ) → a < m → m < n → ¬ IsAdmitted setup acts m
 
 -- the member has been in before position n since before position a
 abbrev pub HasStayed : ℕ → List Act → Member → ℕ → ℕ → Type 0
 HasStayed places acts k a n = (j : ℕ) × (joined_at places acts k n ≡ Some j) × (j < a)
 
 -- From position o, which was opened, up to position n no other was opened.
-pub record IsOneOpening (places : ℕ) (acts : List Act) (o n : ℕ) : Type 0 where
-  pub opened : IsOpened places acts o
-  pub no_other : (m : ℕ) → o < m → m ≤ n → ¬ IsOpened places acts m
+pub record IsOneOpening (setup : FloorSetup) (acts : List Act) (o n : ℕ) : Type 0 where
+  pub opened : IsOpened setup acts o
+  pub no_other : (m : ℕ) → o < m → m ≤ n → ¬ IsOpened setup acts m
 
 -- The two packets are of one member and stream id, and the first doesn't end the stream. If none
 -- was admitted between the two, the second's number is ahead of the first's.
-pub record GoesOn (places : ℕ) (acts : List Act) (a n : ℕ) (k m : Member) (p q : StreamPacket)
-    : Type 0 where
+pub record GoesOn (setup : FloorSetup) (acts : List Act) (a n : ℕ) (k m : Member)
+    (p q : StreamPacket) : Type 0 where
   pub same_member : m ≡ k
   pub same_stream : q.sid ≡ p.sid
   pub not_ended : p.last ≡ false
-  pub ahead : NoneAdmittedBetween places acts a n → IsAhead q.number p.number
+  pub ahead : NoneAdmittedBetween setup acts a n → IsAhead q.number p.number
 
 -- From an opened position up to the next one, all that is admitted is one stream of one member,
 -- with numbers that go ahead, and nothing after its end.
 abbrev pub OpeningsAreClean : Type 0
 OpeningsAreClean =
-    (places : ℕ) (acts : List Act) (o a n : ℕ) (k m : Member) (p q : StreamPacket) →
-    IsOneOpening places acts o n → o ≤ a → a < n →
-    IsAdmittedPacket places acts a k p → IsAdmittedPacket places acts n m q →
-    GoesOn places acts a n k m p q
+    (setup : FloorSetup) (acts : List Act) (o a n : ℕ) (k m : Member) (p q : StreamPacket) →
+    IsOneOpening setup acts o n → o ≤ a → a < n →
+    IsAdmittedPacket setup acts a k p → IsAdmittedPacket setup acts n m q →
+    GoesOn setup acts a n k m p q
+
+-- Where the limit isn't 0, all that is admitted from an opened position up to the next one comes
+-- less than the limit after it.
+abbrev pub OpeningsEndInTime : Type 0
+OpeningsEndInTime =
+    (setup : FloorSetup) (acts : List Act) (o n : ℕ) → setup.limit ≢ 0 →
+    IsOneOpening setup acts o n → o ≤ n → IsAdmitted setup acts n →
+    moment_at acts n < moment_at acts o + setup.limit
+
+-- At position n the limit has run out for the stream of position a: it passed since the last opened
+-- position at or below a.
+pub record HasTalkedOut (setup : FloorSetup) (acts : List Act) (a n : ℕ) : Type 0 where
+  pub limited : setup.limit ≢ 0
+  pub o : ℕ
+  pub earlier : o ≤ a
+  pub opening : IsOneOpening setup acts o a
+  pub passed : moment_at acts o + setup.limit ≤ moment_at acts n
 
 -- Where a position is opened, the admitted frame before it, if there is one, had the end bit, or
--- its member has left since, or 1,600 ms or more went by.
+-- its member has left since, or 1,600 ms or more went by, or the limit has run out since its
+-- opening.
 abbrev pub FloorsAreTakenFree : Type 0
 FloorsAreTakenFree =
-    (places : ℕ) (acts : List Act) (a n : ℕ) (k : Member) (p : StreamPacket) →
-    IsOpened places acts n → a < n → IsAdmittedPacket places acts a k p →
-    NoneAdmittedBetween places acts a n →
-    (p.last ≡ true)
-    ⊎ ((¬ HasStayed places acts k a n) ⊎ (moment_at acts a + floor_timeout_ms ≤ moment_at acts n))
+    (setup : FloorSetup) (acts : List Act) (a n : ℕ) (k : Member) (p : StreamPacket) →
+    IsOpened setup acts n → a < n → IsAdmittedPacket setup acts a k p →
+    NoneAdmittedBetween setup acts a n →
+    (p.last ≡ true) ⊎ ((¬ HasStayed setup.places acts k a n)
+    ⊎ ((moment_at acts a + floor_timeout_ms ≤ moment_at acts n) ⊎ HasTalkedOut setup acts a n))
 
 -- At n the member's last admitted frame since its Join is at position a, and less than 10,000 ms
 -- old.
-pub record IsLastOwn (places : ℕ) (acts : List Act) (n a : ℕ) (k : Member) (frame : StreamPacket)
-    : Type 0 where
+pub record IsLastOwn (setup : FloorSetup) (acts : List Act) (n a : ℕ) (k : Member)
+    (frame : StreamPacket) : Type 0 where
   pub earlier : a < n
-  pub frame_is : IsAdmittedPacket places acts a k frame
-  pub since_join : HasStayed places acts k a n
-  pub none_later : (m : ℕ) (p : StreamPacket) → a < m → m < n → ¬ IsAdmittedPacket places acts m k p
+  pub frame_is : IsAdmittedPacket setup acts a k frame
+  pub since_join : HasStayed setup.places acts k a n
+  pub none_later : (m : ℕ) (p : StreamPacket) → a < m → m < n → ¬ IsAdmittedPacket setup acts m k p
   pub recent : moment_at acts n < moment_at acts a + stream_memory_ms
 
 -- The frame ended its stream, or is 0 to 16,384 numbers past this one.
@@ -238,26 +259,34 @@ HasPassed frame number = (frame.last ≡ true) ⊎ (steps_ahead frame.number num
 -- ms old, and has passed its number.
 abbrev pub PassedNumbersAreNotAdmitted : Type 0
 PassedNumbersAreNotAdmitted =
-    (places : ℕ) (acts : List Act) (n b : ℕ) (k : Member) (packet last : StreamPacket) →
-    kind_at acts n ≡ Packet k packet → IsLastOwn places acts n b k last → last.sid ≡ packet.sid →
-    HasPassed last packet.number → ¬ IsAdmitted places acts n
+    (setup : FloorSetup) (acts : List Act) (n b : ℕ) (k : Member) (packet last : StreamPacket) →
+    kind_at acts n ≡ Packet k packet → IsLastOwn setup acts n b k last → last.sid ≡ packet.sid →
+    HasPassed last packet.number → ¬ IsAdmitted setup acts n
+
+-- Nor is one while that frame is of an opening that has run out the limit: a stream that timed out
+-- comes in again 10,000 ms after its last admitted frame, and not before.
+abbrev pub TalkedOutStreamsAreNotAdmitted : Type 0
+TalkedOutStreamsAreNotAdmitted =
+    (setup : FloorSetup) (acts : List Act) (n b : ℕ) (k : Member) (packet last : StreamPacket) →
+    kind_at acts n ≡ Packet k packet → IsLastOwn setup acts n b k last → last.sid ≡ packet.sid →
+    HasTalkedOut setup acts b n → ¬ IsAdmitted setup acts n
 
 -- The packet at position a was admitted since the Join by which the member is in at position n.
-pub record WasAdmittedSince (places : ℕ) (acts : List Act) (n a : ℕ) (k : Member)
+pub record WasAdmittedSince (setup : FloorSetup) (acts : List Act) (n a : ℕ) (k : Member)
     (packet : StreamPacket) : Type 0 where
   pub earlier : a < n
-  pub packet_is : IsAdmittedPacket places acts a k packet
-  pub since_join : HasStayed places acts k a n
+  pub packet_is : IsAdmittedPacket setup acts a k packet
+  pub since_join : HasStayed setup.places acts k a n
 
 -- So neither is one with the stream id and number of a packet that was admitted since its sender's
 -- Join.
 abbrev pub RepeatsAreNotAdmitted : Type 0
 RepeatsAreNotAdmitted =
-    (places : ℕ) (acts : List Act) (n a b : ℕ) (k : Member) (packet copied last : StreamPacket) →
-    kind_at acts n ≡ Packet k packet → WasAdmittedSince places acts n a k copied →
+    (setup : FloorSetup) (acts : List Act) (n a b : ℕ) (k : Member) (packet copied last : StreamPacket) →
+    kind_at acts n ≡ Packet k packet → WasAdmittedSince setup acts n a k copied →
     copied.sid ≡ packet.sid → copied.number ≡ packet.number →
-    IsLastOwn places acts n b k last → last.sid ≡ packet.sid → HasPassed last packet.number →
-    ¬ IsAdmitted places acts n
+    IsLastOwn setup acts n b k last → last.sid ≡ packet.sid → HasPassed last packet.number →
+    ¬ IsAdmitted setup acts n
 
 -- Where the same acts are of other members, who is in is the same, by the members that stand for
 -- the others, ..
@@ -271,14 +300,14 @@ RenamingChangesNoMembership =
 -- .. and so is each verdict, but for the member that has the floor.
 abbrev pub RenamingChangesNoVerdict : Type 0
 RenamingChangesNoVerdict =
-    (stands : Member → Member → Bool) (places : ℕ) (acts others : List Act) →
-    AreFreelyRenamed stands places acts others → (n : ℕ) →
-    unnamed_verdict (verdict_at places acts n) ≡ unnamed_verdict (verdict_at places others n)
+    (stands : Member → Member → Bool) (setup : FloorSetup) (acts others : List Act) →
+    AreFreelyRenamed stands setup.places acts others → (n : ℕ) →
+    unnamed_verdict (verdict_at setup acts n) ≡ unnamed_verdict (verdict_at setup others n)
 
 -- .. and whether a frame has the floor.
 abbrev pub RenamingChangesNoFloor : Type 0
 RenamingChangesNoFloor =
-    (stands : Member → Member → Bool) (places : ℕ) (acts others : List Act) →
-    AreFreelyRenamed stands places acts others → (n at : ℕ) → n ≤ length acts →
-    is_none (only_if (has_floor at) (floor_frame (past_at places acts n)))
-    ≡ is_none (only_if (has_floor at) (floor_frame (past_at places others n)))
+    (stands : Member → Member → Bool) (setup : FloorSetup) (acts others : List Act) →
+    AreFreelyRenamed stands setup.places acts others → (n at : ℕ) → n ≤ length acts →
+    is_none (only_if (has_floor setup.limit at) (floor_frame (past_at setup acts n)))
+    ≡ is_none (only_if (has_floor setup.limit at) (floor_frame (past_at setup others n)))

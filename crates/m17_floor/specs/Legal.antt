@@ -1,5 +1,5 @@
--- Which books are legal: what a book keeps, act by act, held against the floor rule over all of it. Positions count
--- from 0.
+-- Which books are legal: what a book keeps, act by act, held against the floor rule over all of it, under the limit on
+-- talking that the book names. Positions count from 0.
 use Rattle.std.specs.Prelude.{◌≡◌, ◌≢◌, ℕ, ◌-◌, ◌<◌, List, length, map, slice_get, Option}
 use Rattle.std.specs.Option.{option_and_then, option_map_or}
 use Rattle.m17_values.specs.declared.member.Member.{Member}
@@ -9,6 +9,7 @@ use Rattle.m17_floor.specs.declared.act.ActKind.TheVariants.{Join, Leave, Packet
 use Rattle.m17_floor.specs.declared.rule.Rule.{Rule}
 use Rattle.m17_floor.specs.declared.rule.Rule.TheVariants as rules
 use Rattle.m17_floor.specs.declared.verdict.Verdict.{Verdict}
+use Rattle.m17_floor.specs.Setup.{FloorSetup, floor_setup}
 use Rattle.m17_floor.specs.Acts.{kind_at, IsMember}
 use Rattle.m17_floor.specs.Floor.{verdict_at}
 
@@ -20,6 +21,10 @@ pub record KeptAct : Type 0 where
 -- a book can name 256 places
 abbrev pub book_places : ℕ
 book_places = 256
+
+-- what the floor of a book's module is made with, under this limit
+abbrev pub book_setup : ℕ → FloorSetup
+book_setup limit = floor_setup book_places limit
 
 -- the acts alone
 abbrev pub acts_in : List KeptAct → List Act
@@ -46,20 +51,20 @@ BreaksMembership acts n (Packet k p) = ⊥
 BreaksMembership acts n Other = ⊥
 
 -- The act is a packet, and the verdict that was written down isn't that of the floor rule.
-abbrev pub HasOtherVerdict : List KeptAct → ℕ → ActKind → Type 0
-HasOtherVerdict kept n (Packet k p) =
-    verdict_written kept n ≢ verdict_at book_places (acts_in kept) n
-HasOtherVerdict kept n _ = ⊥
+abbrev pub HasOtherVerdict : ℕ → List KeptAct → ℕ → ActKind → Type 0
+HasOtherVerdict limit kept n (Packet k p) =
+    verdict_written kept n ≢ verdict_at (book_setup limit) (acts_in kept) n
+HasOtherVerdict limit kept n _ = ⊥
 
 -- Position n breaks the rule.
-abbrev pub HasBreach : List KeptAct → ℕ → Rule → Type 0
-HasBreach kept n rules.Moment = FallsBehind (acts_in kept) n
-HasBreach kept n rules.Member = BreaksMembership (acts_in kept) n (kind_at (acts_in kept) n)
-HasBreach kept n rules.Verdict = HasOtherVerdict kept n (kind_at (acts_in kept) n)
+abbrev pub HasBreach : ℕ → List KeptAct → ℕ → Rule → Type 0
+HasBreach limit kept n rules.Moment = FallsBehind (acts_in kept) n
+HasBreach limit kept n rules.Member = BreaksMembership (acts_in kept) n (kind_at (acts_in kept) n)
+HasBreach limit kept n rules.Verdict = HasOtherVerdict limit kept n (kind_at (acts_in kept) n)
 
--- No position breaks a rule.
-abbrev pub IsLegal : List KeptAct → Type 0
-IsLegal kept = (n : ℕ) (rule : Rule) → ¬ HasBreach kept n rule
+-- No position breaks a rule under this limit.
+abbrev pub IsLegal : ℕ → List KeptAct → Type 0
+IsLegal limit kept = (n : ℕ) (rule : Rule) → ¬ HasBreach limit kept n rule
 
 -- the place of a rule in the order in which they are tried
 abbrev pub turn_of : Rule → ℕ
@@ -68,7 +73,7 @@ turn_of rules.Member = 1
 turn_of rules.Verdict = 2
 
 -- Position n breaks the rule, no earlier position breaks any, and n none that is tried before.
-pub record IsFirstBreach (kept : List KeptAct) (n : ℕ) (rule : Rule) : Type 0 where
-  pub breach : HasBreach kept n rule
-  pub none_before : (m : ℕ) (other : Rule) → m < n → ¬ HasBreach kept m other
-  pub first_rule : (other : Rule) → turn_of other < turn_of rule → ¬ HasBreach kept n other
+pub record IsFirstBreach (limit : ℕ) (kept : List KeptAct) (n : ℕ) (rule : Rule) : Type 0 where
+  pub breach : HasBreach limit kept n rule
+  pub none_before : (m : ℕ) (other : Rule) → m < n → ¬ HasBreach limit kept m other
+  pub first_rule : (other : Rule) → turn_of other < turn_of rule → ¬ HasBreach limit kept n other

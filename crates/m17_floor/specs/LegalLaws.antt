@@ -4,6 +4,7 @@ use Rattle.m17_values.specs.declared.member.Member.{Member}
 use Rattle.m17_stream.specs.declared.packet.StreamPacket.{StreamPacket}
 use Rattle.m17_floor.specs.declared.act.Act.{Act}
 use Rattle.m17_floor.specs.declared.rule.Rule.{Rule}
+use Rattle.m17_floor.specs.Setup.{FloorSetup}
 use Rattle.m17_floor.specs.Acts.{with_act, moment_before}
 use Rattle.m17_floor.specs.Floor.{verdict_at}
 use Rattle.m17_floor.specs.StandsFor.{packet_act, join_act, leave_act, KeepsStanding}
@@ -13,32 +14,33 @@ use Rattle.m17_floor.specs.Alike.{stay_of, stay_after, verdict_then, BreaksNext,
 -- What a book keeps later changes no breach.
 abbrev pub LaterActsChangeNoBreach : Type 0
 LaterActsChangeNoBreach =
-    (kept more : List KeptAct) (n : ℕ) (rule : Rule) → n < length kept →
-    HasBreach (kept ++ more) n rule ↔ HasBreach kept n rule
+    (limit : ℕ) (kept more : List KeptAct) (n : ℕ) (rule : Rule) → n < length kept →
+    HasBreach limit (kept ++ more) n rule ↔ HasBreach limit kept n rule
 
 -- A breach is at a position of the list.
 abbrev pub BreachesAreInTheList : Type 0
 BreachesAreInTheList =
-    (kept : List KeptAct) (n : ℕ) (rule : Rule) → HasBreach kept n rule → n < length kept
+    (limit : ℕ) (kept : List KeptAct) (n : ℕ) (rule : Rule) → HasBreach limit kept n rule →
+    n < length kept
 
 -- A legal list with one act more that breaks no rule is legal.
 abbrev pub LegalWithOneMore : Type 0
 LegalWithOneMore =
-    (kept : List KeptAct) (one : KeptAct) → IsLegal kept →
-    ((rule : Rule) → ¬ HasBreach (kept ++ one ∷ []) (length kept) rule) →
-    IsLegal (kept ++ one ∷ [])
+    (limit : ℕ) (kept : List KeptAct) (one : KeptAct) → IsLegal limit kept →
+    ((rule : Rule) → ¬ HasBreach limit (kept ++ one ∷ []) (length kept) rule) →
+    IsLegal limit (kept ++ one ∷ [])
 
 -- What is kept next is a breach exactly where it breaks the rule by what the acts before it leave behind.
 abbrev pub BreachByWhatIsLeft : Type 0
 BreachByWhatIsLeft =
-    (kept : List KeptAct) (one : KeptAct) (rule : Rule) →
-    HasBreach (kept ++ one ∷ []) (length kept) rule ↔ BreaksNext (acts_in kept) one rule
+    (limit : ℕ) (kept : List KeptAct) (one : KeptAct) (rule : Rule) →
+    HasBreach limit (kept ++ one ∷ []) (length kept) rule ↔ BreaksNext limit (acts_in kept) one rule
 
 -- A list has one first breach at most.
 abbrev pub OneFirstBreach : Type 0
 OneFirstBreach =
-    (kept : List KeptAct) (n m : ℕ) (rule other : Rule) → IsFirstBreach kept n rule →
-    IsFirstBreach kept m other → (n ≡ m) × (rule ≡ other)
+    (limit : ℕ) (kept : List KeptAct) (n m : ℕ) (rule other : Rule) →
+    IsFirstBreach limit kept n rule → IsFirstBreach limit kept m other → (n ≡ m) × (rule ≡ other)
 
 -- Before all acts nobody is in.
 abbrev pub StayOfNone : Type 0
@@ -53,56 +55,57 @@ StayOfOneMore =
 -- The verdict on one packet more is that by what the list leaves behind.
 abbrev pub VerdictByWhatIsLeft : Type 0
 VerdictByWhatIsLeft =
-    (places : ℕ) (acts : List Act) (at : ℕ) (k : Member) (p : StreamPacket) →
-    verdict_at places (with_act acts (packet_act at k p)) (length acts)
-    ≡ Some (verdict_then places acts at k p)
+    (setup : FloorSetup) (acts : List Act) (at : ℕ) (k : Member) (p : StreamPacket) →
+    verdict_at setup (with_act acts (packet_act at k p)) (length acts)
+    ≡ Some (verdict_then setup acts at k p)
 
--- Empty lists leave the same, ..
+-- Under one limit empty lists leave the same, ..
 abbrev pub NothingLeavesTheSame : Type 0
-NothingLeavesTheSame = (places other_places : ℕ) → LeaveTheSame places [] other_places []
+NothingLeavesTheSame =
+    (setup other : FloorSetup) → setup.limit ≡ other.limit → LeaveTheSame setup [] other []
 
 -- .. and so does a list with one act more that changes nothing.
 abbrev pub SameWithoutIdleActs : Type 0
 SameWithoutIdleActs =
-    (places : ℕ) (acts : List Act) (act : Act) (other_places : ℕ) (others : List Act) →
-    KeepsStanding places acts (with_act acts act) →
-    LeaveTheSame places acts other_places others →
-    LeaveTheSame places (with_act acts act) other_places others
+    (setup : FloorSetup) (acts : List Act) (act : Act) (other : FloorSetup) (others : List Act) →
+    KeepsStanding setup acts (with_act acts act) →
+    LeaveTheSame setup acts other others →
+    LeaveTheSame setup (with_act acts act) other others
 
 -- After lists that leave the same, so do the lists with a Join of the same member at one of the places of both, ..
 abbrev pub SameAfterJoins : Type 0
 SameAfterJoins =
-    (places : ℕ) (acts : List Act) (other_places : ℕ) (others : List Act) (at later : ℕ)
-    (k : Member) (listens : Bool) → k.place < places → k.place < other_places →
-    LeaveTheSame places acts other_places others →
-    LeaveTheSame places (with_act acts (join_act at k listens))
-    other_places (with_act others (join_act later k listens))
+    (setup : FloorSetup) (acts : List Act) (other : FloorSetup) (others : List Act) (at later : ℕ)
+    (k : Member) (listens : Bool) → k.place < setup.places → k.place < other.places →
+    LeaveTheSame setup acts other others →
+    LeaveTheSame setup (with_act acts (join_act at k listens))
+    other (with_act others (join_act later k listens))
 
 -- .. also where another at that place left before it in one of them, ..
 abbrev pub SameAfterReplacements : Type 0
 SameAfterReplacements =
-    (places : ℕ) (acts : List Act) (other_places : ℕ) (others : List Act) (at left later : ℕ)
-    (m k : Member) (listens : Bool) → k.place < places → k.place < other_places →
-    m.place ≡ k.place → LeaveTheSame places acts other_places others →
-    LeaveTheSame places (with_act acts (join_act at k listens))
-    other_places (with_act (with_act others (leave_act left m)) (join_act later k listens))
+    (setup : FloorSetup) (acts : List Act) (other : FloorSetup) (others : List Act)
+    (at left later : ℕ) (m k : Member) (listens : Bool) → k.place < setup.places → k.place < other.places →
+    m.place ≡ k.place → LeaveTheSame setup acts other others →
+    LeaveTheSame setup (with_act acts (join_act at k listens))
+    other (with_act (with_act others (leave_act left m)) (join_act later k listens))
 
 -- .. with a Leave of the same member, ..
 abbrev pub SameAfterLeaves : Type 0
 SameAfterLeaves =
-    (places : ℕ) (acts : List Act) (other_places : ℕ) (others : List Act) (at later : ℕ)
-    (m : Member) → LeaveTheSame places acts other_places others →
-    LeaveTheSame places (with_act acts (leave_act at m))
-    other_places (with_act others (leave_act later m))
+    (setup : FloorSetup) (acts : List Act) (other : FloorSetup) (others : List Act) (at later : ℕ)
+    (m : Member) → LeaveTheSame setup acts other others →
+    LeaveTheSame setup (with_act acts (leave_act at m))
+    other (with_act others (leave_act later m))
 
 -- .. and with the same packet, if it comes at one moment of both; and its verdict is the same.
 abbrev pub SameAfterPackets : Type 0
 SameAfterPackets =
-    (places : ℕ) (acts : List Act) (other_places : ℕ) (others : List Act) (at later : ℕ)
+    (setup : FloorSetup) (acts : List Act) (other : FloorSetup) (others : List Act) (at later : ℕ)
     (k : Member) (p : StreamPacket) →
     max (moment_before acts (length acts)) at ≡ max (moment_before others (length others)) later →
-    LeaveTheSame places acts other_places others →
-    LeaveTheSame places (with_act acts (packet_act at k p))
-    other_places (with_act others (packet_act later k p))
-    × (verdict_at places (with_act acts (packet_act at k p)) (length acts)
-    ≡ verdict_at other_places (with_act others (packet_act later k p)) (length others))
+    LeaveTheSame setup acts other others →
+    LeaveTheSame setup (with_act acts (packet_act at k p))
+    other (with_act others (packet_act later k p))
+    × (verdict_at setup (with_act acts (packet_act at k p)) (length acts)
+    ≡ verdict_at other (with_act others (packet_act later k p)) (length others))

@@ -1,6 +1,7 @@
--- What callers speak of: what happened and who is in, the rule, the verdict at a position, the same
--- acts of other members, what is kept, the laws; which books are legal, what a list leaves behind, the
--- laws of these.
+-- What callers speak of: what a floor is made with, what happened and who is in, the rule, the
+-- verdict at a position, the same acts of other members, what is kept, the laws; which books are
+-- legal, what a list leaves behind, the laws of these.
+pub mod Setup
 pub mod Acts
 pub mod Rule
 pub mod Floor

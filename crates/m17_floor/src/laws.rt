@@ -72,19 +72,22 @@ pub fn who_joins_may_speak()
 {}
 
 /// From an opened position up to the next one, all that is admitted is one stream of one member, with numbers that go
-/// ahead, and nothing after its end. And a floor is opened only where it was free: the admitted frame before had the
-/// end bit, or its member has left since, or 1,600 ms or more went by.
+/// ahead, and nothing after its end. Under a limit on talking each of it comes less than the limit after the opened
+/// position. And a floor is opened only where it was free: the admitted frame before had the end bit, or its member has
+/// left since, or 1,600 ms or more went by, or the limit has run out since its opening.
 pub fn openings_are_clean()
     ensures clean { law.OpeningsAreClean }
+    ensures in_time { law.OpeningsEndInTime }
     ensures free { law.FloorsAreTakenFree }
 {}
 
 /// A packet isn't admitted while its sender's last admitted frame since its Join is of its stream, less than 10,000 ms
 /// old, and either ended the stream or is 0 to 16,384 numbers past it. Under the same conditions no packet is admitted
 /// that has the stream id and number of one that was admitted since its sender's Join, as a copy has that the network
-/// made.
+/// made. Nor is a packet admitted while that frame is of an opening that has run out the limit on talking.
 pub fn repeats_are_not_admitted()
     ensures passed { law.PassedNumbersAreNotAdmitted }
+    ensures timed_out { law.TalkedOutStreamsAreNotAdmitted }
     ensures repeats { law.RepeatsAreNotAdmitted }
 {}
 

@@ -1,35 +1,46 @@
 //! The floor rule as it is stated, by looking back through the whole list of acts at each position. It is slow, and
 //! there to compare the fast way with. The rule beside two frames is that of the fast way; which frames these are is
 //! looked up anew each time.
-ghost use Rattle.std.specs.Prelude.{◌≡◌, ℕ, ◌&&◌, ◌<◌, take, length, Some, IfOk, IfSome, slice_get};
+ghost use Rattle.std.specs.Prelude.{◌≡◌, ℕ, ◌<◌, take, length, Some, IfOk, IfSome, slice_get};
 ghost use Rattle.m17_lookup.specs.Lookup.{last_below};
+ghost use Rattle.m17_floor.specs.Setup.{floor_setup};
 ghost use Rattle.m17_floor.specs.Acts.{kind_at, greatest_moment, settles, joined_at};
 ghost use Rattle.m17_floor.specs.Floor as floor;
-ghost use Rattle.m17_floor.specs.Floor.{was_admitted, floor_frame, last_own, own_frame, verdict_after, verdict_given, verdict_at};
+ghost use Rattle.m17_floor.specs.Floor.{floor_frame, own_frame, verdict_after, verdict_given, verdict_at};
 ghost use Rattle.m17_floor.specs.Rule.{incoming};
-ghost use Rattle.m17_floor.specs.Plain.{past_answered, was_answered, has_been_in};
+ghost use Rattle.m17_floor.specs.Plain.{past_answered, was_answered, was_answered_opened, opened_answered, has_been_in};
+ghost use Rattle.m17_floor.specs.Plain.{is_answered_own};
 
 use crate::{Act, ActKind, Floor, Last, Verdict};
 use m17_stream::StreamPacket;
 use m17_values::Member;
 use std::alloc::{AllocError, Global};
 
-/// The verdicts of a list of acts in a module of `places` places: one for each act, and none but for a packet. It fails
-/// only where there is no memory for the answer.
+/// The verdicts of a list of acts in a module of `places` places where one may talk for `limit` milliseconds, or without
+/// limit where it is 0: one for each act, and none but for a packet. It fails only where there is no memory for the
+/// answer.
 pub fn verdicts(
     alloc: Global,
     places: u32,
+    limit: u64,
     acts: &[Act],
 ) -> Result<Vec<Option<Verdict>>, AllocError>
     ensures { IfOk result (λ verdicts. (length verdicts.items ≡ length acts.now)
         × ((n : ℕ) → n < length acts.now →
-        slice_get verdicts.items n ≡ Some (verdict_at places acts.now n))) }
+        slice_get verdicts.items n ≡ Some (verdict_at (floor_setup places limit) acts.now n))) }
 {
     let mut verdicts = Vec::with_capacity(alloc, acts.len())?;
     for _ in acts {
         let n = verdicts.len();
         let at = moment(acts, n + 1);
-        let verdict = verdict_on(places, &acts[..n], verdicts.as_slice(), at, &kind(acts, n));
+        let verdict = verdict_on(
+            places,
+            limit,
+            &acts[..n],
+            verdicts.as_slice(),
+            at,
+            &kind(acts, n),
+        );
         verdicts.push(verdict)?;
     }
     Ok(verdicts)
@@ -39,16 +50,18 @@ pub fn verdicts(
 #[tactic(auto, unfolding(crate::specs::Floor::verdict_given))]
 fn verdict_on(
     places: u32,
+    limit: u64,
     acts: &[Act],
     answered: &[Option<Verdict>],
     at: u64,
     kind: &ActKind,
 ) -> Option<Verdict>
-    ensures { result ≡ verdict_given (past_answered places acts.now answered.now) at kind.now }
+    ensures { let past = past_answered (floor_setup places limit) acts.now answered.now in
+        result ≡ verdict_given past at kind.now }
 {
     match kind {
         ActKind::Packet { member, packet } => {
-            Some(on_packet(places, acts, answered, *member, at, packet))
+            Some(on_packet(places, limit, acts, answered, *member, at, packet))
         }
         _ => None,
     }
@@ -57,13 +70,14 @@ fn verdict_on(
 // The verdict on a packet: by the sender's membership, and then beside the two frames that are looked up.
 fn on_packet(
     places: u32,
+    limit: u64,
     acts: &[Act],
     answered: &[Option<Verdict>],
     k: Member,
     at: u64,
     p: &StreamPacket,
 ) -> Verdict
-    ensures { let past = past_answered places acts.now answered.now in
+    ensures { let past = past_answered (floor_setup places limit) acts.now answered.now in
         result ≡ verdict_after past (incoming k at p.now) }
 {
     let Some(join) = last_join(places, acts, k) else {
@@ -72,39 +86,73 @@ fn on_packet(
     if let ActKind::Join { listens: true, .. } = kind(acts, join) {
         return Verdict::ListenOnly;
     }
-    let floor = floor(places, acts, answered);
+    let floor = floor(places, limit, acts, answered);
     let own = own(places, acts, answered, k);
     floor.verdict(k, at, p, &own)
 }
 
 // The floor's last frame, if its sender has been in since before it.
 #[tactic(auto, unfolding(crate::specs::Floor::floor_frame))]
-fn floor(places: u32, acts: &[Act], answered: &[Option<Verdict>]) -> Floor
-    ensures { result ≡ floor_frame (past_answered places acts.now answered.now) }
+fn floor(places: u32, limit: u64, acts: &[Act], answered: &[Option<Verdict>]) -> Floor
+    ensures frame { let past = past_answered (floor_setup places limit) acts.now answered.now in
+        result.frame ≡ floor_frame past }
+    ensures limit { result.limit ≡ limit }
 {
-    let Some(position) = last_admitted(acts, answered) else {
-        return Floor::new();
+    let Some(a) = last_admitted(acts, answered) else {
+        return Floor::new(limit);
     };
-    match kind(acts, position) {
-        ActKind::Packet { member, packet } if is_in_since(places, acts, member, position) => {
-            Floor::of(member, moment(acts, position + 1), &packet)
+    match kind(acts, a) {
+        ActKind::Packet { member, packet } if is_in_since(places, acts, member, a) => {
+            let opened = opened(acts, answered, a);
+            Floor::of(limit, opened, member, moment(acts, a + 1), &packet)
         }
-        _ => Floor::new(),
+        _ => Floor::new(limit),
     }
 }
 
 // The member's last frame since its Join.
 #[tactic(auto, unfolding(crate::specs::Floor::own_frame))]
 fn own(places: u32, acts: &[Act], answered: &[Option<Verdict>], k: Member) -> Last
-    ensures { result ≡ own_frame (past_answered places acts.now answered.now) k }
+    ensures { (limit : ℕ) →
+        let past = past_answered (floor_setup places limit) acts.now answered.now in
+        result ≡ own_frame past k }
 {
-    let Some(position) = last_of(places, acts, answered, k) else {
+    let Some(a) = last_of(places, acts, answered, k) else {
         return Last::new();
     };
-    match kind(acts, position) {
-        ActKind::Packet { member, packet } => Last::of(member, moment(acts, position + 1), &packet),
+    match kind(acts, a) {
+        ActKind::Packet { member, packet } => {
+            let opened = opened(acts, answered, a);
+            Last::of(opened, member, moment(acts, a + 1), &packet)
+        }
         _ => Last::new(),
     }
+}
+
+// The moment of the last opened position at or below this one.
+fn opened(acts: &[Act], answered: &[Option<Verdict>], a: usize) -> u64
+    requires { a < length acts.now }
+    ensures { result ≡ opened_answered acts.now answered.now a }
+{
+    match last_opened(answered, a + 1) {
+        Some(o) => moment(acts, o + 1),
+        None => 0,
+    }
+}
+
+// The last position below n that opened the floor.
+fn last_opened(answered: &[Option<Verdict>], n: usize) -> Option<usize>
+    ensures found { result ≡ last_below (was_answered_opened answered.now) n }
+    ensures within { IfSome result (λ o. o < n) }
+{
+    let mut o = n;
+    while o > 0 {
+        o -= 1;
+        if is_opened(answered, o) {
+            return Some(o);
+        }
+    }
+    None
 }
 
 // The last admitted position.
@@ -124,7 +172,8 @@ fn last_admitted(acts: &[Act], answered: &[Option<Verdict>]) -> Option<usize>
 
 // The position of the member's last admitted packet since its Join.
 fn last_of(places: u32, acts: &[Act], answered: &[Option<Verdict>], k: Member) -> Option<usize>
-    ensures found { result ≡ last_own (past_answered places acts.now answered.now) k }
+    ensures found { let own = is_answered_own places acts.now answered.now k in
+        result ≡ last_below own (length acts.now) }
     ensures within { IfSome result (λ a. a < length acts.now) }
 {
     let mut a = acts.len();
@@ -139,9 +188,7 @@ fn last_of(places: u32, acts: &[Act], answered: &[Option<Verdict>], k: Member) -
 
 // Whether the position is an admitted packet of the member since its Join.
 fn is_own(places: u32, acts: &[Act], answered: &[Option<Verdict>], k: Member, a: usize) -> bool
-    ensures { let past = past_answered places acts.now answered.now in
-        result ≡ (was_admitted past a && floor.is_packet_of k (kind_at acts.now a)
-        && floor.is_in_since past k a) }
+    ensures { result ≡ is_answered_own places acts.now answered.now k a }
 {
     is_admitted(answered, a) && is_packet_of(k, &kind(acts, a)) && is_in_since(places, acts, k, a)
 }
@@ -214,6 +261,13 @@ fn is_admitted(answered: &[Option<Verdict>], a: usize) -> bool
         Some(Some(verdict)) => verdict.is_admitted(),
         _ => false,
     }
+}
+
+// Whether the position opened the floor.
+fn is_opened(answered: &[Option<Verdict>], a: usize) -> bool
+    ensures { result ≡ was_answered_opened answered.now a }
+{
+    matches!(answered.get(a), Some(Some(Verdict::Opened)))
 }
 
 // What happened at a position; nothing of note past the end.

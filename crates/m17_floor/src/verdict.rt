@@ -15,6 +15,8 @@ pub enum Verdict {
     Late { last: u16 },
     /// The sender's last admitted frame of this stream was the stream's last one.
     AfterEnd,
+    /// The sender's last admitted frame of this stream is of an opening that has run out the limit on talking.
+    TimedOut,
     /// The sender is no member.
     NotMember,
     /// The sender joined to listen only.

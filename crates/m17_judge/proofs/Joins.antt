@@ -10,7 +10,7 @@ use Rattle.m17_floor.specs.Acts.{moment_before, greatest_moment}
 use Rattle.m17_floor.specs.Laws.{WhoJoinsMaySpeak, OthersStillMaySpeak}
 use Rattle.m17_floor.specs.Acts.{is_packet}
 use Rattle.m17_floor.specs.StandsFor.{MaySpeak, HasNoPacket}
-use Rattle.m17_judge.specs.Judge.{joins, talker, talkers}
+use Rattle.m17_judge.specs.Judge.{joins, judge_setup, talker, talkers}
 
 -- the Join of one talker
 abbrev pub join_of : ℕ → Act
@@ -58,17 +58,17 @@ no_packet-joins (suc n) =
     rw (e, joins_more n) (no_packet_more (joins n) (join_of n) refl (no_packet-joins n))
 
 -- each talker that has joined may speak
-pub speakers-joins : WhoJoinsMaySpeak → OthersStillMaySpeak → (n : ℕ) → n ≤ talkers → (t : ℕ) → t < n → MaySpeak talkers (joins n) (talker t)
+pub speakers-joins : WhoJoinsMaySpeak → OthersStillMaySpeak → (n : ℕ) → n ≤ talkers → (t : ℕ) → t < n → MaySpeak judge_setup (joins n) (talker t)
 speakers-joins joined others zero fits t h = absurd (omega arith)
 speakers-joins joined others (suc n) fits t h =
     let e : suc n ≡ n + 1 = omega arith in
     let grown : joins n ++ join_of n ∷ [] ≡ joins (suc n) = sym (ap joins e ∙ joins_more n) in
-    let here : MaySpeak talkers (joins n ++ join_of n ∷ []) (talker t) =
+    let here : MaySpeak judge_setup (joins n ++ join_of n ∷ []) (talker t) =
     elim (cases_lt t n) [
-      | inl before ↦ others talkers (joins n) (talker n) 0 (talker t) (λ same. absurd (omega (arith, ap (λ (x : ℕ). x) same))) (speakers-joins joined others n (omega arith) t before)
-      | inr after ↦ let same : n ≡ t = omega arith in subst (λ (m : ℕ). MaySpeak talkers (joins n ++ join_of n ∷ []) (talker m)) same (joined talkers (joins n) (talker n) 0 (omega arith))
+      | inl before ↦ others judge_setup (joins n) (talker n) 0 (talker t) (λ same. absurd (omega (arith, ap (λ (x : ℕ). x) same))) (speakers-joins joined others n (omega arith) t before)
+      | inr after ↦ let same : n ≡ t = omega arith in subst (λ (m : ℕ). MaySpeak judge_setup (joins n ++ join_of n ∷ []) (talker m)) same (joined judge_setup (joins n) (talker n) 0 (omega arith))
     ] in
-    subst (λ (acts : List Act). MaySpeak talkers acts (talker t)) grown here
+    subst (λ (acts : List Act). MaySpeak judge_setup acts (talker t)) grown here
 
 pub le_talkers : talkers ≤ talkers
 le_talkers = lit≤ tt

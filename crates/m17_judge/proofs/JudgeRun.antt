@@ -11,7 +11,7 @@ use Rattle.m17_print.specs.declared.ending.TextEnding.TheVariants.{Finished, Ref
 use Rattle.m17_print.proofs.TextsOfLines.{slice_get_longer, no_lines, same_lines, one_more_line, cut_line}
 use Rattle.m17_judge.specs.declared.reason.JudgeReason.TheVariants.{Cut}
 use Rattle.m17_io.specs.Fill.{IsFilled, IsCutShort}
-use Rattle.m17_judge.specs.Judge.{joins, talkers, acts_with, IsRecordLine, HasRecordLine, IsTextOfRecords, SaysJudge, PrintsJudge}
+use Rattle.m17_judge.specs.Judge.{joins, judge_setup, talkers, acts_with, IsRecordLine, HasRecordLine, IsTextOfRecords, SaysJudge, PrintsJudge}
 use Rattle.m17_judge.specs.Records.{most_records, record_at, AreRecords, RefusesRecords}
 use Rattle.m17_judge.specs.Run.{AreJudged}
 use Rattle.m17_judge.specs.Table.{TableKept, TableStandsFor, JudgesRecord}
@@ -49,7 +49,7 @@ line_longer law acts more n bytes line (inl j) = inl (record {
   spelled = j.spelled;
   act = slice_get_longer acts more (talkers + n) _ j.act;
   verdict = j.verdict;
-  ruled = law talkers acts more (talkers + n) (slice_get_within acts (talkers + n) _ j.act) ∙ j.ruled;
+  ruled = law judge_setup acts more (talkers + n) (slice_get_within acts (talkers + n) _ j.act) ∙ j.ruled;
   text = j.text;
 })
 line_longer law acts more n bytes line (inr t) = inr (record {

@@ -10,7 +10,7 @@ use Rattle.m17_floor.specs.Floor.{verdict_at}
 use Rattle.m17_print.specs.Refused.{stream_refusal_text}
 use Rattle.m17_print.specs.Verdicts.{verdict_text}
 use Rattle.m17_print.proofs.TextsOfLines.{slice_get_after}
-use Rattle.m17_judge.specs.Judge.{talker, talkers, IsRecordLine}
+use Rattle.m17_judge.specs.Judge.{judge_setup, talker, talkers, IsRecordLine}
 use Rattle.m17_judge.specs.Records.{moment_of_record, talker_of, packet_of}
 
 -- the packet was refused
@@ -27,7 +27,7 @@ refusal_line acts n at bytes line refusal size moment refused text = inr (record
 -- the packet was judged
 pub verdict_line : (acts : List Act) (n at place : ℕ) (bytes line : List ℕ) (packet : StreamPacket) (verdict : Verdict) → length acts ≡ talkers + n
     → at ≡ moment_of_record bytes → place ≡ talker_of bytes → SpellsStream packet (packet_of bytes)
-    → verdict_at talkers (acts ++ (record { at = at; kind = Packet (talker place) packet }) ∷ []) (length acts) ≡ Some verdict
+    → verdict_at judge_setup (acts ++ (record { at = at; kind = Packet (talker place) packet }) ∷ []) (length acts) ≡ Some verdict
     → line ≡ ((decimal n ++ codes " ") ++ verdict_text verdict) ++ 10 ∷ []
     → IsRecordLine (acts ++ (record { at = at; kind = Packet (talker place) packet }) ∷ []) n bytes line
 verdict_line acts n at place bytes line packet verdict size moment who spelled ruled text =
@@ -39,6 +39,6 @@ verdict_line acts n at place bytes line packet verdict size moment who spelled r
           ∙ ap (λ (m : ℕ). let a : Act = record { at = m; kind = Packet (talker place) packet } in Some a) moment
           ∙ ap (λ (t : ℕ). let a : Act = record { at = moment_of_record bytes; kind = Packet (talker t) packet } in Some a) who;
       verdict = verdict;
-      ruled = ap (verdict_at talkers (acts ++ act ∷ [])) (sym size) ∙ ruled;
+      ruled = ap (verdict_at judge_setup (acts ++ act ∷ [])) (sym size) ∙ ruled;
       text = text;
     })

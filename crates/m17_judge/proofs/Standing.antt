@@ -8,11 +8,12 @@ use Rattle.m17_stream.specs.declared.packet.StreamPacket.{StreamPacket}
 use Rattle.m17_floor.specs.declared.act.Act.{Act}
 use Rattle.m17_floor.specs.declared.act.ActKind.TheVariants.{Packet, Other}
 use Rattle.m17_floor.specs.declared.verdict.Verdict.{Verdict}
+use Rattle.m17_floor.specs.Setup.{FloorSetup}
 use Rattle.m17_floor.specs.Acts.{moment_before}
 use Rattle.m17_floor.specs.Laws.{OtherActsChangeNothing}
-use Rattle.m17_floor.specs.Rule.{Frame}
+use Rattle.m17_floor.specs.Rule.{Frame, FloorState}
 use Rattle.m17_floor.specs.StandsFor.{FloorStandsFor, OwnStandsFor, MaySpeak, IsJudged}
-use Rattle.m17_judge.specs.Judge.{talker, talkers}
+use Rattle.m17_judge.specs.Judge.{judge_setup, talker, talkers}
 use Rattle.m17_judge.specs.Table.{TableKept, TableStandsFor}
 use Rattle.m17_judge.proofs.Joins.{moment_more}
 
@@ -27,13 +28,13 @@ set_cases xs at y t x within e =
     ]
 
 -- a talker's packet that was judged
-pub judged_more : (acts : List Act) (act : Act) (t : ℕ) (verdict : Verdict) (kept : TableKept) (floor' own' : Option Frame)
-    → t < length kept.owns → TableStandsFor acts kept → IsJudged talkers acts act (talker t) verdict floor' own'
+pub judged_more : (acts : List Act) (act : Act) (t : ℕ) (verdict : Verdict) (kept : TableKept) (floor' : FloorState) (own' : Option Frame)
+    → t < length kept.owns → TableStandsFor acts kept → IsJudged judge_setup acts act (talker t) verdict floor' own'
     → TableStandsFor (acts ++ act ∷ []) (record { floor = floor'; owns = slice_set kept.owns t own'; moment = max kept.moment act.at })
 judged_more acts act t verdict kept floor' own' within stands judged = record {
   floor_stands = judged.floor_stands;
   each_stands = λ k own at_place. elim (set_cases kept.owns t own' k own within at_place) [
-    | inl p ↦ subst (λ (m : ℕ). OwnStandsFor talkers (acts ++ act ∷ []) (talker m) own) (sym p.0) (p.1 ∙ judged.own_stands)
+    | inl p ↦ subst (λ (m : ℕ). OwnStandsFor judge_setup (acts ++ act ∷ []) (talker m) own) (sym p.0) (p.1 ∙ judged.own_stands)
     | inr p ↦ judged.others_stand (talker k) own (λ same. p.0 (ap (λ (m : Member). m.place) same)) (stands.each_stands k own p.1)
   ];
   all_may_speak = λ k below. judged.speakers (talker k) (stands.all_may_speak k below);
@@ -45,7 +46,7 @@ pub passed_more : OtherActsChangeNothing → (acts : List Act) (at : ℕ) (kept 
     → TableStandsFor (acts ++ (record { at = at; kind = Other }) ∷ []) (record kept { moment = max kept.moment at })
 passed_more law acts at kept stands =
     let act : Act = record { at = at; kind = Other } in
-    let keeps = law talkers acts act refl in
+    let keeps = law judge_setup acts act refl in
     record {
       floor_stands = keeps.floor kept.floor stands.floor_stands;
       each_stands = λ k own at_place. keeps.own (talker k) own (stands.each_stands k own at_place);
@@ -54,14 +55,14 @@ passed_more law acts at kept stands =
     }
 
 -- a talker's packet is judged by the floor rule of these acts
-pub ruled_at : (acts : List Act) (at t q : ℕ) (p : StreamPacket) (verdict : Verdict) (kept : TableKept) (floor' own own' : Option Frame) (moment' : ℕ)
+pub ruled_at : (acts : List Act) (at t q : ℕ) (p : StreamPacket) (verdict : Verdict) (kept : TableKept) (floor' : FloorState) (own own' : Option Frame) (moment' : ℕ)
     → q ≡ t → own ≡ get_or kept.owns t own → t < length kept.owns → t < talkers → moment' ≡ max kept.moment at → TableStandsFor acts kept
-    → ((places : ℕ) (before : List Act) (m : ℕ) → FloorStandsFor places before kept.floor → OwnStandsFor places before (talker q) own → MaySpeak places before (talker q)
-    → moment' ≡ max (moment_before before (length before)) m → IsJudged places before (record { at = m; kind = Packet (talker q) p }) (talker q) verdict floor' own')
-    → IsJudged talkers acts (record { at = at; kind = Packet (talker t) p }) (talker t) verdict floor' own'
+    → ((setup : FloorSetup) (before : List Act) (m : ℕ) → FloorStandsFor setup before kept.floor → OwnStandsFor setup before (talker q) own → MaySpeak setup before (talker q)
+    → moment' ≡ max (moment_before before (length before)) m → IsJudged setup before (record { at = m; kind = Packet (talker q) p }) (talker q) verdict floor' own')
+    → IsJudged judge_setup acts (record { at = at; kind = Packet (talker t) p }) (talker t) verdict floor' own'
 ruled_at acts at t q p verdict kept floor' own own' moment' same read within below later stands rule =
     let slot : slice_get kept.owns t ≡ Some own = slice_get_read kept.owns (length kept.owns) t own refl within read in
-    let its_own : OwnStandsFor talkers acts (talker q) own = subst (λ (k : ℕ). OwnStandsFor talkers acts (talker k) own) (sym same) (stands.each_stands t own slot) in
-    let speaks : MaySpeak talkers acts (talker q) = subst (λ (k : ℕ). MaySpeak talkers acts (talker k)) (sym same) (stands.all_may_speak t below) in
+    let its_own : OwnStandsFor judge_setup acts (talker q) own = subst (λ (k : ℕ). OwnStandsFor judge_setup acts (talker k) own) (sym same) (stands.each_stands t own slot) in
+    let speaks : MaySpeak judge_setup acts (talker q) = subst (λ (k : ℕ). MaySpeak judge_setup acts (talker k)) (sym same) (stands.all_may_speak t below) in
     let now : moment' ≡ max (moment_before acts (length acts)) at = later ∙ ap (λ m. max m at) stands.moment_is in
-    subst (λ (k : ℕ). IsJudged talkers acts (record { at = at; kind = Packet (talker k) p }) (talker k) verdict floor' own') same (rule talkers acts at stands.floor_stands its_own speaks now)
+    subst (λ (k : ℕ). IsJudged judge_setup acts (record { at = at; kind = Packet (talker k) p }) (talker k) verdict floor' own') same (rule judge_setup acts at stands.floor_stands its_own speaks now)

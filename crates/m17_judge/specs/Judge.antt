@@ -8,6 +8,7 @@ use Rattle.m17_stream.specs.Stream.{SpellsStream, RefusesStream}
 use Rattle.m17_floor.specs.declared.act.Act.{Act}
 use Rattle.m17_floor.specs.declared.act.ActKind.TheVariants.{Join, Packet, Other}
 use Rattle.m17_floor.specs.declared.verdict.Verdict.{Verdict}
+use Rattle.m17_floor.specs.Setup.{FloorSetup, floor_setup}
 use Rattle.m17_floor.specs.Floor.{verdict_at}
 use Rattle.m17_print.specs.Endings.{input_refused_line}
 use Rattle.m17_print.specs.Refused.{stream_refusal_text}
@@ -23,9 +24,16 @@ use Rattle.m17_judge.specs.Records.{most_records, record_at, moment_of_record, t
 abbrev pub talker : ℕ → Member
 talker t = record { place = t; generation = 0 }
 
--- how many talkers there are
+-- how many talkers there are, and how long one may talk, in milliseconds
 abbrev pub talkers : ℕ
 talkers = 65536
+
+abbrev pub talk_limit : ℕ
+talk_limit = 180000
+
+-- what their floor is made with
+abbrev pub judge_setup : FloorSetup
+judge_setup = floor_setup talkers talk_limit
 
 -- a Join of each of the first `count` talkers, who may all speak, at moment 0
 unfoldable pub joins : ℕ → List Act
@@ -58,7 +66,7 @@ pub record IsVerdictLine (acts : List Act) (n : ℕ) (bytes line : List ℕ) : T
   pub spelled : SpellsStream packet (packet_of bytes)
   pub act : slice_get acts (talkers + n) ≡ Some (packet_act bytes packet)
   pub verdict : Verdict
-  pub ruled : verdict_at talkers acts (talkers + n) ≡ Some verdict
+  pub ruled : verdict_at judge_setup acts (talkers + n) ≡ Some verdict
   pub text : line ≡ numbered_line n (verdict_text verdict)
 
 -- The packet of record n is refused. It is another act, and its line has the reason.

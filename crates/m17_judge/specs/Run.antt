@@ -7,7 +7,7 @@ use Rattle.m17_judge.specs.declared.reason.JudgeReason.TheVariants.{Cut, Large}
 use Rattle.m17_judge.specs.Judge.{IsTextOfRecords}
 use Rattle.m17_judge.specs.Records.{most_records}
 
--- So many records of the input were taken and judged. `first` is what was written before the run.
+-- The first `count` records of the input were taken and judged. `first` is what was written before the run.
 pub record AreJudged (input : List ℕ) (count : ℕ) (left first written : Option (List ℕ)) : Type 0
   where
     pub within : 64 * count ≤ length input

@@ -83,10 +83,10 @@ fn look_past<S: Input<K>, K: Sink>(input: &mut S, out: &mut K) -> TextEnding<Jud
 }
 
 /// Judges records of 64 bytes, each with its moment in milliseconds (8 bytes, big-endian), its talker (2 bytes) and its
-/// stream packet (54 bytes), and writes a line for each: the verdict of the floor rule, or why the packet is refused.
-/// Each record is read, judged and printed before the next is read, as the tests show. The input is refused as `Cut`
-/// where it ends inside a record, at its length, and as `Large` where there is a byte of record 1,000,000, at 64,000,000;
-/// the lines before that stand. `NoMemory` where there is none for the talkers.
+/// stream packet (54 bytes), and writes a line for each: the verdict of the floor rule, with 180 seconds as the limit on
+/// talking, or why the packet is refused. Each record is read, judged and printed before the next is read, as the tests
+/// show. The input is refused as `Cut` where it ends inside a record, at its length, and as `Large` where there is a byte
+/// of record 1,000,000, at 64,000,000; the lines before that stand. `NoMemory` where there is none for the talkers.
 pub fn judge<S: Input<K>, K: Sink>(
     alloc: Global,
     input: &mut S,

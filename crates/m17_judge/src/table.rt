@@ -3,7 +3,7 @@ ghost use Rattle.m17_floor.specs.declared.act.Act.{Act};
 ghost use Rattle.m17_floor.specs.declared.act.ActKind.TheVariants.{Packet, Other};
 ghost use Rattle.m17_floor.specs.Floor.{verdict_at};
 ghost use Rattle.m17_floor.specs.Rule.{Frame};
-ghost use Rattle.m17_judge.specs.Judge.{joins, talker, talkers};
+ghost use Rattle.m17_judge.specs.Judge.{joins, judge_setup, talker, talkers};
 ghost use Rattle.m17_judge.specs.Table.{TableStandsFor, StandsAtFirst};
 
 use m17_floor::{Floor, Last, Verdict, laws};
@@ -13,6 +13,9 @@ use std::alloc::Global;
 use std::marker::Model;
 
 const TALKERS: usize = 65_536;
+
+/// How long one may talk in `judge`, in milliseconds.
+const TALK_LIMIT_MS: u64 = 180_000;
 
 // The floor of `judge`, what is kept of each of its talkers, and its moment.
 #[derive(Debug, Drop)]
@@ -44,7 +47,7 @@ impl Table {
             Err(no_memory) => return Err(no_memory),
         };
         Ok(Table {
-            floor: Floor::new(),
+            floor: Floor::new(TALK_LIMIT_MS),
             owns,
             moment: 0,
         })
@@ -57,7 +60,7 @@ impl Table {
             TableStandsFor (acts ++ (record { at = at; kind = Packet (talker place) p.now }) ∷ [])
             self.new }
         ensures ruled { (acts : List Act) → TableStandsFor acts self.old →
-            verdict_at talkers (acts ++ (record { at = at; kind = Packet (talker place) p.now }) ∷
+            verdict_at judge_setup (acts ++ (record { at = at; kind = Packet (talker place) p.now }) ∷
             [])
             (length acts) ≡ Some result }
     {

@@ -44,16 +44,16 @@ echo_for at s (Some r) e is = record { of = r; is = refl; member = due_is at (cl
 pub echo_once : EachEchoIsSentOnce
 unfolding echoes_at echo_at
 echo_once setup events n echo parrot is =
-    let found_for : IsFor (recording_with setup.places (acts_of events) n (echoed_before setup.places (acts_of events) n)) echo =
-    echo_for (moment_at (acts_of events) n) (is_none (holder_at setup.places (acts_of events) n)) _ echo is in
-    let at : IsFound setup.places (acts_of events) n found_for.of = found setup.places (acts_of events) n (echoed_before setup.places (acts_of events) n) found_for.of found_for.is in
+    let found_for : IsFor (recording_with setup (acts_of events) n (echoed_before setup (acts_of events) n)) echo =
+    echo_for (moment_at (acts_of events) n) (is_none (holder_at setup (acts_of events) n)) _ echo is in
+    let at : IsFound setup.places (acts_of events) n found_for.of = found setup (acts_of events) n (echoed_before setup (acts_of events) n) found_for.of found_for.is in
     let has = joined_has_seat setup.places events n found_for.of.member at.join at.joined in
     let here : seat_of (seats_at setup.places events n) echo.0 ≡ Some has.seat =
     ap (seat_of (seats_at setup.places events n)) found_for.member
     ∙ seat_of_some found_for.of.member (get_or (seats_at setup.places events n) found_for.of.member.place None) has.seat (seats_at_is setup.places events n found_for.of.member.place has.below ∙ has.is) has.mine in (
       has.seat,
       here,
-      ap (λ b. cond b (echo_items n (seats_at setup.places events n) (echo_at setup.places (acts_of events) n)) []) parrot
+      ap (λ b. cond b (echo_items n (seats_at setup.places events n) (echo_at setup (acts_of events) n)) []) parrot
           ∙ ap (echo_items n (seats_at setup.places events n)) is
           ∙ ap (to_one (said.Echo n echo.1)) here,
     )

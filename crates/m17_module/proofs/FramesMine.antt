@@ -15,6 +15,7 @@ use Rattle.m17_control.specs.declared.item.Said.TheVariants as said
 use Rattle.m17_floor.specs.Acts.{is_same, is_packet, kind_at, moment_before, moment_at, joined_at}
 use Rattle.m17_floor.specs.Floor.{is_packet_of, admits, verdict_at}
 use Rattle.m17_floor.specs.Laws.{OnlyPacketsHaveVerdicts}
+use Rattle.m17_module.specs.Setup.{floor_setup}
 use Rattle.m17_module.specs.declared.seat.Seat.{Seat}
 use Rattle.m17_module.specs.Events.{kind_of, acts_of}
 use Rattle.m17_module.specs.Seats.{seat_at, seats_at, members_of, seat_in, if_of, seat_of, others_than}
@@ -104,7 +105,7 @@ echo_cases k n seats true (Some e) = no_mine (said.Echo n e.1) k (seat_of seats 
 
 no_echoes : (setup : Setup) (events : List Event) (n : ℕ) (k : Member) → framed (filter (is_for k) (echoes_at setup events n)) ≡ []
 unfolding echoes_at
-no_echoes setup events n k = echo_cases k n (seats_at setup.places events n) setup.parrot (echo_at setup.places (acts_of events) n)
+no_echoes setup events n k = echo_cases k n (seats_at setup.places events n) setup.parrot (echo_at setup (acts_of events) n)
 
 greets_cases : (k : Member) (b : Bool) (o : Option Seat) (seat : Seat) (after : ℕ) → framed (filter (is_for k) (cond b (to_one (said.Bye Replaced) o ++ item_to (said.Hello after) seat ∷ []) [])) ≡ []
 greets_cases k false o seat after = refl
@@ -140,29 +141,29 @@ cond_same true = refl
 cond_same false = refl
 
 -- what the event itself says, frame by frame
-said_framed : (places : ℕ) (events : List Event) (n : ℕ) (k : Member) (link : ℕ) (body : Body) →
-    framed (filter (is_for k) (says (setting_at places events n link) body))
-    ≡ cond (is_some (seat_of (seats_at places events n) k) && (admits (verdict_at places (acts_of events) n) && not (is_packet_of k (kind_of body)))) (frame_of_body places events k n body) []
-said_framed places events n k link (Packet m p) = relay places events n k m p (admits (verdict_at places (acts_of events) n)) (is_same m k) refl
-said_framed places events n k link (Join m peer callsign l after) = greets_none k (seats_at places events n) (record { member = m; link = link; peer = peer; listens = l }) after ∙ sym (cond_same _)
-said_framed places events n k link (Leave m why) = no_mine (said.Bye why) k (seat_of (seats_at places events n) m) refl ∙ sym (cond_same _)
-said_framed places events n k link (Reply m control) = no_mine (said.Reply control) k (seat_of (seats_at places events n) m) refl ∙ sym (cond_same _)
-said_framed places events n k link Tick = sym (cond_same _)
-said_framed places events n k link Stop = sym (cond_same _)
+said_framed : (setup : Setup) (events : List Event) (n : ℕ) (k : Member) (link : ℕ) (body : Body) →
+    framed (filter (is_for k) (says (setting_at setup events n link) body))
+    ≡ cond (is_some (seat_of (seats_at setup.places events n) k) && (admits (verdict_at (floor_setup setup) (acts_of events) n) && not (is_packet_of k (kind_of body)))) (frame_of_body setup.places events k n body) []
+said_framed setup events n k link (Packet m p) = relay setup.places events n k m p (admits (verdict_at (floor_setup setup) (acts_of events) n)) (is_same m k) refl
+said_framed setup events n k link (Join m peer callsign l after) = greets_none k (seats_at setup.places events n) (record { member = m; link = link; peer = peer; listens = l }) after ∙ sym (cond_same _)
+said_framed setup events n k link (Leave m why) = no_mine (said.Bye why) k (seat_of (seats_at setup.places events n) m) refl ∙ sym (cond_same _)
+said_framed setup events n k link (Reply m control) = no_mine (said.Reply control) k (seat_of (seats_at setup.places events n) m) refl ∙ sym (cond_same _)
+said_framed setup events n k link Tick = sym (cond_same _)
+said_framed setup events n k link Stop = sym (cond_same _)
 
-said_by_framed : (places : ℕ) (events : List Event) (n : ℕ) (k : Member) (o : Option Event) →
-    framed (filter (is_for k) (said_by places events n o))
-    ≡ cond (is_some (seat_of (seats_at places events n) k) && (admits (verdict_at places (acts_of events) n) && not (is_packet_of k (kind_from o)))) (frame_by places events k n o) []
-said_by_framed places events n k None = sym (cond_same _)
-said_by_framed places events n k (Some event) = said_framed places events n k event.tag.link event.body
+said_by_framed : (setup : Setup) (events : List Event) (n : ℕ) (k : Member) (o : Option Event) →
+    framed (filter (is_for k) (said_by setup events n o))
+    ≡ cond (is_some (seat_of (seats_at setup.places events n) k) && (admits (verdict_at (floor_setup setup) (acts_of events) n) && not (is_packet_of k (kind_from o)))) (frame_by setup.places events k n o) []
+said_by_framed setup events n k None = sym (cond_same _)
+said_by_framed setup events n k (Some event) = said_framed setup events n k event.tag.link event.body
 
 -- one position
-framed_at : (setup : Setup) (events : List Event) (k : Member) (n : ℕ) → framed (filter (is_for k) (items_at setup events n)) ≡ cond (hears setup.places events k n) (frame_sent setup.places events k n) []
+framed_at : (setup : Setup) (events : List Event) (k : Member) (n : ℕ) → framed (filter (is_for k) (items_at setup events n)) ≡ cond (hears setup events k n) (frame_sent setup.places events k n) []
 unfolding items_at said_at
 framed_at setup events k n =
     let pings : List Item = pings_at setup.places events n in
-    let told : List Item = said_by setup.places events n (slice_get events n) in
-    let rest : Bool → Bool → Bool = λ b c. b && (admits (verdict_at setup.places (acts_of events) n) && not c) in
+    let told : List Item = said_by setup events n (slice_get events n) in
+    let rest : Bool → Bool → Bool = λ b c. b && (admits (verdict_at (floor_setup setup) (acts_of events) n) && not c) in
     let played : List Item = echoes_at setup events n in
     ap framed (filter-append (is_for k) (pings ++ played) told)
     ∙ framed_append (filter (is_for k) (pings ++ played)) (filter (is_for k) told)
@@ -170,7 +171,7 @@ framed_at setup events k n =
     ∙ ap (λ xs. xs ++ framed (filter (is_for k) told)) (framed_append (filter (is_for k) pings) (filter (is_for k) played))
     ∙ ap (λ xs. (xs ++ framed (filter (is_for k) played)) ++ framed (filter (is_for k) told)) (no_pings setup.places events n k)
     ∙ ap (λ xs. xs ++ framed (filter (is_for k) told)) (no_echoes setup events n k)
-    ∙ said_by_framed setup.places events n k (slice_get events n)
+    ∙ said_by_framed setup events n k (slice_get events n)
     ∙ ap (λ b. cond (rest b (is_packet_of k (kind_from (slice_get events n)))) (frame_sent setup.places events k n) []) (sym (is_in_exactly setup.places events n k))
     ∙ ap (λ kind. cond (rest (is_some (joined_at setup.places (acts_of events) k n)) (is_packet_of k kind)) (frame_sent setup.places events k n) []) (sym (kind_at_is events n))
 
@@ -179,14 +180,14 @@ head_cases true f n ns = refl
 head_cases false f n ns = refl
 
 -- all positions
-framed_all : (setup : Setup) (events : List Event) (k : Member) (ns : List ℕ) → framed (filter (is_for k) (flat_map (items_at setup events) ns)) ≡ flat_map (frame_sent setup.places events k) (filter (hears setup.places events k) ns)
+framed_all : (setup : Setup) (events : List Event) (k : Member) (ns : List ℕ) → framed (filter (is_for k) (flat_map (items_at setup events) ns)) ≡ flat_map (frame_sent setup.places events k) (filter (hears setup events k) ns)
 framed_all setup events k [] = refl
 framed_all setup events k (n ∷ ns) =
     ap framed (filter-append (is_for k) (items_at setup events n) (flat_map (items_at setup events) ns))
     ∙ framed_append (filter (is_for k) (items_at setup events n)) (filter (is_for k) (flat_map (items_at setup events) ns))
     ∙ ap (λ xs. xs ++ framed (filter (is_for k) (flat_map (items_at setup events) ns))) (framed_at setup events k n)
-    ∙ ap (λ xs. cond (hears setup.places events k n) (frame_sent setup.places events k n) [] ++ xs) (framed_all setup events k ns)
-    ∙ head_cases (hears setup.places events k n) (frame_sent setup.places events k) n (filter (hears setup.places events k) ns)
+    ∙ ap (λ xs. cond (hears setup events k n) (frame_sent setup.places events k n) [] ++ xs) (framed_all setup events k ns)
+    ∙ head_cases (hears setup events k n) (frame_sent setup.places events k) n (filter (hears setup events k) ns)
 
 pub frames_heard : FramesAreThoseHeard
 unfolding frames_for items_for items_given
@@ -210,14 +211,14 @@ once_by places events k n None here is = cc
 once_by places events k n (Some event) here is = once_body places events k n event.body here is
 
 -- only a packet is admitted
-packet_admitted : OnlyPacketsHaveVerdicts → (places : ℕ) (events : List Event) (n : ℕ) → admits (verdict_at places (acts_of events) n) ≡ true → is_packet (kind_at (acts_of events) n) ≡ true
-packet_admitted law places events n e =
+packet_admitted : OnlyPacketsHaveVerdicts → (setup : Setup) (events : List Event) (n : ℕ) → admits (verdict_at (floor_setup setup) (acts_of events) n) ≡ true → is_packet (kind_at (acts_of events) n) ≡ true
+packet_admitted law setup events n e =
     true_from_ne_false (is_packet (kind_at (acts_of events) n))
-    (λ no_packet. true≢false (sym e ∙ ap admits (law places (acts_of events) n no_packet)))
+    (λ no_packet. true≢false (sym e ∙ ap admits (law (floor_setup setup) (acts_of events) n no_packet)))
 
 pub heard_once : OnlyPacketsHaveVerdicts → EachHeardIsSentOnce
-heard_once law places events k n h =
-    let parts = and_parts (is_some (joined_at places (acts_of events) k n)) (admits (verdict_at places (acts_of events) n) && not (is_packet_of k (kind_at (acts_of events) n))) h in
-    let admitted = and_parts (admits (verdict_at places (acts_of events) n)) (not (is_packet_of k (kind_at (acts_of events) n))) parts.1 in
-    once_by places events k n (slice_get events n) (sym (is_in_exactly places events n k) ∙ parts.0)
-    (ap is_packet (sym (kind_at_is events n)) ∙ packet_admitted law places events n admitted.0)
+heard_once law setup events k n h =
+    let parts = and_parts (is_some (joined_at setup.places (acts_of events) k n)) (admits (verdict_at (floor_setup setup) (acts_of events) n) && not (is_packet_of k (kind_at (acts_of events) n))) h in
+    let admitted = and_parts (admits (verdict_at (floor_setup setup) (acts_of events) n)) (not (is_packet_of k (kind_at (acts_of events) n))) parts.1 in
+    once_by setup.places events k n (slice_get events n) (sym (is_in_exactly setup.places events n k) ∙ parts.0)
+    (ap is_packet (sym (kind_at_is events n)) ∙ packet_admitted law setup events n admitted.0)

@@ -114,15 +114,15 @@ module _ (R : Seat → Type 0) (P : Item → Type 0) (lift : (what : Said) (seat
   says_hold now Tick h hello = All-nil P
   says_hold now Stop h hello = All-nil P
 
-  said_by_hold : (places : ℕ) (events : List Event) (n : ℕ) (o : Option Event) → OfEvents R places events → OfHellos P places events → slice_get events n ≡ o → All P (said_by places events n o)
-  said_by_hold places events n None each hello e = All-nil P
-  said_by_hold places events n (Some event) each hello e =
-      says_hold (setting_at places events n event.tag.link) event.body (seats_hold R places events n each)
-      (λ k peer callsign listens after is h. hello n event e k peer callsign listens after is (subst (λ (m : ℕ). k.place < m) (length_seats places events n) h))
+  said_by_hold : (setup : Setup) (events : List Event) (n : ℕ) (o : Option Event) → OfEvents R setup.places events → OfHellos P setup.places events → slice_get events n ≡ o → All P (said_by setup events n o)
+  said_by_hold setup events n None each hello e = All-nil P
+  said_by_hold setup events n (Some event) each hello e =
+      says_hold (setting_at setup events n event.tag.link) event.body (seats_hold R setup.places events n each)
+      (λ k peer callsign listens after is h. hello n event e k peer callsign listens after is (subst (λ (m : ℕ). k.place < m) (length_seats setup.places events n) h))
 
-  said_holds : (places : ℕ) (events : List Event) (n : ℕ) → OfEvents R places events → OfHellos P places events → All P (said_at places events n)
+  said_holds : (setup : Setup) (events : List Event) (n : ℕ) → OfEvents R setup.places events → OfHellos P setup.places events → All P (said_at setup events n)
   unfolding said_at
-  said_holds places events n each hello = said_by_hold places events n (slice_get events n) each hello refl
+  said_holds setup events n each hello = said_by_hold setup events n (slice_get events n) each hello refl
 
   pings_hold : (places : ℕ) (events : List Event) (n : ℕ) → OfEvents R places events → All P (pings_at places events n)
   unfolding pings_at
@@ -137,15 +137,15 @@ module _ (R : Seat → Type 0) (P : Item → Type 0) (lift : (what : Said) (seat
   echoes_hold : (setup : Setup) (events : List Event) (n : ℕ) → OfEvents R setup.places events → All P (echoes_at setup events n)
   unfolding echoes_at
   echoes_hold setup events n each =
-      if_holds P setup.parrot (echo_items n (seats_at setup.places events n) (echo_at setup.places (acts_of events) n))
-      (λ parrot. echo_holds n (seats_at setup.places events n) (echo_at setup.places (acts_of events) n) (seats_hold R setup.places events n each))
+      if_holds P setup.parrot (echo_items n (seats_at setup.places events n) (echo_at setup (acts_of events) n))
+      (λ parrot. echo_holds n (seats_at setup.places events n) (echo_at setup (acts_of events) n) (seats_hold R setup.places events n each))
 
   items_hold : (setup : Setup) (events : List Event) (n : ℕ) → OfEvents R setup.places events → OfHellos P setup.places events → All P (items_at setup events n)
   unfolding items_at
   items_hold setup events n each hello =
-      All-append P (pings_at setup.places events n ++ echoes_at setup events n) (said_at setup.places events n)
+      All-append P (pings_at setup.places events n ++ echoes_at setup events n) (said_at setup events n)
       (All-append P (pings_at setup.places events n) (echoes_at setup events n) (pings_hold setup.places events n each) (echoes_hold setup events n each))
-      (said_holds setup.places events n each hello)
+      (said_holds setup events n each hello)
 
 pub items_are_at_places : ItemsAreAtPlaces
 items_are_at_places setup events n =

@@ -9,6 +9,7 @@ use Rattle.m17_control.specs.declared.item.Said.TheVariants as said
 use Rattle.m17_floor.specs.Acts.{greatest_moment, moment_before, moment_at}
 use Rattle.m17_floor.specs.Floor.{admits, verdict_at}
 use Rattle.m17_floor.specs.Laws.{LaterActsChangeNoVerdict, LaterActsChangeNoMembership, LaterActsChangeNoMoment}
+use Rattle.m17_module.specs.Setup.{Setup, floor_setup}
 use Rattle.m17_module.specs.declared.seat.Seat.{Seat}
 use Rattle.m17_module.specs.Events.{acts_of}
 use Rattle.m17_module.specs.Seats.{seats_at, members_of}
@@ -33,19 +34,19 @@ pings_before members moments places events more n h =
     ∙ ap (λ m. told (moment_before (acts_of events) n) m (seats_at places longer n)) now
     ∙ ap (told (moment_before (acts_of events) n) (moment_at (acts_of events) n)) (sym (seats_at_before members places events more n (omega arith)))
 
-said_by_same : (places : ℕ) (old new : List Event) (n : ℕ) (o : Option Event) → seats_at places new n ≡ seats_at places old n → verdict_at places (acts_of new) n ≡ verdict_at places (acts_of old) n → said_by places new n o ≡ said_by places old n o
-said_by_same places old new n None seats verdict = refl
-said_by_same places old new n (Some event) seats verdict =
+said_by_same : (setup : Setup) (old new : List Event) (n : ℕ) (o : Option Event) → seats_at setup.places new n ≡ seats_at setup.places old n → verdict_at (floor_setup setup) (acts_of new) n ≡ verdict_at (floor_setup setup) (acts_of old) n → said_by setup new n o ≡ said_by setup old n o
+said_by_same setup old new n None seats verdict = refl
+said_by_same setup old new n (Some event) seats verdict =
     let make : List (Option Seat) → _ → Setting = λ xs v. record { seats = xs; position = n; link = event.tag.link; admitted = admits v } in
-    ap (λ xs. says (make xs (verdict_at places (acts_of new) n)) event.body) seats
-    ∙ ap (λ v. says (make (seats_at places old n) v) event.body) verdict
+    ap (λ xs. says (make xs (verdict_at (floor_setup setup) (acts_of new) n)) event.body) seats
+    ∙ ap (λ v. says (make (seats_at setup.places old n) v) event.body) verdict
 
-pub said_before : LaterActsChangeNoVerdict → LaterActsChangeNoMembership → (places : ℕ) (events more : List Event) (n : ℕ) → n < length events → said_at places (events ++ more) n ≡ said_at places events n
+pub said_before : LaterActsChangeNoVerdict → LaterActsChangeNoMembership → (setup : Setup) (events more : List Event) (n : ℕ) → n < length events → said_at setup (events ++ more) n ≡ said_at setup events n
 unfolding said_at
-said_before verdicts members places events more n h =
-    ap (said_by places (events ++ more) n) (slice_get_before events more n h)
-    ∙ said_by_same places events (events ++ more) n (slice_get events n) (sym (seats_at_before members places events more n (omega arith)))
-    (ap (λ acts. verdict_at places acts n) (acts_append events more) ∙ verdicts places (acts_of events) (acts_of more) n (omega (arith, length_acts events)))
+said_before verdicts members setup events more n h =
+    ap (said_by setup (events ++ more) n) (slice_get_before events more n h)
+    ∙ said_by_same setup events (events ++ more) n (slice_get events n) (sym (seats_at_before members setup.places events more n (omega arith)))
+    (ap (λ acts. verdict_at (floor_setup setup) acts n) (acts_append events more) ∙ verdicts (floor_setup setup) (acts_of events) (acts_of more) n (omega (arith, length_acts events)))
 
 pub flat_map_same : {X : Type 0} (f g : ℕ → List X) (from n : ℕ) → ((i : ℕ) → i < from + n → f i ≡ g i) → flat_map f (range_with_len from n) ≡ flat_map g (range_with_len from n)
 flat_map_same f g from zero h = refl

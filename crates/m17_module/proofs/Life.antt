@@ -67,28 +67,28 @@ unsettled_by places events k n true e other stays =
 abbrev part_at : Setup → List Event → Member → ℕ → List Item
 part_at setup events k n = mine k (items_at setup events n)
 
-part_is : (setup : Setup) (events : List Event) (k : Member) (n : ℕ) → part_at setup events k n ≡ cond (nat_lt (moment_before (acts_of events) n / ping_every_ms) (moment_at (acts_of events) n / ping_every_ms)) (to_one said.Ping (seat_of (seats_at setup.places events n) k)) [] ++ (mine k (echoes_at setup events n) ++ mine k (said_by setup.places events n (slice_get events n)))
+part_is : (setup : Setup) (events : List Event) (k : Member) (n : ℕ) → part_at setup events k n ≡ cond (nat_lt (moment_before (acts_of events) n / ping_every_ms) (moment_at (acts_of events) n / ping_every_ms)) (to_one said.Ping (seat_of (seats_at setup.places events n) k)) [] ++ (mine k (echoes_at setup events n) ++ mine k (said_by setup events n (slice_get events n)))
 unfolding items_at said_at
 part_is setup events k n =
     let pings : List Item = pings_at setup.places events n in
     let played : List Item = echoes_at setup events n in
-    let told : List Item = said_by setup.places events n (slice_get events n) in
+    let told : List Item = said_by setup events n (slice_get events n) in
     filter-append (is_for k) (pings ++ played) told
     ∙ ap (λ xs. xs ++ mine k told) (filter-append (is_for k) pings played)
     ∙ append_assoc (mine k pings) (mine k played) (mine k told)
     ∙ ap (λ xs. xs ++ (mine k played ++ mine k told)) (mine_pings setup.places events n k)
 
-said_by_part : (places : ℕ) (events : List Event) (n : ℕ) (k : Member) (stays : Bool) (o : Option Event) → is_join_of k (kind_from o) ≡ false → (stays ≡ true → settles k (kind_from o) ≡ false) → IsPart (mine k (said_by places events n o)) stays
-said_by_part places events n k stays None other unsettled = empty_part stays
-said_by_part places events n k stays (Some event) other unsettled = said_part places events n k event.tag.link stays event.body other unsettled
+said_by_part : (setup : Setup) (events : List Event) (n : ℕ) (k : Member) (stays : Bool) (o : Option Event) → is_join_of k (kind_from o) ≡ false → (stays ≡ true → settles k (kind_from o) ≡ false) → IsPart (mine k (said_by setup events n o)) stays
+said_by_part setup events n k stays None other unsettled = empty_part stays
+said_by_part setup events n k stays (Some event) other unsettled = said_part setup events n k event.tag.link stays event.body other unsettled
 
-said_by_nothing : (places : ℕ) (events : List Event) (n : ℕ) (k : Member) (o : Option Event) → seat_of (seats_at places events n) k ≡ None → is_join_of k (kind_from o) ≡ false → mine k (said_by places events n o) ≡ []
-said_by_nothing places events n k None free other = refl
-said_by_nothing places events n k (Some event) free other = said_nothing places events n k event.tag.link event.body free other
+said_by_nothing : (setup : Setup) (events : List Event) (n : ℕ) (k : Member) (o : Option Event) → seat_of (seats_at setup.places events n) k ≡ None → is_join_of k (kind_from o) ≡ false → mine k (said_by setup events n o) ≡ []
+said_by_nothing setup events n k None free other = refl
+said_by_nothing setup events n k (Some event) free other = said_nothing setup events n k event.tag.link event.body free other
 
-said_by_hello : (places : ℕ) (events : List Event) (n : ℕ) (k : Member) (o : Option Event) → seat_of (seats_at places events n) k ≡ None → k.place < places → is_join_of k (kind_from o) ≡ true → (hello : Item) × (is_hello hello.body ≡ true) × (mine k (said_by places events n o) ≡ hello ∷ [])
-said_by_hello places events n k None free below is = cc
-said_by_hello places events n k (Some event) free below is = said_hello places events n k event.tag.link event.body free below is
+said_by_hello : (setup : Setup) (events : List Event) (n : ℕ) (k : Member) (o : Option Event) → seat_of (seats_at setup.places events n) k ≡ None → k.place < setup.places → is_join_of k (kind_from o) ≡ true → (hello : Item) × (is_hello hello.body ≡ true) × (mine k (said_by setup events n o) ≡ hello ∷ [])
+said_by_hello setup events n k None free below is = cc
+said_by_hello setup events n k (Some event) free below is = said_hello setup events n k event.tag.link event.body free below is
 
 none_of : {X : Type 0} (o : Option X) → is_some o ≡ false → o ≡ None
 none_of None e = refl
@@ -101,29 +101,29 @@ no_pings_out : (b : Bool) (o : Option Seat) (rest : List Item) → o ≡ None �
 no_pings_out b o rest e = ap (λ x. cond b (to_one said.Ping x) [] ++ rest) e ∙ ap (λ xs. xs ++ rest) (cond_same b)
 
 -- of a position before which it is not in
-part_away : (setup : Setup) (events : List Event) (k : Member) (n : ℕ) → joined_at setup.places (acts_of events) k n ≡ None → part_at setup events k n ≡ mine k (said_by setup.places events n (slice_get events n))
+part_away : (setup : Setup) (events : List Event) (k : Member) (n : ℕ) → joined_at setup.places (acts_of events) k n ≡ None → part_at setup events k n ≡ mine k (said_by setup events n (slice_get events n))
 part_away setup events k n gone =
     part_is setup events k n
-    ∙ no_pings_out _ (seat_of (seats_at setup.places events n) k) (mine k (echoes_at setup events n) ++ mine k (said_by setup.places events n (slice_get events n))) (no_seat setup.places events n k gone)
-    ∙ ap (λ xs. xs ++ mine k (said_by setup.places events n (slice_get events n))) (no_echo_away setup events n k (no_seat setup.places events n k gone))
+    ∙ no_pings_out _ (seat_of (seats_at setup.places events n) k) (mine k (echoes_at setup events n) ++ mine k (said_by setup events n (slice_get events n))) (no_seat setup.places events n k gone)
+    ∙ ap (λ xs. xs ++ mine k (said_by setup events n (slice_get events n))) (no_echo_away setup events n k (no_seat setup.places events n k gone))
 
 part_nothing : (setup : Setup) (events : List Event) (k : Member) (n : ℕ) → joined_at setup.places (acts_of events) k n ≡ None → joins events k n ≡ false → part_at setup events k n ≡ []
 part_nothing setup events k n gone other =
     part_away setup events k n gone
-    ∙ said_by_nothing setup.places events n k (slice_get events n) (no_seat setup.places events n k gone) (ap (is_join_of k) (sym (kind_at_is events n)) ∙ other)
+    ∙ said_by_nothing setup events n k (slice_get events n) (no_seat setup.places events n k gone) (ap (is_join_of k) (sym (kind_at_is events n)) ∙ other)
 
 part_hello : (setup : Setup) (events : List Event) (k : Member) (n : ℕ) → joined_at setup.places (acts_of events) k n ≡ None → k.place < setup.places → joins events k n ≡ true → (hello : Item) × (is_hello hello.body ≡ true) × (part_at setup events k n ≡ hello ∷ [])
 part_hello setup events k n gone below is =
-    let said = said_by_hello setup.places events n k (slice_get events n) (no_seat setup.places events n k gone) below (ap (is_join_of k) (sym (kind_at_is events n)) ∙ is) in
+    let said = said_by_hello setup events n k (slice_get events n) (no_seat setup.places events n k gone) below (ap (is_join_of k) (sym (kind_at_is events n)) ∙ is) in
     (said.0, said.1, part_away setup events k n gone ∙ said.2)
 
 part_in : (setup : Setup) (events : List Event) (k : Member) (n : ℕ) → joins events k n ≡ false → IsPart (part_at setup events k n) (is_some (joined_at setup.places (acts_of events) k (suc n)))
 part_in setup events k n other =
     let stays : Bool = is_some (joined_at setup.places (acts_of events) k (suc n)) in
     subst (λ xs. IsPart xs stays) (sym (part_is setup events k n))
-    (pinged_part (seat_of (seats_at setup.places events n) k) _ (mine k (echoes_at setup events n) ++ mine k (said_by setup.places events n (slice_get events n))) stays
-    (quiet_before (mine k (echoes_at setup events n)) (mine k (said_by setup.places events n (slice_get events n))) stays (no_echo_hello setup events n k) (no_echo_bye setup events n k)
-    (said_by_part setup.places events n k stays (slice_get events n) (ap (is_join_of k) (sym (kind_at_is events n)) ∙ other)
+    (pinged_part (seat_of (seats_at setup.places events n) k) _ (mine k (echoes_at setup events n) ++ mine k (said_by setup events n (slice_get events n))) stays
+    (quiet_before (mine k (echoes_at setup events n)) (mine k (said_by setup events n (slice_get events n))) stays (no_echo_hello setup events n k) (no_echo_bye setup events n k)
+    (said_by_part setup events n k stays (slice_get events n) (ap (is_join_of k) (sym (kind_at_is events n)) ∙ other)
     (λ e. ap (settles k) (sym (kind_at_is events n)) ∙ unsettled_by setup.places events k n (settles k (kind_at (acts_of events) n)) refl other e))))
 
 -- what was given to the member before a position
@@ -312,25 +312,25 @@ out_past : (places : ℕ) (events : List Event) (k : Member) (n : ℕ) → place
 unfolding joined_at
 out_past places events k n past = cond-false (nat_lt k.place places) _ _ (le-ltb k.place places past)
 
-said_past : (places : ℕ) (events : List Event) (n : ℕ) (k : Member) (link : ℕ) (body : Body) → places ≤ k.place → is_join_of k (kind_of body) ≡ true → mine k (says (setting_at places events n link) body) ≡ []
-said_past places events n k link (Join m peer callsign l after) past is =
+said_past : (setup : Setup) (events : List Event) (n : ℕ) (k : Member) (link : ℕ) (body : Body) → setup.places ≤ k.place → is_join_of k (kind_of body) ≡ true → mine k (says (setting_at setup events n link) body) ≡ []
+said_past setup events n k link (Join m peer callsign l after) past is =
     let at : m.place ≡ k.place = ap (λ (x : Member). x.place) (same_from_is_same m k is) in
-    ap (mine k) (cond-false (nat_lt m.place (length (seats_at places events n))) _ _ (le-ltb m.place (length (seats_at places events n)) (omega (arith, length_seats places events n))))
-said_past places events n k link (Leave m why) past is = cc
-said_past places events n k link (Packet m p) past is = cc
-said_past places events n k link (Reply m control) past is = cc
-said_past places events n k link Tick past is = cc
-said_past places events n k link Stop past is = cc
+    ap (mine k) (cond-false (nat_lt m.place (length (seats_at setup.places events n))) _ _ (le-ltb m.place (length (seats_at setup.places events n)) (omega (arith, length_seats setup.places events n))))
+said_past setup events n k link (Leave m why) past is = cc
+said_past setup events n k link (Packet m p) past is = cc
+said_past setup events n k link (Reply m control) past is = cc
+said_past setup events n k link Tick past is = cc
+said_past setup events n k link Stop past is = cc
 
-said_by_past : (places : ℕ) (events : List Event) (n : ℕ) (k : Member) (o : Option Event) → places ≤ k.place → is_join_of k (kind_from o) ≡ true → mine k (said_by places events n o) ≡ []
-said_by_past places events n k None past is = refl
-said_by_past places events n k (Some event) past is = said_past places events n k event.tag.link event.body past is
+said_by_past : (setup : Setup) (events : List Event) (n : ℕ) (k : Member) (o : Option Event) → setup.places ≤ k.place → is_join_of k (kind_from o) ≡ true → mine k (said_by setup events n o) ≡ []
+said_by_past setup events n k None past is = refl
+said_by_past setup events n k (Some event) past is = said_past setup events n k event.tag.link event.body past is
 
 part_past : (setup : Setup) (events : List Event) (k : Member) (n : ℕ) (b : Bool) → joins events k n ≡ b → setup.places ≤ k.place → part_at setup events k n ≡ []
 part_past setup events k n false other past = part_nothing setup events k n (out_past setup.places events k n past) other
 part_past setup events k n true is past =
     part_away setup events k n (out_past setup.places events k n past)
-    ∙ said_by_past setup.places events n k (slice_get events n) past (ap (is_join_of k) (sym (kind_at_is events n)) ∙ is)
+    ∙ said_by_past setup events n k (slice_get events n) past (ap (is_join_of k) (sym (kind_at_is events n)) ∙ is)
 
 past_share : (setup : Setup) (events : List Event) (k : Member) (n : ℕ) → setup.places ≤ k.place → share_to setup events k n ≡ []
 past_share setup events k zero past = refl

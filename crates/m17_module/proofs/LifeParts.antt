@@ -15,6 +15,7 @@ use Rattle.m17_control.specs.declared.item.Said.{Said}
 use Rattle.m17_control.specs.declared.item.Said.TheVariants as said
 use Rattle.m17_floor.specs.Acts.{is_same, is_join_of, settles, moment_before, moment_at}
 use Rattle.m17_floor.specs.Floor.{admits, verdict_at}
+use Rattle.m17_module.specs.Setup.{floor_setup}
 use Rattle.m17_module.specs.declared.seat.Seat.{Seat}
 use Rattle.m17_module.specs.Events.{kind_of, acts_of}
 use Rattle.m17_module.specs.Seats.{seats_at, members_of, seat_in, if_of, seat_of, others_than}
@@ -189,55 +190,55 @@ greeted stays k m true seats placed unsettled =
     bye_part Replaced (if_of k (seat_in seats m.place)) stays
     (λ e. other_seat k seats m.place (get_or seats m.place None) placed refl (inl (λ same. true≢false (sym (eq-eqb m.place k.place (sym same)) ∙ unsettled e))))
 
-pub said_part : (places : ℕ) (events : List Event) (n : ℕ) (k : Member) (link : ℕ) (stays : Bool) (body : Body) → is_join_of k (kind_of body) ≡ false → (stays ≡ true → settles k (kind_of body) ≡ false) → IsPart (mine k (says (setting_at places events n link) body)) stays
-said_part places events n k link stays (Join m peer callsign l after) other unsettled =
-    subst (λ xs. IsPart xs stays) (sym (mine_greets k (seats_at places events n) (record { member = m; link = link; peer = peer; listens = l }) after other))
-    (greeted stays k m (nat_lt m.place (length (seats_at places events n))) (seats_at places events n) (placed places events n) unsettled)
-said_part places events n k link stays (Leave m why) other unsettled =
-    subst (λ xs. IsPart xs stays) (sym (mine_one (said.Bye why) k (seat_of (seats_at places events n) m)))
-    (bye_part why (if_of k (seat_of (seats_at places events n) m)) stays (λ e. if_of_if k m (get_or (seats_at places events n) m.place None) (inl (unsettled e))))
-said_part places events n k link stays (Packet m p) other unsettled =
-    subst (λ xs. IsPart xs stays) (sym (mine_relay k m n p (admits (verdict_at places (acts_of events) n)) places events))
+pub said_part : (setup : Setup) (events : List Event) (n : ℕ) (k : Member) (link : ℕ) (stays : Bool) (body : Body) → is_join_of k (kind_of body) ≡ false → (stays ≡ true → settles k (kind_of body) ≡ false) → IsPart (mine k (says (setting_at setup events n link) body)) stays
+said_part setup events n k link stays (Join m peer callsign l after) other unsettled =
+    subst (λ xs. IsPart xs stays) (sym (mine_greets k (seats_at setup.places events n) (record { member = m; link = link; peer = peer; listens = l }) after other))
+    (greeted stays k m (nat_lt m.place (length (seats_at setup.places events n))) (seats_at setup.places events n) (placed setup.places events n) unsettled)
+said_part setup events n k link stays (Leave m why) other unsettled =
+    subst (λ xs. IsPart xs stays) (sym (mine_one (said.Bye why) k (seat_of (seats_at setup.places events n) m)))
+    (bye_part why (if_of k (seat_of (seats_at setup.places events n) m)) stays (λ e. if_of_if k m (get_or (seats_at setup.places events n) m.place None) (inl (unsettled e))))
+said_part setup events n k link stays (Packet m p) other unsettled =
+    subst (λ xs. IsPart xs stays) (sym (mine_relay k m n p (admits (verdict_at (floor_setup setup) (acts_of events) n)) setup.places events))
     (quiet_part (said.Frame n p) _ stays refl refl)
-said_part places events n k link stays (Reply m control) other unsettled =
-    subst (λ xs. IsPart xs stays) (sym (mine_one (said.Reply control) k (seat_of (seats_at places events n) m)))
+said_part setup events n k link stays (Reply m control) other unsettled =
+    subst (λ xs. IsPart xs stays) (sym (mine_one (said.Reply control) k (seat_of (seats_at setup.places events n) m)))
     (quiet_part (said.Reply control) _ stays refl refl)
-said_part places events n k link stays Tick other unsettled = empty_part stays
-said_part places events n k link stays Stop other unsettled = empty_part stays
+said_part setup events n k link stays Tick other unsettled = empty_part stays
+said_part setup events n k link stays Stop other unsettled = empty_part stays
 
 -- what a position gives to a member that is not in, and does not join by it: nothing
 pub none_same : (n : ℕ) (p : StreamPacket) (b : Bool) → to_one (said.Frame n p) (cond b None None) ≡ []
 none_same n p true = refl
 none_same n p false = refl
 
-pub said_nothing : (places : ℕ) (events : List Event) (n : ℕ) (k : Member) (link : ℕ) (body : Body) → seat_of (seats_at places events n) k ≡ None → is_join_of k (kind_of body) ≡ false → mine k (says (setting_at places events n link) body) ≡ []
-said_nothing places events n k link (Join m peer callsign l after) free other =
-    mine_greets k (seats_at places events n) (record { member = m; link = link; peer = peer; listens = l }) after other
-    ∙ ap (λ o. cond (nat_lt m.place (length (seats_at places events n))) (to_one (said.Bye Replaced) o) []) (other_seat k (seats_at places events n) m.place (get_or (seats_at places events n) m.place None) (placed places events n) refl (inr free))
-    ∙ cond_same (nat_lt m.place (length (seats_at places events n)))
-said_nothing places events n k link (Leave m why) free other =
-    mine_one (said.Bye why) k (seat_of (seats_at places events n) m)
-    ∙ ap (to_one (said.Bye why)) (if_of_if k m (get_or (seats_at places events n) m.place None) (inr (other_seat k (seats_at places events n) m.place (get_or (seats_at places events n) m.place None) (placed places events n) refl (inr free))))
-said_nothing places events n k link (Packet m p) free other =
-    mine_relay k m n p (admits (verdict_at places (acts_of events) n)) places events
-    ∙ ap (λ o. to_one (said.Frame n p) (cond (admits (verdict_at places (acts_of events) n) && not (is_same m k)) o None)) free
-    ∙ none_same n p (admits (verdict_at places (acts_of events) n) && not (is_same m k))
-said_nothing places events n k link (Reply m control) free other =
-    mine_one (said.Reply control) k (seat_of (seats_at places events n) m)
-    ∙ ap (to_one (said.Reply control)) (if_of_if k m (get_or (seats_at places events n) m.place None) (inr (other_seat k (seats_at places events n) m.place (get_or (seats_at places events n) m.place None) (placed places events n) refl (inr free))))
-said_nothing places events n k link Tick free other = refl
-said_nothing places events n k link Stop free other = refl
+pub said_nothing : (setup : Setup) (events : List Event) (n : ℕ) (k : Member) (link : ℕ) (body : Body) → seat_of (seats_at setup.places events n) k ≡ None → is_join_of k (kind_of body) ≡ false → mine k (says (setting_at setup events n link) body) ≡ []
+said_nothing setup events n k link (Join m peer callsign l after) free other =
+    mine_greets k (seats_at setup.places events n) (record { member = m; link = link; peer = peer; listens = l }) after other
+    ∙ ap (λ o. cond (nat_lt m.place (length (seats_at setup.places events n))) (to_one (said.Bye Replaced) o) []) (other_seat k (seats_at setup.places events n) m.place (get_or (seats_at setup.places events n) m.place None) (placed setup.places events n) refl (inr free))
+    ∙ cond_same (nat_lt m.place (length (seats_at setup.places events n)))
+said_nothing setup events n k link (Leave m why) free other =
+    mine_one (said.Bye why) k (seat_of (seats_at setup.places events n) m)
+    ∙ ap (to_one (said.Bye why)) (if_of_if k m (get_or (seats_at setup.places events n) m.place None) (inr (other_seat k (seats_at setup.places events n) m.place (get_or (seats_at setup.places events n) m.place None) (placed setup.places events n) refl (inr free))))
+said_nothing setup events n k link (Packet m p) free other =
+    mine_relay k m n p (admits (verdict_at (floor_setup setup) (acts_of events) n)) setup.places events
+    ∙ ap (λ o. to_one (said.Frame n p) (cond (admits (verdict_at (floor_setup setup) (acts_of events) n) && not (is_same m k)) o None)) free
+    ∙ none_same n p (admits (verdict_at (floor_setup setup) (acts_of events) n) && not (is_same m k))
+said_nothing setup events n k link (Reply m control) free other =
+    mine_one (said.Reply control) k (seat_of (seats_at setup.places events n) m)
+    ∙ ap (to_one (said.Reply control)) (if_of_if k m (get_or (seats_at setup.places events n) m.place None) (inr (other_seat k (seats_at setup.places events n) m.place (get_or (seats_at setup.places events n) m.place None) (placed setup.places events n) refl (inr free))))
+said_nothing setup events n k link Tick free other = refl
+said_nothing setup events n k link Stop free other = refl
 
 -- its own Join gives it the Hello
-pub said_hello : (places : ℕ) (events : List Event) (n : ℕ) (k : Member) (link : ℕ) (body : Body) → seat_of (seats_at places events n) k ≡ None → k.place < places → is_join_of k (kind_of body) ≡ true → (hello : Item) × (is_hello hello.body ≡ true) × (mine k (says (setting_at places events n link) body) ≡ hello ∷ [])
-said_hello places events n k link (Join m peer callsign l after) free below is =
+pub said_hello : (setup : Setup) (events : List Event) (n : ℕ) (k : Member) (link : ℕ) (body : Body) → seat_of (seats_at setup.places events n) k ≡ None → k.place < setup.places → is_join_of k (kind_of body) ≡ true → (hello : Item) × (is_hello hello.body ≡ true) × (mine k (says (setting_at setup events n link) body) ≡ hello ∷ [])
+said_hello setup events n k link (Join m peer callsign l after) free below is =
     let seat : Seat = record { member = m; link = link; peer = peer; listens = l } in
-    (item_to (said.Hello after) seat, refl, own_greets k (seats_at places events n) seat after (same_from_is_same m k is) (omega (arith, length_seats places events n)) free)
-said_hello places events n k link (Leave m why) free below is = cc
-said_hello places events n k link (Packet m p) free below is = cc
-said_hello places events n k link (Reply m control) free below is = cc
-said_hello places events n k link Tick free below is = cc
-said_hello places events n k link Stop free below is = cc
+    (item_to (said.Hello after) seat, refl, own_greets k (seats_at setup.places events n) seat after (same_from_is_same m k is) (omega (arith, length_seats setup.places events n)) free)
+said_hello setup events n k link (Leave m why) free below is = cc
+said_hello setup events n k link (Packet m p) free below is = cc
+said_hello setup events n k link (Reply m control) free below is = cc
+said_hello setup events n k link Tick free below is = cc
+said_hello setup events n k link Stop free below is = cc
 
 -- an echo for the member is neither Hello nor Bye, and it is in
 abbrev echo_of : Member → ℕ → List (Option Seat) → Bool → Option (Member × StreamPacket) → List Item
@@ -262,12 +263,12 @@ echo_away k places events n true (Some e) free =
 
 pub no_echo_hello : (setup : Setup) (events : List Event) (n : ℕ) (k : Member) → hellos (mine k (echoes_at setup events n)) ≡ []
 unfolding echoes_at
-no_echo_hello setup events n k = echo_hellos k n (seats_at setup.places events n) setup.parrot (echo_at setup.places (acts_of events) n)
+no_echo_hello setup events n k = echo_hellos k n (seats_at setup.places events n) setup.parrot (echo_at setup (acts_of events) n)
 
 pub no_echo_bye : (setup : Setup) (events : List Event) (n : ℕ) (k : Member) → byes (mine k (echoes_at setup events n)) ≡ []
 unfolding echoes_at
-no_echo_bye setup events n k = echo_byes k n (seats_at setup.places events n) setup.parrot (echo_at setup.places (acts_of events) n)
+no_echo_bye setup events n k = echo_byes k n (seats_at setup.places events n) setup.parrot (echo_at setup (acts_of events) n)
 
 pub no_echo_away : (setup : Setup) (events : List Event) (n : ℕ) (k : Member) → seat_of (seats_at setup.places events n) k ≡ None → mine k (echoes_at setup events n) ≡ []
 unfolding echoes_at
-no_echo_away setup events n k free = echo_away k setup.places events n setup.parrot (echo_at setup.places (acts_of events) n) free
+no_echo_away setup events n k free = echo_away k setup.places events n setup.parrot (echo_at setup (acts_of events) n) free

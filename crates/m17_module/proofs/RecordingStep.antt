@@ -1,58 +1,16 @@
 -- What the code records is what is recorded one event further on.
-use Rattle.std.proofs.Common.{◌≡◌, ℕ, ◌+◌, ◌-◌, ◌≤◌, ◌||◌, Bool, true, false, cond, List, [], ◌∷◌, ◌++◌, length, take, nat_lt, nat_le, is_some, is_none, option_map, Option, None, Some, refl, ap, sym, ◌∙◌, arith, inl, inr}
+use Rattle.std.proofs.Common.{◌≡◌, ℕ, ◌+◌, ◌-◌, ◌≤◌, ◌||◌, Bool, true, false, cond, List, [], ◌∷◌, ◌++◌, length, take, nat_lt, is_some, Option, None, Some, refl, ap, sym, ◌∙◌, arith, inl, inr}
 use Rattle.std.specs.Option.{option_or}
 use Rattle.std.proofs.lemmas.Bool.{cond-true, cond-false, cases_lt, lt-ltb}
 use Rattle.std.proofs.lemmas.Bool.Decides.{nat_tests}
 use Rattle.std.proofs.lemmas.List.{append-nil, take_all, take-append-le}
 use Rattle.m17_values.specs.declared.member.Member.{Member}
 use Rattle.m17_stream.specs.declared.packet.StreamPacket.{StreamPacket}
-use Rattle.m17_floor.specs.Rule.{Frame, floor_timeout_ms, only_if, has_floor}
 use Rattle.m17_parrot.specs.Recording.{Recording, most_frames, begun, closed, due_of, with_given}
 use Rattle.m17_module.specs.Echoes.{closed_if}
-use Rattle.m17_module.specs.Following.{held_by, recorded_by, turned, ended, extended}
+use Rattle.m17_module.specs.Following.{ended, extended}
 use Rattle.m17_module.proofs.Below.{length_more}
 use Rattle.m17_module.proofs.EchoesMore.{moved}
-
--- a close that is there stays
-closed_stays : (at c : ℕ) (r : Recording) → r.close ≡ Some c → closed at r ≡ r
-closed_stays at c r e =
-    let put : Option ℕ → Recording = λ close. record { member = r.member; frames = r.frames; close = close; given = r.given } in
-    ap (λ close. put (option_or close (Some at))) e ∙ ap put (sym e)
-
-stays_closed : (at c : ℕ) (b s : Bool) (r : Recording) → r.close ≡ Some c → cond b (Some (closed at r)) (Some r) ≡ Some (cond s (closed at r) r)
-stays_closed at c true true r e = refl
-stays_closed at c true false r e = ap Some (closed_stays at c r e)
-stays_closed at c false true r e = ap Some (sym (closed_stays at c r e))
-stays_closed at c false false r e = refl
-
-abbrev whose : Frame → Member × ℕ
-whose frame = (frame.member, frame.at)
-
-closed_by : (at heard : ℕ) (r : Recording) (o : Option ℕ) → r.close ≡ o → recorded_by heard (Some (closed at r)) ≡ None
-closed_by at heard r None e = ap (λ close. cond (is_none (option_or close (Some at))) (Some (r.member, heard)) None) e
-closed_by at heard r (Some c) e = ap (λ close. cond (is_none (option_or close (Some at))) (Some (r.member, heard)) None) e
-
-open_by : (heard : ℕ) (r : Recording) → r.close ≡ None → recorded_by heard (Some r) ≡ Some (r.member, heard)
-open_by heard r e = ap (λ close. cond (is_none close) (Some (r.member, heard)) None) e
-
-silent_is : (at heard : ℕ) (b : Bool) (r : Recording) (o : Option Frame) → r.close ≡ None → recorded_by heard (cond b (Some (closed at r)) (Some r)) ≡ option_map whose o → cond b (Some (closed at r)) (Some r) ≡ Some (cond (is_none o) (closed at r) r)
-silent_is at heard true r None e t = refl
-silent_is at heard false r (Some f) e t = refl
-silent_is at heard true r (Some f) e t = let never : ◌≡◌ {A = Option (Member × ℕ)} None (Some (whose f)) = sym (closed_by at heard r None e) ∙ t in cc
-silent_is at heard false r None e t = let never : ◌≡◌ {A = Option (Member × ℕ)} (Some (r.member, heard)) None = sym (open_by heard r e) ∙ t in cc
-
--- a recording is closed in time exactly where nobody has the floor
-turned_cases : (at heard : ℕ) (b : Bool) (r : Recording) (close : Option ℕ) (o : Option Frame) → r.close ≡ close → recorded_by heard (cond b (Some (closed at r)) (Some r)) ≡ option_map whose o → cond b (Some (closed at r)) (Some r) ≡ Some (cond (is_none o) (closed at r) r)
-turned_cases at heard b r None o e t = silent_is at heard b r o e t
-turned_cases at heard b r (Some c) o e t = stays_closed at c b (is_none o) r e
-
-cond_none : (b : Bool) → ◌≡◌ {A = Option Recording} (cond b None None) None
-cond_none true = refl
-cond_none false = refl
-
-pub turned_is : (at heard : ℕ) (floor : Option Frame) (recording : Option Recording) → recorded_by heard (turned heard at recording) ≡ held_by at floor → turned heard at recording ≡ option_map (closed_if (is_none (only_if (has_floor at) floor)) at) recording
-turned_is at heard floor None t = cond_none (nat_le floor_timeout_ms (at - heard))
-turned_is at heard floor (Some r) t = turned_cases at heard (nat_le floor_timeout_ms (at - heard)) r r.close (only_if (has_floor at) floor) refl t
 
 -- what is moved on, field by field
 abbrev made : Member → List StreamPacket → Option ℕ → ℕ → Recording

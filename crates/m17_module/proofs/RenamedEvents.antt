@@ -12,6 +12,7 @@ use Rattle.m17_floor.specs.declared.act.Act.{Act}
 use Rattle.m17_floor.specs.Renamed as floor
 use Rattle.m17_floor.specs.Renamed.{IsRenamedKind, unnamed_verdict}
 use Rattle.m17_floor.specs.Laws as floor_law
+use Rattle.m17_module.specs.Setup.{floor_setup}
 use Rattle.m17_module.specs.Events.{kind_of, acts_of}
 use Rattle.m17_module.specs.Laws.{AreFreelyRenamed, RenamingChangesNoVerdict}
 use Rattle.m17_module.proofs.Acts.{kind_from, kind_at_is}
@@ -134,4 +135,4 @@ acts_renamed stands places events others r = record {
 }
 
 pub verdict_renamed : floor_law.RenamingChangesNoVerdict → RenamingChangesNoVerdict
-verdict_renamed law stands places events others r n = law stands places (acts_of events) (acts_of others) (acts_renamed stands places events others r) n
+verdict_renamed law stands setup events others r n = law stands (floor_setup setup) (acts_of events) (acts_of others) (acts_renamed stands setup.places events others r) n

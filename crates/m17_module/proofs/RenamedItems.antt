@@ -120,8 +120,8 @@ echoes_reach : FloorRenamed → (stands : Member → Member → Bool) (setup : S
 unfolding echoes_at
 echoes_reach law stands setup events others n these name r h =
     if_reaches these name setup.parrot _ _
-    (echo_reaches law stands setup.places events others n these name (echo_at setup.places (acts_of events) n) (echo_at setup.places (acts_of others) n) r
-    (echo_renamed law stands setup.places (acts_of events) (acts_of others) n (acts_renamed stands setup.places events others r) (omega (arith, length_acts events))))
+    (echo_reaches law stands setup.places events others n these name (echo_at setup (acts_of events) n) (echo_at setup (acts_of others) n) r
+    (echo_renamed law stands setup (acts_of events) (acts_of others) n (acts_renamed stands setup.places events others r) (omega (arith, length_acts events))))
 
 -- what the event itself says
 abbrev setting : List (Option Seat) → ℕ → ℕ → Bool → Setting
@@ -154,33 +154,33 @@ frames_reach law stands places events others n these name k k' p r h =
     ∙ sym (count_filtered its who (members_of (seats_at places others n))))
     ∙ sym (all_reach these name (said.Frame n p) (others_than k' (seats_at places others n)))
 
-says_reach : FloorRenamed → (stands : Member → Member → Bool) (places : ℕ) (events others : List Event) (n : ℕ) (these : Peer → Bool) (name link : ℕ) (a b : Body) → AreFreelyRenamed stands places events others → IsRenamedBody stands a b → kind_at (acts_of events) n ≡ kind_of a → kind_at (acts_of others) n ≡ kind_of b → reaching these name (says (setting_at places events n link) a) ≡ reaching these name (says (setting_at places others n link) b)
-says_reach law stands places events others n these name link (body.Join k x c l after) (body.Join k' x' c' l' after') r h e e' =
-    let below : k.place < length (seats_at places events n) = omega (arith, (free_acts places events r.free n k l e).below, length_seats places events n) in
-    let below' : k'.place < length (seats_at places others n) = omega (arith, (free_acts places others r.free_others n k' l' e').below, length_seats places others n) in
-    greeting these name (seats_at places events n) (record { member = k; link = link; peer = x; listens = l }) after below
+says_reach : FloorRenamed → (stands : Member → Member → Bool) (setup : Setup) (events others : List Event) (n : ℕ) (these : Peer → Bool) (name link : ℕ) (a b : Body) → AreFreelyRenamed stands setup.places events others → IsRenamedBody stands a b → kind_at (acts_of events) n ≡ kind_of a → kind_at (acts_of others) n ≡ kind_of b → reaching these name (says (setting_at setup events n link) a) ≡ reaching these name (says (setting_at setup others n link) b)
+says_reach law stands setup events others n these name link (body.Join k x c l after) (body.Join k' x' c' l' after') r h e e' =
+    let below : k.place < length (seats_at setup.places events n) = omega (arith, (free_acts setup.places events r.free n k l e).below, length_seats setup.places events n) in
+    let below' : k'.place < length (seats_at setup.places others n) = omega (arith, (free_acts setup.places others r.free_others n k' l' e').below, length_seats setup.places others n) in
+    greeting these name (seats_at setup.places events n) (record { member = k; link = link; peer = x; listens = l }) after below
     ∙ ap (λ peer. cons_option (cond (these peer) (packet_said (said.Hello after) name) None) []) h.1
-    ∙ sym (greeting these name (seats_at places others n) (record { member = k'; link = link; peer = x'; listens = l' }) after' below')
-says_reach law stands places events others n these name link (body.Leave k why) (body.Leave k' why') r h e e' =
-    one_reaches stands these name (said.Bye why) (said.Bye why') (seat_of (seats_at places events n) k) (seat_of (seats_at places others n) k') (ap (λ w. packet_said (said.Bye w) name) h.1) (seat_like law stands places events others n k k' r h.0)
-says_reach law stands places events others n these name link (body.Packet k p) (body.Packet k' p') r h e e' =
-    ap (λ b. reaching these name (cond b (map (item_to (said.Frame n p)) (others_than k (seats_at places events n))) [])) (admitted_renamed law stands places (acts_of events) (acts_of others) n (acts_renamed stands places events others r))
-    ∙ if_reaches these name (is_admitted_at places (acts_of others) n) _ _ (frames_reach law stands places events others n these name k k' p r h.0)
-    ∙ ap (λ q. reaching these name (cond (is_admitted_at places (acts_of others) n) (map (item_to (said.Frame n q)) (others_than k' (seats_at places others n))) [])) h.1
-says_reach law stands places events others n these name link (body.Reply k c) (body.Reply k' c') r h e e' =
-    one_reaches stands these name (said.Reply c) (said.Reply c') (seat_of (seats_at places events n) k) (seat_of (seats_at places others n) k') (ap (λ w. packet_said (said.Reply w) name) h.1) (seat_like law stands places events others n k k' r h.0)
-says_reach law stands places events others n these name link body.Tick body.Tick r h e e' = refl
-says_reach law stands places events others n these name link body.Stop body.Stop r h e e' = refl
-says_reach law stands places events others n these name link _ _ r h e e' = absurd h
+    ∙ sym (greeting these name (seats_at setup.places others n) (record { member = k'; link = link; peer = x'; listens = l' }) after' below')
+says_reach law stands setup events others n these name link (body.Leave k why) (body.Leave k' why') r h e e' =
+    one_reaches stands these name (said.Bye why) (said.Bye why') (seat_of (seats_at setup.places events n) k) (seat_of (seats_at setup.places others n) k') (ap (λ w. packet_said (said.Bye w) name) h.1) (seat_like law stands setup.places events others n k k' r h.0)
+says_reach law stands setup events others n these name link (body.Packet k p) (body.Packet k' p') r h e e' =
+    ap (λ b. reaching these name (cond b (map (item_to (said.Frame n p)) (others_than k (seats_at setup.places events n))) [])) (admitted_renamed law stands setup (acts_of events) (acts_of others) n (acts_renamed stands setup.places events others r))
+    ∙ if_reaches these name (is_admitted_at setup (acts_of others) n) _ _ (frames_reach law stands setup.places events others n these name k k' p r h.0)
+    ∙ ap (λ q. reaching these name (cond (is_admitted_at setup (acts_of others) n) (map (item_to (said.Frame n q)) (others_than k' (seats_at setup.places others n))) [])) h.1
+says_reach law stands setup events others n these name link (body.Reply k c) (body.Reply k' c') r h e e' =
+    one_reaches stands these name (said.Reply c) (said.Reply c') (seat_of (seats_at setup.places events n) k) (seat_of (seats_at setup.places others n) k') (ap (λ w. packet_said (said.Reply w) name) h.1) (seat_like law stands setup.places events others n k k' r h.0)
+says_reach law stands setup events others n these name link body.Tick body.Tick r h e e' = refl
+says_reach law stands setup events others n these name link body.Stop body.Stop r h e e' = refl
+says_reach law stands setup events others n these name link _ _ r h e e' = absurd h
 
-said_reaches : FloorRenamed → (stands : Member → Member → Bool) (places : ℕ) (events others : List Event) (n : ℕ) (these : Peer → Bool) (name : ℕ) (a b : Option Event) → AreFreelyRenamed stands places events others → IsRenamedAt stands a b → slice_get events n ≡ a → slice_get others n ≡ b → reaching these name (said_by places events n a) ≡ reaching these name (said_by places others n b)
-said_reaches law stands places events others n these name None None r h e e' = refl
-said_reaches law stands places events others n these name (Some a) (Some b) r h e e' =
-    ap (λ t. reaching these name (says (setting_at places events n t.link) a.body)) h.tag
-    ∙ says_reach law stands places events others n these name b.tag.link a.body b.body r h.what
+said_reaches : FloorRenamed → (stands : Member → Member → Bool) (setup : Setup) (events others : List Event) (n : ℕ) (these : Peer → Bool) (name : ℕ) (a b : Option Event) → AreFreelyRenamed stands setup.places events others → IsRenamedAt stands a b → slice_get events n ≡ a → slice_get others n ≡ b → reaching these name (said_by setup events n a) ≡ reaching these name (said_by setup others n b)
+said_reaches law stands setup events others n these name None None r h e e' = refl
+said_reaches law stands setup events others n these name (Some a) (Some b) r h e e' =
+    ap (λ t. reaching these name (says (setting_at setup events n t.link) a.body)) h.tag
+    ∙ says_reach law stands setup events others n these name b.tag.link a.body b.body r h.what
     (kind_at_is events n ∙ ap kind_from e) (kind_at_is others n ∙ ap kind_from e')
-said_reaches law stands places events others n these name None (Some b) r h e e' = absurd h
-said_reaches law stands places events others n these name (Some a) None r h e e' = absurd h
+said_reaches law stands setup events others n these name None (Some b) r h e e' = absurd h
+said_reaches law stands setup events others n these name (Some a) None r h e e' = absurd h
 
 three : (these : Peer → Bool) (name : ℕ) (xs ys zs : List Item) → reaching these name (xs ++ ys ++ zs) ≡ (reaching these name xs ++ reaching these name ys) ++ reaching these name zs
 three these name xs ys zs =
@@ -190,11 +190,11 @@ three these name xs ys zs =
 at_reaches : FloorRenamed → (stands : Member → Member → Bool) (setup : Setup) (events others : List Event) (n : ℕ) (these : Peer → Bool) (name : ℕ) → AreFreelyRenamed stands setup.places events others → n ≤ length events → reaching these name (items_at setup events n) ≡ reaching these name (items_at setup others n)
 unfolding items_at said_at
 at_reaches law stands setup events others n these name r h =
-    three these name (pings_at setup.places events n) (echoes_at setup events n) (said_by setup.places events n (slice_get events n))
-    ∙ ap (λ xs. (xs ++ reaching these name (echoes_at setup events n)) ++ reaching these name (said_by setup.places events n (slice_get events n))) (pings_reach law stands setup.places events others n these name r)
-    ∙ ap (λ xs. (reaching these name (pings_at setup.places others n) ++ xs) ++ reaching these name (said_by setup.places events n (slice_get events n))) (echoes_reach law stands setup events others n these name r h)
-    ∙ ap (λ xs. (reaching these name (pings_at setup.places others n) ++ reaching these name (echoes_at setup others n)) ++ xs) (said_reaches law stands setup.places events others n these name (slice_get events n) (slice_get others n) r (renamed_at stands events others n r.renamed) refl refl)
-    ∙ sym (three these name (pings_at setup.places others n) (echoes_at setup others n) (said_by setup.places others n (slice_get others n)))
+    three these name (pings_at setup.places events n) (echoes_at setup events n) (said_by setup events n (slice_get events n))
+    ∙ ap (λ xs. (xs ++ reaching these name (echoes_at setup events n)) ++ reaching these name (said_by setup events n (slice_get events n))) (pings_reach law stands setup.places events others n these name r)
+    ∙ ap (λ xs. (reaching these name (pings_at setup.places others n) ++ xs) ++ reaching these name (said_by setup events n (slice_get events n))) (echoes_reach law stands setup events others n these name r h)
+    ∙ ap (λ xs. (reaching these name (pings_at setup.places others n) ++ reaching these name (echoes_at setup others n)) ++ xs) (said_reaches law stands setup events others n these name (slice_get events n) (slice_get others n) r (renamed_at stands events others n r.renamed) refl refl)
+    ∙ sym (three these name (pings_at setup.places others n) (echoes_at setup others n) (said_by setup others n (slice_get others n)))
 
 reaching_flat : (these : Peer → Bool) (name : ℕ) (f : ℕ → List Item) (ns : List ℕ) → reaching these name (flat_map f ns) ≡ flat_map (λ n. reaching these name (f n)) ns
 reaching_flat these name f [] = refl

@@ -1,183 +1,136 @@
--- A recording goes on exactly where somebody has the floor, and is that one's.
-use Rattle.std.proofs.Common.{◌≡◌, ℕ, ◌-◌, ◌≤◌, ◌&&◌, Bool, true, false, not, cond, List, length, nat_lt, nat_le, is_some, is_none, option_map, [], ◌∷◌, ◌++◌, inl, inr, Option, None, Some, refl, ap, sym, ◌∙◌, arith}
-use Rattle.std.specs.Option.{option_and_then, option_or}
+-- Whoever has the floor is recorded, as time goes on and as somebody leaves.
+use Rattle.std.proofs.Common.{◌≡◌, ℕ, ◌-◌, ◌≤◌, ◌&&◌, Bool, true, false, not, cond, List, nat_lt, nat_le, is_none, is_some, option_map, Option, None, Some, refl, ap, sym, ◌∙◌, arith, ◌==◌, ◌∷◌, [], ◌++◌, length}
+use Rattle.std.specs.Option.{option_and_then}
 use Rattle.std.proofs.lemmas.Option.{same_Some}
-use Rattle.std.proofs.lemmas.Bool.{cond-true, cond-false, cases_lt, lt-ltb, le-leb}
 use Rattle.std.proofs.lemmas.Bool.Decides.{nat_tests}
 use Rattle.m17_values.specs.declared.member.Member.{Member}
 use Rattle.m17_stream.specs.declared.packet.StreamPacket.{StreamPacket}
 use Rattle.m17_floor.specs.Acts.{is_same}
-use Rattle.m17_floor.specs.Rule.{Frame, floor_timeout_ms, incoming, frame_from, only_if, has_floor}
-use Rattle.m17_floor.specs.StandsFor.{without}
-use Rattle.m17_parrot.specs.Recording.{Recording, most_frames, begun, goes_on, is_going_on, with_frame, closed, unless_of, due_of, with_given}
-use Rattle.m17_module.specs.Following.{held_by, recorded_by, turned, extended, unless_any, without_any}
+use Rattle.m17_floor.specs.Rule.{Frame, FloorState, floor_timeout_ms, has_run_out, only_if, has_floor}
+use Rattle.m17_parrot.specs.Recording.{Recording, most_frames, closed, goes_on, is_going_on, with_frame, unless_of, due_of, with_given}
+use Rattle.m17_module.specs.Echoes.{closed_if}
+use Rattle.m17_module.specs.Following.{holder_then, recorded_by, RecordsHolder, turned, extended, unless_any, without_any}
 
--- who it is, if it goes on
-abbrev going : Member → ℕ → Option ℕ → Option (Member × ℕ)
-going k heard close = cond (is_none close) (Some (k, heard)) None
+-- whose a frame is
+abbrev pub member_of : Frame → Member
+member_of frame = frame.member
 
--- closed where nothing was heard for so long
-closed_going : (k : Member) (heard at : ℕ) (close : Option ℕ) → going k heard (option_or close (Some at)) ≡ None
-closed_going k heard at None = refl
-closed_going k heard at (Some c) = refl
+-- a frame that has the floor had it before
+still : (last p q r s : Bool) → (p ≡ true → q ≡ true) → (r ≡ true → s ≡ true) → (not last && p && r) ≡ true → (not last && q && s) ≡ true
+still true p q r s pq rs e = cc
+still false false q r s pq rs e = cc
+still false true q false s pq rs e = cc
+still false true q true s pq rs e = ap (λ x. not false && x && s) (pq refl) ∙ ap (λ x. not false && true && x) (rs refl)
 
-turned_some : (heard at : ℕ) (b : Bool) (r : Recording) → recorded_by heard (cond b (Some (closed at r)) (Some r)) ≡ cond b None (recorded_by heard (Some r))
-turned_some heard at true r = closed_going r.member heard at r.close
-turned_some heard at false r = refl
+lt_earlier : (before at t n : ℕ) → before ≤ at → nat_lt (at - t) n ≡ true → nat_lt (before - t) n ≡ true
+lt_earlier before at t n le e = grind (arith, nat_tests)
 
-cond_none : (b : Bool) → ◌≡◌ {A = Option Recording} (cond b None None) None
-cond_none true = refl
-cond_none false = refl
+le_earlier : (before at t n : ℕ) → before ≤ at → nat_le n (at - t) ≡ false → nat_le n (before - t) ≡ false
+le_earlier before at t n le e = grind (arith, nat_tests)
 
-cond_none_by : (b : Bool) → ◌≡◌ {A = Option (Member × ℕ)} (cond b None None) None
-cond_none_by true = refl
-cond_none_by false = refl
+is_false : (b : Bool) → not b ≡ true → b ≡ false
+is_false true e = cc
+is_false false e = refl
 
-turned_by : (heard at : ℕ) (recording : Option Recording) → recorded_by heard (turned heard at recording) ≡ cond (nat_le floor_timeout_ms (at - heard)) None (recorded_by heard recording)
-turned_by heard at None = ap (recorded_by heard) (cond_none (nat_le floor_timeout_ms (at - heard))) ∙ sym (cond_none_by (nat_le floor_timeout_ms (at - heard)))
-turned_by heard at (Some r) = turned_some heard at (nat_le floor_timeout_ms (at - heard)) r
+not_out : (z : Bool) (n before at t : ℕ) → before ≤ at → not (not z && nat_le n (at - t)) ≡ true → not (not z && nat_le n (before - t)) ≡ true
+not_out true n before at t le e = refl
+not_out false n before at t le e = ap (λ b. not b) (le_earlier before at t n le (is_false (nat_le n (at - t)) e))
 
-heard_then_is : (k m : Member) (heard at : ℕ) (close : Option ℕ) → going k heard close ≡ Some (m, at) → heard ≡ at
-heard_then_is k m heard at None e = ap (λ (x : Member × ℕ). x.1) (same_Some (k, heard) (m, at) e)
-heard_then_is k m heard at (Some c) e = cc
+held_earlier : (limit before at : ℕ) (f : Frame) → before ≤ at → has_floor limit at f ≡ true → has_floor limit before f ≡ true
+held_earlier limit before at f le e =
+    still f.last (nat_lt (at - f.at) floor_timeout_ms) (nat_lt (before - f.at) floor_timeout_ms) (not (has_run_out limit at f.opened)) (not (has_run_out limit before f.opened))
+    (lt_earlier before at f.at floor_timeout_ms le) (not_out (limit == 0) limit before at f.opened le) e
 
-heard_is : (heard : ℕ) (recording : Option Recording) (m : Member) (at : ℕ) → recorded_by heard recording ≡ Some (m, at) → heard ≡ at
-heard_is heard None m at e = cc
-heard_is heard (Some r) m at e = heard_then_is r.member m heard at r.close e
+held_cases : (b c : Bool) (f : Frame) (k : Member) → (b ≡ true → c ≡ true) → option_map member_of (cond b (Some f) None) ≡ Some k → option_map member_of (cond c (Some f) None) ≡ Some k
+held_cases false c f k bc e = cc
+held_cases true c f k bc e = ap (λ x. option_map member_of (cond x (Some f) None)) (bc refl) ∙ e
 
-abbrev whose : Frame → Member × ℕ
-whose frame = (frame.member, frame.at)
+held_frame : (limit before at : ℕ) (frame : Option Frame) (k : Member) → before ≤ at → option_map member_of (only_if (has_floor limit at) frame) ≡ Some k → option_map member_of (only_if (has_floor limit before) frame) ≡ Some k
+held_frame limit before at None k le e = e
+held_frame limit before at (Some f) k le e = held_cases (has_floor limit at f) (has_floor limit before f) f k (held_earlier limit before at f le) e
 
-pull : (b : Bool) (f : Frame) → option_map whose (cond b (Some f) None) ≡ cond b (Some (f.member, f.at)) None
-pull true f = refl
-pull false f = refl
+-- The time goes on.
+pub later_records : (before at : ℕ) (floor : FloorState) (recording : Option Recording) → before ≤ at → RecordsHolder before floor recording → RecordsHolder at floor recording
+later_records before at floor recording le h = λ k e. h k (held_frame floor.limit before at floor.frame k le e)
 
-nat_lt_false : (a b : ℕ) → b ≤ a → nat_lt a b ≡ false
-nat_lt_false a b h = grind (arith, nat_tests)
+-- What is closed where nobody has the floor isn't closed where somebody has it.
+turned_cases : (o : Option Frame) (at : ℕ) (recording : Option Recording) (k : Member) → option_map member_of o ≡ Some k → recorded_by recording ≡ Some k → recorded_by (option_map (closed_if (is_none o) at) recording) ≡ Some k
+turned_cases None at recording k e r = cc
+turned_cases (Some f) at None k e r = r
+turned_cases (Some f) at (Some x) k e r = r
 
-flipped : (a b : ℕ) (x : Option (Member × ℕ)) → cond (nat_le b a) None x ≡ cond (nat_lt a b) x None
-flipped a b x = elim (cases_lt a b) [
-  | inl below ↦ cond-false (nat_le b a) None x (grind (arith, nat_tests)) ∙ sym (cond-true (nat_lt a b) x None (lt-ltb a b below))
-  | inr above ↦ cond-true (nat_le b a) None x (le-leb b a above) ∙ sym (cond-false (nat_lt a b) x None (nat_lt_false a b above))
-]
+-- A frame that is given closes nothing.
+given_cases : (b : Bool) (x y : Recording) → recorded_by (Some x) ≡ recorded_by (Some y) → recorded_by (Some (cond b x y)) ≡ recorded_by (Some y)
+given_cases true x y e = e
+given_cases false x y e = refl
 
-not_before : (a b : ℕ) → nat_lt a b ≡ false → b ≤ a
-not_before a b h = grind (arith, nat_tests)
+given_by : (at : ℕ) (recording : Option Recording) → recorded_by (option_map (with_given at) recording) ≡ recorded_by recording
+given_by at None = refl
+given_by at (Some r) = given_cases (is_some (due_of at r)) _ r refl
 
-held_timed : (m : Member) (t before at heard : ℕ) (o : Option (Member × ℕ)) (b : Bool) → before ≤ at → (o ≡ Some (m, t) → heard ≡ t) → nat_lt (before - t) floor_timeout_ms ≡ b → o ≡ cond b (Some (m, t)) None → cond (nat_le floor_timeout_ms (at - heard)) None o ≡ cond (nat_lt (at - t) floor_timeout_ms) (Some (m, t)) None
-held_timed m t before at heard o false le is was e =
-    let over : floor_timeout_ms ≤ before - t = not_before (before - t) floor_timeout_ms was in
-    ap (cond (nat_le floor_timeout_ms (at - heard)) None) e ∙ cond_none_by (nat_le floor_timeout_ms (at - heard))
-    ∙ sym (cond-false (nat_lt (at - t) floor_timeout_ms) (Some (m, t)) None (nat_lt_false (at - t) floor_timeout_ms (omega arith)))
-held_timed m t before at heard o true le is was e =
-    ap (cond (nat_le floor_timeout_ms (at - heard)) None) e
-    ∙ ap (λ h. cond (nat_le floor_timeout_ms (at - h)) None (Some (m, t))) (is e)
-    ∙ flipped (at - t) floor_timeout_ms (Some (m, t))
+pub turned_records : (at : ℕ) (floor : FloorState) (recording given : Option Recording) → given ≡ option_map (with_given at) (turned at floor recording) → RecordsHolder at floor recording → RecordsHolder at floor given
+turned_records at floor recording given is h = λ k e.
+    ap recorded_by is ∙ given_by at (turned at floor recording) ∙ turned_cases (holder_then at floor) at recording k e (h k e)
 
-held_later : (m : Member) (t before at heard : ℕ) (o : Option (Member × ℕ)) (last : Bool) → before ≤ at → (o ≡ Some (m, t) → heard ≡ t) → o ≡ cond (not last && nat_lt (before - t) floor_timeout_ms) (Some (m, t)) None → cond (nat_le floor_timeout_ms (at - heard)) None o ≡ cond (not last && nat_lt (at - t) floor_timeout_ms) (Some (m, t)) None
-held_later m t before at heard o true le is e = ap (cond (nat_le floor_timeout_ms (at - heard)) None) e ∙ cond_none_by (nat_le floor_timeout_ms (at - heard))
-held_later m t before at heard o false le is e = held_timed m t before at heard o (nat_lt (before - t) floor_timeout_ms) le is refl e
+-- Who leaves has no floor.
+frame_cases : (b : Bool) (m : Member) (f : Frame) (k : Member) → is_same m f.member ≡ false → option_map member_of (cond b (Some f) None) ≡ Some k → is_same m k ≡ false
+frame_cases false m f k other e = cc
+frame_cases true m f k other e = ap (is_same m) (sym (same_Some f.member k e)) ∙ other
 
-turned_floor : (before at heard : ℕ) (floor : Option Frame) (o : Option (Member × ℕ)) → before ≤ at → ((m : Member) (t : ℕ) → o ≡ Some (m, t) → heard ≡ t) → o ≡ held_by before floor → cond (nat_le floor_timeout_ms (at - heard)) None o ≡ held_by at floor
-turned_floor before at heard None o le is e = ap (cond (nat_le floor_timeout_ms (at - heard)) None) e ∙ cond_none_by (nat_le floor_timeout_ms (at - heard))
-turned_floor before at heard (Some f) o le is e =
-    held_later f.member f.at before at heard o f.last le (is f.member f.at) (e ∙ pull (has_floor before f) f) ∙ sym (pull (has_floor at f) f)
+other_cases : (limit at : ℕ) (m : Member) (f : Frame) (k : Member) (b : Bool) → is_same m f.member ≡ b → option_map member_of (only_if (has_floor limit at) (cond (not b) (Some f) None)) ≡ Some k → (option_map member_of (only_if (has_floor limit at) (Some f)) ≡ Some k) × (is_same m k ≡ false)
+other_cases limit at m f k true same e = cc
+other_cases limit at m f k false other e = (e, frame_cases (has_floor limit at f) m f k other e)
 
--- The time goes on, and what nothing was heard of for so long is closed.
-pub turned_tuned : (before at heard : ℕ) (floor : Option Frame) (recording : Option Recording) → before ≤ at → recorded_by heard recording ≡ held_by before floor → recorded_by heard (turned heard at recording) ≡ held_by at floor
-turned_tuned before at heard floor recording le e =
-    turned_by heard at recording ∙ turned_floor before at heard floor (recorded_by heard recording) le (heard_is heard recording) e
+without_by : (limit at : ℕ) (m : Member) (frame : Option Frame) (k : Member) → option_map member_of (only_if (has_floor limit at) (only_if (λ f. not (is_same m f.member)) frame)) ≡ Some k → (option_map member_of (only_if (has_floor limit at) frame) ≡ Some k) × (is_same m k ≡ false)
+without_by limit at m None k e = cc
+without_by limit at m (Some f) k e = other_cases limit at m f k (is_same m f.member) refl e
 
--- A frame that is given changes neither.
-given_cases : (heard : ℕ) (b : Bool) (x y : Recording) → recorded_by heard (Some x) ≡ recorded_by heard (Some y) → recorded_by heard (Some (cond b x y)) ≡ recorded_by heard (Some y)
-given_cases heard true x y e = e
-given_cases heard false x y e = refl
+going_member : (b : Bool) (m k : Member) → cond b (Some m) None ≡ Some k → m ≡ k
+going_member false m k e = cc
+going_member true m k e = same_Some m k e
 
-pub given_by : (heard at : ℕ) (recording : Option Recording) → recorded_by heard (option_map (with_given at) recording) ≡ recorded_by heard recording
-given_by heard at None = refl
-given_by heard at (Some r) = given_cases heard (is_some (due_of at r)) _ r refl
+unless_by : (m k : Member) (recording : Option Recording) → is_same m k ≡ false → recorded_by recording ≡ Some k → recorded_by (option_and_then (unless_of m) recording) ≡ Some k
+unless_by m k None other e = cc
+unless_by m k (Some r) other e =
+    ap (λ b. recorded_by (cond b None (Some r))) (ap (is_same m) (going_member (goes_on r) r.member k e) ∙ other) ∙ e
 
--- Who leaves has neither.
-abbrev drop_if : Member → Option (Member × ℕ) → Option (Member × ℕ)
-drop_if m o = option_and_then (λ (x : Member × ℕ). cond (is_same m x.0) None (Some x)) o
+pub left_records : (at : ℕ) (leaver : Option Member) (floor : FloorState) (recording : Option Recording) → RecordsHolder at floor recording → RecordsHolder at (without_any leaver floor) (unless_any leaver recording)
+left_records at None floor recording h = h
+left_records at (Some m) floor recording h = λ k e.
+    let both = without_by floor.limit at m floor.frame k e in
+    unless_by m k recording both.1 (h k both.0)
 
-unless_cases : (heard : ℕ) (m k : Member) (close : Option ℕ) (b : Bool) (r : Recording) → r.member ≡ k → r.close ≡ close → is_same m k ≡ b → recorded_by heard (cond b None (Some r)) ≡ drop_if m (going k heard close)
-unless_cases heard m k None true r mk ck e = sym (cond-true (is_same m k) None (Some (k, heard)) e)
-unless_cases heard m k (Some c) true r mk ck e = refl
-unless_cases heard m k None false r mk ck e =
-    ap (λ close. going r.member heard close) ck ∙ ap (λ x. Some (x, heard)) mk ∙ sym (cond-false (is_same m k) None (Some (k, heard)) e)
-unless_cases heard m k (Some c) false r mk ck e = ap (λ close. going r.member heard close) ck
+-- A frame that has the floor when it is heard didn't end its stream.
+pub record IsOpenOf (last : Bool) (frame : Frame) (k : Member) : Type 0 where
+  pub goes_on : last ≡ false
+  pub mine : frame.member ≡ k
 
-unless_by : (heard : ℕ) (m : Member) (recording : Option Recording) → recorded_by heard (option_and_then (unless_of m) recording) ≡ drop_if m (recorded_by heard recording)
-unless_by heard m None = refl
-unless_by heard m (Some r) = unless_cases heard m r.member r.close (is_same m r.member) r refl refl refl
+open_cases : (last p r : Bool) (f : Frame) (k : Member) → option_map member_of (cond (not last && p && r) (Some f) None) ≡ Some k → IsOpenOf last f k
+open_cases true p r f k e = cc
+open_cases false false r f k e = cc
+open_cases false true false f k e = cc
+open_cases false true true f k e = record { goes_on = refl; mine = same_Some f.member k e }
 
-without_cases : (at : ℕ) (m : Member) (f : Frame) (b c : Bool) → is_same m f.member ≡ b → has_floor at f ≡ c → held_by at (cond (not b) (Some f) None) ≡ drop_if m (cond c (Some (f.member, f.at)) None)
-without_cases at m f true true e h = sym (cond-true (is_same m f.member) None (Some (f.member, f.at)) e)
-without_cases at m f true false e h = refl
-without_cases at m f false true e h = pull (has_floor at f) f ∙ cond-true (has_floor at f) (Some (f.member, f.at)) None h ∙ sym (cond-false (is_same m f.member) None (Some (f.member, f.at)) e)
-without_cases at m f false false e h = pull (has_floor at f) f ∙ cond-false (has_floor at f) (Some (f.member, f.at)) None h
+pub open_of : (limit at : ℕ) (f : Frame) (k : Member) → option_map member_of (only_if (has_floor limit at) (Some f)) ≡ Some k → IsOpenOf f.last f k
+open_of limit at f k e = open_cases f.last (nat_lt (at - f.at) floor_timeout_ms) (not (has_run_out limit at f.opened)) f k e
 
-without_by : (at : ℕ) (m : Member) (floor : Option Frame) → held_by at (without m floor) ≡ drop_if m (held_by at floor)
-without_by at m None = refl
-without_by at m (Some f) = without_cases at m f (is_same m f.member) (has_floor at f) refl refl ∙ ap (drop_if m) (sym (pull (has_floor at f) f))
+with_by : (b : Bool) (r : Recording) (frames : List StreamPacket) → recorded_by (Some (cond b (record r { frames = frames }) r)) ≡ recorded_by (Some r)
+with_by true r frames = refl
+with_by false r frames = refl
 
-pub left_tuned : (at heard : ℕ) (leaver : Option Member) (floor : Option Frame) (recording : Option Recording) → recorded_by heard recording ≡ held_by at floor → recorded_by heard (unless_any leaver recording) ≡ held_by at (without_any leaver floor)
-left_tuned at heard None floor recording e = e
-left_tuned at heard (Some m) floor recording e = unless_by heard m recording ∙ ap (drop_if m) e ∙ sym (without_by at m floor)
+pub extended_by : (at : ℕ) (p : StreamPacket) (r : Recording) (k : Member) → p.last ≡ false → recorded_by (Some r) ≡ Some k → recorded_by (Some (extended at p r)) ≡ Some k
+extended_by at p r k going e =
+    ap (λ b. recorded_by (Some (cond b (closed at (with_frame p r)) (with_frame p r)))) going
+    ∙ with_by (nat_lt (length r.frames) most_frames) r (r.frames ++ p ∷ []) ∙ e
 
--- A frame that is heard.
-goes_on_with : (p : StreamPacket) (b : Bool) (r : Recording) (frames : List StreamPacket) → goes_on (cond b (record r { frames = frames }) r) ≡ goes_on r
-goes_on_with p true r frames = refl
-goes_on_with p false r frames = refl
+pub more_by : (at : ℕ) (p : StreamPacket) (recording : Option Recording) (k : Member) → p.last ≡ false → recorded_by recording ≡ Some k → recorded_by (option_map (extended at p) recording) ≡ Some k
+more_by at p None k going e = cc
+more_by at p (Some r) k going e = extended_by at p r k going e
 
-member_with : (b : Bool) (r : Recording) (frames : List StreamPacket) → (cond b (record r { frames = frames }) r).member ≡ r.member
-member_with true r frames = refl
-member_with false r frames = refl
+going_cases : (b : Bool) (m k : Member) → cond b (Some m) None ≡ Some k → b ≡ true
+going_cases false m k e = cc
+going_cases true m k e = refl
 
-ended_by : (at : ℕ) (last : Bool) (r : Recording) (k : Member) → goes_on r ≡ true → r.member ≡ k → recorded_by at (Some (cond last (closed at r) r)) ≡ cond (not last) (Some (k, at)) None
-ended_by at true r k on mine = closed_going r.member at at r.close
-ended_by at false r k on mine = cond-true (goes_on r) (Some (r.member, at)) None on ∙ ap (λ x. Some (x, at)) mine
-
-now_held : (last : Bool) (at : ℕ) → (not last && nat_lt (at - at) floor_timeout_ms) ≡ not last
-now_held true at = refl
-now_held false at = lt-ltb (at - at) floor_timeout_ms (omega arith)
-
-extended_by : (at : ℕ) (p : StreamPacket) (r : Recording) (k : Member) → goes_on r ≡ true → r.member ≡ k → recorded_by at (Some (extended at p r)) ≡ held_by at (Some (frame_from (incoming k at p)))
-extended_by at p r k on mine =
-    let b : Bool = nat_lt (length r.frames) most_frames in
-    ended_by at p.last (with_frame p r) k (goes_on_with p b r (r.frames ++ p ∷ []) ∙ on) (member_with b r (r.frames ++ p ∷ []) ∙ mine)
-    ∙ ap (λ x. cond x (Some (k, at)) None) (sym (now_held p.last at))
-    ∙ sym (pull (has_floor at (frame_from (incoming k at p))) (frame_from (incoming k at p)))
-
-no_holder : (o : Option Frame) (k : Member) → None ≡ option_map whose o → option_map (λ (f : Frame). f.member) o ≡ Some k → ⊥
-no_holder None k e is = cc
-no_holder (Some f) k e is = cc
-
--- the recording that goes on is the speaker's
-going_is : (heard : ℕ) (k : Member) (close : Option ℕ) (r : Recording) (o : Option Frame) (m : Member) → going k heard close ≡ option_map whose o → option_map (λ (f : Frame). f.member) o ≡ Some m → (is_none close ≡ true) × (k ≡ m)
-going_is heard k close r None m e is = cc
-going_is heard k (Some c) r (Some f) m e is = cc
-going_is heard k None r (Some f) m e is =
-    (refl, ap (λ (x : Member × ℕ). x.0) (same_Some (k, heard) (f.member, f.at) e) ∙ same_Some f.member m is)
-
-pub record IsGoing (recording : Option Recording) (k : Member) : Type 0 where
-  pub going : Recording
-  pub is : recording ≡ Some going
-  pub on : goes_on going ≡ true
-  pub mine : going.member ≡ k
-
-pub speaker_is_recorded : (at heard : ℕ) (k : Member) (floor : Option Frame) (recording : Option Recording) → recorded_by heard recording ≡ held_by at floor → option_map (λ (f : Frame). f.member) (only_if (has_floor at) floor) ≡ Some k → IsGoing recording k
-speaker_is_recorded at heard k floor None e is = absurd (no_holder (only_if (has_floor at) floor) k e is)
-speaker_is_recorded at heard k floor (Some r) e is =
-    let both = going_is heard r.member r.close r (only_if (has_floor at) floor) k e is in
-    record { going = r; is = refl; on = both.0; mine = both.1 }
-
-pub going_on_is : (recording : Option Recording) (k : Member) → IsGoing recording k → is_going_on recording ≡ true
-going_on_is recording k h = ap is_going_on h.is ∙ h.on
-
-pub opened_tuned : (at : ℕ) (k : Member) (p : StreamPacket) → recorded_by at (Some (extended at p (begun k))) ≡ held_by at (Some (frame_from (incoming k at p)))
-opened_tuned at k p = extended_by at p (begun k) k refl refl
-
-pub continued_tuned : (at : ℕ) (k : Member) (p : StreamPacket) (recording : Option Recording) → IsGoing recording k → recorded_by at (option_map (extended at p) recording) ≡ held_by at (Some (frame_from (incoming k at p)))
-continued_tuned at k p recording h = ap (λ o. recorded_by at (option_map (extended at p) o)) h.is ∙ extended_by at p h.going k h.on h.mine
+pub is_recorded : (recording : Option Recording) (k : Member) → recorded_by recording ≡ Some k → is_going_on recording ≡ true
+is_recorded None k e = cc
+is_recorded (Some r) k e = going_cases (goes_on r) r.member k e

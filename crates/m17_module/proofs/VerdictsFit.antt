@@ -14,10 +14,11 @@ use Rattle.m17_floor.specs.declared.act.Act.{Act}
 use Rattle.m17_floor.specs.declared.act.ActKind.{ActKind}
 use Rattle.m17_floor.specs.declared.act.ActKind.TheVariants as act
 use Rattle.m17_floor.specs.declared.verdict.Verdict.{Verdict}
-use Rattle.m17_floor.specs.declared.verdict.Verdict.TheVariants.{Opened, Busy, Repeat, Late, AfterEnd, ListenOnly}
+use Rattle.m17_floor.specs.declared.verdict.Verdict.TheVariants.{Opened, Busy, Repeat, Late, AfterEnd, TimedOut, ListenOnly}
 use Rattle.m17_floor.specs.Acts.{kind_at, moment_at, joined_at}
-use Rattle.m17_floor.specs.Rule.{Frame, Incoming, incoming, late_from, has_floor, is_compared, is_of_stream, only_if, busy, after_end, repeated, late, continued, first_fit, verdict_beside, verdict_by_frames}
-use Rattle.m17_floor.specs.Floor.{Past, joined, frame_of, frame_at, has_stayed, last_admitted, floor_frame, last_own, own_frame, not_member, listens, listen_only, verdict_after, verdict_given, past_at, verdict_at}
+use Rattle.m17_floor.specs.Rule.{Frame, Incoming, incoming, late_from, has_run_out, has_floor, is_compared, is_of_stream, only_if, busy, after_end, repeated, late, timed_out, continued, first_fit, verdict_beside, verdict_by_frames}
+use Rattle.m17_floor.specs.Floor.{Past, joined, opened_at, frame_of, frame_at, has_stayed, last_admitted, floor_frame, last_own, own_frame, not_member, listens, listen_only, verdict_after, verdict_given, past_at, verdict_at}
+use Rattle.m17_module.specs.Setup.{floor_setup}
 use Rattle.m17_module.specs.Events.{kind_of, acts_of}
 use Rattle.m17_module.specs.Laws.{IsNumbered, FitsIn, VerdictsFit}
 use Rattle.m17_module.proofs.SeatsMore.{some_from_cond}
@@ -50,19 +51,19 @@ abbrev IsAtPlace : ℕ → Option Frame → Type 0
 IsAtPlace places None = Unit {0}
 IsAtPlace places (Some frame) = frame.member.place < places
 
-frame_low : (kind : ActKind) (at : ℕ) → IsLow kind → HasLow (frame_of kind at)
-frame_low (act.Packet k p) at h = h
-frame_low (act.Join k only) at h = tt
-frame_low (act.Leave k) at h = tt
-frame_low act.Other at h = tt
+frame_low : (kind : ActKind) (at opened : ℕ) → IsLow kind → HasLow (frame_of kind at opened)
+frame_low (act.Packet k p) at opened h = h
+frame_low (act.Join k only) at opened h = tt
+frame_low (act.Leave k) at opened h = tt
+frame_low act.Other at opened h = tt
 
-found_low : (acts : List Act) (o : Option ℕ) → ((a : ℕ) → IsLow (kind_at acts a)) → HasLow (option_and_then (frame_at acts) o)
-found_low acts None h = tt
-found_low acts (Some a) h = frame_low (kind_at acts a) (moment_at acts a) (h a)
+found_low : (past : Past) (o : Option ℕ) → ((a : ℕ) → IsLow (kind_at past.acts a)) → HasLow (option_and_then (frame_at past) o)
+found_low past None h = tt
+found_low past (Some a) h = frame_low (kind_at past.acts a) (moment_at past.acts a) (opened_at past a) (h a)
 
 own_low : (past : Past) (k : Member) → ((a : ℕ) → IsLow (kind_at past.acts a)) → HasLow (own_frame past k)
 unfolding own_frame
-own_low past k h = found_low past.acts (last_own past k) h
+own_low past k h = found_low past (last_own past k) h
 
 low_if : (test : Frame → Bool) (o : Option Frame) → HasLow o → HasLow (only_if test o)
 low_if test None h = tt
@@ -81,17 +82,17 @@ nothing_at : (places : ℕ) (b : Bool) → IsAtPlace places (cond b None None)
 nothing_at places true = tt
 nothing_at places false = tt
 
-stayed_place : (past : Past) (a at : ℕ) (kind : ActKind) → IsAtPlace past.places (cond (has_stayed past a kind) (frame_of kind at) None)
-stayed_place past a at (act.Packet k p) = since_place past.places (joined past k) a _ (λ j e. joined_place past.places past.acts k (length past.acts) j e)
-stayed_place past a at (act.Join k only) = tt
-stayed_place past a at (act.Leave k) = tt
-stayed_place past a at act.Other = tt
+stayed_place : (past : Past) (a at opened : ℕ) (kind : ActKind) → IsAtPlace past.setup.places (cond (has_stayed past a kind) (frame_of kind at opened) None)
+stayed_place past a at opened (act.Packet k p) = since_place past.setup.places (joined past k) a _ (λ j e. joined_place past.setup.places past.acts k (length past.acts) j e)
+stayed_place past a at opened (act.Join k only) = tt
+stayed_place past a at opened (act.Leave k) = tt
+stayed_place past a at opened act.Other = tt
 
-last_place : (past : Past) (o : Option ℕ) → IsAtPlace past.places (option_and_then (λ a. cond (has_stayed past a (kind_at past.acts a)) (frame_at past.acts a) None) o)
+last_place : (past : Past) (o : Option ℕ) → IsAtPlace past.setup.places (option_and_then (λ a. cond (has_stayed past a (kind_at past.acts a)) (frame_at past a) None) o)
 last_place past None = tt
-last_place past (Some a) = stayed_place past a (moment_at past.acts a) (kind_at past.acts a)
+last_place past (Some a) = stayed_place past a (moment_at past.acts a) (opened_at past a) (kind_at past.acts a)
 
-floor_place : (past : Past) → IsAtPlace past.places (floor_frame past)
+floor_place : (past : Past) → IsAtPlace past.setup.places (floor_frame past)
 unfolding floor_frame
 floor_place past = last_place past (last_admitted past)
 
@@ -128,17 +129,22 @@ late_fits : (places : ℕ) (own : Option Frame) (number : ℕ) → HasLow own �
 late_fits places None number h = tt
 late_fits places (Some own) number h = line_if places (nat_le late_from (steps_ahead number own.number)) (Late own.number) h
 
+timed_fits : (places limit at : ℕ) (own : Option Frame) → LineFits places (timed_out limit at own)
+timed_fits places limit at None = tt
+timed_fits places limit at (Some own) = line_if places (has_run_out limit at own.opened) TimedOut tt
+
 goes_on_fits : (places : ℕ) (holder : Option Frame) → LineFits places (continued holder)
 goes_on_fits places None = tt
 goes_on_fits places (Some holder) = tt
 
-beside_fits : (places : ℕ) (holder own : Option Frame) (new : Incoming) → IsAtPlace places holder → HasLow own → FitsIn places (verdict_beside holder own new)
-beside_fits places holder own new at low =
+beside_fits : (places limit : ℕ) (holder own : Option Frame) (new : Incoming) → IsAtPlace places holder → HasLow own → FitsIn places (verdict_beside limit holder own new)
+beside_fits places limit holder own new at low =
     line_then places (busy holder new) _ Opened (busy_fits places holder new at)
     (line_then places (after_end own) _ Opened (end_fits places own)
     (line_then places (repeated own new.packet.number) _ Opened (repeat_fits places own new.packet.number)
     (line_then places (late own new.packet.number) _ Opened (late_fits places own new.packet.number low)
-    (line_then places (continued holder) [] Opened (goes_on_fits places holder) tt))))
+    (line_then places (timed_out limit new.at own) _ Opened (timed_fits places limit new.at own)
+    (line_then places (continued holder) [] Opened (goes_on_fits places holder) tt)))))
 
 stranger_fits : (places : ℕ) (o : Option ℕ) → LineFits places (not_member o)
 stranger_fits places None = tt
@@ -148,24 +154,24 @@ listener_fits : (places : ℕ) (acts : List Act) (o : Option ℕ) → LineFits p
 listener_fits places acts None = tt
 listener_fits places acts (Some j) = line_if places (listens (kind_at acts j)) ListenOnly tt
 
-after_fits : (past : Past) (new : Incoming) → ((a : ℕ) → IsLow (kind_at past.acts a)) → FitsIn past.places (verdict_after past new)
+after_fits : (past : Past) (new : Incoming) → ((a : ℕ) → IsLow (kind_at past.acts a)) → FitsIn past.setup.places (verdict_after past new)
 after_fits past new low =
-    let frames : Verdict = verdict_by_frames (floor_frame past) (own_frame past new.sender) new in
-    line_then past.places (not_member (joined past new.sender)) _ frames (stranger_fits past.places (joined past new.sender))
-    (line_then past.places (listen_only past.acts (joined past new.sender)) [] frames (listener_fits past.places past.acts (joined past new.sender))
-    (beside_fits past.places (only_if (has_floor new.at) (floor_frame past)) (only_if (is_compared new.packet.sid new.at) (own_frame past new.sender)) new
-    (place_if past.places (has_floor new.at) (floor_frame past) (floor_place past))
+    let frames : Verdict = verdict_by_frames past.setup.limit (floor_frame past) (own_frame past new.sender) new in
+    line_then past.setup.places (not_member (joined past new.sender)) _ frames (stranger_fits past.setup.places (joined past new.sender))
+    (line_then past.setup.places (listen_only past.acts (joined past new.sender)) [] frames (listener_fits past.setup.places past.acts (joined past new.sender))
+    (beside_fits past.setup.places past.setup.limit (only_if (has_floor past.setup.limit new.at) (floor_frame past)) (only_if (is_compared new.packet.sid new.at) (own_frame past new.sender)) new
+    (place_if past.setup.places (has_floor past.setup.limit new.at) (floor_frame past) (floor_place past))
     (low_if (is_compared new.packet.sid new.at) (own_frame past new.sender) (own_low past new.sender low))))
 
-given_fits : (past : Past) (at : ℕ) (kind : ActKind) (verdict : Verdict) → ((a : ℕ) → IsLow (kind_at past.acts a)) → verdict_given past at kind ≡ Some verdict → FitsIn past.places verdict
+given_fits : (past : Past) (at : ℕ) (kind : ActKind) (verdict : Verdict) → ((a : ℕ) → IsLow (kind_at past.acts a)) → verdict_given past at kind ≡ Some verdict → FitsIn past.setup.places verdict
 unfolding verdict_given
 given_fits past at (act.Packet k p) verdict low e =
-    subst (λ (v : Verdict). FitsIn past.places v) (same_Some (verdict_after past (incoming k at p)) verdict e) (after_fits past (incoming k at p) low)
+    subst (λ (v : Verdict). FitsIn past.setup.places v) (same_Some (verdict_after past (incoming k at p)) verdict e) (after_fits past (incoming k at p) low)
 given_fits past at (act.Join k only) verdict low e = cc
 given_fits past at (act.Leave k) verdict low e = cc
 given_fits past at act.Other verdict low e = cc
 
 pub verdicts_fit : VerdictsFit
 unfolding verdict_at
-verdicts_fit places events n verdict numbered e =
-    given_fits (past_at places (acts_of events) n) (moment_at (acts_of events) n) (kind_at (acts_of events) n) verdict (kinds_low events numbered n) e
+verdicts_fit setup events n verdict numbered e =
+    given_fits (past_at (floor_setup setup) (acts_of events) n) (moment_at (acts_of events) n) (kind_at (acts_of events) n) verdict (kinds_low events numbered n) e

@@ -10,6 +10,7 @@ use Rattle.m17_floor.specs.Floor.{verdict_at}
 use Rattle.m17_floor.specs.Legal.{KeptAct, book_places, IsLegal}
 use Rattle.m17_floor.specs.StandsFor.{packet_act, join_act, leave_act}
 use Rattle.m17_module.specs.declared.seat.Seat.{Seat}
+use Rattle.m17_module.specs.Setup.{Setup, floor_setup}
 use Rattle.m17_module.specs.Events.{acts_of}
 use Rattle.m17_module.specs.Seats.{seats_at, seat_in, seat_of}
 
@@ -41,27 +42,29 @@ kept_by now (Reply k control) = []
 kept_by now Tick = []
 kept_by now Stop = []
 
--- position n, in a module of `places` places
-abbrev pub keeping_at : ℕ → List Event → ℕ → Keeping
-keeping_at places events n = record {
-  places = places;
+-- position n, in a module that was made so
+abbrev pub keeping_at : Setup → List Event → ℕ → Keeping
+keeping_at setup events n = record {
+  places = setup.places;
   moment = moment_at (acts_of events) n;
-  seats = seats_at places events n;
-  verdict = verdict_at places (acts_of events) n;
+  seats = seats_at setup.places events n;
+  verdict = verdict_at (floor_setup setup) (acts_of events) n;
 }
 
-abbrev pub kept_from : ℕ → List Event → ℕ → Option Event → List KeptAct
-kept_from places events n None = []
-kept_from places events n (Some event) = kept_by (keeping_at places events n) event.body
+abbrev pub kept_from : Setup → List Event → ℕ → Option Event → List KeptAct
+kept_from setup events n None = []
+kept_from setup events n (Some event) = kept_by (keeping_at setup events n) event.body
 
 -- What is kept of position n, and of all the events, in order.
-unfoldable pub kept_at : ℕ → List Event → ℕ → List KeptAct
-kept_at places events n = kept_from places events n (slice_get events n)
+unfoldable pub kept_at : Setup → List Event → ℕ → List KeptAct
+kept_at setup events n = kept_from setup events n (slice_get events n)
 
-unfoldable pub kept_of : ℕ → List Event → List KeptAct
-kept_of places events = flat_map (kept_at places events) (range_with_len 0 (length events))
+unfoldable pub kept_of : Setup → List Event → List KeptAct
+kept_of setup events = flat_map (kept_at setup events) (range_with_len 0 (length events))
 
--- A module of at most 256 places keeps a legal book of every list of events.
+-- Under whatever limit a module of at most 256 places is made, it keeps a book of every list of events that is legal
+-- under that limit.
 abbrev pub RecordsAreLegal : Type 0
 RecordsAreLegal =
-    (places : ℕ) (events : List Event) → places ≤ book_places → IsLegal (kept_of places events)
+    (setup : Setup) (events : List Event) → setup.places ≤ book_places →
+    IsLegal setup.limit (kept_of setup events)

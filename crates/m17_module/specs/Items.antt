@@ -13,14 +13,10 @@ use Rattle.m17_control.specs.declared.item.Said.TheVariants as said
 use Rattle.m17_floor.specs.Acts.{is_same, moment_before, moment_at}
 use Rattle.m17_floor.specs.Floor.{admits, verdict_at}
 use Rattle.m17_module.specs.declared.seat.Seat.{Seat}
+pub use Rattle.m17_module.specs.Setup.{Setup, floor_setup}
 use Rattle.m17_module.specs.Events.{acts_of}
 use Rattle.m17_module.specs.Seats.{seats_at, members_of, seat_in, seat_of, others_than}
 use Rattle.m17_module.specs.Echoes.{echo_at}
-
--- How a module was made: its number of places, and whether it is a parrot.
-pub record Setup : Type 0 where
-  pub places : ℕ
-  pub parrot : Bool
 
 -- Members are asked whether they are there each time the moment passes a multiple of 3,000 ms.
 abbrev pub ping_every_ms : ℕ
@@ -64,13 +60,13 @@ says now (Reply k control) = to_one (said.Reply control) (seat_of now.seats k)
 says now Tick = []
 says now Stop = []
 
--- Position n, in a module of `places` places.
-abbrev pub setting_at : ℕ → List Event → ℕ → ℕ → Setting
-setting_at places events n link = record {
-  seats = seats_at places events n;
+-- Position n, in a module that was made so.
+abbrev pub setting_at : Setup → List Event → ℕ → ℕ → Setting
+setting_at setup events n link = record {
+  seats = seats_at setup.places events n;
   position = n;
   link = link;
-  admitted = admits (verdict_at places (acts_of events) n);
+  admitted = admits (verdict_at (floor_setup setup) (acts_of events) n);
 }
 
 -- The first part: where the moment passes a multiple of 3,000 ms, a Ping for each member that is in, in order
@@ -90,21 +86,21 @@ echo_items n seats (Some echo) = to_one (said.Echo n echo.1) (seat_of seats echo
 unfoldable pub echoes_at : Setup → List Event → ℕ → List Item
 echoes_at setup events n =
     if setup.parrot
-    then echo_items n (seats_at setup.places events n) (echo_at setup.places (acts_of events) n)
+    then echo_items n (seats_at setup.places events n) (echo_at setup (acts_of events) n)
     else []
 
 -- The third part: what the event itself says.
-abbrev pub said_by : ℕ → List Event → ℕ → Option Event → List Item
-said_by places events n None = []
-said_by places events n (Some event) = says (setting_at places events n event.tag.link) event.body
+abbrev pub said_by : Setup → List Event → ℕ → Option Event → List Item
+said_by setup events n None = []
+said_by setup events n (Some event) = says (setting_at setup events n event.tag.link) event.body
 
-unfoldable pub said_at : ℕ → List Event → ℕ → List Item
-said_at places events n = said_by places events n (slice_get events n)
+unfoldable pub said_at : Setup → List Event → ℕ → List Item
+said_at setup events n = said_by setup events n (slice_get events n)
 
 -- What the event at position n gives, in order.
 unfoldable pub items_at : Setup → List Event → ℕ → List Item
 items_at setup events n =
-    pings_at setup.places events n ++ echoes_at setup events n ++ said_at setup.places events n
+    pings_at setup.places events n ++ echoes_at setup events n ++ said_at setup events n
 
 -- All that the events give, in order.
 unfoldable pub items_given : Setup → List Event → List Item

@@ -20,7 +20,8 @@ use Rattle.m17_module.specs.declared.seat.Seat.{Seat}
 use Rattle.m17_module.specs.Events.{acts_of}
 use Rattle.m17_module.specs.Seats.{seats_at, seat_of}
 use Rattle.m17_module.specs.Echoes.{echo_at}
-use Rattle.m17_module.specs.Items.{item_to, to_one, echoes_at, frames_for, Setup, items_at, items_given, is_for, items_for}
+use Rattle.m17_module.specs.Setup.{Setup, floor_setup}
+use Rattle.m17_module.specs.Items.{item_to, to_one, echoes_at, frames_for, items_at, items_given, is_for, items_for}
 
 -- What comes later changes nothing of what an event gives.
 abbrev pub LaterEventsChangeNoItems : Type 0
@@ -44,15 +45,15 @@ OneEventMoreIsShared =
     ++ filter (is_for k) (items_at setup (events ++ event ∷ []) (length events))
 
 -- A member hears a position: it is in before it, and the packet there is admitted and not its own.
-abbrev pub hears : ℕ → List Event → Member → ℕ → Bool
-hears places events k n =
-    is_some (joined_at places (acts_of events) k n)
-    && (admits (verdict_at places (acts_of events) n)
+abbrev pub hears : Setup → List Event → Member → ℕ → Bool
+hears setup events k n =
+    is_some (joined_at setup.places (acts_of events) k n)
+    && (admits (verdict_at (floor_setup setup) (acts_of events) n)
     && not (is_packet_of k (kind_at (acts_of events) n)))
 
 -- The positions that a member hears, rising.
-abbrev pub heard : ℕ → List Event → Member → List ℕ
-heard places events k = filter (hears places events k) (range_with_len 0 (length events))
+abbrev pub heard : Setup → List Event → Member → List ℕ
+heard setup events k = filter (hears setup events k) (range_with_len 0 (length events))
 
 -- The packet as the member is sent it; nothing of any other event.
 abbrev pub frame_of_body : ℕ → List Event → Member → ℕ → Body → List Item
@@ -73,19 +74,19 @@ abbrev pub FramesAreThoseHeard : Type 0
 FramesAreThoseHeard =
     (setup : Setup) (events : List Event) (k : Member) →
     frames_for setup events k
-    ≡ flat_map (frame_sent setup.places events k) (heard setup.places events k)
+    ≡ flat_map (frame_sent setup.places events k) (heard setup events k)
 
 abbrev pub EachHeardIsSentOnce : Type 0
 EachHeardIsSentOnce =
-    (places : ℕ) (events : List Event) (k : Member) (n : ℕ) → hears places events k n ≡ true →
-    length (frame_sent places events k n) ≡ 1
+    (setup : Setup) (events : List Event) (k : Member) (n : ℕ) → hears setup events k n ≡ true →
+    length (frame_sent setup.places events k n) ≡ 1
 
 -- An echo that a parrot module has at a position is one item, to its member, which is in: with the position and the
 -- packet, to the link and peer of its Join.
 abbrev pub EachEchoIsSentOnce : Type 0
 EachEchoIsSentOnce =
     (setup : Setup) (events : List Event) (n : ℕ) (echo : Member × StreamPacket) →
-    setup.parrot ≡ true → echo_at setup.places (acts_of events) n ≡ Some echo →
+    setup.parrot ≡ true → echo_at setup (acts_of events) n ≡ Some echo →
     (seat : Seat) × (seat_of (seats_at setup.places events n) echo.0 ≡ Some seat)
     × (echoes_at setup events n ≡ item_to (said.Echo n echo.1) seat ∷ [])
 
@@ -162,7 +163,7 @@ ItemsAreAtPlaces =
     (setup : Setup) (events : List Event) (n : ℕ) →
     All (λ item. item.member.place < setup.places) (items_at setup events n)
 
--- Where each event's link is below so many, each item's link is.
+-- Where each event's link is below a number, each item's link is.
 abbrev pub ItemsKeepLinks : Type 0
 ItemsKeepLinks =
     (setup : Setup) (events : List Event) (n links : ℕ) →
@@ -205,9 +206,9 @@ FitsIn places _ = Unit {0}
 -- Where each packet's number is below 32,768, the value of each verdict fits.
 abbrev pub VerdictsFit : Type 0
 VerdictsFit =
-    (places : ℕ) (events : List Event) (n : ℕ) (verdict : Verdict) →
+    (setup : Setup) (events : List Event) (n : ℕ) (verdict : Verdict) →
     All (λ event. IsNumbered event.body) events →
-    verdict_at places (acts_of events) n ≡ Some verdict → FitsIn places verdict
+    verdict_at (floor_setup setup) (acts_of events) n ≡ Some verdict → FitsIn setup.places verdict
 
 -- Two lists of events, the same but for the members: one for one, each of whom joins at a place of the module that
 -- whoever had it before has left.
@@ -230,7 +231,7 @@ RenamingChangesNothingSaid =
 -- .. and each packet gets the same verdict, but for the member that has the floor.
 abbrev pub RenamingChangesNoVerdict : Type 0
 RenamingChangesNoVerdict =
-    (stands : Member → Member → Bool) (places : ℕ) (events others : List Event) →
-    AreFreelyRenamed stands places events others → (n : ℕ) →
-    unnamed_verdict (verdict_at places (acts_of events) n)
-    ≡ unnamed_verdict (verdict_at places (acts_of others) n)
+    (stands : Member → Member → Bool) (setup : Setup) (events others : List Event) →
+    AreFreelyRenamed stands setup.places events others → (n : ℕ) →
+    unnamed_verdict (verdict_at (floor_setup setup) (acts_of events) n)
+    ≡ unnamed_verdict (verdict_at (floor_setup setup) (acts_of others) n)

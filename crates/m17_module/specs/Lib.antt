@@ -1,5 +1,6 @@
--- What callers speak of: the events as the floor sees them, who is in, what a parrot plays back, what each event
--- gives, what a module stands for, what its book keeps.
+-- What callers speak of: how a module was made, the events as the floor sees them, who is in, what a parrot plays back,
+-- what each event gives, what a module stands for, what its book keeps.
+pub mod Setup
 pub mod Events
 pub mod Seats
 pub mod Echoes

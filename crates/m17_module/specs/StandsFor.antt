@@ -5,31 +5,33 @@ use Rattle.m17_control.specs.declared.item.Item.{Item}
 use Rattle.m17_floor.specs.declared.verdict.Verdict.{Verdict}
 use Rattle.m17_floor.specs.Acts.{moment_before}
 use Rattle.m17_floor.specs.Floor.{verdict_at, admitted_count}
-use Rattle.m17_floor.specs.Rule.{Frame}
+use Rattle.m17_floor.specs.Rule.{Frame, FloorState}
 use Rattle.m17_floor.specs.StandsFor.{FloorStandsFor, OwnStandsFor}
 use Rattle.m17_parrot.specs.Recording.{Recording}
 use Rattle.m17_module.specs.declared.seat.Seat.{Seat}
+use Rattle.m17_module.specs.Setup.{Setup, floor_setup}
 use Rattle.m17_module.specs.Events.{acts_of}
 use Rattle.m17_module.specs.Seats.{seats_at}
 use Rattle.m17_module.specs.Echoes.{recording_at}
-use Rattle.m17_module.specs.Items.{Setup, items_at}
+use Rattle.m17_module.specs.Items.{items_at}
 
--- Who is in, place by place, the last admitted frame of each, and the floor's.
+-- Who is in, place by place, the last admitted frame of each, and the floor: its frame and its limit.
 pub record People : Type 0 where
   pub seats : List (Option Seat)
   pub lasts : List (Option Frame)
-  pub floor : Option Frame
+  pub floor : FloorState
 
--- They may have come from these events in a module of `places` places.
-pub record PeopleStandFor (places : ℕ) (people : People) (events : List Event) : Type 0 where
+-- They may have come from these events in a module that was made so.
+pub record PeopleStandFor (setup : Setup) (people : People) (events : List Event) : Type 0 where
   -- the members are those that are in at the end
-  pub seats : people.seats ≡ seats_at places events (length events)
-  -- each member's frame is its last admitted one since its Join
+  pub seats : people.seats ≡ seats_at setup.places events (length events)
+  -- each member's frame is its last admitted one since its Join, with the moment of its opening
   pub lasts : (place : ℕ) (seat : Seat) (last : Option Frame) →
       slice_get people.seats place ≡ Some (Some seat) → slice_get people.lasts place ≡ Some last →
-      OwnStandsFor places (acts_of events) seat.member last
-  -- the floor's frame is the last admitted one, unless its sender has left
-  pub floor : FloorStandsFor places (acts_of events) people.floor
+      OwnStandsFor (floor_setup setup) (acts_of events) seat.member last
+  -- the floor's frame is the last admitted one, unless its sender has left, with the moment of the last opening; and
+  -- its limit is that of the module
+  pub floor : FloorStandsFor (floor_setup setup) (acts_of events) people.floor
 
 -- What a module keeps: how it was made, its moment, its people, how many events it has had and packets it has
 -- admitted, and, as a parrot, what it has recorded.
@@ -44,14 +46,14 @@ pub record ModuleKept : Type 0 where
 -- What a module has recorded of its events: nothing, unless it is a parrot.
 abbrev pub recorded : Setup → List Event → Option Recording
 recorded setup events =
-    if setup.parrot then recording_at setup.places (acts_of events) (length events) else None
+    if setup.parrot then recording_at setup (acts_of events) (length events) else None
 
 -- The module may have come from these events.
 pub record StandsFor (kept : ModuleKept) (events : List Event) : Type 0 where
   pub moment : kept.moment ≡ moment_before (acts_of events) (length events)
-  pub people : PeopleStandFor kept.setup.places kept.people events
+  pub people : PeopleStandFor kept.setup kept.people events
   pub count : kept.count ≡ length events
-  pub admitted : kept.admitted ≡ admitted_count kept.setup.places (acts_of events)
+  pub admitted : kept.admitted ≡ admitted_count (floor_setup kept.setup) (acts_of events)
   -- a parrot's recording is of what was opened last: its held frames, its close, and how many were given
   pub recording : kept.recording ≡ recorded kept.setup events
 
@@ -71,4 +73,4 @@ pub record IsStep (setup : Setup) (events : List Event) (event : Event) (to : St
     pub stands : StandsFor to.kept (events ++ event ∷ [])
     pub items : to.given ≡ items_at setup (events ++ event ∷ []) (length events)
     pub verdict : to.answer
-        ≡ verdict_at setup.places (acts_of (events ++ event ∷ [])) (length events)
+        ≡ verdict_at (floor_setup setup) (acts_of (events ++ event ∷ [])) (length events)

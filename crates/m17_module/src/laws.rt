@@ -88,9 +88,9 @@ pub fn renaming_changes_nothing_said()
     floor_laws::renaming_changes_no_verdict();
 }
 
-/// What a module of at most 256 places keeps in its book is legal, whatever the events are: each Join at a place at which
-/// nobody is in any more, each Leave of a member that is in, and each packet with the verdict that the floor rule gives
-/// for what is kept, in a book of 256 places.
+/// What a module of at most 256 places keeps in its book is legal under the limit that it was made with, whatever that is
+/// and whatever the events are: each Join at a place at which nobody is in any more, each Leave of a member that is in, and
+/// each packet with the verdict that the floor rule gives under this limit for what is kept, in a book of 256 places.
 pub fn records_are_legal()
     ensures { book.RecordsAreLegal }
 {

@@ -12,6 +12,7 @@ mod recorder;
 mod room;
 mod seat;
 mod state;
+mod telling;
 
 pub use basket::{BASKET_ROOM, Basket};
 pub use room::MOST_PLACES;

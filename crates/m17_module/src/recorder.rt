@@ -1,29 +1,29 @@
-ghost use Rattle.std.specs.Prelude.{◌≡◌, ◌≤◌, ◌++◌, ℕ, List, [], ◌∷◌, length, max, is_some, option_and_then, option_map, None, Some, IfOk, IsTrue, if◌then◌else◌};
+ghost use Rattle.std.specs.Prelude.{◌≡◌, ◌≤◌, ◌++◌, List, [], ◌∷◌, length, max, is_some, option_and_then, option_map, None, Some, IfOk, IsTrue, if◌then◌else◌};
 ghost use Rattle.std.specs.Option.{ForSome};
 ghost use Rattle.m17_floor.specs.declared.verdict.Verdict.TheVariants.{Continued};
 ghost use Rattle.m17_control.specs.declared.event.Event.{Event};
 ghost use Rattle.m17_floor.specs.Acts.{is_packet, moment_before};
 ghost use Rattle.m17_floor.specs.Floor.{verdict_at, admits};
 ghost use Rattle.m17_parrot.specs.Recording.{is_going_on, due_of, with_given};
+ghost use Rattle.m17_module.specs.Setup.{Setup, floor_setup};
 ghost use Rattle.m17_module.specs.Events.{kind_of, acts_of};
 ghost use Rattle.m17_module.specs.Items.{echo_items, says};
 ghost use Rattle.m17_module.specs.StandsFor.{PeopleStandFor};
-ghost use Rattle.m17_module.specs.Following.{leaver, FloorFollows, held_by, recorded_by, turned, recording_heard, recording_then, heard_then, unless_any};
+ghost use Rattle.m17_module.specs.Following.{leaver, FloorFollows, RecordsHolder, turned, recording_heard, recording_then, unless_any};
 
 use crate::basket::Tray;
 use crate::room::Room;
 use m17_control::{Body, Event};
-use m17_floor::{FLOOR_TIMEOUT_MS, Verdict};
+use m17_floor::Verdict;
 use m17_parrot::Parrot;
 use m17_stream::StreamPacket;
 use m17_values::{Member, NoMemory};
 use std::alloc::Global;
 
-// What a parrot module has beside its room: its recording, and the moment of the last frame that was admitted.
+// What a parrot module has beside its room: its recording.
 #[derive(Debug, Drop)]
 pub(crate) struct Recorder {
     pub(crate) parrot: Parrot,
-    pub(crate) heard: u64,
 }
 
 impl Recorder {
@@ -31,20 +31,19 @@ impl Recorder {
         ensures { IfOk result (λ r. r.parrot ≡ None) }
     {
         match Parrot::make(alloc) {
-            Ok(parrot) => Ok(Recorder { parrot, heard: 0 }),
+            Ok(parrot) => Ok(Recorder { parrot }),
             Err(no_memory) => Err(no_memory),
         }
     }
 
-    // Closes a recording whose floor nobody has any more, and gives a frame that is due.
-    fn turn(&mut self, at: u64) -> Option<(Member, StreamPacket)>
-        ensures heard { self.new.heard ≡ self.old.heard }
+    // Closes a recording if nobody has the floor any more, and gives a frame that is due.
+    fn turn(&mut self, room: &Room, at: u64) -> Option<(Member, StreamPacket)>
         ensures echo { result
-            ≡ option_and_then (due_of at) (turned self.old.heard at self.old.parrot) }
+            ≡ option_and_then (due_of at) (turned at room.now.floor self.old.parrot) }
         ensures given { self.new.parrot
-            ≡ option_map (with_given at) (turned self.old.heard at self.old.parrot) }
+            ≡ option_map (with_given at) (turned at room.now.floor self.old.parrot) }
     {
-        if at.saturating_sub(self.heard) >= FLOOR_TIMEOUT_MS {
+        if room.is_free(at) {
             self.parrot.close(at);
         }
         self.parrot.due(at)
@@ -52,8 +51,7 @@ impl Recorder {
 
     // Learns who is in no more.
     fn left(&mut self, leaver: &Option<Member>)
-        ensures heard { self.new.heard ≡ self.old.heard }
-        ensures gone { self.new.parrot ≡ unless_any leaver.now self.old.parrot }
+        ensures { self.new.parrot ≡ unless_any leaver.now self.old.parrot }
     {
         if let Some(m) = leaver {
             self.parrot.gone(*m);
@@ -63,8 +61,7 @@ impl Recorder {
     // Records an admitted packet; the end bit closes the recording.
     fn hear(&mut self, k: Member, at: u64, p: &StreamPacket, verdict: Verdict)
         requires { verdict ≡ Continued → IsTrue (is_going_on self.old.parrot) }
-        ensures heard { self.new.heard ≡ heard_then at (Some verdict) self.old.heard }
-        ensures recorded { self.new.parrot
+        ensures { self.new.parrot
             ≡ recording_heard at k p.now verdict self.old.parrot }
     {
         match verdict {
@@ -72,7 +69,6 @@ impl Recorder {
             Verdict::Continued => (),
             _ => return,
         }
-        self.heard = at;
         self.parrot.keep(p);
         if p.last {
             self.parrot.close(at);
@@ -83,8 +79,7 @@ impl Recorder {
     fn learn(&mut self, leaver: &Option<Member>, event: &Event, at: u64, answer: &Option<Verdict>)
         requires going_on { answer.now ≡ Some Continued → IsTrue (is_going_on self.old.parrot) }
         requires packets { is_some answer.now ≡ is_packet (kind_of event.now.body) }
-        ensures heard { self.new.heard ≡ heard_then at answer.now self.old.heard }
-        ensures recorded { self.new.parrot
+        ensures { self.new.parrot
             ≡ recording_then leaver.now at event.now.body answer.now self.old.parrot }
     {
         match &event.body {
@@ -107,10 +102,9 @@ impl Recorder {
         out: &mut Tray,
     ) -> Option<Verdict>
         requires room { length out.old ≤ 256 }
-        requires tuned { recorded_by self.old.heard (turned self.old.heard at self.old.parrot)
-            ≡ held_by at room.old.floor }
-        ensures tuned { recorded_by self.new.heard self.new.parrot ≡ held_by at room.new.floor }
-        ensures told { let recording = turned self.old.heard at self.old.parrot in
+        requires tuned { RecordsHolder at room.old.floor self.old.parrot }
+        ensures tuned { RecordsHolder at room.new.floor self.new.parrot }
+        ensures told { let recording = turned at room.old.floor self.old.parrot in
             out.new ≡ (out.old
             ++ echo_items position room.old.seats (option_and_then (due_of at) recording))
             ++ says (record {
@@ -119,21 +113,23 @@ impl Recorder {
               link = event.now.tag.link;
               admitted = admits result;
             }) event.now.body }
-        ensures recorded { let recording = turned self.old.heard at self.old.parrot in
+        ensures recorded { let recording = turned at room.old.floor self.old.parrot in
             self.new.parrot
             ≡ recording_then (leaver room.old.seats event.now.body) at event.now.body result
             (option_map (with_given at) recording) }
         ensures length { length room.new.seats ≡ length room.old.seats }
+        ensures limit { room.new.floor.limit ≡ room.old.floor.limit }
         ensures floor { FloorFollows room.old.seats at event.now.body result room.old.floor
             room.new.floor }
         ensures answer { is_some result ≡ is_packet (kind_of event.now.body) }
-        ensures stands { (places : ℕ) (events : List Event) →
+        ensures stands { (setup : Setup) (events : List Event) →
             at ≡ max (moment_before (acts_of events) (length events)) event.now.at →
-            PeopleStandFor places room.old events →
-            PeopleStandFor places room.new (events ++ event.now ∷ [])
-            × (result ≡ verdict_at places (acts_of (events ++ event.now ∷ [])) (length events)) }
+            PeopleStandFor setup room.old events →
+            PeopleStandFor setup room.new (events ++ event.now ∷ [])
+            × (result
+            ≡ verdict_at (floor_setup setup) (acts_of (events ++ event.now ∷ [])) (length events)) }
     {
-        if let Some((k, packet)) = self.turn(at) {
+        if let Some((k, packet)) = self.turn(room, at) {
             room.play(k, position, &packet, out);
         }
         let leaver = room.leaver(event);
@@ -153,12 +149,10 @@ pub(crate) fn happen(
     out: &mut Tray,
 ) -> Option<Verdict>
     requires room { length out.old ≤ 256 }
-    requires tuned { ForSome recorder.old (λ r. recorded_by r.heard (turned r.heard at r.parrot)
-        ≡ held_by at room.old.floor) }
-    ensures tuned { ForSome recorder.new (λ r. recorded_by r.heard r.parrot
-        ≡ held_by at room.new.floor) }
+    requires tuned { ForSome recorder.old (λ r. RecordsHolder at room.old.floor r.parrot) }
+    ensures tuned { ForSome recorder.new (λ r. RecordsHolder at room.new.floor r.parrot) }
     ensures told { out.new ≡ (out.old ++ echo_items position room.old.seats
-        (option_and_then (λ r. option_and_then (due_of at) (turned r.heard at r.parrot))
+        (option_and_then (λ r. option_and_then (due_of at) (turned at room.old.floor r.parrot))
         recorder.old)) ++ says (record {
           seats = room.old.seats;
           position = position;
@@ -168,16 +162,18 @@ pub(crate) fn happen(
     ensures stays { is_some recorder.new ≡ is_some recorder.old }
     ensures recorded { (old new : Recorder) → recorder.old ≡ Some old → recorder.new ≡ Some new →
         new.parrot ≡ recording_then (leaver room.old.seats event.now.body) at event.now.body result
-        (option_map (with_given at) (turned old.heard at old.parrot)) }
+        (option_map (with_given at) (turned at room.old.floor old.parrot)) }
     ensures length { length room.new.seats ≡ length room.old.seats }
+    ensures limit { room.new.floor.limit ≡ room.old.floor.limit }
     ensures floor { FloorFollows room.old.seats at event.now.body result room.old.floor
         room.new.floor }
     ensures answer { is_some result ≡ is_packet (kind_of event.now.body) }
-    ensures stands { (places : ℕ) (events : List Event) →
+    ensures stands { (setup : Setup) (events : List Event) →
         at ≡ max (moment_before (acts_of events) (length events)) event.now.at →
-        PeopleStandFor places room.old events →
-        PeopleStandFor places room.new (events ++ event.now ∷ [])
-        × (result ≡ verdict_at places (acts_of (events ++ event.now ∷ [])) (length events)) }
+        PeopleStandFor setup room.old events →
+        PeopleStandFor setup room.new (events ++ event.now ∷ [])
+        × (result
+        ≡ verdict_at (floor_setup setup) (acts_of (events ++ event.now ∷ [])) (length events)) }
 {
     match recorder {
         None => room.happen(event, at, position, out),

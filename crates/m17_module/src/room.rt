@@ -1,23 +1,25 @@
-ghost use Rattle.std.specs.Prelude.{◌≡◌, ◌+◌, ◌<◌, ◌≤◌, ℕ, false, List, [], ◌∷◌, ◌++◌, length, map, max, nat_lt, count_by, insert, remove, slice_set, Some, None, IfOk, is_some, if◌then◌else◌};
+ghost use Rattle.std.specs.Prelude.{◌≡◌, ◌+◌, ◌<◌, ◌≤◌, Bool, false, List, [], ◌∷◌, ◌++◌, length, map, max, nat_lt, count_by, insert, remove, slice_set, Some, None, IfOk, is_none, is_some, if◌then◌else◌};
 ghost use Rattle.m17_control.specs.declared.event.Event.{Event};
 ghost use Rattle.m17_control.specs.declared.item.Said.TheVariants as said;
 ghost use Rattle.m17_floor.specs.Acts.{is_packet, moment_before};
 ghost use Rattle.m17_floor.specs.Floor.{verdict_at, admits};
 ghost use Rattle.m17_floor.specs.declared.act.ActKind.TheVariants as act;
+ghost use Rattle.m17_module.specs.Setup.{Setup, floor_setup};
 ghost use Rattle.m17_module.specs.Events.{kind_of, acts_of};
 ghost use Rattle.m17_module.specs.Seats.{seat_from, members_of, seat_in, seat_of, others_than};
 ghost use Rattle.m17_module.specs.Items.{item_to, to_one, greets, says};
-ghost use Rattle.m17_module.specs.Held.{held_from, to_other, with_place, without_place};
+ghost use Rattle.m17_module.specs.Held.{with_place, without_place};
 ghost use Rattle.arrayvec.specs.ArrayVec.{array_vec_len};
 ghost use Rattle.m17_floor.specs.Rule.{incoming};
 ghost use Rattle.m17_floor.specs.StandsFor.{without};
 ghost use Rattle.m17_module.specs.StandsFor.{PeopleStandFor};
-ghost use Rattle.m17_module.specs.Following.{seat_member, leaver, without_any, FloorHears, FloorFollows};
+ghost use Rattle.m17_module.specs.Following.{seat_member, leaver, without_any, holder_then, FloorHears, FloorFollows};
 
 use crate::Seat;
 use crate::basket::Tray;
+use crate::telling::{item_for, tell, tell_all, tell_others};
 use arrayvec::ArrayVec;
-use m17_control::{Body, Control, Event, Item, Said, Why};
+use m17_control::{Body, Control, Event, Said, Why};
 use m17_floor::{Floor, Last, Verdict, laws as floor_laws};
 use m17_stream::StreamPacket;
 use m17_values::{Member, NoMemory};
@@ -48,68 +50,6 @@ impl Model for Room {
     ghost invariant = { λ r. IsInOrder r.seats.items r.held.items r.lasts.items };
 }
 
-// What is said to a member goes to the peer and the link of its Join.
-#[inline]
-fn item_for(seat: &Seat, what: &Said) -> Item
-    ensures { result ≡ item_to what.now seat.now }
-{
-    Item {
-        member: seat.member,
-        link: seat.link,
-        peer: seat.peer,
-        body: *what,
-    }
-}
-
-// Says this to who is in at a place, if anybody is.
-#[inline]
-fn tell(seat: &Option<Seat>, what: &Said, out: &mut Tray)
-    requires { length out.old < 520 }
-    ensures { out.new ≡ out.old ++ to_one what.now seat.now }
-{
-    let Some(seat) = seat else {
-        return;
-    };
-    out.put(&item_for(seat, what));
-}
-
-// Says this to who is in at a place, if anybody but this member is.
-#[inline]
-fn tell_other(seat: &Option<Seat>, k: Member, what: &Said, out: &mut Tray)
-    requires { length out.old < 520 }
-    ensures { out.new ≡ out.old ++ to_other k what.now seat.now }
-{
-    let Some(seat) = seat else {
-        return;
-    };
-    if seat.member == k {
-        return;
-    }
-    out.put(&item_for(seat, what));
-}
-
-// Says the same to each member, in order of place.
-fn tell_all(seats: &[Option<Seat>], held: &[u32], what: &Said, out: &mut Tray)
-    requires held { held.now ≡ held_from 0 seats.now }
-    requires room { length out.old + length seats.now ≤ 520 }
-    ensures told { out.new ≡ out.old ++ map (item_to what.now) (members_of seats.now) }
-{
-    for place in held {
-        tell(&seats[*place as usize], what, out);
-    }
-}
-
-// Says the same to each member but this one, in order of place.
-fn tell_others(seats: &[Option<Seat>], held: &[u32], k: Member, what: &Said, out: &mut Tray)
-    requires held { held.now ≡ held_from 0 seats.now }
-    requires room { length out.old + length seats.now ≤ 520 }
-    ensures told { out.new ≡ out.old ++ map (item_to what.now) (others_than k seats.now) }
-{
-    for place in held {
-        tell_other(&seats[*place as usize], k, what, out);
-    }
-}
-
 // How many of the places are below this one.
 fn places_below(held: &[u32], place: u32) -> usize
     ensures { result ≡ count_by (λ other. nat_lt other place) held.now }
@@ -136,12 +76,13 @@ fn drop_place(held: &mut ArrayVec<u32, MOST_PLACES>, place: u32)
 }
 
 impl Room {
-    // An empty room of so many places.
-    pub(crate) fn make(alloc: Global, places: u32) -> Result<Room, NoMemory>
+    // An empty room of `places` places, in which one may talk `limit` milliseconds, or for ever where that is 0.
+    pub(crate) fn make(alloc: Global, places: u32, limit: u64) -> Result<Room, NoMemory>
         requires { places ≤ 256 }
         ensures places { IfOk result (λ room. length room.seats ≡ places) }
-        ensures stands { IfOk result (λ room. PeopleStandFor places room []) }
-        ensures free { IfOk result (λ room. room.floor ≡ None) }
+        ensures stands { IfOk result (λ room. (parrot : Bool) → PeopleStandFor
+            (record { places = places; parrot = parrot; limit = limit }) room []) }
+        ensures free { IfOk result (λ room. room.floor ≡ record { frame = None; limit = limit }) }
     {
         let (Ok(mut seats), Ok(mut lasts)) = (
             Vec::with_capacity(alloc, places as usize),
@@ -157,7 +98,7 @@ impl Room {
             seats,
             held: ArrayVec::new(),
             lasts,
-            floor: Floor::new(),
+            floor: Floor::new(limit),
         })
     }
 
@@ -211,10 +152,11 @@ impl Room {
         requires place { seat.now.member.place < length self.old.seats }
         requires free { seat_in self.old.seats seat.now.member.place ≡ None }
         ensures length { length self.new.seats ≡ length self.old.seats }
+        ensures limit { self.new.floor.limit ≡ self.old.floor.limit }
         ensures floor { self.new.floor ≡ self.old.floor }
-        ensures stands { (places : ℕ) (events : List Event) (event : Event) →
-            seat_from (Some event) ≡ Some seat.now → PeopleStandFor places self.old events →
-            PeopleStandFor places self.new (events ++ event ∷ []) }
+        ensures stands { (setup : Setup) (events : List Event) (event : Event) →
+            seat_from (Some event) ≡ Some seat.now → PeopleStandFor setup self.old events →
+            PeopleStandFor setup self.new (events ++ event ∷ []) }
     {
         floor_laws::one_member_at_a_place();
         floor_laws::comings_and_goings_leave_others();
@@ -229,10 +171,11 @@ impl Room {
         requires place { seat.now.member.place < length self.old.seats }
         requires held { seat_in self.old.seats seat.now.member.place ≡ Some old.now }
         ensures length { length self.new.seats ≡ length self.old.seats }
+        ensures limit { self.new.floor.limit ≡ self.old.floor.limit }
         ensures floor { self.new.floor ≡ without old.now.member self.old.floor }
-        ensures stands { (places : ℕ) (events : List Event) (event : Event) →
-            seat_from (Some event) ≡ Some seat.now → PeopleStandFor places self.old events →
-            PeopleStandFor places self.new (events ++ event ∷ []) }
+        ensures stands { (setup : Setup) (events : List Event) (event : Event) →
+            seat_from (Some event) ≡ Some seat.now → PeopleStandFor setup self.old events →
+            PeopleStandFor setup self.new (events ++ event ∷ []) }
     {
         floor_laws::one_member_at_a_place();
         floor_laws::comings_and_goings_leave_others();
@@ -246,10 +189,11 @@ impl Room {
     fn give_up(&mut self, seat: &Seat)
         requires { seat_in self.old.seats seat.now.member.place ≡ Some seat.now }
         ensures length { length self.new.seats ≡ length self.old.seats }
+        ensures limit { self.new.floor.limit ≡ self.old.floor.limit }
         ensures floor { self.new.floor ≡ without seat.now.member self.old.floor }
-        ensures stands { (places : ℕ) (events : List Event) (event : Event) →
-            kind_of event.body ≡ act.Leave seat.now.member → PeopleStandFor places self.old events →
-            PeopleStandFor places self.new (events ++ event ∷ []) }
+        ensures stands { (setup : Setup) (events : List Event) (event : Event) →
+            kind_of event.body ≡ act.Leave seat.now.member → PeopleStandFor setup self.old events →
+            PeopleStandFor setup self.new (events ++ event ∷ []) }
     {
         floor_laws::one_member_at_a_place();
         floor_laws::comings_and_goings_leave_others();
@@ -264,14 +208,16 @@ impl Room {
         requires is_in { seat_in self.old.seats seat.now.member.place ≡ Some seat.now }
         requires speaks { seat.now.listens ≡ false }
         ensures seats { self.new.seats ≡ self.old.seats }
+        ensures limit { self.new.floor.limit ≡ self.old.floor.limit }
         ensures floor { FloorHears (incoming seat.now.member at p.now) result self.old.floor
             self.new.floor }
-        ensures stands { (places : ℕ) (events : List Event) (event : Event) →
+        ensures stands { (setup : Setup) (events : List Event) (event : Event) →
             kind_of event.body ≡ act.Packet seat.now.member p.now →
             at ≡ max (moment_before (acts_of events) (length events)) event.at →
-            PeopleStandFor places self.old events →
-            PeopleStandFor places self.new (events ++ event ∷ [])
-            × (verdict_at places (acts_of (events ++ event ∷ [])) (length events) ≡ Some result) }
+            PeopleStandFor setup self.old events →
+            PeopleStandFor setup self.new (events ++ event ∷ [])
+            × (verdict_at (floor_setup setup) (acts_of (events ++ event ∷ [])) (length events)
+            ≡ Some result) }
     {
         let own = &mut self.lasts[seat.member.place as usize];
         self.floor.judge(seat.member, at, p, own)
@@ -280,13 +226,15 @@ impl Room {
     // A packet of a member, or of one that is none.
     fn packet(&mut self, k: Member, at: u64, p: &StreamPacket) -> Verdict
         ensures seats { self.new.seats ≡ self.old.seats }
+        ensures limit { self.new.floor.limit ≡ self.old.floor.limit }
         ensures floor { FloorHears (incoming k at p.now) result self.old.floor self.new.floor }
-        ensures stands { (places : ℕ) (events : List Event) (event : Event) →
+        ensures stands { (setup : Setup) (events : List Event) (event : Event) →
             kind_of event.body ≡ act.Packet k p.now →
             at ≡ max (moment_before (acts_of events) (length events)) event.at →
-            PeopleStandFor places self.old events →
-            PeopleStandFor places self.new (events ++ event ∷ [])
-            × (verdict_at places (acts_of (events ++ event ∷ [])) (length events) ≡ Some result) }
+            PeopleStandFor setup self.old events →
+            PeopleStandFor setup self.new (events ++ event ∷ [])
+            × (verdict_at (floor_setup setup) (acts_of (events ++ event ∷ [])) (length events)
+            ≡ Some result) }
     {
         floor_laws::strangers_change_nothing();
         floor_laws::only_speakers_are_heard();
@@ -305,10 +253,11 @@ impl Room {
         requires { seat.now.member.place < length self.old.seats }
         ensures was { result ≡ seat_in self.old.seats seat.now.member.place }
         ensures length { length self.new.seats ≡ length self.old.seats }
+        ensures limit { self.new.floor.limit ≡ self.old.floor.limit }
         ensures floor { self.new.floor ≡ without_any (seat_member result) self.old.floor }
-        ensures stands { (places : ℕ) (events : List Event) (event : Event) →
-            seat_from (Some event) ≡ Some seat.now → PeopleStandFor places self.old events →
-            PeopleStandFor places self.new (events ++ event ∷ []) }
+        ensures stands { (setup : Setup) (events : List Event) (event : Event) →
+            seat_from (Some event) ≡ Some seat.now → PeopleStandFor setup self.old events →
+            PeopleStandFor setup self.new (events ++ event ∷ []) }
     {
         let Some(old) = self.seat_in(seat.member.place) else {
             self.take_free(seat);
@@ -322,10 +271,11 @@ impl Room {
     fn leave(&mut self, k: Member) -> Option<Seat>
         ensures was { result ≡ seat_of self.old.seats k }
         ensures length { length self.new.seats ≡ length self.old.seats }
+        ensures limit { self.new.floor.limit ≡ self.old.floor.limit }
         ensures floor { self.new.floor ≡ without_any (seat_member result) self.old.floor }
-        ensures stands { (places : ℕ) (events : List Event) (event : Event) →
-            kind_of event.body ≡ act.Leave k → PeopleStandFor places self.old events →
-            PeopleStandFor places self.new (events ++ event ∷ []) }
+        ensures stands { (setup : Setup) (events : List Event) (event : Event) →
+            kind_of event.body ≡ act.Leave k → PeopleStandFor setup self.old events →
+            PeopleStandFor setup self.new (events ++ event ∷ []) }
     {
         floor_laws::strangers_change_nothing();
         let Some(seat) = self.seat_of(k) else {
@@ -340,11 +290,12 @@ impl Room {
         requires { length out.old ≤ 257 }
         ensures told { out.new ≡ out.old ++ greets self.old.seats seat.now after }
         ensures length { length self.new.seats ≡ length self.old.seats }
+        ensures limit { self.new.floor.limit ≡ self.old.floor.limit }
         ensures floor { self.new.floor ≡ without_any
             (seat_member (seat_in self.old.seats seat.now.member.place)) self.old.floor }
-        ensures stands { (places : ℕ) (events : List Event) (event : Event) →
-            seat_from (Some event) ≡ Some seat.now → PeopleStandFor places self.old events →
-            PeopleStandFor places self.new (events ++ event ∷ []) }
+        ensures stands { (setup : Setup) (events : List Event) (event : Event) →
+            seat_from (Some event) ≡ Some seat.now → PeopleStandFor setup self.old events →
+            PeopleStandFor setup self.new (events ++ event ∷ []) }
     {
         floor_laws::strangers_change_nothing();
         if seat.member.place as usize >= self.places() {
@@ -360,11 +311,12 @@ impl Room {
         requires { length out.old ≤ 257 }
         ensures told { out.new ≡ out.old ++ to_one (said.Bye why) (seat_of self.old.seats k) }
         ensures length { length self.new.seats ≡ length self.old.seats }
+        ensures limit { self.new.floor.limit ≡ self.old.floor.limit }
         ensures floor { self.new.floor
             ≡ without_any (seat_member (seat_of self.old.seats k)) self.old.floor }
-        ensures stands { (places : ℕ) (events : List Event) (event : Event) →
-            kind_of event.body ≡ act.Leave k → PeopleStandFor places self.old events →
-            PeopleStandFor places self.new (events ++ event ∷ []) }
+        ensures stands { (setup : Setup) (events : List Event) (event : Event) →
+            kind_of event.body ≡ act.Leave k → PeopleStandFor setup self.old events →
+            PeopleStandFor setup self.new (events ++ event ∷ []) }
     {
         let was = self.leave(k);
         tell(&was, &Said::Bye { why }, out);
@@ -383,13 +335,15 @@ impl Room {
         ensures told { out.new ≡ out.old ++ (if admits (Some result)
             then map (item_to (said.Frame position p.now)) (others_than k self.old.seats) else []) }
         ensures seats { self.new.seats ≡ self.old.seats }
+        ensures limit { self.new.floor.limit ≡ self.old.floor.limit }
         ensures floor { FloorHears (incoming k at p.now) result self.old.floor self.new.floor }
-        ensures stands { (places : ℕ) (events : List Event) (event : Event) →
+        ensures stands { (setup : Setup) (events : List Event) (event : Event) →
             kind_of event.body ≡ act.Packet k p.now →
             at ≡ max (moment_before (acts_of events) (length events)) event.at →
-            PeopleStandFor places self.old events →
-            PeopleStandFor places self.new (events ++ event ∷ [])
-            × (verdict_at places (acts_of (events ++ event ∷ [])) (length events) ≡ Some result) }
+            PeopleStandFor setup self.old events →
+            PeopleStandFor setup self.new (events ++ event ∷ [])
+            × (verdict_at (floor_setup setup) (acts_of (events ++ event ∷ [])) (length events)
+            ≡ Some result) }
     {
         let verdict = self.packet(k, at, p);
         if !verdict.is_admitted() {
@@ -425,6 +379,13 @@ impl Room {
         seat.map(|seat| seat.member)
     }
 
+    // Whether nobody has the floor at this moment.
+    pub(crate) fn is_free(&self, at: u64) -> bool
+        ensures { result ≡ is_none (holder_then at self.now.floor) }
+    {
+        self.floor.is_free(at)
+    }
+
     // Plays a frame back to a member that is in.
     pub(crate) fn play(&self, k: Member, position: u64, p: &StreamPacket, out: &mut Tray)
         requires { length out.old ≤ 256 }
@@ -454,14 +415,16 @@ impl Room {
           admitted = admits result;
         }) event.now.body }
         ensures length { length self.new.seats ≡ length self.old.seats }
+        ensures limit { self.new.floor.limit ≡ self.old.floor.limit }
         ensures floor { FloorFollows self.old.seats at event.now.body result self.old.floor
             self.new.floor }
         ensures answer { is_some result ≡ is_packet (kind_of event.now.body) }
-        ensures stands { (places : ℕ) (events : List Event) →
+        ensures stands { (setup : Setup) (events : List Event) →
             at ≡ max (moment_before (acts_of events) (length events)) event.now.at →
-            PeopleStandFor places self.old events →
-            PeopleStandFor places self.new (events ++ event.now ∷ [])
-            × (result ≡ verdict_at places (acts_of (events ++ event.now ∷ [])) (length events)) }
+            PeopleStandFor setup self.old events →
+            PeopleStandFor setup self.new (events ++ event.now ∷ [])
+            × (result
+            ≡ verdict_at (floor_setup setup) (acts_of (events ++ event.now ∷ [])) (length events)) }
     {
         floor_laws::other_acts_change_nothing();
         floor_laws::only_speakers_are_heard();

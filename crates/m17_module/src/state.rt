@@ -18,7 +18,7 @@ use m17_values::NoMemory;
 use std::alloc::Global;
 use std::marker::Model;
 
-/// Each member is asked whether it is there where the module's moment passes a multiple of so many milliseconds.
+/// Each member is asked whether it is there where the module's moment passes a multiple of this, in milliseconds.
 pub const PING_EVERY_MS: u64 = 3_000;
 
 /// A module of the reflector: who is in it, who may speak, and what each event gives to whom. Contracts see what it
@@ -39,7 +39,11 @@ impl Model for Module {
     ghost Value = { ModuleKept };
 
     ghost view = { λ m. record {
-      setup = record { places = length m.room.seats; parrot = is_some m.recorder };
+      setup = record {
+        places = length m.room.seats;
+        parrot = is_some m.recorder;
+        limit = m.room.floor.limit;
+      };
       moment = m.moment;
       people = m.room;
       count = m.count;
@@ -48,11 +52,10 @@ impl Model for Module {
     } };
 
     ghost use Rattle.std.specs.Option.{ForSome};
-    ghost use Rattle.std.specs.Prelude.{◌≡◌};
-    ghost use Rattle.m17_module.specs.Following.{recorded_by, held_by};
+    ghost use Rattle.m17_module.specs.Following.{RecordsHolder};
 
-    ghost invariant = { λ m. (m.admitted ≤ m.count) × ForSome m.recorder
-        (λ r. recorded_by r.heard r.parrot ≡ held_by m.moment m.room.floor) };
+    ghost invariant = { λ m. (m.admitted ≤ m.count)
+        × ForSome m.recorder (λ r. RecordsHolder m.moment m.room.floor r.parrot) };
 }
 
 // Asks each member whether it is there, where the moment passes a multiple of 3,000 ms. One question is enough, however
@@ -96,18 +99,20 @@ fn recorder_if(alloc: Global, parrot: bool) -> Result<Option<Recorder>, NoMemory
 }
 
 impl Module {
-    ghost use Rattle.m17_module.specs.Items.{Setup};
+    ghost use Rattle.m17_module.specs.Setup.{Setup};
 
-    /// An empty module of so many places, 1 to 256; a `parrot` plays back what it hears. It fails only where there is no
+    /// An empty module of this number of places, 1 to 256; a `parrot` plays back what it hears. Whoever has talked for `limit`
+    /// milliseconds since its stream was opened loses the floor; with 0 there is no limit. It fails only where there is no
     /// memory.
-    pub fn make(alloc: Global, places: u32, parrot: bool) -> Result<Module, NoMemory>
+    pub fn make(alloc: Global, places: u32, parrot: bool, limit: u64) -> Result<Module, NoMemory>
         requires some { 0 < places }
         requires at_most { places ≤ 256 }
-        ensures setup { IfOk result (λ m. m.setup ≡ record { places = places; parrot = parrot }) }
+        ensures setup { IfOk result
+            (λ m. m.setup ≡ record { places = places; parrot = parrot; limit = limit }) }
         ensures stands { IfOk result (λ m. StandsFor m []) }
     {
         floor_laws::admitted_positions_are_counted();
-        let room = match Room::make(alloc, places) {
+        let room = match Room::make(alloc, places, limit) {
             Ok(room) => room,
             Err(no_memory) => return Err(no_memory),
         };

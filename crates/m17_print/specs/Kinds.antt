@@ -3,13 +3,13 @@ use Rattle.std.specs.Prelude.{ℕ, List, [], ◌∷◌, length, codes}
 use Rattle.m17_floor.specs.declared.verdict.Verdict.{Verdict}
 use Rattle.m17_floor.specs.declared.verdict.Verdict.TheVariants as verdict
 use Rattle.m17_print.specs.declared.kind.Kind.{Kind}
-use Rattle.m17_print.specs.declared.kind.Kind.TheVariants.{Join, Again, Leave, Pong, Alive, Opened, Continued, Busy, Repeat, Late, AfterEnd, NotMember, ListenOnly, Refused, NotConnected, NotServed, Full, Stray, Quiet, Fault}
+use Rattle.m17_print.specs.declared.kind.Kind.TheVariants.{Join, Again, Leave, Pong, Alive, Opened, Continued, Busy, Repeat, Late, AfterEnd, TimedOut, NotMember, ListenOnly, Refused, NotConnected, NotServed, Full, Stray, Quiet, Fault}
 
 -- the kinds, in the order of a summary, and how many there are
 abbrev pub kinds : List Kind
 kinds = Join ∷ Again ∷ Leave ∷ Pong ∷ Alive ∷ Opened ∷ Continued ∷ Busy ∷ Repeat ∷ Late
-    ∷ AfterEnd ∷ NotMember ∷ ListenOnly ∷ Refused ∷ NotConnected ∷ NotServed ∷ Full ∷ Stray
-    ∷ Quiet ∷ Fault ∷ []
+    ∷ AfterEnd ∷ TimedOut ∷ NotMember ∷ ListenOnly ∷ Refused ∷ NotConnected ∷ NotServed ∷ Full
+    ∷ Stray ∷ Quiet ∷ Fault ∷ []
 
 abbrev pub kind_count : ℕ
 kind_count = length kinds
@@ -27,6 +27,7 @@ kind_word Busy = codes "busy"
 kind_word Repeat = codes "repeat"
 kind_word Late = codes "late"
 kind_word AfterEnd = codes "after-end"
+kind_word TimedOut = codes "timed-out"
 kind_word NotMember = codes "not-member"
 kind_word ListenOnly = codes "listen-only"
 kind_word Refused = codes "refused"
@@ -50,15 +51,16 @@ kind_place Busy = 7
 kind_place Repeat = 8
 kind_place Late = 9
 kind_place AfterEnd = 10
-kind_place NotMember = 11
-kind_place ListenOnly = 12
-kind_place Refused = 13
-kind_place NotConnected = 14
-kind_place NotServed = 15
-kind_place Full = 16
-kind_place Stray = 17
-kind_place Quiet = 18
-kind_place Fault = 19
+kind_place TimedOut = 11
+kind_place NotMember = 12
+kind_place ListenOnly = 13
+kind_place Refused = 14
+kind_place NotConnected = 15
+kind_place NotServed = 16
+kind_place Full = 17
+kind_place Stray = 18
+kind_place Quiet = 19
+kind_place Fault = 20
 
 -- the kind of a packet that was judged
 abbrev pub verdict_kind : Verdict → Kind
@@ -68,5 +70,6 @@ verdict_kind (verdict.Busy holder) = Busy
 verdict_kind verdict.Repeat = Repeat
 verdict_kind (verdict.Late last) = Late
 verdict_kind verdict.AfterEnd = AfterEnd
+verdict_kind verdict.TimedOut = TimedOut
 verdict_kind verdict.NotMember = NotMember
 verdict_kind verdict.ListenOnly = ListenOnly

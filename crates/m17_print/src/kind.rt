@@ -4,7 +4,7 @@ ghost use Rattle.m17_print.specs.Kinds.{kinds, kind_count, kind_word, kind_place
 use m17_floor::Verdict;
 
 /// How many kinds there are.
-pub const KIND_COUNT: usize = 20;
+pub const KIND_COUNT: usize = 21;
 
 /// What an entry of a link came to. The word of each kind stands here alone, for lines and summaries.
 #[derive(Clone, Copy, Debug, PartialEq, Eq)]
@@ -31,6 +31,8 @@ pub enum Kind {
     Late,
     /// A packet came after its stream had ended.
     AfterEnd,
+    /// A packet of a stream that is on for the whole limit on talking.
+    TimedOut,
     /// A packet of one that is no member.
     NotMember,
     /// A packet of one that listens only.
@@ -64,6 +66,7 @@ const KINDS: [Kind; KIND_COUNT] = [
     Kind::Repeat,
     Kind::Late,
     Kind::AfterEnd,
+    Kind::TimedOut,
     Kind::NotMember,
     Kind::ListenOnly,
     Kind::Refused,
@@ -95,6 +98,7 @@ impl Kind {
             Verdict::Repeat => Kind::Repeat,
             Verdict::Late { .. } => Kind::Late,
             Verdict::AfterEnd => Kind::AfterEnd,
+            Verdict::TimedOut => Kind::TimedOut,
             Verdict::NotMember => Kind::NotMember,
             Verdict::ListenOnly => Kind::ListenOnly,
         }
@@ -117,6 +121,7 @@ impl Kind {
             Kind::Repeat => "repeat",
             Kind::Late => "late",
             Kind::AfterEnd => "after-end",
+            Kind::TimedOut => "timed-out",
             Kind::NotMember => "not-member",
             Kind::ListenOnly => "listen-only",
             Kind::Refused => "refused",

@@ -183,6 +183,7 @@ fn verdicts_are_a_word_and_what_they_name(rt: HostRuntime) {
         (Verdict::Repeat, "repeat", "repeat"),
         (Verdict::Late { last: 5 }, "late", "late 5"),
         (Verdict::AfterEnd, "after-end", "after-end"),
+        (Verdict::TimedOut, "timed-out", "timed-out"),
         (Verdict::NotMember, "not-member", "not-member"),
         (Verdict::ListenOnly, "listen-only", "listen-only"),
     ];

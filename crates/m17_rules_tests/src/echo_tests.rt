@@ -60,7 +60,7 @@ fn hear_all(
 
 // A stream of so many frames: 750 of them come back, one every 40 ms.
 fn comes_back(rt: &impl Abort, alloc: Global, frames: u16) {
-    let (mut module, mut basket) = made(rt, alloc, 4, true);
+    let (mut module, mut basket) = made(rt, alloc, 4, true, 0);
     let (m, b) = (&mut module, &mut basket);
     let joined = first_of(rt, m, b, AT_0, &join(rt, AT_0, 0, false));
     assert!(rt; joined == Some(item_of(Gives::Hello(AT_0))));
@@ -104,7 +104,7 @@ fn a_member_that_has_left_hears_no_echo(rt: HostRuntime) {
         (2_999, Tick, None, &[]),
         (3_999, Tick, None, &[Gives::Ping(NEXT_AT_2)]),
     ];
-    let _end = plays(&rt, rt.alloc(), 4, true, &ROWS);
+    let _end = plays(&rt, rt.alloc(), 4, true, 0, &ROWS);
 }
 
 #[test]
@@ -127,7 +127,7 @@ fn silence_closes_a_recording_at_the_next_event(rt: HostRuntime) {
         (5_999, Tick, None, &[]),
         (6_000, Tick, None, LATE),
     ];
-    let _end = plays(&rt, rt.alloc(), 4, true, &ROWS);
+    let _end = plays(&rt, rt.alloc(), 4, true, 0, &ROWS);
 }
 
 #[test]
@@ -165,7 +165,7 @@ fn another_talker_during_the_echo_ends_it(rt: HostRuntime) {
         (2_120, Tick, None, &[Gives::Echo(AT_3, 8, 0xfff7, 0, true)]),
         (2_900, Tick, None, &[]),
     ];
-    let _end = plays(&rt, rt.alloc(), 4, true, &ROWS);
+    let _end = plays(&rt, rt.alloc(), 4, true, 0, &ROWS);
 }
 
 #[test]
@@ -182,7 +182,7 @@ fn however_late_one_echo_for_each_event(rt: HostRuntime) {
         (2_999, Tick, None, &[Gives::Echo(AT_0, 3, 0xfff6, 0, false)]),
         (2_999, Leaves(AT_0, Why::Asked), None, LEFT),
     ];
-    let _end = plays(&rt, rt.alloc(), 4, true, &ROWS);
+    let _end = plays(&rt, rt.alloc(), 4, true, 0, &ROWS);
 }
 
 #[test]
@@ -199,5 +199,5 @@ fn a_talker_that_begins_anew_ends_its_own_echo(rt: HostRuntime) {
         (2_209, Tick, None, &[]),
         (2_210, Tick, None, &[Gives::Echo(AT_0, 8, 0xfff7, 0, false)]),
     ];
-    let _end = plays(&rt, rt.alloc(), 4, true, &ROWS);
+    let _end = plays(&rt, rt.alloc(), 4, true, 0, &ROWS);
 }

@@ -2,7 +2,9 @@
 ghost use Rattle.std.specs.Prelude.{◌<◌};
 
 use m17_callsign::Address;
-use m17_floor::Verdict::{AfterEnd, Busy, Continued, Late, ListenOnly, NotMember, Opened, Repeat};
+use m17_floor::Verdict::{
+    AfterEnd, Busy, Continued, Late, ListenOnly, NotMember, Opened, Repeat, TimedOut,
+};
 use m17_floor::{Act, ActKind, Floor, Last, Verdict, plain};
 use m17_lsd::Lsd;
 use m17_stream::{FRAME_NUMBERS, StreamPacket};
@@ -77,9 +79,9 @@ struct Room {
 }
 
 impl Room {
-    fn new() -> Room {
+    fn new(limit: u64) -> Room {
         Room {
-            floor: Floor::new(),
+            floor: Floor::new(limit),
             first: None,
             second: None,
             moment: 0,
@@ -172,20 +174,21 @@ fn heard(
     }
 }
 
-/// Whether the fast way and the plain one give these verdicts.
+/// Whether the fast way and the plain one give these verdicts where one may talk for `limit` milliseconds.
 pub(crate) fn both_give(
     rt: &impl Abort,
     alloc: Global,
+    limit: u64,
     acts: &[Act],
     wanted: &[Option<Verdict>],
 ) -> bool {
-    let plain = must(rt, plain::verdicts(alloc, PLACES, acts));
-    plain.as_slice() == wanted && fast_gives(acts, wanted)
+    let plain = must(rt, plain::verdicts(alloc, PLACES, limit, acts));
+    plain.as_slice() == wanted && fast_gives(limit, acts, wanted)
 }
 
 // Whether the fast way gives these verdicts.
-fn fast_gives(acts: &[Act], wanted: &[Option<Verdict>]) -> bool {
-    let mut room = Room::new();
+fn fast_gives(limit: u64, acts: &[Act], wanted: &[Option<Verdict>]) -> bool {
+    let mut room = Room::new(limit);
     for (act, verdict) in acts.iter().zip(wanted) {
         if room.step(act) != *verdict {
             return false;
@@ -227,7 +230,7 @@ fn some_act(state: &mut u64, at: u64) -> Act {
 
 // Which verdict it is, by its line in the table.
 fn line_of(verdict: Option<Verdict>) -> usize
-    ensures { result < 9 }
+    ensures { result < 10 }
 {
     match verdict {
         Some(NotMember) => 0,
@@ -236,9 +239,10 @@ fn line_of(verdict: Option<Verdict>) -> usize
         Some(AfterEnd) => 3,
         Some(Repeat) => 4,
         Some(Late { .. }) => 5,
-        Some(Continued) => 6,
-        Some(Opened) => 7,
-        None => 8,
+        Some(TimedOut) => 6,
+        Some(Continued) => 7,
+        Some(Opened) => 8,
+        None => 9,
     }
 }
 
@@ -257,11 +261,13 @@ fn some_list(rt: &impl Abort, alloc: Global, state: &mut u64) -> Vec<Act> {
     acts
 }
 
-// Judges such a list both ways, and notes which verdicts came.
-fn judge_some(rt: &impl Abort, alloc: Global, state: &mut u64, seen: &mut [bool; 9]) {
+// Judges such a list both ways, under one of a few limits, and notes which verdicts came.
+fn judge_some(rt: &impl Abort, alloc: Global, state: &mut u64, seen: &mut [bool; 10]) {
+    let limits = [0, 40, 2_000, 9_999];
+    let limit = limits.get(drawn(state, 4) as usize).copied().unwrap_or(0);
     let acts = some_list(rt, alloc, state);
-    let wanted = must(rt, plain::verdicts(alloc, PLACES, &acts));
-    assert!(rt; fast_gives(&acts, &wanted));
+    let wanted = must(rt, plain::verdicts(alloc, PLACES, limit, &acts));
+    assert!(rt; fast_gives(limit, &acts, &wanted));
     for verdict in wanted.iter() {
         seen[line_of(*verdict)] = true;
     }
@@ -270,11 +276,11 @@ fn judge_some(rt: &impl Abort, alloc: Global, state: &mut u64, seen: &mut [bool;
 #[test]
 fn small_lists_are_judged_as_by_the_rule(rt: HostRuntime) {
     let mut state = 1;
-    let mut seen = [false; 9];
+    let mut seen = [false; 10];
     for _ in 0..400 {
         judge_some(&rt, rt.alloc(), &mut state, &mut seen);
     }
-    assert!(rt; seen == [true; 9]);
+    assert!(rt; seen == [true; 10]);
 }
 
 #[test]

@@ -1,6 +1,8 @@
 //! Worked lists of acts and their verdicts, by the fast way and by the plain one.
 use crate::floor_list_tests::{both_give, join, leave, must, sent};
-use m17_floor::Verdict::{AfterEnd, Busy, Continued, Late, ListenOnly, NotMember, Opened, Repeat};
+use m17_floor::Verdict::{
+    AfterEnd, Busy, Continued, Late, ListenOnly, NotMember, Opened, Repeat, TimedOut,
+};
 use m17_floor::{Act, Verdict};
 use m17_values::Member;
 use std::alloc::Global;
@@ -59,15 +61,23 @@ fn act(at: u64, member: Member, does: Does) -> Act {
     }
 }
 
-// Both ways give the verdicts of the rows.
-fn expect(rt: &impl Abort, alloc: Global, rows: &[Row]) {
-    let mut acts = Vec::new(alloc);
-    let mut wanted = Vec::new(alloc);
+// How long one may talk, in milliseconds.
+const LIMIT: u64 = 180_000;
+
+// Adds the acts of the rows, and their verdicts.
+fn add(rt: &impl Abort, acts: &mut Vec<Act>, wanted: &mut Vec<Option<Verdict>>, rows: &[Row]) {
     for (at, member, does, verdict) in rows {
         must(rt, acts.push(act(*at, *member, *does)));
         must(rt, wanted.push(*verdict));
     }
-    assert!(rt; both_give(rt, alloc, &acts, &wanted));
+}
+
+// Both ways give the verdicts of the rows.
+fn expect(rt: &impl Abort, alloc: Global, rows: &[Row]) {
+    let mut acts = Vec::new(alloc);
+    let mut wanted = Vec::new(alloc);
+    add(rt, &mut acts, &mut wanted, rows);
+    assert!(rt; both_give(rt, alloc, LIMIT, &acts, &wanted));
 }
 
 // Both ways give the verdicts of each of these lists.
@@ -232,4 +242,40 @@ fn a_place_that_is_taken_over_frees_the_floor(rt: HostRuntime) {
         (120, NEXT_A, Sends(1, 7), Some(ListenOnly)),
     ];
     expect(&rt, rt.alloc(), ROWS);
+}
+
+// Both ways give the verdicts of the rows where A held its key before: it sent the numbers 0 to 119, each 1,500
+// milliseconds after the one before.
+fn expect_after_held_key(rt: &impl Abort, alloc: Global, limit: u64, rows: &[Row]) {
+    let mut acts = Vec::new(alloc);
+    let mut wanted = Vec::new(alloc);
+    add(rt, &mut acts, &mut wanted, &[A_IN, B_IN]);
+    for k in 0..120u16 {
+        let verdict = if k == 0 { Opened } else { Continued };
+        must(rt, acts.push(sent(1_500 * u64::from(k), A, 1, k, false)));
+        must(rt, wanted.push(Some(verdict)));
+    }
+    add(rt, &mut acts, &mut wanted, rows);
+    assert!(rt; both_give(rt, alloc, limit, &acts, &wanted));
+}
+
+#[test]
+fn a_stuck_key_loses_the_floor(rt: HostRuntime) {
+    const AFTER: &[Row] = &[
+        (179_999, A, Sends(1, 120), Some(Continued)),
+        (180_000, A, Sends(1, 121), Some(TimedOut)),
+        (180_000, B, Sends(2, 0), Some(Opened)),
+        (180_040, A, Sends(1, 122), BUSY_B),
+        (189_998, A, Sends(1, 123), Some(TimedOut)),
+        (189_999, A, Sends(1, 124), Some(Opened)),
+    ];
+    expect_after_held_key(&rt, rt.alloc(), LIMIT, AFTER);
+    // Without a limit it keeps the floor.
+    const ON: &[Row] = &[
+        (179_999, A, Sends(1, 120), Some(Continued)),
+        (180_000, A, Sends(1, 121), Some(Continued)),
+        (180_000, B, Sends(2, 0), BUSY_A),
+        (180_040, A, Sends(1, 122), Some(Continued)),
+    ];
+    expect_after_held_key(&rt, rt.alloc(), 0, ON);
 }

@@ -192,13 +192,18 @@ fn listed(rt: &impl Abort, seed: u64) -> [Event; 48] {
     events
 }
 
-// What the floor rule says of the events.
-fn verdicts_on(rt: &impl Abort, alloc: Global, events: &[Event; 48]) -> Vec<Option<Verdict>> {
+// What the floor rule says of the events, under this limit.
+fn verdicts_on(
+    rt: &impl Abort,
+    alloc: Global,
+    limit: u64,
+    events: &[Event; 48],
+) -> Vec<Option<Verdict>> {
     let mut acts = [act(&tick(0)); 48];
     for i in 0..48 {
         acts[i] = act(&events[i]);
     }
-    must(rt, plain::verdicts(alloc, 3, &acts))
+    must(rt, plain::verdicts(alloc, 3, limit, &acts))
 }
 
 // Steps through a list of events, beside the definition, and answers how many echoes there were.
@@ -206,6 +211,7 @@ fn step_beside(
     rt: &impl Abort,
     module: &mut Module,
     basket: &mut Basket,
+    limit: u64,
     events: &[Event; 48],
     verdicts: &[Option<Verdict>],
 ) -> u32 {
@@ -218,6 +224,7 @@ fn step_beside(
         let admitted = matches!(answer, Some(Verdict::Opened | Verdict::Continued));
         let looked = Looked {
             places: 3,
+            limit,
             events,
             verdicts,
             echoed: &echoed,
@@ -234,12 +241,13 @@ fn step_beside(
     echoes
 }
 
-// The same by a new module, for a list that comes of a number.
+// The same by a new module, for a list that comes of a number; each second list under a limit.
 fn run_list(rt: &impl Abort, alloc: Global, seed: u64, parrot: bool) -> u32 {
+    let limit = seed % 2 * 900;
     let events = listed(rt, seed);
-    let verdicts = verdicts_on(rt, alloc, &events);
-    let (mut module, mut basket) = made(rt, alloc, 3, parrot);
-    step_beside(rt, &mut module, &mut basket, &events, &verdicts)
+    let verdicts = verdicts_on(rt, alloc, limit, &events);
+    let (mut module, mut basket) = made(rt, alloc, 3, parrot, limit);
+    step_beside(rt, &mut module, &mut basket, limit, &events, &verdicts)
 }
 
 #[test]

@@ -167,12 +167,18 @@ pub(crate) fn step_by(rt: &impl Abort, module: &mut Module, basket: &mut Basket,
     }
 }
 
-/// A new module of so many places, and its basket.
-pub(crate) fn made(rt: &impl Abort, alloc: Global, places: u32, parrot: bool) -> (Module, Basket)
+/// A new module of so many places, with this limit on talking, and its basket.
+pub(crate) fn made(
+    rt: &impl Abort,
+    alloc: Global,
+    places: u32,
+    parrot: bool,
+    limit: u64,
+) -> (Module, Basket)
     requires some { 0 < places }
     requires at_most { places ≤ 256 }
 {
-    let module = must(rt, Module::make(alloc, places, parrot));
+    let module = must(rt, Module::make(alloc, places, parrot, limit));
     (module, must(rt, Basket::make(alloc)))
 }
 
@@ -182,12 +188,13 @@ pub(crate) fn plays(
     alloc: Global,
     places: u32,
     parrot: bool,
+    limit: u64,
     rows: &[Row],
 ) -> (u64, u64)
     requires some { 0 < places }
     requires at_most { places ≤ 256 }
 {
-    let (mut module, mut basket) = made(rt, alloc, places, parrot);
+    let (mut module, mut basket) = made(rt, alloc, places, parrot, limit);
     step_by(rt, &mut module, &mut basket, rows);
     (module.admitted(), module.moment())
 }
@@ -242,7 +249,7 @@ fn a_small_evening(rt: HostRuntime) {
         (3_000, Tick, None, &[Gives::Ping(AT_0)]),
         (3_000, Sends(AT_1, 7, 1, false), NOT_MEMBER, &[]),
     ];
-    assert!(rt; plays(&rt, rt.alloc(), 4, false, &ROWS) == (2, 3_000));
+    assert!(rt; plays(&rt, rt.alloc(), 4, false, 0, &ROWS) == (2, 3_000));
 }
 
 #[test]
@@ -268,7 +275,7 @@ fn a_place_is_taken_over(rt: HostRuntime) {
         (60, Speaks(PAST), None, &[]),
         (60, Sends(PAST, 1, 1, false), NOT_MEMBER, &[]),
     ];
-    let _end = plays(&rt, rt.alloc(), 4, false, &ROWS);
+    let _end = plays(&rt, rt.alloc(), 4, false, 0, &ROWS);
 }
 
 #[test]
@@ -297,7 +304,29 @@ fn a_talker_leaves_with_the_floor_and_joins_again(rt: HostRuntime) {
             &[Gives::Frame(AT_1, 5, 5, 9, false)],
         ),
     ];
-    let _end = plays(&rt, rt.alloc(), 2, false, &ROWS);
+    let _end = plays(&rt, rt.alloc(), 2, false, 0, &ROWS);
+}
+
+#[test]
+fn a_stuck_key_times_out_and_another_takes_the_floor(rt: HostRuntime) {
+    use Happens::{Sends, Speaks};
+    const TIMED_OUT: Option<Verdict> = Some(Verdict::TimedOut);
+    const BUSY: Option<Verdict> = Some(Verdict::Busy { holder: AT_1 });
+    const FIRST: &[Gives] = &[Gives::Frame(AT_1, 2, 5, 1, false)];
+    const SECOND: &[Gives] = &[Gives::Frame(AT_1, 3, 5, 2, false)];
+    const THIRD: &[Gives] = &[Gives::Frame(AT_1, 4, 5, 3, false)];
+    const THEN_HEARD: &[Gives] = &[Gives::Frame(AT_0, 6, 6, 1, false)];
+    const ROWS: [Row; 8] = [
+        (0, Speaks(AT_0), None, &[Gives::Hello(AT_0)]),
+        (0, Speaks(AT_1), None, &[Gives::Hello(AT_1)]),
+        (10, Sends(AT_0, 5, 1, false), OPENED, FIRST),
+        (1_500, Sends(AT_0, 5, 2, false), CONTINUED, SECOND),
+        (2_009, Sends(AT_0, 5, 3, false), CONTINUED, THIRD),
+        (2_010, Sends(AT_0, 5, 4, false), TIMED_OUT, &[]),
+        (2_010, Sends(AT_1, 6, 1, false), OPENED, THEN_HEARD),
+        (2_020, Sends(AT_0, 5, 5, false), BUSY, &[]),
+    ];
+    assert!(rt; plays(&rt, rt.alloc(), 2, false, 2_000, &ROWS) == (4, 2_020));
 }
 
 #[test]
@@ -315,7 +344,7 @@ fn pings_come_at_multiples_of_three_seconds(rt: HostRuntime) {
         (63_000, Leaves(AT_1, Why::Silent), None, LEFT),
         (66_000, Tick, None, &[]),
     ];
-    let _end = plays(&rt, rt.alloc(), 2, false, &ROWS);
+    let _end = plays(&rt, rt.alloc(), 2, false, 0, &ROWS);
 }
 
 // All 256 places are taken, in an order of places that is not theirs.
@@ -345,7 +374,7 @@ fn are_all_told(basket: &mut Basket) -> bool {
 
 #[test]
 fn a_full_module_is_told_in_order_of_place(rt: HostRuntime) {
-    let (mut module, mut basket) = made(&rt, rt.alloc(), 256, false);
+    let (mut module, mut basket) = made(&rt, rt.alloc(), 256, false, 0);
     fill(&rt, &mut module, &mut basket);
     assert!(rt; basket.is_empty());
     let answer = module.step(&sends(member(9, 0), 3_000, 5, 1, false), &mut basket);

@@ -4,10 +4,11 @@ use m17_stream::StreamPacket;
 use m17_values::Member;
 
 // What a parrot module plays back, looked up anew at each position as it is defined: the events of a module of so many
-// places, the verdict on each, and of each position below n whether it has an echo.
+// places, with this limit on talking, the verdict on each, and of each position below n whether it has an echo.
 #[derive(Clone, Copy)]
 pub(crate) struct Looked<'a> {
     pub(crate) places: u32,
+    pub(crate) limit: u64,
     pub(crate) events: &'a [Event],
     pub(crate) verdicts: &'a [Option<Verdict>],
     pub(crate) echoed: &'a [bool],
@@ -86,8 +87,19 @@ impl Looked<'_> {
             return false;
         };
         !packet.last
+            && !self.is_out(n)
             && self.moment(n).saturating_sub(self.moment(a)) < 1_600
             && self.is_in_since(k, a, n)
+    }
+
+    // Whether the limit has passed since the last opened position below n.
+    fn is_out(&self, n: usize) -> bool {
+        match self.opened(n) {
+            Some(o) if self.limit > 0 => {
+                self.moment(n).saturating_sub(self.moment(o)) >= self.limit
+            }
+            _ => false,
+        }
     }
 
     // The last opened position below n.

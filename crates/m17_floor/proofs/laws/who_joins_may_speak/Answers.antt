@@ -7,4 +7,4 @@ pub returns-clause-joined : goal.returns-clause-joined
 returns-clause-joined c = joined_speaks
 
 pub returns-clause-others : goal.returns-clause-others
-returns-clause-others c = λ places acts k at m other speaks. (join_leaves places acts at k false m other).speaks speaks
+returns-clause-others c = λ setup acts k at m other speaks. (join_leaves setup acts at k false m other).speaks speaks

@@ -1,4 +1,4 @@
-use Rattle.std.proofs.Common.{◌≡◌, ℕ, ◌+◌, ◌*◌, ◌++◌, Some, Err, drop, refl, ap, subst, ◌∙◌, arith}
+use Rattle.std.proofs.Common.{◌≡◌, ℕ, ◌*◌, ◌++◌, Some, Err, drop, refl, ap, subst, ◌∙◌, arith}
 use Rattle.m17_print.proofs.Grown.{grows_none, grows_then, grows_line, grows_part}
 use Rattle.m17_io.specs.Fill.{IsFilled}
 use Rattle.m17_judge.proofs.JudgeRun.{at_start, next_judged, one_more, all_judged, finished, cut, read_failed, write_failed, line_failed}

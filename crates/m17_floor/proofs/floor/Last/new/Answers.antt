@@ -4,7 +4,7 @@ use Rattle.m17_floor.proofs.NoPacket.{no_own_frame}
 use Rattle.m17_floor.proofs.floor.Last.new.Goals as goal
 
 pub returns-clause-stands : goal.returns-clause-stands
-returns-clause-stands c = λ places acts k h. sym (no_own_frame places acts k h)
+returns-clause-stands c = λ setup acts k h. sym (no_own_frame setup acts k h)
 
 pub returns-clause-joined : goal.returns-clause-joined
-returns-clause-joined c = λ places acts k at only. sym (joined_anew places acts at k only)
+returns-clause-joined c = λ setup acts k at only. sym (joined_anew setup acts at k only)

@@ -2,7 +2,7 @@ use Rattle.std.proofs.Common.{List, sym, subst, arith}
 use Rattle.m17_floor.specs.declared.act.Act.{Act}
 use Rattle.m17_floor.specs.declared.act.ActKind.TheVariants.{Packet}
 use Rattle.m17_floor.specs.StandsFor.{IsJudged}
-use Rattle.m17_judge.specs.Judge.{talker, talkers}
+use Rattle.m17_judge.specs.Judge.{judge_setup, talker}
 use Rattle.m17_judge.specs.Table.{TableKept, TableStandsFor}
 use Rattle.m17_judge.proofs.Standing.{judged_more, ruled_at}
 use Rattle.m17_judge.proofs.table.Table.judge.Goals as goal
@@ -16,7 +16,7 @@ kept_stands c acts stands = subst (λ (k : TableKept). TableStandsFor acts k) (s
 
 -- the judgement, by the rule of the acts that the table stands for
 judged : (c : goal.After-self-2-1) (acts : List Act) → TableStandsFor acts c.args.self.now
-    → IsJudged talkers acts (record { at = c.args.at; kind = Packet (talker c.args.place) c.args.p.now }) (talker c.args.place) c.judge.result c.judge.new.self c.judge.new.own
+    → IsJudged judge_setup acts (record { at = c.args.at; kind = Packet (talker c.args.place) c.args.p.now }) (talker c.args.place) c.judge.result c.judge.new.self c.judge.new.own
 judged c acts stands =
     ruled_at acts c.args.at c.args.place c.from.result c.args.p.now c.judge.result (kept c) c.judge.new.self c.index_mut-own.result.now c.judge.new.own
     c.max-self-inside.result c.from.ensures c.index_mut-own.ensures.value

@@ -2,6 +2,7 @@ use Rattle.std.proofs.Common.{◌≡◌, ◌<◌, ℕ, List, Option, None, Some,
 use Rattle.std.specs.List.{count_by}
 use Rattle.std.proofs.lemmas.List.{length-set}
 use Rattle.m17_module.specs.declared.seat.Seat.{Seat}
+use Rattle.m17_module.specs.Setup.{floor_setup}
 use Rattle.m17_module.specs.Events.{acts_of}
 use Rattle.m17_module.specs.Held.{held_from}
 use Rattle.m17_module.specs.StandsFor.{People, PeopleStandFor}
@@ -28,11 +29,11 @@ invariant_of-self c =
     }
 
 pub returns-clause-stands : goal.returns-clause-stands
-returns-clause-stands c = λ places events event is stands.
+returns-clause-stands c = λ setup events event is stands.
     let q : ℕ = c.args.seat.now.member.place in
     let mine : get_or c.self.inside.seats.items q None ≡ Some c.args.seat.now = ap (λ (p : People). get_or p.seats q None) c.self.view_is ∙ c.requires in
-    let inside = subst (λ (p : People). PeopleStandFor places p events) (sym c.self.view_is) stands in
-    left_people c.one_member_at_a_place.ensures.after_one_more c.comings_and_goings_leave_others.ensures.leaves places
+    let inside = subst (λ (p : People). PeopleStandFor setup p events) (sym c.self.view_is) stands in
+    left_people c.one_member_at_a_place.ensures.after_one_more c.comings_and_goings_leave_others.ensures.leaves setup
     c.self.inside.seats.items c.self.inside.lasts.items c.self.inside.floor c.left.new.self events event c.args.seat.now is (nobody_at_leave event c.args.seat.now.member is)
     (place_there c.self.inside.seats.items q c.args.seat.now mine) mine
-    (c.left.ensures.by_leave places (acts_of events) event.at inside.floor) inside
+    (c.left.ensures.by_leave (floor_setup setup) (acts_of events) event.at inside.floor) inside

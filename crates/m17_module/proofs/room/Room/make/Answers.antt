@@ -1,7 +1,8 @@
-use Rattle.std.proofs.Common.{◌≡◌, None, [], ap, sym, ◌∙◌, arith, length, replicate}
+use Rattle.std.proofs.Common.{◌≡◌, None, [], refl, ap, sym, ◌∙◌, arith, length, replicate}
 use Rattle.std.proofs.Common.{Option}
 use Rattle.std.proofs.lemmas.List.{length-replicate}
 use Rattle.m17_module.specs.declared.seat.Seat.{Seat}
+use Rattle.m17_module.specs.Setup.{Setup, floor_setup}
 use Rattle.m17_module.specs.Held.{held_from}
 use Rattle.m17_module.proofs.Places.{held_none}
 use Rattle.m17_module.proofs.PeopleMore.{nobody_stands}
@@ -15,6 +16,7 @@ invariant_of-result c = let none : Option Seat = None in record {
 }
 
 pub returns-clause-stands : goal.returns-clause-stands
-returns-clause-stands c =
+returns-clause-stands c = λ parrot.
+    let setup : Setup = record { places = c.args.places; parrot = parrot; limit = c.args.limit } in
     let end : c.loop-place._place ≡ c.args.places = omega arith in
-    nobody_stands c.args.places _ _ _ (c.loop-place.invariant.0 ∙ ap (λ n. replicate n None) end) (c.new-3.ensures.stands c.args.places [] tt)
+    nobody_stands setup _ _ _ (c.loop-place.invariant.0 ∙ ap (λ n. replicate n None) end) (c.new-3.ensures.stands (floor_setup setup) [] refl tt)

@@ -1,5 +1,6 @@
 use Rattle.std.proofs.Common.{◌≡◌, ◌<◌, ℕ, None, Some, length, get_or, ap, sym, subst, ◌∙◌, arith}
 use Rattle.std.proofs.lemmas.List.{length-set}
+use Rattle.m17_module.specs.Setup.{floor_setup}
 use Rattle.m17_module.specs.Events.{acts_of}
 use Rattle.m17_module.specs.StandsFor.{People, PeopleStandFor}
 use Rattle.m17_module.proofs.Places.{held_short, in_order_put}
@@ -23,14 +24,14 @@ invariant_of-self c =
     }
 
 pub returns-clause-stands : goal.returns-clause-stands
-returns-clause-stands c = λ places events event is stands.
+returns-clause-stands c = λ setup events event is stands.
     let q : ℕ = c.args.seat.now.member.place in
     let within : q < length c.self.inside.seats.items = omega (arith, c.requires.place, ap (λ (p : People). length p.seats) c.self.view_is) in
-    let inside = subst (λ (p : People). PeopleStandFor places p events) (sym c.self.view_is) stands in
+    let inside = subst (λ (p : People). PeopleStandFor setup p events) (sym c.self.view_is) stands in
     let free : get_or c.self.inside.seats.items q None ≡ None = ap (λ (p : People). get_or p.seats q None) c.self.view_is ∙ c.requires.free in
-    joined_people c.one_member_at_a_place.ensures.after_one_more c.comings_and_goings_leave_others.ensures.joins places
+    joined_people c.one_member_at_a_place.ensures.after_one_more c.comings_and_goings_leave_others.ensures.joins setup
     c.self.inside.seats.items c.self.inside.lasts.items c.self.inside.floor c.self.inside.floor c.new.result events event c.args.seat.now is within c.self.invariant.each
-    (c.comings_and_goings_leave_others.ensures.floor places (acts_of events) event.at c.args.seat.now.member c.args.seat.now.listens c.self.inside.floor
-    (nobody_in places _ events q inside free) inside.floor)
-    (c.new.ensures.joined places (acts_of events) c.args.seat.now.member event.at c.args.seat.now.listens)
+    (c.comings_and_goings_leave_others.ensures.floor (floor_setup setup) (acts_of events) event.at c.args.seat.now.member c.args.seat.now.listens c.self.inside.floor
+    (nobody_in setup _ events q inside free) inside.floor)
+    (c.new.ensures.joined (floor_setup setup) (acts_of events) c.args.seat.now.member event.at c.args.seat.now.listens)
     inside

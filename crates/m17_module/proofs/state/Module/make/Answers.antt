@@ -1,13 +1,20 @@
-use Rattle.std.proofs.Common.{ℕ, [], length, is_some, refl, sym, ◌∙◌, subst}
+use Rattle.std.proofs.Common.{ℕ, [], length, is_some, refl, ap, sym, ◌∙◌, subst}
+use Rattle.m17_floor.specs.Rule.{FloorState}
+use Rattle.m17_module.specs.Setup.{Setup, floor_setup}
 use Rattle.m17_module.specs.StandsFor.{PeopleStandFor}
 use Rattle.m17_module.proofs.ModuleStep.{nothing_recorded}
 use Rattle.m17_module.proofs.state.Module.make.Goals as goal
 
 pub returns-clause-stands : goal.returns-clause-stands
-returns-clause-stands c = record {
-  moment = refl;
-  people = subst (λ (n : ℕ). PeopleStandFor n c.in-Ok.room []) (sym c.in-Ok.ensures.places) c.in-Ok.ensures.stands;
-  count = refl;
-  admitted = sym (c.admitted_positions_are_counted.ensures.none (length c.in-Ok.room.seats));
-  recording = c.in-Ok-recorder_if.ensures.1 ∙ sym (nothing_recorded (length c.in-Ok.room.seats) (is_some c.in-Ok-recorder_if.recorder));
-}
+returns-clause-stands c =
+    let parrot = is_some c.in-Ok-recorder_if.recorder in
+    let made : ℕ → ℕ → Setup = λ n l. record { places = n; parrot = parrot; limit = l } in
+    let setup : Setup = made (length c.in-Ok.room.seats) c.in-Ok.room.floor.limit in
+    record {
+      moment = refl;
+      people = subst (λ (n : ℕ). PeopleStandFor (made n c.in-Ok.room.floor.limit) c.in-Ok.room []) (sym c.in-Ok.ensures.places)
+          (subst (λ (l : ℕ). PeopleStandFor (made c.args.places l) c.in-Ok.room []) (sym (ap (λ (floor : FloorState). floor.limit) c.in-Ok.ensures.free)) (c.in-Ok.ensures.stands parrot));
+      count = refl;
+      admitted = sym (c.admitted_positions_are_counted.ensures.none (floor_setup setup));
+      recording = c.in-Ok-recorder_if.ensures.1 ∙ sym (nothing_recorded setup);
+    }

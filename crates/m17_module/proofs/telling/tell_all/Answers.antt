@@ -1,6 +1,6 @@
 use Rattle.std.proofs.Common.{length, ap, arith}
 use Rattle.m17_module.proofs.Places.{place_below, length-held, told_all}
-use Rattle.m17_module.proofs.room.tell_all.Goals as goal
+use Rattle.m17_module.proofs.telling.tell_all.Goals as goal
 
 pub bounds-seats-place : goal.bounds-seats-place
 bounds-seats-place c = place_below c.args.seats.now c.args.held.now c.loop-place.place-index c.requires.held (omega arith)

@@ -2,7 +2,7 @@ use Rattle.std.proofs.Common.{◌≡◌, ◌≤◌, ◌+◌, ◌++◌, length, t
 use Rattle.std.specs.List.{flat_map}
 use Rattle.m17_module.specs.Seats.{seat_in}
 use Rattle.m17_module.specs.Items.{to_one}
-use Rattle.m17_module.proofs.room.tell_all.Given as goal
+use Rattle.m17_module.proofs.telling.tell_all.Given as goal
 
 abbrev pub invariant-loop-place : goal.invariant-loop-place
 invariant-loop-place l =
