@@ -28,3 +28,14 @@ module _ {U Value : Type 0} (Has : List ℕ → Value → Type 0) (Refuses : Lis
       → MatchResult result (λ _. ⊥) (λ told. IsOutside told ⊎ (told ≡ refusal))
   each_refusal one (Ok found) ok err bytes refusal left h = not_both bytes (items found) refusal (ok bytes left) h
   each_refusal one (Err told) ok err bytes refusal left h = or_same one bytes told refusal h (err bytes left)
+
+-- where there is a value the refusal is one that the bytes do not decide
+pub outside_of : (refusal : FormRefusal) (Refused : Type 0) → (Refused → ⊥) → IsOutside refusal ⊎ Refused → IsOutside refusal
+outside_of refusal Refused none (inl outside) = outside
+outside_of refusal Refused none (inr refused) = absurd (none refused)
+
+-- where there is a refusal, it is told, or one that the bytes do not decide
+pub outside_or_same : (Refuses : FormRefusal → Type 0) → ((a b : FormRefusal) → Refuses a → Refuses b → a ≡ b) → (told refusal : FormRefusal) → Refuses refusal
+    → IsOutside told ⊎ Refuses told → IsOutside told ⊎ (told ≡ refusal)
+outside_or_same Refuses one told refusal h (inl outside) = inl outside
+outside_or_same Refuses one told refusal h (inr refused) = inr (one told refusal refused h)

@@ -21,8 +21,9 @@ pub mod Told
 pub mod Readable
 pub mod EntryReads
 pub mod TraceExact
-pub mod WholeBook
 pub mod RecordClear
+pub mod Headers
+pub mod WholeBook
 pub mod BookExact
 pub mod VerdictReads
 pub mod RecordReads
@@ -31,3 +32,4 @@ pub mod Rosters
 pub mod MoreChecked
 pub mod FirstBreach
 pub mod SeenBook
+pub mod OneRecord

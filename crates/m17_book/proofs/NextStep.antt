@@ -3,8 +3,7 @@ use Rattle.std.proofs.Common.{◌≡◌, ◌⊎◌, ℕ, ◌+◌, ◌<◌, ◌�
 use Rattle.std.proofs.lemmas.List.{take-append-drop, length-take-le, nil_from_length}
 use Rattle.m17_book.specs.Limits.{told}
 use Rattle.m17_book.specs.Ahead.{IsAhead}
-use Rattle.m17_control.specs.Forms.{IsModule}
-use Rattle.m17_book.specs.Book.{TellsFlaw, BookHeaderFlaw, book_header, book_magic}
+use Rattle.m17_book.specs.Book.{TellsFlaw, BookHeaderFlaw}
 use Rattle.m17_book.specs.Flaws.{kind_of, RecordFlaw}
 use Rattle.m17_book.specs.Parsed.{BeginsWith}
 use Rattle.m17_book.specs.Steps.{tell, IsNext, PassesHeader}
@@ -12,20 +11,13 @@ use Rattle.m17_book.specs.Walk.{coming}
 use Rattle.m17_book.specs.declared.refusal.Flaw.{Flaw}
 use Rattle.m17_book.specs.declared.refusal.Flaw.TheVariants as flaws
 use Rattle.m17_book.proofs.Window.{IsWindow, record_flaw, known_kind, short_below, header_flaw, cut_header}
-use Rattle.m17_book.proofs.Entry.{take_one}
+use Rattle.m17_book.specs.Versions.{book_header, header_size, FitsHeader}
+use Rattle.m17_book.specs.declared.head.Head.{Head}
+use Rattle.m17_book.specs.declared.version.Version.{Version}
 
 -- what a filled cursor holds is a window on what is to come
 pub window : (b ahead : List ℕ) (left : Option (List ℕ)) → IsAhead b left ahead → (97 ≤ length b) ⊎ (ahead ≡ b) → IsWindow b ahead
 window b ahead left is enough = record { more = is.0; split = is.2; enough = enough }
-
-pub record_told : (b ahead : List ℕ) (flaw : Flaw) (place : ℕ) → place < 2 ^ 64 → IsWindow b ahead → RecordFlaw b flaw
-    → TellsFlaw RecordFlaw ahead place (tell flaw place (length b))
-record_told b ahead flaws.Cut place fits w h = elim w.enough [
-  | inl long ↦ absurd (omega (arith, short_below b h.2 (known_kind (kind_of b) h.1)))
-  | inr same ↦ (record_flaw b ahead flaws.Cut w h, ap (λ (xs : List ℕ). told (place + length xs)) (sym same))
-]
-record_told b ahead (flaws.Kind byte) place fits w h = (record_flaw b ahead (flaws.Kind byte) w h, omega arith)
-record_told b ahead (flaws.Field k) place fits w h = (k, record_flaw b ahead (flaws.Field k) w h, refl)
 
 -- a value was taken from the front
 pub taken : {Value : Type 0} (Spells : Value → List ℕ → Type 0) (Flawed : List ℕ → Flaw → Type 0) (value : Value) (b held ahead : List ℕ) (size place after : ℕ)
@@ -49,30 +41,6 @@ none_left b ahead left none is (inr same) =
     let empty : b ≡ [] = nil_from_length b none in
     let all : ahead ≡ [] = same ∙ empty in (all, subst (λ (xs : List ℕ). IsAhead b left xs) all is)
 
-pub header_told : (b ahead : List ℕ) (flaw : Flaw) (place : ℕ) → place < 2 ^ 64 → IsWindow b ahead → BookHeaderFlaw b flaw
-    → TellsFlaw BookHeaderFlaw ahead place (tell flaw place (length b))
-header_told b ahead flaws.Cut place fits w h = elim w.enough [
-  | inl long ↦ absurd (omega (arith, cut_header b h))
-  | inr same ↦ (header_flaw b ahead flaws.Cut w h, ap (λ (xs : List ℕ). told (place + length xs)) (sym same))
-]
-header_told b ahead (flaws.Kind byte) place fits w h = (header_flaw b ahead (flaws.Kind byte) w h, omega arith)
-header_told b ahead (flaws.Field k) place fits w h = (k, header_flaw b ahead (flaws.Field k) w h, refl)
-
--- the header was passed
-pub passed : {T : Type 0} (value : T) (b held ahead : List ℕ) (place after : ℕ) (left : Option (List ℕ)) → IsAhead b left ahead → 9 ≤ length b
-    → IsModule (get_or b 8 0) → take 8 b ≡ book_magic → held ≡ drop 9 b → after ≡ told (place + 9)
-    → PassesHeader (Ok value) (coming place ahead) (record { held = held; left = left; place = after })
-passed value b held ahead place after left is long good magic same told_after =
-    let nine : take 9 b ≡ book_header (get_or b 8 0) = take_one b 8 (omega arith) ∙ ap (λ xs. xs ++ get_or b 8 0 ∷ []) magic in
-    let split : b ≡ book_header (get_or b 8 0) ++ drop 9 b = sym (take-append-drop 9 b) ∙ ap (λ xs. xs ++ drop 9 b) nine in (
-      get_or b 8 0,
-      drop 9 b ++ is.0,
-      good,
-      is.2 ∙ ap (λ xs. xs ++ is.0) split ∙ append_assoc (book_header (get_or b 8 0)) (drop 9 b) is.0,
-      (is.0, is.1, ap (λ xs. xs ++ is.0) (sym same)),
-      told_after,
-    )
-
 -- 97 bytes, or all that is to come
 pub is_enough : (held held' ahead : List ℕ) (left left' : Option (List ℕ)) → IsAhead held left ahead
     → (97 ≤ length held') ⊎ ((all : List ℕ) → IsAhead held left all → (left' ≡ Some []) × (all ≡ held'))
@@ -87,3 +55,37 @@ same_told Flawed rest p p' q xs ys flaw e there same h =
     let a = subst (λ (n : ℕ). TellsFlaw Flawed rest p (tell flaw n (length ys))) (sym there) h in
     let b = subst (λ (zs : List ℕ). TellsFlaw Flawed rest p (tell flaw q (length zs))) (sym same) a in
     subst (λ (n : ℕ). TellsFlaw Flawed rest n (tell flaw q (length xs))) e b
+
+module _ (version : Version) where
+  pub record_told : (b ahead : List ℕ) (flaw : Flaw) (place : ℕ) → place < 2 ^ 64 → IsWindow b ahead → RecordFlaw version b flaw
+      → TellsFlaw (RecordFlaw version) ahead place (tell flaw place (length b))
+  record_told b ahead flaws.Cut place fits w h = elim w.enough [
+    | inl long ↦ absurd (omega (arith, short_below b h.2 (known_kind (kind_of b) h.1)))
+    | inr same ↦ (record_flaw version b ahead flaws.Cut w h, ap (λ (xs : List ℕ). told (place + length xs)) (sym same))
+  ]
+  record_told b ahead (flaws.Kind byte) place fits w h = (record_flaw version b ahead (flaws.Kind byte) w h, omega arith)
+  record_told b ahead (flaws.Field k) place fits w h = (k, record_flaw version b ahead (flaws.Field k) w h, refl)
+
+  pub header_told : (b ahead : List ℕ) (flaw : Flaw) (place : ℕ) → place < 2 ^ 64 → IsWindow b ahead → BookHeaderFlaw version b flaw
+      → TellsFlaw (BookHeaderFlaw version) ahead place (tell flaw place (length b))
+  header_told b ahead flaws.Cut place fits w h = elim w.enough [
+    | inl long ↦ absurd (omega (arith, cut_header version b h))
+    | inr same ↦ (header_flaw version b ahead flaws.Cut w h, ap (λ (xs : List ℕ). told (place + length xs)) (sym same))
+  ]
+  header_told b ahead (flaws.Kind byte) place fits w h = (header_flaw version b ahead (flaws.Kind byte) w h, omega arith)
+  header_told b ahead (flaws.Field k) place fits w h = (k, header_flaw version b ahead (flaws.Field k) w h, refl)
+
+  -- the header was passed
+  pub passed : (head : Head) (b held ahead : List ℕ) (place after : ℕ) (left : Option (List ℕ)) → IsAhead b left ahead
+      → FitsHeader version head → take (header_size version) b ≡ book_header version head → held ≡ drop (header_size version) b
+      → after ≡ told (place + header_size version)
+      → PassesHeader version (Ok head) (coming place ahead) (record { held = held; left = left; place = after })
+  passed head b held ahead place after left is fits begins same told_after =
+      let size = header_size version in
+      let split : b ≡ book_header version head ++ drop size b = sym (take-append-drop size b) ∙ ap (λ xs. xs ++ drop size b) begins in (
+        fits,
+        drop size b ++ is.0,
+        is.2 ∙ ap (λ xs. xs ++ is.0) split ∙ append_assoc (book_header version head) (drop size b) is.0,
+        (is.0, is.1, ap (λ xs. xs ++ is.0) (sym same)),
+        told_after,
+      )

@@ -5,6 +5,7 @@ use Rattle.m17_book.specs.Limits.{IsKind}
 use Rattle.m17_book.specs.Flaws.{kind_of, HasFlaw, IsFirstBad, RecordFlaw, RecordField, Link, Place, Listen, Callsign, Reason, Verdict_, Value, Packet, IsInRecord, record_field_at, record_field_size, IsAllowedInRecord, IsShortRecord, EntryFlaw, IsInEntry, entry_field_at, entry_field_size, IsAllowedInEntry, IsShortEntry}
 use Rattle.m17_book.specs.declared.refusal.Flaw.{Flaw}
 use Rattle.m17_book.specs.declared.refusal.Flaw.TheVariants as flaws
+use Rattle.m17_book.specs.declared.version.Version.{Version}
 
 module _ {Field : Type 0} (IsIn : Field → List ℕ → Type 0) (at_of size_of : Field → ℕ) (IsAllowed : Field → List ℕ → Type 0) (IsShort : List ℕ → Type 0)
     (apart : (f g : Field) → at_of f < at_of g → at_of f + size_of f ≤ at_of g) where
@@ -74,5 +75,5 @@ apart : (f g : RecordField) → record_field_at f < record_field_at g → record
 unfolding Ends
 apart f g low = apart_by (record_field_at f) (record_field_size f) (record_field_at g) (ends f) (begins_at g) low
 
-pub one_record_flaw : (b : List ℕ) (f g : Flaw) → RecordFlaw b f → RecordFlaw b g → f ≡ g
-one_record_flaw = one_flaw IsInRecord record_field_at record_field_size IsAllowedInRecord IsShortRecord apart
+pub one_record_flaw : (version : Version) (b : List ℕ) (f g : Flaw) → RecordFlaw version b f → RecordFlaw version b g → f ≡ g
+one_record_flaw version = one_flaw IsInRecord record_field_at record_field_size (IsAllowedInRecord version) IsShortRecord apart

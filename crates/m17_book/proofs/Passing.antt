@@ -1,7 +1,7 @@
 -- Values passed one after another.
 use Rattle.std.proofs.Common.{◌≡◌, ℕ, ◌+◌, ◌≤◌, List, [], ◌∷◌, ◌++◌, length, take, drop, Option, None, Some, Ok, Err, Bool, true, false, inl, inr, refl, sym, ap, subst, ◌∙◌, arith, append_assoc, length-append}
 use Rattle.std.proofs.lemmas.List.{append-nil, take-append-drop}
-use Rattle.m17_book.specs.Limits.{told, most_bytes, SpellsEach}
+use Rattle.m17_book.specs.Limits.{told, SpellsEach}
 use Rattle.m17_book.specs.Ahead.{IsAhead}
 use Rattle.m17_book.specs.Parsed.{BeginsWith}
 use Rattle.m17_book.specs.Steps.{IsNext}
@@ -102,9 +102,9 @@ module _ {Value : Type 0} (Spells : Value → List ℕ → Type 0) (Wrong : ℕ 
       subst (λ (vs : List Value). HasPassed Spells place ahead vs b) (sym one.1) (more_passed Spells place ahead old one.0 a b h one.2)
 
   -- nothing is left
-  pub ended : (T : Type 0) (value : T) (more : Bool) → more ≡ false → a.place ≤ most_bytes
-      → AddsOne Spells Wrong (Ok more) (coming a.place h.rest) old new b → AddsAll Spells Wrong (Ok value) (coming place ahead) new b
-  ended T value more e low there =
+  pub ended : (T : Type 0) (value : T) (most : ℕ) (more : Bool) → more ≡ false → a.place ≤ most
+      → AddsOne Spells Wrong (Ok more) (coming a.place h.rest) old new b → AddsAll Spells Wrong most (Ok value) (coming place ahead) new b
+  ended T value most more e low there =
       let one = subst (λ (m : Bool). AddsOne Spells Wrong (Ok m) (coming a.place h.rest) old new b) e there in
       let none : one.2.0 ≡ [] = empty_back b.held one.2.0 (sym one.2.2) in (
         record {
@@ -121,10 +121,10 @@ module _ {Value : Type 0} (Spells : Value → List ℕ → Type 0) (Wrong : ℕ 
       )
 
   -- what is wrong with what is to come
-  pub stopped : (T : Type 0) (refusal : FormRefusal) → a.place ≤ most_bytes → AddsOne Spells Wrong (Err refusal) (coming a.place h.rest) old new b
-      → AddsAll Spells Wrong {T = T} (Err refusal) (coming place ahead) new b
-  stopped T refusal low (inl outside) = inl outside
-  stopped T refusal low (inr one) =
+  pub stopped : (T : Type 0) (most : ℕ) (refusal : FormRefusal) → a.place ≤ most → AddsOne Spells Wrong (Err refusal) (coming a.place h.rest) old new b
+      → AddsAll Spells Wrong {T = T} most (Err refusal) (coming place ahead) new b
+  stopped T most refusal low (inl outside) = inl outside
+  stopped T most refusal low (inr one) =
       inr (
         old,
         (

@@ -9,11 +9,11 @@ use Rattle.m17_floor.specs.declared.act.Act.{Act}
 use Rattle.m17_floor.specs.declared.verdict.Verdict.{Verdict}
 use Rattle.m17_floor.specs.declared.verdict.Verdict.TheVariants.{NotMember, ListenOnly}
 use Rattle.m17_floor.specs.Acts.{with_act, kind_at, moment_before, is_same}
-use Rattle.m17_floor.specs.Rule.{Frame, incoming}
+use Rattle.m17_floor.specs.Rule.{Frame, FloorState, incoming}
 use Rattle.m17_floor.specs.Floor.{listens, floor_frame, own_frame, verdict_at}
 use Rattle.m17_floor.specs.StandsFor.{past_of, its_join, FloorStandsFor, OwnStandsFor, MaySpeak, packet_act, join_act, leave_act, KeepsStanding, IsJudged}
 use Rattle.m17_floor.specs.Laws.{UnheardPacketsChangeNothing, JoinsPastThePlacesChangeNothing, LeavesLeaveOthers, JoinsLeaveOthers, JoinsAtAFreePlaceLeaveTheFloor}
-use Rattle.m17_floor.specs.Legal.{book_places}
+use Rattle.m17_floor.specs.Legal.{book_places, book_setup}
 use Rattle.m17_floor.specs.Alike.{stay_of, verdict_by_stay}
 use Rattle.m17_floor.specs.LegalLaws.{StayOfNone, StayOfOneMore, VerdictByWhatIsLeft}
 use Rattle.m17_book.specs.declared.stay.Stay.{Stay}
@@ -32,10 +32,10 @@ last_here lasts k own h = get_or-set_same lasts k.place own None h
 last_there : (lasts : List (Option Frame)) (k x : Member) (own : Option Frame) → k.place ≢ x.place → last_in (slice_set lasts k.place own) x.place ≡ last_in lasts x.place
 last_there lasts k x own ne = get_or-set_other lasts k.place x.place own None (λ e. ne (sym e))
 
-nobody_there : (stays : List (Option Stay)) (k x : Member) → stay_in stays k.place ≡ None → k.place ≡ x.place → listens_of stays x ≡ None
+pub nobody_there : (stays : List (Option Stay)) (k x : Member) → stay_in stays k.place ≡ None → k.place ≡ x.place → listens_of stays x ≡ None
 nobody_there stays k x free same = ap (if_of x.generation) (ap (stay_in stays) (sym same) ∙ free)
 
-none_is_some : (o : Option Bool) → o ≡ None → IsSome o → ⊥
+pub none_is_some : (o : Option Bool) → o ≡ None → IsSome o → ⊥
 none_is_some o e is = false≢true (sym (ap (λ p. is_some p) e) ∙ is)
 
 -- who is in is at one of the places
@@ -97,15 +97,15 @@ same_seat a b c only ea ec =
     ∙ ap (λ v. cond v (Some only) None) (and-true b)
 
 -- A Join at a place where nobody is.
-pub join_stands : StayOfOneMore → JoinsLeaveOthers → JoinsAtAFreePlaceLeaveTheFloor → (people : People) (k : Member) (only : Bool) (own : Option Frame) (acts : List Act) (at : ℕ) →
+pub join_stands : StayOfOneMore → JoinsLeaveOthers → JoinsAtAFreePlaceLeaveTheFloor → (limit : ℕ) (people : People) (k : Member) (only : Bool) (own : Option Frame) (acts : List Act) (at : ℕ) →
     k.place < length people.stays → k.place < length people.lasts → k.place < book_places → stay_in people.stays k.place ≡ None →
-    OwnStandsFor book_places (with_act acts (join_act at k only)) k own → RosterStandsFor acts people →
-    RosterStandsFor (with_act acts (join_act at k only)) (record {
+    OwnStandsFor (book_setup limit) (with_act acts (join_act at k only)) k own → RosterStandsFor limit acts people →
+    RosterStandsFor limit (with_act acts (join_act at k only)) (record {
       stays = slice_set people.stays k.place (Some (record { generation = k.generation; listens = only }));
       lasts = slice_set people.lasts k.place own;
       floor = people.floor;
     })
-join_stands one_more others floor people k only own acts at within_stays within_lasts place free own_stands stands =
+join_stands one_more others floor limit people k only own acts at within_stays within_lasts place free own_stands stands =
     let longer : List Act = with_act acts (join_act at k only) in
     let new : Option Stay = Some (record { generation = k.generation; listens = only }) in
     let stays : List (Option Stay) = slice_set people.stays k.place new in
@@ -128,19 +128,19 @@ join_stands one_more others floor people k only own acts at within_stays within_
       owns = λ x is. elim (cases_eq k.place x.place) [
         | inl e ↦
             let same : k ≡ x = member_is k x e (generation_is k x only (ap (λ o. is_some o) (sym (listens_here people.stays k x new e within_stays)) ∙ is)) in
-            subst (λ (m : Member). OwnStandsFor book_places longer m (last_in lasts m.place)) same (last_here people.lasts k own within_lasts ∙ own_stands)
+            subst (λ (m : Member). OwnStandsFor (book_setup limit) longer m (last_in lasts m.place)) same (last_here people.lasts k own within_lasts ∙ own_stands)
         | inr ne ↦
             let was : IsSome (listens_of people.stays x) = ap (λ o. is_some o) (sym (listens_there people.stays k x new ne)) ∙ is in
             last_there people.lasts k x own ne
-            ∙ (others book_places acts at k only x (λ e. ne (sym e))).own (last_in people.lasts x.place) (stands.owns x was)
+            ∙ (others (book_setup limit) acts at k only x (λ e. ne (sym e))).own (last_in people.lasts x.place) (stands.owns x was)
       ];
-      floor = floor book_places acts at k only people.floor (λ x e. join_none acts x (stands.stays x ∙ nobody_there people.stays k x free (sym e))) stands.floor;
+      floor = floor (book_setup limit) acts at k only people.floor (λ x e. join_none acts x (stands.stays x ∙ nobody_there people.stays k x free (sym e))) stands.floor;
     }
 
 -- A Join past the places.
-pub past_stands : StayOfOneMore → JoinsPastThePlacesChangeNothing → (people : People) (k : Member) (only : Bool) (acts : List Act) (at : ℕ) → book_places ≤ k.place → stay_in people.stays k.place ≡ None → RosterStandsFor acts people → RosterStandsFor (with_act acts (join_act at k only)) people
-past_stands one_more past people k only acts at place free stands =
-    let keeps : KeepsStanding book_places acts (with_act acts (join_act at k only)) = past book_places acts at k only place in
+pub past_stands : StayOfOneMore → JoinsPastThePlacesChangeNothing → (limit : ℕ) (people : People) (k : Member) (only : Bool) (acts : List Act) (at : ℕ) → book_places ≤ k.place → stay_in people.stays k.place ≡ None → RosterStandsFor limit acts people → RosterStandsFor limit (with_act acts (join_act at k only)) people
+past_stands one_more past limit people k only acts at place free stands =
+    let keeps : KeepsStanding (book_setup limit) acts (with_act acts (join_act at k only)) = past (book_setup limit) acts at k only place in
     record {
       stays = λ x. elim (cases_eq k.place x.place) [
         | inl e ↦
@@ -159,9 +159,9 @@ past_stands one_more past people k only acts at place free stands =
     }
 
 -- A Leave of a member that is in.
-pub leave_stands : StayOfOneMore → LeavesLeaveOthers → (people : People) (k : Member) (floor : Option Frame) (acts : List Act) (at : ℕ) → IsSome (listens_of people.stays k) → FloorStandsFor book_places (with_act acts (leave_act at k)) floor → RosterStandsFor acts people →
-    RosterStandsFor (with_act acts (leave_act at k)) (record { stays = slice_set people.stays k.place None; lasts = people.lasts; floor = floor })
-leave_stands one_more others people k floor acts at mine floor_stands stands =
+pub leave_stands : StayOfOneMore → LeavesLeaveOthers → (limit : ℕ) (people : People) (k : Member) (floor : FloorState) (acts : List Act) (at : ℕ) → IsSome (listens_of people.stays k) → FloorStandsFor (book_setup limit) (with_act acts (leave_act at k)) floor → RosterStandsFor limit acts people →
+    RosterStandsFor limit (with_act acts (leave_act at k)) (record { stays = slice_set people.stays k.place None; lasts = people.lasts; floor = floor })
+leave_stands one_more others limit people k floor acts at mine floor_stands stands =
     let none : Option Stay = None in
     let nothing : Option Bool = None in
     let within : k.place < length people.stays = place_within people.stays k mine in
@@ -188,19 +188,19 @@ leave_stands one_more others people k floor acts at mine floor_stands stands =
         | inl e ↦ absurd (none_is_some (listens_of (slice_set people.stays k.place none) x) (listens_here people.stays k x none e within) is)
         | inr ne ↦
             let was : IsSome (listens_of people.stays x) = ap (λ o. is_some o) (sym (listens_there people.stays k x none ne)) ∙ is in
-            (others book_places acts at k x (λ e. ne (ap (λ (m : Member). m.place) (sym e)))).own (last_in people.lasts x.place) (stands.owns x was)
+            (others (book_setup limit) acts at k x (λ e. ne (ap (λ (m : Member). m.place) (sym e)))).own (last_in people.lasts x.place) (stands.owns x was)
       ];
       floor = floor_stands;
     }
 
 -- what is known of the sender, as a condition of judging
-pub may_speak : (people : People) (k : Member) (acts : List Act) → listens_of people.stays k ≡ Some false → RosterStandsFor acts people → MaySpeak book_places acts k
-may_speak people k acts speaks stands = join_some acts k false (stands.stays k ∙ speaks)
+pub may_speak : (limit : ℕ) (people : People) (k : Member) (acts : List Act) → listens_of people.stays k ≡ Some false → RosterStandsFor limit acts people → MaySpeak (book_setup limit) acts k
+may_speak limit people k acts speaks stands = join_some acts k false (stands.stays k ∙ speaks)
 
 -- A packet of one that may speak.
-pub speak_stands : StayOfOneMore → (people : People) (k : Member) (p : StreamPacket) (verdict : Verdict) (floor own : Option Frame) (acts : List Act) (moment : ℕ) → k.place < length people.lasts → listens_of people.stays k ≡ Some false → IsJudged book_places acts (packet_act moment k p) k verdict floor own → RosterStandsFor acts people →
-    RosterStandsFor (with_act acts (packet_act moment k p)) (record { stays = people.stays; lasts = slice_set people.lasts k.place own; floor = floor })
-speak_stands one_more people k p verdict floor own acts moment within speaks judged stands =
+pub speak_stands : StayOfOneMore → (limit : ℕ) (people : People) (k : Member) (p : StreamPacket) (verdict : Verdict) (floor : FloorState) (own : Option Frame) (acts : List Act) (moment : ℕ) → k.place < length people.lasts → listens_of people.stays k ≡ Some false → IsJudged (book_setup limit) acts (packet_act moment k p) k verdict floor own → RosterStandsFor limit acts people →
+    RosterStandsFor limit (with_act acts (packet_act moment k p)) (record { stays = people.stays; lasts = slice_set people.lasts k.place own; floor = floor })
+speak_stands one_more limit people k p verdict floor own acts moment within speaks judged stands =
     let longer : List Act = with_act acts (packet_act moment k p) in
     let lasts : List (Option Frame) = slice_set people.lasts k.place own in
     record {
@@ -208,7 +208,7 @@ speak_stands one_more people k p verdict floor own acts moment within speaks jud
       owns = λ x is. elim (cases_eq k.place x.place) [
         | inl e ↦
             let same : k ≡ x = one_in people.stays k x (ap (λ o. is_some o) speaks) is e in
-            subst (λ (m : Member). OwnStandsFor book_places longer m (last_in lasts m.place)) same (last_here people.lasts k own within ∙ judged.own_stands)
+            subst (λ (m : Member). OwnStandsFor (book_setup limit) longer m (last_in lasts m.place)) same (last_here people.lasts k own within ∙ judged.own_stands)
         | inr ne ↦
             last_there people.lasts k x own ne
             ∙ judged.others_stand x (last_in people.lasts x.place) (λ e. ne (ap (λ (m : Member). m.place) (sym e))) (stands.owns x is)
@@ -217,9 +217,9 @@ speak_stands one_more people k p verdict floor own acts moment within speaks jud
     }
 
 -- A packet of one that may not speak.
-unheard_stands : StayOfOneMore → UnheardPacketsChangeNothing → (people : People) (k : Member) (p : StreamPacket) (acts : List Act) (moment : ℕ) → (MaySpeak book_places acts k → ⊥) → RosterStandsFor acts people → RosterStandsFor (with_act acts (packet_act moment k p)) people
-unheard_stands one_more unheard people k p acts moment silent stands =
-    let keeps : KeepsStanding book_places acts (with_act acts (packet_act moment k p)) = unheard book_places acts moment k p silent in
+unheard_stands : StayOfOneMore → UnheardPacketsChangeNothing → (limit : ℕ) (people : People) (k : Member) (p : StreamPacket) (acts : List Act) (moment : ℕ) → (MaySpeak (book_setup limit) acts k → ⊥) → RosterStandsFor limit acts people → RosterStandsFor limit (with_act acts (packet_act moment k p)) people
+unheard_stands one_more unheard limit people k p acts moment silent stands =
+    let keeps : KeepsStanding (book_setup limit) acts (with_act acts (packet_act moment k p)) = unheard (book_setup limit) acts moment k p silent in
     record {
       stays = λ x. one_more book_places acts (packet_act moment k p) x ∙ stands.stays x;
       owns = λ x is. keeps.own x (last_in people.lasts x.place) (stands.owns x is);
@@ -227,25 +227,25 @@ unheard_stands one_more unheard people k p acts moment silent stands =
     }
 
 -- the verdict on a packet of one of whom this is known
-verdict_known : VerdictByWhatIsLeft → (people : People) (k : Member) (p : StreamPacket) (acts : List Act) (moment : ℕ) (stay : Option Bool) → listens_of people.stays k ≡ stay → RosterStandsFor acts people →
-    verdict_at book_places (with_act acts (packet_act moment k p)) (length acts) ≡ Some (verdict_by_stay stay (floor_frame (past_of book_places acts)) (own_frame (past_of book_places acts) k) (incoming k (max (moment_before acts (length acts)) moment) p))
-verdict_known ruled people k p acts moment stay known stands =
-    ruled book_places acts moment k p
-    ∙ ap (λ o. Some (verdict_by_stay o (floor_frame (past_of book_places acts)) (own_frame (past_of book_places acts) k) (incoming k (max (moment_before acts (length acts)) moment) p))) (stands.stays k ∙ known)
+verdict_known : VerdictByWhatIsLeft → (limit : ℕ) (people : People) (k : Member) (p : StreamPacket) (acts : List Act) (moment : ℕ) (stay : Option Bool) → listens_of people.stays k ≡ stay → RosterStandsFor limit acts people →
+    verdict_at (book_setup limit) (with_act acts (packet_act moment k p)) (length acts) ≡ Some (verdict_by_stay stay limit (floor_frame (past_of (book_setup limit) acts)) (own_frame (past_of (book_setup limit) acts) k) (incoming k (max (moment_before acts (length acts)) moment) p))
+verdict_known ruled limit people k p acts moment stay known stands =
+    ruled (book_setup limit) acts moment k p
+    ∙ ap (λ o. Some (verdict_by_stay o limit (floor_frame (past_of (book_setup limit) acts)) (own_frame (past_of (book_setup limit) acts) k) (incoming k (max (moment_before acts (length acts)) moment) p))) (stands.stays k ∙ known)
 
-not_in : (acts : List Act) (k : Member) → stay_of book_places acts k ≡ None → MaySpeak book_places acts k → ⊥
-not_in acts k none speaks =
+not_in : (limit : ℕ) (acts : List Act) (k : Member) → stay_of book_places acts k ≡ None → MaySpeak (book_setup limit) acts k → ⊥
+not_in limit acts k none speaks =
     let out : its_join book_places acts k ≡ None = join_none acts k none in
     let is : its_join book_places acts k ≡ Some speaks.0 = speaks.1 in
     cc
 
-pub stranger_stands : StayOfOneMore → UnheardPacketsChangeNothing → VerdictByWhatIsLeft → (people : People) (k : Member) (p : StreamPacket) (acts : List Act) (moment : ℕ) → listens_of people.stays k ≡ None → RosterStandsFor acts people →
-    RosterStandsFor (with_act acts (packet_act moment k p)) people × (verdict_at book_places (with_act acts (packet_act moment k p)) (length acts) ≡ Some NotMember)
-stranger_stands one_more unheard ruled people k p acts moment out stands =
-    (unheard_stands one_more unheard people k p acts moment (not_in acts k (stands.stays k ∙ out)) stands, verdict_known ruled people k p acts moment None out stands)
+pub stranger_stands : StayOfOneMore → UnheardPacketsChangeNothing → VerdictByWhatIsLeft → (limit : ℕ) (people : People) (k : Member) (p : StreamPacket) (acts : List Act) (moment : ℕ) → listens_of people.stays k ≡ None → RosterStandsFor limit acts people →
+    RosterStandsFor limit (with_act acts (packet_act moment k p)) people × (verdict_at (book_setup limit) (with_act acts (packet_act moment k p)) (length acts) ≡ Some NotMember)
+stranger_stands one_more unheard ruled limit people k p acts moment out stands =
+    (unheard_stands one_more unheard limit people k p acts moment (not_in limit acts k (stands.stays k ∙ out)) stands, verdict_known ruled limit people k p acts moment None out stands)
 
-listens_only : (acts : List Act) (k : Member) → stay_of book_places acts k ≡ Some true → MaySpeak book_places acts k → ⊥
-listens_only acts k listener speaks =
+listens_only : (limit : ℕ) (acts : List Act) (k : Member) → stay_of book_places acts k ≡ Some true → MaySpeak (book_setup limit) acts k → ⊥
+listens_only limit acts k listener speaks =
     let found = join_some acts k true listener in
     let first : its_join book_places acts k ≡ Some found.0 = found.1 in
     let second : its_join book_places acts k ≡ Some speaks.0 = speaks.1 in
@@ -254,14 +254,14 @@ listens_only acts k listener speaks =
     let heard : listens (kind_at acts speaks.0) ≡ false = speaks.2 in
     false≢true (sym heard ∙ ap (λ j. listens (kind_at acts j)) (sym same) ∙ silent)
 
-pub listener_stands : StayOfOneMore → UnheardPacketsChangeNothing → VerdictByWhatIsLeft → (people : People) (k : Member) (p : StreamPacket) (acts : List Act) (moment : ℕ) → listens_of people.stays k ≡ Some true → RosterStandsFor acts people →
-    RosterStandsFor (with_act acts (packet_act moment k p)) people × (verdict_at book_places (with_act acts (packet_act moment k p)) (length acts) ≡ Some ListenOnly)
-listener_stands one_more unheard ruled people k p acts moment out stands =
-    (unheard_stands one_more unheard people k p acts moment (listens_only acts k (stands.stays k ∙ out)) stands, verdict_known ruled people k p acts moment (Some true) out stands)
+pub listener_stands : StayOfOneMore → UnheardPacketsChangeNothing → VerdictByWhatIsLeft → (limit : ℕ) (people : People) (k : Member) (p : StreamPacket) (acts : List Act) (moment : ℕ) → listens_of people.stays k ≡ Some true → RosterStandsFor limit acts people →
+    RosterStandsFor limit (with_act acts (packet_act moment k p)) people × (verdict_at (book_setup limit) (with_act acts (packet_act moment k p)) (length acts) ≡ Some ListenOnly)
+listener_stands one_more unheard ruled limit people k p acts moment out stands =
+    (unheard_stands one_more unheard limit people k p acts moment (listens_only limit acts k (stands.stays k ∙ out)) stands, verdict_known ruled limit people k p acts moment (Some true) out stands)
 
 -- At first nobody is in.
-pub nobody_stands : StayOfNone → (stays : List (Option Stay)) (lasts : List (Option Frame)) (floor : Option Frame) → ((place : ℕ) → stay_in stays place ≡ None) → FloorStandsFor book_places [] floor → RosterStandsFor [] (record { stays = stays; lasts = lasts; floor = floor })
-nobody_stands none stays lasts floor free floor_stands = record {
+pub nobody_stands : StayOfNone → (limit : ℕ) (stays : List (Option Stay)) (lasts : List (Option Frame)) (floor : FloorState) → ((place : ℕ) → stay_in stays place ≡ None) → FloorStandsFor (book_setup limit) [] floor → RosterStandsFor limit [] (record { stays = stays; lasts = lasts; floor = floor })
+nobody_stands none limit stays lasts floor free floor_stands = record {
   stays = λ x. none book_places x ∙ sym (ap (if_of x.generation) (free x.place));
   owns = λ x is. absurd (none_is_some (listens_of stays x) (ap (if_of x.generation) (free x.place)) is);
   floor = floor_stands;

@@ -11,7 +11,7 @@ use Rattle.m17_book.specs.Book.{MagicFlaw, trace_magic, IsTrace, HasTraceForm, H
 use Rattle.m17_book.specs.Entries.{SpellsEntry}
 use Rattle.m17_book.specs.Flaws.{EntryFlaw}
 use Rattle.m17_book.specs.Laws.{IsClear, TracesAreExact}
-use Rattle.m17_book.specs.Limits.{most_bytes, most_entries, SpellsEach}
+use Rattle.m17_book.specs.Limits.{most_trace_bytes, most_entries, SpellsEach}
 use Rattle.m17_book.specs.declared.refusal.Flaw.{Flaw}
 use Rattle.m17_book.specs.declared.refusal.FormRefusal.{FormRefusal}
 use Rattle.m17_book.specs.declared.refusal.FormRefusal.TheVariants.{Large}
@@ -111,7 +111,7 @@ module _ (c : IsClear SpellsEntry EntryFlaw) where
 abbrev Reads : List ℕ → Type 0
 Reads bytes = ((heard : List Heard) × IsTrace bytes heard) ⊎ ((refusal : FormRefusal) × RefusesTrace bytes refusal)
 
-by_stop : (bytes : List ℕ) (entries : List Heard) (front rest : List ℕ) → length bytes ≤ most_bytes → bytes ≡ trace_magic ++ (front ++ rest)
+by_stop : (bytes : List ℕ) (entries : List Heard) (front rest : List ℕ) → length bytes ≤ most_trace_bytes → bytes ≡ trace_magic ++ (front ++ rest)
     → SpellsEach SpellsEntry entries front → length entries ≤ most_entries → Stop EntryFlaw most_entries entries rest → Reads bytes
 by_stop bytes entries front rest size e spelled few (at_end none) =
     let whole : bytes ≡ trace_magic ++ front = e ∙ ap (λ xs. trace_magic ++ (front ++ xs)) none ∙ ap (λ xs. trace_magic ++ xs) (append-nil front) in
@@ -151,8 +151,8 @@ by_stop bytes entries front rest size e spelled few (wrong flaw low bad) =
     )
 
 reads_trace : Fields16AreExact → Fields64AreExact → (n : ℕ) → n ≡ most_entries → (bytes : List ℕ) → IsBytes bytes → Reads bytes
-reads_trace law16 law64 n most bytes all = elim (cases_lt most_bytes (length bytes)) [
-  | inl large ↦ inr (Large most_bytes, inl (large, refl))
+reads_trace law16 law64 n most bytes all = elim (cases_lt most_trace_bytes (length bytes)) [
+  | inl large ↦ inr (Large most_trace_bytes, inl (large, refl))
   | inr size ↦ elim (reads_magic trace_magic bytes refl) [
     | inr bad ↦ inr (say bad.0 0 (length bytes), inr (size, inr (inl (tells (MagicFlaw trace_magic) bytes 0 bad.0 bad.1))))
     | inl found ↦ let body : IsBytes found.0 = subst (λ (xs : List ℕ). IsBytes xs) (ap (drop 8) found.1) (All-drop (λ byte. byte < 2 ^ 8) 8 bytes all) in

@@ -3,7 +3,7 @@ use Rattle.std.proofs.Common.{◌≡◌, ℕ, ◌<◌, ◌≤◌, ◌^◌, List,
 use Rattle.std.proofs.lemmas.List.{take_at, drop_at, take_all}
 use Rattle.m17_fields.specs.Fields.{be_16, Fields16AreExact}
 use Rattle.m17_floor.specs.declared.verdict.Verdict.{Verdict}
-use Rattle.m17_floor.specs.declared.verdict.Verdict.TheVariants.{Opened, Continued, Busy, Repeat, Late, AfterEnd, NotMember, ListenOnly}
+use Rattle.m17_floor.specs.declared.verdict.Verdict.TheVariants.{Opened, Continued, Busy, Repeat, Late, AfterEnd, TimedOut, NotMember, ListenOnly}
 use Rattle.m17_book.specs.Records.{zeros_10}
 use Rattle.m17_book.specs.Parsed.{IsValueOf}
 
@@ -20,5 +20,6 @@ no_late law value found fits is high (Late last) h =
     let same : found ≡ last = law.one_number found last fits (omega (arith, h.0)) (is ∙ number) in
     omega (arith, h.0, high zeros)
 no_late law value found fits is high AfterEnd h = omega (arith, h.1)
+no_late law value found fits is high TimedOut h = omega (arith, h.1)
 no_late law value found fits is high NotMember h = omega (arith, h.1)
 no_late law value found fits is high ListenOnly h = omega (arith, h.1)

@@ -7,7 +7,7 @@ use Rattle.std.proofs.lemmas.Slice.Eq.{bytes_eq-Decides}
 use Rattle.std.specs.Str.{bytes_eq}
 use Rattle.m17_fields.specs.Fields.{be_16, be_32, be_64, IsBytes}
 use Rattle.m17_floor.specs.declared.verdict.Verdict.{Verdict}
-use Rattle.m17_floor.specs.declared.verdict.Verdict.TheVariants.{Opened, Continued, Busy, Repeat, Late, AfterEnd, NotMember, ListenOnly}
+use Rattle.m17_floor.specs.declared.verdict.Verdict.TheVariants.{Opened, Continued, Busy, Repeat, Late, AfterEnd, TimedOut, NotMember, ListenOnly}
 use Rattle.m17_book.specs.Records.{FitsVerdict, value_bytes, verdict_code, zeros_10, zeros_12}
 use Rattle.m17_book.specs.Parsed.{IsValueOf}
 use Rattle.m17_book.proofs.RecordClear.{FieldLaws, holder_of, verdict_at, with_code}
@@ -30,6 +30,7 @@ plain_value (Busy holder) b l = absurd (b refl)
 plain_value Repeat b l = refl
 plain_value (Late last) b l = absurd (l refl)
 plain_value AfterEnd b l = refl
+plain_value TimedOut b l = refl
 plain_value NotMember b l = refl
 plain_value ListenOnly b l = refl
 
@@ -89,7 +90,7 @@ reads_late law value bytes long =
 at_code : (code k : ℕ) (value : List ℕ) → code ≡ k → ReadsValue k value → ReadsValue code value
 at_code code k value e h = subst (λ (n : ℕ). ReadsValue n value) (sym e) h
 
-pub reads_value : FieldLaws → (code : ℕ) (value : List ℕ) → 1 ≤ code → code ≤ 8 → IsBytes value → length value ≡ 12 → ReadsValue code value
+pub reads_value : FieldLaws → (code : ℕ) (value : List ℕ) → 1 ≤ code → code ≤ 9 → IsBytes value → length value ≡ 12 → ReadsValue code value
 reads_value law code value low high bytes long = elim (cases_eq code 1) [
   | inl e ↦ plain code value Opened e (λ b. omega arith) (λ b. omega arith) tt
   | inr n₁ ↦ elim (cases_eq code 2) [
@@ -104,7 +105,10 @@ reads_value law code value low high bytes long = elim (cases_eq code 1) [
             | inl e ↦ plain code value AfterEnd e (λ b. omega arith) (λ b. omega arith) tt
             | inr n₆ ↦ elim (cases_eq code 7) [
               | inl e ↦ plain code value NotMember e (λ b. omega arith) (λ b. omega arith) tt
-              | inr n₇ ↦ plain code value ListenOnly (omega (arith, n₁, n₂, n₃, n₄, n₅, n₆, n₇, low, high)) n₃ n₅ tt
+              | inr n₇ ↦ elim (cases_eq code 8) [
+                | inl e ↦ plain code value ListenOnly e n₃ n₅ tt
+                | inr n₈ ↦ plain code value TimedOut (omega (arith, n₁, n₂, n₃, n₄, n₅, n₆, n₇, n₈, low, high)) n₃ n₅ tt
+              ]
             ]
           ]
         ]

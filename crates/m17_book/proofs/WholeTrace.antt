@@ -9,7 +9,7 @@ use Rattle.m17_book.specs.Answers.{IsOutside}
 use Rattle.m17_book.specs.Book.{TellsFlaw, MagicFlaw, trace_magic, IsTrace, HasTraceForm, HasTooMany, LacksTraceForm, RefusesTrace}
 use Rattle.m17_book.specs.Entries.{SpellsEntry}
 use Rattle.m17_book.specs.Flaws.{EntryFlaw}
-use Rattle.m17_book.specs.Limits.{told, most_bytes, most_entries}
+use Rattle.m17_book.specs.Limits.{told, most_trace_bytes, most_entries}
 use Rattle.m17_book.specs.Walk.{coming, Spot, IsAt, HasPassed, Stops, AddsAll, PassesMagic, WrongEntry, ReadsTrace, IsCutAt, IsSettled}
 use Rattle.m17_book.specs.declared.refusal.Flaw.{Flaw}
 use Rattle.m17_book.specs.declared.refusal.FormRefusal.{FormRefusal}
@@ -63,7 +63,7 @@ long bytes front rest spot p =
 
 -- the entries of a whole trace
 pub all_read : {T : Type 0} (value : T) (bytes ahead : List ℕ) (values heard : List Heard) (place : ℕ) (spot : Spot) → bytes ≡ trace_magic ++ ahead
-    → place ≡ told 8 → AddsAll SpellsEntry WrongEntry (Ok value) (coming place ahead) values spot → length values ≤ most_entries → heard ≡ values ++ End ∷ []
+    → place ≡ told 8 → AddsAll SpellsEntry WrongEntry most_trace_bytes (Ok value) (coming place ahead) values spot → length values ≤ most_entries → heard ≡ values ++ End ∷ []
     → IsTrace bytes heard × (spot.left ≡ Some [])
 all_read value bytes ahead values heard place spot split eight h few is =
     let p = passed bytes ahead values spot place split eight h.0 in
@@ -71,7 +71,7 @@ all_read value bytes ahead values heard place spot split eight h few is =
     let whole : bytes ≡ trace_magic ++ h.0.front = p.split ∙ ap (λ xs. (trace_magic ++ h.0.front) ++ xs) h.1 ∙ append-nil (trace_magic ++ h.0.front) in
     ((omega (arith, size, p.place_is, ap length h.1, h.3), values, few, (h.0.front, h.0.spelled, whole), is), h.2)
 
-wrong_entry : (bytes front rest : List ℕ) (values : List Heard) (spot : Spot) (refusal : FormRefusal) → Passed bytes front rest spot → spot.place ≤ most_bytes
+wrong_entry : (bytes front rest : List ℕ) (values : List Heard) (spot : Spot) (refusal : FormRefusal) → Passed bytes front rest spot → spot.place ≤ most_trace_bytes
     → HasTraceForm (trace_magic ++ front) values → WrongEntry (length values) rest spot.place refusal
     → HasTooMany bytes refusal ⊎ LacksTraceForm bytes refusal
 wrong_entry bytes front rest values spot refusal p low form (inl h) =
@@ -88,7 +88,7 @@ cut_entry count rest place total refusal e (inr h) = cut_at_end EntryFlaw rest p
 
 -- where a trace stops
 pub stops : (T : Type 0) (refusal : FormRefusal) (bytes ahead : List ℕ) (values heard : List Heard) (place : ℕ) (spot : Spot) → bytes ≡ trace_magic ++ ahead
-    → place ≡ told 8 → Stops SpellsEntry WrongEntry place ahead values spot refusal → ReadsTrace {T = T} (Err refusal) bytes heard spot
+    → place ≡ told 8 → Stops SpellsEntry WrongEntry most_trace_bytes place ahead values spot refusal → ReadsTrace {T = T} (Err refusal) bytes heard spot
 stops T refusal bytes ahead values heard place spot split eight (h, inl far) =
     let p = passed bytes ahead values spot place split eight h in
     let size = long bytes h.front h.rest spot p in
@@ -96,7 +96,7 @@ stops T refusal bytes ahead values heard place spot split eight (h, inl far) =
       h.rest,
       h.rest_is,
       omega (arith, size, p.place_is),
-      large_is_no_cut (length bytes) most_bytes refusal far.1,
+      large_is_no_cut (length bytes) most_trace_bytes refusal far.1,
       inl (omega (arith, size, p.place_is, far.0), far.1),
     )
 stops T refusal bytes ahead values heard place spot split eight (h, inr wrong) =
@@ -112,7 +112,7 @@ stops T refusal bytes ahead values heard place spot split eight (h, inr wrong) =
     )
 
 pub all_stops : (T U : Type 0) (refusal : FormRefusal) (bytes ahead : List ℕ) (values heard : List Heard) (place : ℕ) (spot : Spot) → bytes ≡ trace_magic ++ ahead
-    → place ≡ told 8 → AddsAll SpellsEntry WrongEntry {T = T} (Err refusal) (coming place ahead) values spot → ReadsTrace {T = U} (Err refusal) bytes heard spot
+    → place ≡ told 8 → AddsAll SpellsEntry WrongEntry {T = T} most_trace_bytes (Err refusal) (coming place ahead) values spot → ReadsTrace {T = U} (Err refusal) bytes heard spot
 all_stops T U refusal bytes ahead values heard place spot split eight (inl h) = inl h
 all_stops T U refusal bytes ahead values heard place spot split eight (inr h) = stops U refusal bytes ahead h.0 heard place spot split eight h.1
 
@@ -123,8 +123,8 @@ no_memory T refusal bytes heard spot e = inl (no_memory_is_outside refusal e)
 
 -- what is answered in the end
 settled_in : (bytes : List ℕ) (found refusal : FormRefusal)
-    → ((most_bytes < length bytes) × (found ≡ Large most_bytes)) ⊎ (HasTooMany bytes found ⊎ LacksTraceForm bytes found)
-    → IsSettled (length bytes) found refusal → IsOutside refusal ⊎ RefusesTrace bytes refusal
+    → ((most_trace_bytes < length bytes) × (found ≡ Large most_trace_bytes)) ⊎ (HasTooMany bytes found ⊎ LacksTraceForm bytes found)
+    → IsSettled most_trace_bytes (length bytes) found refusal → IsOutside refusal ⊎ RefusesTrace bytes refusal
 settled_in bytes found refusal why (inl h) = inl h
 settled_in bytes found refusal why (inr (inl h)) = inr (inl h)
 settled_in bytes found refusal (inl why) (inr (inr h)) = absurd (omega (arith, why.0, h.0))
@@ -133,7 +133,7 @@ settled_in bytes found refusal (inr why) (inr (inr h)) =
 
 -- the end was added to the entries, or memory lacked
 pub trace_ended : {T U : Type 0} (result : Result T FormRefusal) (value : U) (bytes ahead : List ℕ) (values heard : List Heard) (place : ℕ) (spot : Spot)
-    → bytes ≡ trace_magic ++ ahead → place ≡ told 8 → AddsAll SpellsEntry WrongEntry (Ok value) (coming place ahead) values spot → length values ≤ most_entries
+    → bytes ≡ trace_magic ++ ahead → place ≡ told 8 → AddsAll SpellsEntry WrongEntry most_trace_bytes (Ok value) (coming place ahead) values spot → length values ≤ most_entries
     → OnOk result (heard ≡ values ++ End ∷ []) → IfErr result (λ refusal. refusal ≡ NoMemory) → ReadsTrace result bytes heard spot
 trace_ended (Ok v) value bytes ahead values heard place spot split eight h few is lacks = all_read value bytes ahead values heard place spot split eight h few is
 trace_ended {T = T} (Err refusal) value bytes ahead values heard place spot split eight h few is lacks = no_memory T refusal bytes heard spot lacks
@@ -157,7 +157,7 @@ module _ {T U : Type 0} (read : Result T FormRefusal) (result : Result U FormRef
   refusal_of : (read : Result T FormRefusal) (refusal : FormRefusal) → IsErr read → (bytes : List ℕ)
       → ReadsTrace read bytes heard spot → IfErr read (λ found. IsOutside found → IsOutside refusal)
       → IfErr read (λ found. (total : ℕ) → (ahead : List ℕ) → IsAt spot ahead → told total ≡ told (spot.place + length ahead) → IsCutAt total found
-      → IsSettled total found refusal) → IsOutside refusal ⊎ RefusesTrace bytes refusal
+      → IsSettled most_trace_bytes total found refusal) → IsOutside refusal ⊎ RefusesTrace bytes refusal
   refusal_of (Ok v) refusal is bytes h outside settled = absurd (false≢true is)
   refusal_of (Err found) refusal is bytes (inl h) outside settled = inl (outside h)
   refusal_of (Err found) refusal is bytes (inr h) outside settled =
@@ -167,7 +167,7 @@ pub refused_with : {T U : Type 0} (read : Result T FormRefusal) (result : Result
     → ((bytes : List ℕ) → Left bytes → ReadsTrace read bytes heard spot) → OnErr result (IsErr read)
     → IfErr read (λ found. IsOutside found → IfErr result IsOutside)
     → IfErr read (λ found. (total : ℕ) → (ahead : List ℕ) → IsAt spot ahead → told total ≡ told (spot.place + length ahead) → IsCutAt total found
-    → IfErr result (IsSettled total found))
+    → IfErr result (IsSettled most_trace_bytes total found))
     → IfErr result (λ refusal. (bytes : List ℕ) → Left bytes → IsOutside refusal ⊎ RefusesTrace bytes refusal)
 refused_with read (Ok u) Left heard spot reads is outside settled = tt
 refused_with {U = U} read (Err refusal) Left heard spot reads is outside settled = λ bytes left.

@@ -10,7 +10,7 @@ held cursor = slice_range cursor.bytes cursor.start cursor.end
 abbrev pub IsAhead : List ℕ → Option (List ℕ) → List ℕ → Type 0
 IsAhead held left ahead = (rest : List ℕ) × (left ≡ Some rest) × (ahead ≡ held ++ rest)
 
--- so many more bytes of the rest are held; none only where there is no rest
+-- the next `count` bytes of the rest are held too; none only where there is no rest
 pub record IsMoreOf (rest : List ℕ) (count : ℕ) (held held' : List ℕ)
     (left : Option (List ℕ)) : Type 0 where
   pub no_more : count ≤ length rest

@@ -2,8 +2,6 @@
 use Rattle.std.specs.Prelude.{◌≡◌, ℕ, List, [], ◌∷◌, ◌++◌}
 use Rattle.m17_values.specs.declared.heard.Heard.{Heard}
 use Rattle.m17_values.specs.declared.heard.Heard.TheVariants.{End}
-use Rattle.m17_book.specs.Book.{IsBook}
-use Rattle.m17_book.specs.declared.record.Record.{Record}
 use Rattle.m17_book.specs.declared.refusal.FormRefusal.{FormRefusal}
 use Rattle.m17_book.specs.declared.refusal.FormRefusal.TheVariants.{Cut, Kind, Field, Large, ReadFault, NoMemory}
 
@@ -15,10 +13,6 @@ IsOutside (Field at) = ⊥
 IsOutside (Large at) = ⊥
 IsOutside ReadFault = Unit {0}
 IsOutside NoMemory = Unit {0}
-
--- the bytes are a book with these records, of some module
-abbrev pub IsBookOf : List ℕ → List Record → Type 0
-IsBookOf bytes records = (letter : ℕ) × IsBook bytes letter records
 
 -- what was heard ends with the end
 abbrev pub HasEnd : List Heard → Type 0

@@ -1,10 +1,9 @@
 -- Which books are legal, record by record, and what a legal one is reported as.
-use Rattle.std.specs.Prelude.{◌≡◌, Bool, true, false, List, length, map, count_by, Option, None, Some, Result, Ok, Err}
-use Rattle.m17_floor.specs.Floor.{admits}
+use Rattle.std.specs.Prelude.{◌≡◌, ℕ, List, length, map, count_by, Option, None, Some, Result, Ok, Err}
+use Rattle.m17_floor.specs.Floor.{admits, opens}
 use Rattle.m17_floor.specs.Legal.{KeptAct, IsLegal, IsFirstBreach}
 use Rattle.m17_floor.specs.StandsFor.{packet_act, join_act, leave_act}
-use Rattle.m17_floor.specs.declared.verdict.Verdict.{Verdict}
-use Rattle.m17_floor.specs.declared.verdict.Verdict.TheVariants.{Opened}
+use Rattle.m17_book.specs.declared.head.Head.{Head}
 use Rattle.m17_book.specs.declared.record.Record.{Record}
 use Rattle.m17_book.specs.declared.record.Record.TheVariants.{Join, Leave, Packet}
 use Rattle.m17_book.specs.declared.refusal.FormRefusal.{FormRefusal}
@@ -25,18 +24,14 @@ kept_by (Packet tag moment member verdict packet) =
 abbrev pub kept_of : List Record → List KeptAct
 kept_of records = map kept_by records
 
--- No record breaks a rule.
-abbrev pub IsLegalBook : List Record → Type 0
-IsLegalBook records = IsLegal (kept_of records)
+-- No record breaks a rule, under this limit on talking.
+abbrev pub IsLegalBook : ℕ → List Record → Type 0
+IsLegalBook limit records = IsLegal limit (kept_of records)
 
 -- The breach names the first record that breaks a rule, and the first rule that it breaks.
-abbrev pub IsFirstBreachOf : List Record → Breach → Type 0
-IsFirstBreachOf records breach = IsFirstBreach (kept_of records) breach.position breach.rule
-
--- the packet with this verdict opens the floor
-abbrev pub opens : Option Verdict → Bool
-opens (Some Opened) = true
-opens _ = false
+abbrev pub IsFirstBreachOf : ℕ → List Record → Breach → Type 0
+IsFirstBreachOf limit records breach =
+    IsFirstBreach limit (kept_of records) breach.position breach.rule
 
 -- What a book is reported as: how many records it has, how many of them opened the floor, and how many were admitted.
 abbrev pub report_of : List Record → Report
@@ -47,9 +42,13 @@ report_of records = record {
 }
 
 -- What is said of a book: that it is legal, with its report, or what its first breach is.
-abbrev pub TellsOfBook : Result Report Breach → List Record → Type 0
-TellsOfBook (Ok report) records = IsLegalBook records × (report ≡ report_of records)
-TellsOfBook (Err breach) records = IsFirstBreachOf records breach
+abbrev pub TellsOfBook : ℕ → Result Report Breach → List Record → Type 0
+TellsOfBook limit (Ok report) records = IsLegalBook limit records × (report ≡ report_of records)
+TellsOfBook limit (Err breach) records = IsFirstBreachOf limit records breach
+
+-- the same, by the limit of the book's header
+abbrev pub TellsBook : Result Report Breach → Head → List Record → Type 0
+TellsBook verdict header records = TellsOfBook header.limit verdict records
 
 -- The refusals that a check gives: it keeps nothing that takes memory.
 abbrev pub TakesNoMemory : FormRefusal → Type 0

@@ -2,12 +2,13 @@
 use Rattle.std.specs.Prelude.{◌≡◌, ◌⊎◌, ℕ, ◌+◌, ◌<◌, ◌≤◌, List, length, slice_index}
 use Rattle.m17_fields.specs.Fields.{be_32, field_at}
 use Rattle.m17_callsign.specs.AddressBytes.{address_bytes}
-use Rattle.m17_callsign.specs.Callsign.{HasCallsign}
 use Rattle.m17_floor.specs.declared.verdict.Verdict.{Verdict}
 use Rattle.m17_stream.specs.Stream.{SpellsStream}
 use Rattle.m17_stream.specs.declared.packet.StreamPacket.{StreamPacket}
 use Rattle.m17_book.specs.Limits.{IsKind}
 use Rattle.m17_book.specs.Records.{verdict_code, value_bytes, FitsVerdict}
+use Rattle.m17_book.specs.Versions.{highest_verdict, MayJoin}
+use Rattle.m17_book.specs.declared.version.Version.{Version}
 use Rattle.m17_book.specs.declared.refusal.Flaw.{Flaw}
 use Rattle.m17_book.specs.declared.refusal.Flaw.TheVariants as flaws
 
@@ -81,18 +82,20 @@ record_field_size Verdict_ = 1
 record_field_size Value = 12
 record_field_size Packet = 54
 
--- The values that each field may have.
-abbrev pub IsAllowedInRecord : RecordField → List ℕ → Type 0
-IsAllowedInRecord Link bytes = slice_index bytes 1 < 4
-IsAllowedInRecord Place bytes = (place : ℕ) × (place < 256) × (be_32 place ≡ field_at 18 4 bytes)
-IsAllowedInRecord Listen bytes = slice_index bytes 30 < 2
-IsAllowedInRecord Callsign bytes =
-    (address : ℕ) × HasCallsign address × (address_bytes address ≡ field_at 31 6 bytes)
-IsAllowedInRecord Reason bytes = (1 ≤ slice_index bytes 30) × (slice_index bytes 30 ≤ 5)
-IsAllowedInRecord Verdict_ bytes = (1 ≤ slice_index bytes 30) × (slice_index bytes 30 ≤ 8)
-IsAllowedInRecord Value bytes = (verdict : Verdict) × FitsVerdict verdict
+-- The values that each field may have in a book of the version.
+abbrev pub IsAllowedInRecord : Version → RecordField → List ℕ → Type 0
+IsAllowedInRecord version Link bytes = slice_index bytes 1 < 4
+IsAllowedInRecord version Place bytes =
+    (place : ℕ) × (place < 256) × (be_32 place ≡ field_at 18 4 bytes)
+IsAllowedInRecord version Listen bytes = slice_index bytes 30 < 2
+IsAllowedInRecord version Callsign bytes =
+    (address : ℕ) × MayJoin version address × (address_bytes address ≡ field_at 31 6 bytes)
+IsAllowedInRecord version Reason bytes = (1 ≤ slice_index bytes 30) × (slice_index bytes 30 ≤ 5)
+IsAllowedInRecord version Verdict_ bytes =
+    (1 ≤ slice_index bytes 30) × (slice_index bytes 30 ≤ highest_verdict version)
+IsAllowedInRecord version Value bytes = (verdict : Verdict) × FitsVerdict verdict
     × (verdict_code verdict ≡ slice_index bytes 30) × (value_bytes verdict ≡ field_at 31 12 bytes)
-IsAllowedInRecord Packet bytes = (packet : StreamPacket)
+IsAllowedInRecord version Packet bytes = (packet : StreamPacket)
     × SpellsStream packet (field_at 43 54 bytes)
 
 -- the bytes end before their record does
@@ -101,10 +104,10 @@ pub record IsShortRecord (bytes : List ℕ) : Type 0 where
   pub leave : kind_of bytes ≡ 2 → length bytes < 31
   pub packet : kind_of bytes ≡ 3 → length bytes < 97
 
--- why bytes begin with no whole record
-abbrev pub RecordFlaw : List ℕ → Flaw → Type 0
-RecordFlaw bytes flaw =
-    HasFlaw IsInRecord record_field_at record_field_size IsAllowedInRecord IsShortRecord bytes flaw
+-- why bytes begin with no whole record of the version
+abbrev pub RecordFlaw : Version → List ℕ → Flaw → Type 0
+RecordFlaw version bytes flaw = HasFlaw IsInRecord record_field_at record_field_size
+    (IsAllowedInRecord version) IsShortRecord bytes flaw
 
 -- The fields of entries whose values are not all allowed: the family of the address, and the length of the
 -- datagram behind an address of 4 bytes, or behind one of 16.

@@ -3,6 +3,8 @@ use Rattle.std.specs.Prelude.{◌≡◌, ℕ, ◌<◌, List, [], ◌++◌, lengt
 use Rattle.m17_fields.specs.Fields.{IsBytes}
 use Rattle.m17_fields.specs.Reading.{HasOneReading}
 use Rattle.m17_book.specs.Book.{IsTrace, RefusesTrace, IsBook, RefusesBook, HasBookForm, LacksBookForm}
+use Rattle.m17_book.specs.declared.head.Head.{Head}
+use Rattle.m17_book.specs.declared.version.Version.{Version}
 use Rattle.m17_book.specs.declared.record.Record.{Record}
 use Rattle.m17_book.specs.declared.refusal.Flaw.{Flaw}
 use Rattle.m17_book.specs.declared.refusal.FormRefusal.{FormRefusal}
@@ -30,21 +32,25 @@ pub record IsClear {Value : Type 0} (Spells : Value → List ℕ → Type 0)
   pub one_flaw : (b : List ℕ) (f g : Flaw) → Flawed b f → Flawed b g → f ≡ g
   pub no_flaw : (f : Flaw) → Flawed [] f → ⊥
 
--- what a book stands for: the letter of its module, and its records
+-- what a book stands for: what its header says, and its records
 pub record BookKept : Type 0 where
-  pub letter : ℕ
+  pub header : Head
   pub records : List Record
 
 abbrev pub TracesAreExact : Type 0
 TracesAreExact = IsExactForm IsTrace RefusesTrace
 
+-- books of a version
+abbrev pub BooksOfAreExact : Version → Type 0
+BooksOfAreExact version =
+    IsExactForm {Value = BookKept} (λ bytes kept. IsBook version bytes kept.header kept.records)
+    (RefusesBook version)
+
+-- of both versions, each for itself
 abbrev pub BooksAreExact : Type 0
-BooksAreExact =
-    IsExactForm {Value = BookKept} (λ bytes kept. IsBook bytes kept.letter kept.records)
-    RefusesBook
+BooksAreExact = (version : Version) → BooksOfAreExact version
 
 -- the same of books of whatever size, as a reader has them that gives one record after another
 abbrev pub BookFormsAreExact : Type 0
-BookFormsAreExact =
-    IsExactForm {Value = BookKept} (λ bytes kept. HasBookForm bytes kept.letter kept.records)
-    LacksBookForm
+BookFormsAreExact = (version : Version) → IsExactForm {Value = BookKept}
+    (λ bytes kept. HasBookForm version bytes kept.header kept.records) (LacksBookForm version)

@@ -1,5 +1,6 @@
 pub mod Limits
 pub mod Ahead
+pub mod Versions
 pub mod Records
 pub mod Entries
 pub mod Flaws

@@ -1,9 +1,9 @@
 -- What traces and books have in common: their limits, values one after another, and how a place is told.
 use Rattle.std.specs.Prelude.{◌≡◌, ℕ, ◌-◌, ◌^◌, ◌≤◌, min, List, [], ◌∷◌, ◌++◌}
 
--- the most bytes of a trace or a book, and the most entries of a trace
-abbrev pub most_bytes : ℕ
-most_bytes = 67108864
+-- the most bytes and the most entries of a trace
+abbrev pub most_trace_bytes : ℕ
+most_trace_bytes = 67108864
 
 abbrev pub most_entries : ℕ
 most_entries = 1000000

@@ -1,11 +1,12 @@
 -- What the parts of a record's reader answer. No public clause of a function cites this module.
-use Rattle.std.specs.Prelude.{◌≡◌, ℕ, ◌<◌, ◌≤◌, List, ◌∷◌, length, take, drop}
+use Rattle.std.specs.Prelude.{◌≡◌, ℕ, ◌<◌, ◌≤◌, List, ◌∷◌, length, take, drop, slice_index}
 use Rattle.m17_floor.specs.declared.verdict.Verdict.{Verdict}
-use Rattle.m17_book.specs.Flaws.{kind_of, IsAllowedInRecord, Link, Place}
+use Rattle.m17_fields.specs.Fields.{be_32, field_at}
+use Rattle.m17_book.specs.Flaws.{kind_of}
 use Rattle.m17_book.specs.Records.{FitsHead, FitsVerdict, zeros_12, head_bytes, verdict_code, value_bytes}
-use Rattle.m17_book.specs.declared.parse_record.Head.{Head}
+use Rattle.m17_book.specs.declared.parse_record.Common.{Common}
 
--- the bytes begin with so many bytes that spell the value
+-- the first `size` of these bytes spell the value
 pub record BeginsWith {Value : Type 0} (Spells : Value → List ℕ → Type 0)
     (bytes : List ℕ) (value : Value) (size : ℕ) : Type 0 where
   pub some : 0 < size
@@ -13,12 +14,12 @@ pub record BeginsWith {Value : Type 0} (Spells : Value → List ℕ → Type 0)
   pub spelled : Spells value (take size bytes)
 
 -- the first 30 bytes are those of these fields, which fit their places
-pub record HasHead (bytes : List ℕ) (head : Head) : Type 0 where
+pub record HasHead (bytes : List ℕ) (head : Common) : Type 0 where
   pub within : 30 ≤ length bytes
   pub fits : FitsHead head.tag head.moment head.member
   pub bytes_are : take 30 bytes ≡ head_bytes (kind_of bytes) head.tag head.moment head.member
-  pub link : IsAllowedInRecord Link bytes
-  pub place : IsAllowedInRecord Place bytes
+  pub link : slice_index bytes 1 < 4
+  pub place : (place : ℕ) × (place < 256) × (be_32 place ≡ field_at 18 4 bytes)
 
 -- the verdict has this byte and this value
 abbrev pub IsValueOf : ℕ → List ℕ → Verdict → Type 0

@@ -1,17 +1,18 @@
 -- Records of a book and the bytes that spell them, field by field.
-use Rattle.std.specs.Prelude.{◌≡◌, ℕ, ◌<◌, ◌^◌, List, [], ◌∷◌, ◌++◌, if◌then◌else◌}
+use Rattle.std.specs.Prelude.{◌≡◌, ℕ, ◌<◌, ◌≤◌, ◌^◌, List, [], ◌∷◌, ◌++◌, if◌then◌else◌}
 use Rattle.m17_fields.specs.Fields.{be_16, be_32, be_64}
 use Rattle.m17_callsign.specs.AddressBytes.{address_bytes}
-use Rattle.m17_callsign.specs.Callsign.{HasCallsign}
 use Rattle.m17_crc.specs.Crc.{crc_of}
 use Rattle.m17_values.specs.declared.member.Member.{Member}
 use Rattle.m17_control.specs.declared.event.Tag.{Tag}
 use Rattle.m17_control.specs.declared.event.Why.{Why}
 use Rattle.m17_control.specs.declared.event.Why.TheVariants.{Asked, Moved, Silent, Stopped, Replaced}
 use Rattle.m17_floor.specs.declared.verdict.Verdict.{Verdict}
-use Rattle.m17_floor.specs.declared.verdict.Verdict.TheVariants.{Opened, Continued, Busy, Repeat, Late, AfterEnd, NotMember, ListenOnly}
+use Rattle.m17_floor.specs.declared.verdict.Verdict.TheVariants.{Opened, Continued, Busy, Repeat, Late, AfterEnd, TimedOut, NotMember, ListenOnly}
 use Rattle.m17_stream.specs.Stream.{SpellsStream, front_bytes}
 use Rattle.m17_stream.specs.declared.packet.StreamPacket.{StreamPacket}
+use Rattle.m17_book.specs.Versions.{highest_verdict, MayJoin}
+use Rattle.m17_book.specs.declared.version.Version.{Version}
 use Rattle.m17_book.specs.declared.record.Record.{Record}
 use Rattle.m17_book.specs.declared.record.Record.TheVariants.{Join, Leave, Packet}
 
@@ -32,8 +33,9 @@ verdict_code (Late _) = 5
 verdict_code AfterEnd = 6
 verdict_code NotMember = 7
 verdict_code ListenOnly = 8
+verdict_code TimedOut = 9
 
--- so many zero bytes
+-- ten zero bytes, and twelve
 abbrev pub zeros_10 : List ℕ
 zeros_10 = 0 ∷ 0 ∷ 0 ∷ 0 ∷ 0 ∷ 0 ∷ 0 ∷ 0 ∷ 0 ∷ 0 ∷ []
 
@@ -52,6 +54,7 @@ value_bytes (Busy holder) = member_bytes holder
 value_bytes Repeat = zeros_12
 value_bytes (Late last) = zeros_10 ++ be_16 last
 value_bytes AfterEnd = zeros_12
+value_bytes TimedOut = zeros_12
 value_bytes NotMember = zeros_12
 value_bytes ListenOnly = zeros_12
 
@@ -90,20 +93,27 @@ FitsVerdict (Busy holder) = (holder.place < 256) × (holder.generation < 2 ^ 64)
 FitsVerdict Repeat = Unit {0}
 FitsVerdict (Late last) = last < 32768
 FitsVerdict AfterEnd = Unit {0}
+FitsVerdict TimedOut = Unit {0}
 FitsVerdict NotMember = Unit {0}
 FitsVerdict ListenOnly = Unit {0}
 
--- each field of the record fits its place
-abbrev pub FitsRecord : Record → Type 0
-FitsRecord (Join tag moment member listen callsign) =
-    FitsHead tag moment member × HasCallsign callsign
-FitsRecord (Leave tag moment member why) = FitsHead tag moment member
-FitsRecord (Packet tag moment member verdict packet) =
-    FitsHead tag moment member × FitsVerdict verdict × SpellsStream packet (stream_bytes packet)
+-- the version knows the verdict, and its value fits its place
+abbrev pub FitsVerdictOf : Version → Verdict → Type 0
+FitsVerdictOf version verdict =
+    (verdict_code verdict ≤ highest_verdict version) × FitsVerdict verdict
 
--- The record spells the bytes: its fields fit their places, and stand there one after another.
-abbrev pub SpellsRecord : Record → List ℕ → Type 0
-SpellsRecord record_ bytes = FitsRecord record_ × (bytes ≡ record_bytes record_)
+-- each field of the record fits its place in a book of the version
+abbrev pub FitsRecord : Version → Record → Type 0
+FitsRecord version (Join tag moment member listen callsign) =
+    FitsHead tag moment member × MayJoin version callsign
+FitsRecord version (Leave tag moment member why) = FitsHead tag moment member
+FitsRecord version (Packet tag moment member verdict packet) =
+    FitsHead tag moment member × FitsVerdictOf version verdict
+    × SpellsStream packet (stream_bytes packet)
+
+-- The record spells the bytes in a book of the version: its fields fit their places, and stand there one after another.
+abbrev pub SpellsRecord : Version → Record → List ℕ → Type 0
+SpellsRecord version record_ bytes = FitsRecord version record_ × (bytes ≡ record_bytes record_)
 
 -- What a caller has to know to write a record, and can test: the link is below 4, and places, a Busy's holder's too,
 -- are below 256, and a Late's number is below 32,768.
@@ -117,6 +127,7 @@ IsLowVerdict (Busy holder) = holder.place < 256
 IsLowVerdict Repeat = Unit {0}
 IsLowVerdict (Late last) = last < 32768
 IsLowVerdict AfterEnd = Unit {0}
+IsLowVerdict TimedOut = Unit {0}
 IsLowVerdict NotMember = Unit {0}
 IsLowVerdict ListenOnly = Unit {0}
 

@@ -2,20 +2,20 @@
 use Rattle.std.specs.Prelude.{◌≡◌, ◌==◌, ℕ, Bool, List, slice_index_or, Option, None, Some, IsSome, if◌then◌else◌}
 use Rattle.m17_values.specs.declared.member.Member.{Member}
 use Rattle.m17_floor.specs.declared.act.Act.{Act}
-use Rattle.m17_floor.specs.Rule.{Frame}
+use Rattle.m17_floor.specs.Rule.{Frame, FloorState}
 use Rattle.m17_floor.specs.StandsFor.{FloorStandsFor, OwnStandsFor}
-use Rattle.m17_floor.specs.Legal.{KeptAct, book_places}
+use Rattle.m17_floor.specs.Legal.{KeptAct, book_places, book_setup}
 use Rattle.m17_floor.specs.Acts.{with_act}
 use Rattle.m17_floor.specs.Alike.{stay_of, BreaksNext}
 use Rattle.m17_floor.specs.declared.rule.Rule.{Rule}
 use Rattle.m17_floor.specs.declared.rule.Rule.TheVariants as rules
 use Rattle.m17_book.specs.declared.stay.Stay.{Stay}
 
--- who is in, by place, the last admitted frame of each, and the floor's
+-- who is in, by place, the last admitted frame of each, and the floor
 pub record People : Type 0 where
   pub stays : List (Option Stay)
   pub lasts : List (Option Frame)
-  pub floor : Option Frame
+  pub floor : FloorState
 
 -- who is in at a place; past the places nobody
 abbrev pub stay_in : List (Option Stay) → ℕ → Option Stay
@@ -34,21 +34,21 @@ if_of generation (Some stay) = if stay.generation == generation then Some stay.l
 abbrev pub listens_of : List (Option Stay) → Member → Option Bool
 listens_of stays k = if_of k.generation (stay_in stays k.place)
 
--- They may have come from these acts.
-pub record RosterStandsFor (acts : List Act) (people : People) : Type 0 where
+-- They may have come from these acts, under this limit.
+pub record RosterStandsFor (limit : ℕ) (acts : List Act) (people : People) : Type 0 where
   -- the members are those that are in at the end
   pub stays : (k : Member) → stay_of book_places acts k ≡ listens_of people.stays k
   -- each member's frame is its last admitted one since its Join
   pub owns : (k : Member) → IsSome (listens_of people.stays k) →
-      OwnStandsFor book_places acts k (last_in people.lasts k.place)
+      OwnStandsFor (book_setup limit) acts k (last_in people.lasts k.place)
   -- the floor's frame is the last admitted one, unless its sender has left
-  pub floor : FloorStandsFor book_places acts people.floor
+  pub floor : FloorStandsFor (book_setup limit) acts people.floor
 
 -- What is kept next, after these acts, breaks the rule on members or on verdicts; or neither, and the people follow it.
-abbrev pub Follows : Option Rule → List Act → KeptAct → People → Type 0
-Follows None acts one people = RosterStandsFor (with_act acts one.act) people
-    × (¬ BreaksNext acts one rules.Member) × (¬ BreaksNext acts one rules.Verdict)
-Follows (Some rules.Moment) acts one people = ⊥
-Follows (Some rules.Member) acts one people = BreaksNext acts one rules.Member
-Follows (Some rules.Verdict) acts one people =
-    BreaksNext acts one rules.Verdict × (¬ BreaksNext acts one rules.Member)
+abbrev pub Follows : Option Rule → ℕ → List Act → KeptAct → People → Type 0
+Follows None limit acts one people = RosterStandsFor limit (with_act acts one.act) people
+    × (¬ BreaksNext limit acts one rules.Member) × (¬ BreaksNext limit acts one rules.Verdict)
+Follows (Some rules.Moment) limit acts one people = ⊥
+Follows (Some rules.Member) limit acts one people = BreaksNext limit acts one rules.Member
+Follows (Some rules.Verdict) limit acts one people =
+    BreaksNext limit acts one rules.Verdict × (¬ BreaksNext limit acts one rules.Member)

@@ -2,15 +2,17 @@
 -- a function cites this module.
 use Rattle.std.specs.Prelude.{◌≡◌, ◌⊎◌, ℕ, ◌+◌, List, [], ◌++◌, length, Option, None, Some, Result, Ok, Err}
 use Rattle.m17_book.specs.Limits.{told}
-use Rattle.m17_control.specs.Forms.{IsModule}
-use Rattle.m17_book.specs.Book.{TellsFlaw, BookHeaderFlaw, book_header}
+use Rattle.m17_book.specs.Book.{TellsFlaw, BookHeaderFlaw}
+use Rattle.m17_book.specs.Versions.{book_header, header_size, FitsHeader}
 use Rattle.m17_book.specs.Walk.{Coming, Spot, IsAt}
+use Rattle.m17_book.specs.declared.head.Head.{Head}
+use Rattle.m17_book.specs.declared.version.Version.{Version}
 use Rattle.m17_book.specs.declared.refusal.Flaw.{Flaw}
 use Rattle.m17_book.specs.declared.refusal.Flaw.TheVariants as flaws
 use Rattle.m17_book.specs.declared.refusal.FormRefusal.{FormRefusal}
 use Rattle.m17_book.specs.declared.refusal.FormRefusal.TheVariants.{Cut, Kind, Field, ReadFault}
 
--- how a flaw of the bytes from a place on is told, where so many bytes are there
+-- how a flaw of the bytes from a place on is told, where `len` bytes are there
 abbrev pub tell : Flaw → ℕ → ℕ → FormRefusal
 tell flaws.Cut place len = Cut (told (place + len))
 tell (flaws.Kind byte) place len = Kind place byte
@@ -27,10 +29,10 @@ IsNext Spells Flawed (Ok None) next spot =
 IsNext Spells Flawed (Err refusal) next spot =
     (refusal ≡ ReadFault) ⊎ TellsFlaw Flawed next.ahead next.place refusal
 
--- The header was passed, or what is wrong with it is told.
-abbrev pub PassesHeader : {T : Type 0} → Result T FormRefusal → Coming → Spot → Type 0
-PassesHeader (Ok _) next spot = (letter : ℕ) × (rest : List ℕ) × IsModule letter
-    × (next.ahead ≡ book_header letter ++ rest) × IsAt spot rest
-    × (spot.place ≡ told (next.place + 9))
-PassesHeader (Err refusal) next spot =
-    (refusal ≡ ReadFault) ⊎ TellsFlaw BookHeaderFlaw next.ahead next.place refusal
+-- The header of a book of the version was passed, or what is wrong with it is told.
+abbrev pub PassesHeader : Version → Result Head FormRefusal → Coming → Spot → Type 0
+PassesHeader version (Ok head) next spot = FitsHeader version head × (rest : List ℕ)
+    × (next.ahead ≡ book_header version head ++ rest) × IsAt spot rest
+    × (spot.place ≡ told (next.place + header_size version))
+PassesHeader version (Err refusal) next spot =
+    (refusal ≡ ReadFault) ⊎ TellsFlaw (BookHeaderFlaw version) next.ahead next.place refusal

@@ -3,12 +3,15 @@
 use Rattle.std.specs.Prelude.{◌≡◌, ◌⊎◌, ℕ, Bool, true, false, ◌+◌, ◌<◌, ◌≤◌, List, [], ◌∷◌, ◌++◌, length, Option, Some, Result, Ok, Err}
 use Rattle.m17_values.specs.declared.heard.Heard.{Heard}
 use Rattle.m17_book.specs.Ahead.{held, IsAhead}
-use Rattle.m17_book.specs.Answers.{IsOutside, IsBookOf}
-use Rattle.m17_book.specs.Book.{TellsFlaw, MagicFlaw, trace_magic, IsTrace, HasTooMany, LacksTraceForm, LacksBookForm}
+use Rattle.m17_book.specs.Answers.{IsOutside}
+use Rattle.m17_book.specs.Book.{TellsFlaw, MagicFlaw, trace_magic, IsTrace, HasTooMany, LacksTraceForm, IsBook, LacksBookForm}
 use Rattle.m17_book.specs.Entries.{SpellsEntry}
 use Rattle.m17_book.specs.Flaws.{EntryFlaw, RecordFlaw}
-use Rattle.m17_book.specs.Limits.{told, most_bytes, most_entries, SpellsEach}
+use Rattle.m17_book.specs.Limits.{told, most_trace_bytes, most_entries, SpellsEach}
+use Rattle.m17_book.specs.Versions.{most_book_bytes}
 use Rattle.m17_book.specs.declared.cursor.Cursor.{Cursor}
+use Rattle.m17_book.specs.declared.head.Head.{Head}
+use Rattle.m17_book.specs.declared.version.Version.{Version}
 use Rattle.m17_book.specs.declared.record.Record.{Record}
 use Rattle.m17_book.specs.declared.refusal.FormRefusal.{FormRefusal}
 use Rattle.m17_book.specs.declared.refusal.FormRefusal.TheVariants.{Cut, Kind, Field, Large, ReadFault, NoMemory}
@@ -34,15 +37,15 @@ coming place ahead = record { place = place; ahead = ahead }
 abbrev pub IsAt : Spot → List ℕ → Type 0
 IsAt spot ahead = IsAhead spot.held spot.left ahead
 
--- what is said after so many entries, where they end and more is to come: there are too many, or what is wrong
+-- what is said after `count` entries, where they end and more is to come: there are too many, or what is wrong
 abbrev pub WrongEntry : ℕ → List ℕ → ℕ → FormRefusal → Type 0
 WrongEntry count rest place refusal =
     ((count ≡ most_entries) × (0 < length rest) × (refusal ≡ Large place))
     ⊎ ((count < most_entries) × TellsFlaw EntryFlaw rest place refusal)
 
 -- the same of records, of which there may be any number
-abbrev pub WrongRecord : ℕ → List ℕ → ℕ → FormRefusal → Type 0
-WrongRecord count rest place refusal = TellsFlaw RecordFlaw rest place refusal
+abbrev pub WrongRecord : Version → ℕ → List ℕ → ℕ → FormRefusal → Type 0
+WrongRecord version count rest place refusal = TellsFlaw (RecordFlaw version) rest place refusal
 
 module _ {Value : Type 0} (Spells : Value → List ℕ → Type 0) where
   -- the values were passed: what was to come is their bytes, and then what is to come now
@@ -57,12 +60,6 @@ module _ {Value : Type 0} (Spells : Value → List ℕ → Type 0) where
 
 module _ {Value : Type 0} (Spells : Value → List ℕ → Type 0)
     (Wrong : ℕ → List ℕ → ℕ → FormRefusal → Type 0) where
-  -- what stops a reader that has passed these values: too many bytes, or what is wrong with those to come
-  abbrev pub Stops : ℕ → List ℕ → List Value → Spot → FormRefusal → Type 0
-  Stops place ahead values spot refusal = (passed : HasPassed Spells place ahead values spot)
-      × (((most_bytes < spot.place) × (refusal ≡ Large most_bytes))
-      ⊎ ((spot.place ≤ most_bytes) × Wrong (length values) passed.rest spot.place refusal))
-
   -- one value more was read, or nothing was left, or it stopped, and passed nothing
   abbrev pub AddsOne : Result Bool FormRefusal → Coming → List Value → List Value → Spot → Type 0
   AddsOne (Ok true) next old new spot = (value : Value) × (new ≡ old ++ value ∷ [])
@@ -73,12 +70,19 @@ module _ {Value : Type 0} (Spells : Value → List ℕ → Type 0)
       ⊎ ((new ≡ old) × IsAt spot next.ahead × (spot.place ≡ next.place)
       × Wrong (length old) next.ahead next.place refusal)
 
+  -- what stops a reader that has passed these values: more bytes than there may be, or what is wrong with those to come
+  abbrev pub Stops : ℕ → ℕ → List ℕ → List Value → Spot → FormRefusal → Type 0
+  Stops most place ahead values spot refusal = (passed : HasPassed Spells place ahead values spot)
+      × (((most < spot.place) × (refusal ≡ Large most))
+      ⊎ ((spot.place ≤ most) × Wrong (length values) passed.rest spot.place refusal))
+
   -- all was read, within the limit of bytes; or it stopped
-  abbrev pub AddsAll : {T : Type 0} → Result T FormRefusal → Coming → List Value → Spot → Type 0
-  AddsAll (Ok _) next new spot = (passed : HasPassed Spells next.place next.ahead new spot)
-      × (passed.rest ≡ []) × (spot.left ≡ Some []) × (spot.place ≤ most_bytes)
-  AddsAll (Err refusal) next new spot = IsOutside refusal
-      ⊎ ((values : List Value) × Stops next.place next.ahead values spot refusal)
+  abbrev pub AddsAll : {T : Type 0} → ℕ → Result T FormRefusal → Coming → List Value → Spot
+      → Type 0
+  AddsAll most (Ok _) next new spot = (passed : HasPassed Spells next.place next.ahead new spot)
+      × (passed.rest ≡ []) × (spot.left ≡ Some []) × (spot.place ≤ most)
+  AddsAll most (Err refusal) next new spot = IsOutside refusal
+      ⊎ ((values : List Value) × Stops most next.place next.ahead values spot refusal)
 
 -- a cut is told at this length of the input
 abbrev pub IsCutAt : ℕ → FormRefusal → Type 0
@@ -103,26 +107,33 @@ TakesEntry (Ok entry) place ahead after = HasPassed SpellsEntry place ahead (ent
 TakesEntry (Err refusal) place ahead after = TellsFlaw EntryFlaw ahead place refusal
 
 -- The input is a trace with these entries, and nothing is left; or why not, as far as it was read: what was passed and
--- what is to come are so many bytes as the input has.
+-- what is to come are as many bytes as the input has.
 abbrev pub ReadsTrace : {T : Type 0} → Result T FormRefusal → List ℕ → List Heard → Spot → Type 0
 ReadsTrace (Ok _) bytes heard spot = IsTrace bytes heard × (spot.left ≡ Some [])
 ReadsTrace (Err refusal) bytes heard spot = IsOutside refusal
     ⊎ ((rest : List ℕ) × IsAt spot rest × (told (length bytes) ≡ told (spot.place + length rest))
     × IsCutAt (length bytes) refusal
-    × (((most_bytes < length bytes) × (refusal ≡ Large most_bytes))
+    × (((most_trace_bytes < length bytes) × (refusal ≡ Large most_trace_bytes))
     ⊎ (HasTooMany bytes refusal ⊎ LacksTraceForm bytes refusal)))
 
--- the same of books
-abbrev pub ReadsBook : {T : Type 0} → Result T FormRefusal → List ℕ → List Record → Spot → Type 0
-ReadsBook (Ok _) bytes records spot = IsBookOf bytes records × (spot.left ≡ Some [])
-ReadsBook (Err refusal) bytes records spot = IsOutside refusal
-    ⊎ ((rest : List ℕ) × IsAt spot rest × (told (length bytes) ≡ told (spot.place + length rest))
-    × IsCutAt (length bytes) refusal
-    × (((most_bytes < length bytes) × (refusal ≡ Large most_bytes))
-    ⊎ LacksBookForm bytes refusal))
+-- The same of books of a version: what is answered of a book tells this of its header and its records.
+module _ {T : Type 0} (Tells : T → Head → List Record → Type 0) (version : Version) where
+  abbrev pub ReadsBook : Result T FormRefusal → List ℕ → List Record → Spot → Type 0
+  ReadsBook (Ok value) bytes records spot =
+      ((header : Head) × IsBook version bytes header records × Tells value header records)
+      × (spot.left ≡ Some [])
+  ReadsBook (Err refusal) bytes records spot = IsOutside refusal ⊎ ((rest : List ℕ) × IsAt spot rest
+      × (told (length bytes) ≡ told (spot.place + length rest))
+      × IsCutAt (length bytes) refusal
+      × (((most_book_bytes version < length bytes) × (refusal ≡ Large (most_book_bytes version)))
+      ⊎ LacksBookForm version bytes refusal))
 
--- what is answered where this refusal was found in an input of so many bytes: too many bytes come before it
-abbrev pub IsSettled : ℕ → FormRefusal → FormRefusal → Type 0
-IsSettled total found refusal = IsOutside refusal
-    ⊎ ((most_bytes < total) × (refusal ≡ Large most_bytes))
-    ⊎ ((total ≤ most_bytes) × (refusal ≡ found))
+-- what is answered is the header
+abbrev pub IsHeaderOf : Head → Head → List Record → Type 0
+IsHeaderOf told header records = told ≡ header
+
+-- what is answered where this refusal was found in an input of `total` bytes: more than there may be come before it
+abbrev pub IsSettled : ℕ → ℕ → FormRefusal → FormRefusal → Type 0
+IsSettled most total found refusal = IsOutside refusal
+    ⊎ ((most < total) × (refusal ≡ Large most))
+    ⊎ ((total ≤ most) × (refusal ≡ found))

@@ -1,9 +1,9 @@
 ghost use Rattle.std.specs.Prelude.{◌≡◌, ◌<◌, ◌≤◌, ℕ, ◌-◌, ◌^◌, List, [], ◌∷◌, ◌++◌, length, max, Some, None, Err, IfErr, OnErr};
 ghost use Rattle.m17_floor.specs.declared.act.Act.{Act};
 ghost use Rattle.m17_floor.specs.Acts.{moment_before};
-ghost use Rattle.m17_floor.specs.Floor.{admits};
+ghost use Rattle.m17_floor.specs.Floor.{admits, opens};
 ghost use Rattle.m17_floor.specs.StandsFor.{packet_act, join_act, leave_act};
-ghost use Rattle.m17_book.specs.Checks.{kept_by, opens, report_of, TellsOfBook};
+ghost use Rattle.m17_book.specs.Checks.{kept_by, report_of, TellsOfBook};
 ghost use Rattle.m17_book.specs.Checked.{HasChecked, ChecksNext};
 ghost use Rattle.m17_book.specs.Roster.{RosterStandsFor, Follows};
 ghost use Rattle.m17_book.specs.Tried.{Tries, HasSeen};
@@ -88,8 +88,8 @@ fn counted(report: &Report, one: &Record) -> Report
 
 // A Join: it is at a place where nobody is in, and then the member comes in.
 fn come(roster: &mut Roster, k: Member, listens: bool) -> Option<Rule>
-    ensures { (acts : List Act) → (at : ℕ) → RosterStandsFor acts roster.old
-        → Follows result acts (record { act = join_act at k listens; verdict = None }) roster.new }
+    ensures { (limit : ℕ) → (acts : List Act) → (at : ℕ) → RosterStandsFor limit acts roster.old
+        → Follows result limit acts (record { act = join_act at k listens; verdict = None }) roster.new }
 {
     match roster.stay_at(k.place) {
         Some(_) => Some(Rule::Member),
@@ -102,8 +102,8 @@ fn come(roster: &mut Roster, k: Member, listens: bool) -> Option<Rule>
 
 // A Leave: it is of a member that is in, and then it leaves.
 fn go(roster: &mut Roster, k: Member) -> Option<Rule>
-    ensures { (acts : List Act) → (at : ℕ) → RosterStandsFor acts roster.old
-        → Follows result acts (record { act = leave_act at k; verdict = None }) roster.new }
+    ensures { (limit : ℕ) → (acts : List Act) → (at : ℕ) → RosterStandsFor limit acts roster.old
+        → Follows result limit acts (record { act = leave_act at k; verdict = None }) roster.new }
 {
     match roster.listens(k) {
         None => Some(Rule::Member),
@@ -116,9 +116,9 @@ fn go(roster: &mut Roster, k: Member) -> Option<Rule>
 
 // A packet: its verdict is that of the floor rule. `at` is its moment, the greatest so far.
 fn hear(roster: &mut Roster, k: Member, at: u64, p: &StreamPacket, kept: Verdict) -> Option<Rule>
-    ensures { (acts : List Act) → at ≡ max (moment_before acts (length acts)) at
-        → RosterStandsFor acts roster.old
-        → Follows result acts (record { act = packet_act at k p.now; verdict = Some kept })
+    ensures { (limit : ℕ) → (acts : List Act) → at ≡ max (moment_before acts (length acts)) at
+        → RosterStandsFor limit acts roster.old
+        → Follows result limit acts (record { act = packet_act at k p.now; verdict = Some kept })
         roster.new }
 {
     floor_laws::one_act_more_goes_by_what_is_left();
@@ -131,10 +131,10 @@ fn hear(roster: &mut Roster, k: Member, at: u64, p: &StreamPacket, kept: Verdict
 
 // The rule on members or on verdicts that the record breaks; none where it keeps both, and then the roster follows it.
 fn follow(roster: &mut Roster, one: &Record) -> Option<Rule>
-    ensures { (acts : List Act) → (kept_by one.now).act.at
+    ensures { (limit : ℕ) → (acts : List Act) → (kept_by one.now).act.at
         ≡ max (moment_before acts (length acts)) (kept_by one.now).act.at
-        → RosterStandsFor acts roster.old
-        → Follows result acts (kept_by one.now) roster.new }
+        → RosterStandsFor limit acts roster.old
+        → Follows result limit acts (kept_by one.now) roster.new }
 {
     match one {
         Record::Join { member, listen, .. } => come(roster, *member, *listen),
@@ -150,13 +150,13 @@ fn follow(roster: &mut Roster, one: &Record) -> Option<Rule>
 }
 
 impl Checker {
-    /// A checker that has gone through no record.
-    pub fn new() -> Checker
-        ensures { HasChecked result [] }
+    /// A checker under this limit on talking, in milliseconds, which is none where it is 0. It has gone through no record.
+    pub fn new(limit: u64) -> Checker
+        ensures { HasChecked limit result [] }
     {
         floor_laws::books_are_judged_act_by_act();
         Checker {
-            roster: Roster::new(),
+            roster: Roster::new(limit),
             moment: 0,
             report: Report {
                 records: 0,
@@ -171,8 +171,8 @@ impl Checker {
     /// it the checker answers that breach again, goes through nothing more, and its report stands as it was. Its counts
     /// end at `2^64 - 1`: it says what it promises of fewer records.
     pub fn next(&mut self, one: &Record) -> Result<(), Breach>
-        ensures checks { (records : List Record) → HasChecked self.old records
-            → length records < 2 ^ 64 - 1 → ChecksNext result self.new records one.now }
+        ensures checks { (limit : ℕ) → (records : List Record) → HasChecked limit self.old records
+            → length records < 2 ^ 64 - 1 → ChecksNext result limit self.new records one.now }
         ensures broken { IfErr result (λ breach. self.new.breach ≡ Some breach) }
         ensures uncounted { OnErr result (self.new.report ≡ self.old.report) }
         ensures again { (breach : Breach) → self.old.breach ≡ Some breach
@@ -201,8 +201,8 @@ impl Checker {
 
     // Checks the next record, if no breach was found before.
     pub(crate) fn see(&mut self, one: &Record)
-        ensures { (records : List Record) → HasSeen self.old records
-            → length records < 2 ^ 64 - 1 → HasSeen self.new (records ++ one.now ∷ []) }
+        ensures { (limit : ℕ) → (records : List Record) → HasSeen limit self.old records
+            → length records < 2 ^ 64 - 1 → HasSeen limit self.new (records ++ one.now ∷ []) }
     {
         floor_laws::books_are_judged_act_by_act();
         let _ = self.next(one);
@@ -210,7 +210,8 @@ impl Checker {
 
     // What was found of the records that the checker was shown.
     pub(crate) fn outcome(&self) -> Result<Report, Breach>
-        ensures { (records : List Record) → HasSeen self.now records → TellsOfBook result records }
+        ensures { (limit : ℕ) → (records : List Record) → HasSeen limit self.now records
+            → TellsOfBook limit result records }
     {
         match self.breach {
             Some(breach) => Err(breach),
@@ -220,8 +221,8 @@ impl Checker {
 
     // The first rule that the record breaks; none where it keeps them all, and then the roster follows it.
     fn try_rules(&mut self, one: &Record) -> Option<Rule>
-        ensures tries { (records : List Record) → HasChecked self.old records
-            → Tries result self.new records one.now }
+        ensures tries { (limit : ℕ) → (records : List Record) → HasChecked limit self.old records
+            → Tries result limit self.new records one.now }
         ensures report { self.new.report ≡ self.old.report }
         ensures breach { self.new.breach ≡ self.old.breach }
     {
@@ -235,7 +236,7 @@ impl Checker {
 
     /// What the records hold that the checker has gone through.
     pub fn report(&self) -> Report
-        ensures counted { (records : List Record) → HasChecked self.now records
+        ensures counted { (limit : ℕ) → (records : List Record) → HasChecked limit self.now records
             → result ≡ report_of records }
         ensures kept { result ≡ self.now.report }
     {

@@ -1,14 +1,13 @@
 ghost use Rattle.std.specs.Prelude.{◌≡◌, ◌⊎◌, ◌↔◌, IsTrue, ℕ, ◌+◌, ◌-◌, ◌^◌, ◌<◌, ◌≤◌, min, List, [], length, take, drop, Option, Some, IfOk, OnOk, OnErr};
 ghost use Rattle.m17_io.specs.Faults.{HasCause};
 
-use crate::form::MOST_BYTES;
 use m17_io::{Input, Sink};
 use m17_values::Failed;
 
 /// How many bytes of the input are held at a time.
 const SIZE: usize = 8192;
 
-/// The most bytes that an entry or a record has. So many bytes, or all that are left, say what stands first.
+/// The most bytes that an entry or a record has. That many bytes, or all that are left, say what stands first.
 pub(crate) const WINDOW: usize = 97;
 
 /// Goes through the bytes of a source. It reads a buffer at a time, and holds what it has not passed yet.
@@ -55,7 +54,7 @@ impl Cursor {
         self.place
     }
 
-    /// Passes so many bytes.
+    /// Passes `count` bytes.
     #[inline]
     pub(crate) fn pass(&mut self, count: usize)
         requires { count ≤ length (held self.old) }
@@ -123,23 +122,25 @@ impl Cursor {
         }
     }
 
-    /// Whether the input has more bytes than a trace or a book may have. It goes on to the end of the input, or past that
-    /// many bytes, and holds none of them.
+    /// Whether the input has more bytes than `most`. It goes on to the end of the input, or past that many bytes, and holds
+    /// none of them.
     pub(crate) fn goes_too_far<S: Input<K>, K: Sink>(
         &mut self,
+        most: u64,
         source: &mut S,
         out: &K,
     ) -> Result<bool, Failed>
         requires quiet { (K.told out.now).held_back ≡ 0 }
+        requires bound { most < 2 ^ 64 - 1 }
         ensures far { IfOk result (λ far. (ahead : List ℕ)
             → IsAhead (held self.old) (S.told source.old).left ahead
-            → IsTrue far ↔ (67108864 < self.old.place + length ahead)) }
+            → IsTrue far ↔ (most < self.old.place + length ahead)) }
         ensures cause { HasCause (S.told source.old).faults (S.told source.new).faults result }
     {
         'reads: loop {
             let count = self.held().len();
             self.pass(count);
-            if self.place > MOST_BYTES {
+            if self.place > most {
                 return Ok(true);
             }
             if self.read_more(source, out)? == 0 {

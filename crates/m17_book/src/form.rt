@@ -1,19 +1,14 @@
-//! The magics, codes and places of both formats, for the readers and the writers alike.
+//! The codes and places of both formats, for the readers and the writers alike. What the versions of books differ in
+//! stands in `version`.
 
 /// What a trace begins with: `M17TRACE`.
 pub(crate) const TRACE_MAGIC: [u8; 8] = *b"M17TRACE";
 
-/// What a book begins with: `M17BOOK1`.
-pub(crate) const BOOK_MAGIC: [u8; 8] = *b"M17BOOK1";
-
 /// How many bytes a magic has.
 pub(crate) const MAGIC_BYTES: usize = 8;
 
-/// How many bytes a book's header has: the magic, and the letter of the module.
-pub(crate) const HEADER_BYTES: usize = 9;
-
-/// The most bytes of a trace or a book.
-pub(crate) const MOST_BYTES: u64 = 67_108_864;
+/// The most bytes of a trace.
+pub(crate) const MOST_TRACE_BYTES: u64 = 67_108_864;
 
 /// The most entries of a trace.
 pub(crate) const MOST_ENTRIES: usize = 1_000_000;

@@ -64,7 +64,7 @@ fn parse_datagram(b: &[u8]) -> Result<(Heard, usize), Flaw>
     }
 }
 
-/// What stands after the family, where the address has so many bytes.
+/// What stands after the family, where the address has this number of bytes.
 fn parse_rest(b: &[u8], size: usize) -> Result<(Heard, usize), Flaw>
     requires kind { kind_of b.now ≡ 1 }
     requires family { ((slice_index b.now 9 ≡ 4) × (size ≡ 4))

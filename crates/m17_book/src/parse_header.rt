@@ -1,23 +1,31 @@
-ghost use Rattle.std.specs.Prelude.{◌≡◌, ◌≢◌, ℕ, ◌<◌, ◌≤◌, length, take, slice_index, MatchResult, MatchOption};
-ghost use Rattle.m17_control.specs.Forms.{IsModule};
-ghost use Rattle.m17_book.specs.Book.{book_header, book_magic, trace_magic, MagicFlaw, BookHeaderFlaw};
+ghost use Rattle.std.specs.Prelude.{◌≡◌, ◌≢◌, ◌<◌, ◌≤◌, length, take, slice_index, MatchResult};
+ghost use Rattle.m17_book.specs.Book.{MagicFlaw, BookHeaderFlaw};
+ghost use Rattle.m17_book.specs.Versions.{book_header, header_size, FitsHeader};
 
-use crate::Flaw;
-use crate::form::{BOOK_MAGIC, HEADER_BYTES, MAGIC_BYTES, TRACE_MAGIC};
+use crate::form::MAGIC_BYTES;
+use crate::version::Version;
+use crate::{Flaw, Head};
+use m17_control::ModuleLetter;
 
-/// Whether the bytes begin with a book's header; else what is wrong first.
-pub(crate) fn parse_book_header(b: &[u8]) -> Result<(), Flaw>
-    ensures { MatchResult result (λ _. (9 ≤ length b.now) × IsModule (slice_index b.now 8)
-        × (take 8 b.now ≡ book_magic)) (BookHeaderFlaw b.now) }
+/// The header of a book of the version that the bytes begin with; else what is wrong first.
+pub(crate) fn parse_header(version: Version, b: &[u8]) -> Result<Head, Flaw>
+    ensures { MatchResult result (λ head. (header_size version ≤ length b.now) × FitsHeader version head
+        × (take (header_size version) b.now ≡ book_header version head)) (BookHeaderFlaw version b.now) }
 {
-    parse_magic(&BOOK_MAGIC, b)?;
-    if b.len() < HEADER_BYTES {
+    parse_magic(&version.magic(), b)?;
+    if b.len() <= MAGIC_BYTES {
         return Err(Flaw::Cut);
     }
-    if !b[MAGIC_BYTES].is_ascii_uppercase() {
+    let Some(module) = ModuleLetter::new(b[MAGIC_BYTES]) else {
         return Err(Flaw::Field(MAGIC_BYTES));
+    };
+    if b.len() < version.header_bytes() {
+        return Err(Flaw::Cut);
     }
-    Ok(())
+    Ok(Head {
+        module,
+        limit: version.limit(b),
+    })
 }
 
 /// Whether the bytes begin with this magic; else what is wrong first.

@@ -7,8 +7,9 @@ ghost use Rattle.m17_book.specs.Parsed.{BeginsWith, HasHead};
 
 use crate::form::{HEAD_BYTES, JOIN, JOIN_BYTES, LEAVE, LEAVE_BYTES, LINKS, PACKET, PACKET_BYTES};
 use crate::parse_verdict::{parse_place, parse_verdict};
+use crate::version::Version;
 use crate::{Flaw, Record};
-use m17_callsign::{CallAddress, from_bytes};
+use m17_callsign::from_bytes;
 use m17_control::{Tag, Why};
 use m17_fields::get_64;
 use m17_values::Member;
@@ -32,35 +33,35 @@ const PACKET_AT: usize = 43;
 
 /// The fields that all records have.
 #[derive(Clone, Copy, Debug)]
-pub(crate) struct Head {
+pub(crate) struct Common {
     tag: Tag,
     moment: u64,
     member: Member,
 }
 
-/// The record that the bytes begin with, and how many bytes it has; else what is wrong first.
-pub(crate) fn parse_record(b: &[u8]) -> Result<(Record, usize), Flaw>
+/// The record of the version that the bytes begin with, and how many bytes it has; else what is wrong first.
+pub(crate) fn parse_record(version: Version, b: &[u8]) -> Result<(Record, usize), Flaw>
     requires { 0 < length b.now }
-    ensures { MatchResult result (λ found. BeginsWith SpellsRecord b.now found.0 found.1)
-        (RecordFlaw b.now) }
+    ensures { MatchResult result (λ found. BeginsWith (SpellsRecord version) b.now found.0 found.1)
+        (RecordFlaw version b.now) }
 {
     let kind = b[0];
     if kind < JOIN || kind > PACKET {
         return Err(Flaw::Kind(kind));
     }
-    let head = parse_head(b)?;
+    let head = parse_head(version, b)?;
     match kind {
-        JOIN => parse_join(head, b),
-        LEAVE => parse_leave(head, b),
-        _ => parse_packet(head, b),
+        JOIN => parse_join(version, head, b),
+        LEAVE => parse_leave(version, head, b),
+        _ => parse_packet(version, head, b),
     }
 }
 
 /// The fields that all records have.
-fn parse_head(b: &[u8]) -> Result<Head, Flaw>
+fn parse_head(version: Version, b: &[u8]) -> Result<Common, Flaw>
     requires some { 0 < length b.now }
     requires known { IsKind (kind_of b.now) }
-    ensures { MatchResult result (HasHead b.now) (RecordFlaw b.now) }
+    ensures { MatchResult result (HasHead b.now) (RecordFlaw version b.now) }
 {
     if b.len() <= LINK_AT {
         return Err(Flaw::Cut);
@@ -78,7 +79,7 @@ fn parse_head(b: &[u8]) -> Result<Head, Flaw>
     if b.len() < HEAD_BYTES {
         return Err(Flaw::Cut);
     }
-    Ok(Head {
+    Ok(Common {
         tag: Tag {
             link,
             index: get_64(b, INDEX_AT),
@@ -92,11 +93,11 @@ fn parse_head(b: &[u8]) -> Result<Head, Flaw>
 }
 
 /// The rest of a Join.
-fn parse_join(head: Head, b: &[u8]) -> Result<(Record, usize), Flaw>
+fn parse_join(version: Version, head: Common, b: &[u8]) -> Result<(Record, usize), Flaw>
     requires head { HasHead b.now head }
     requires kind { kind_of b.now ≡ 1 }
-    ensures { MatchResult result (λ found. BeginsWith SpellsRecord b.now found.0 found.1)
-        (RecordFlaw b.now) }
+    ensures { MatchResult result (λ found. BeginsWith (SpellsRecord version) b.now found.0 found.1)
+        (RecordFlaw version b.now) }
 {
     m17_fields::laws::fields_of_48_bits_are_exact();
     m17_callsign::laws::each_address_has_one_callsign();
@@ -111,12 +112,10 @@ fn parse_join(head: Head, b: &[u8]) -> Result<(Record, usize), Flaw>
         return Err(Flaw::Cut);
     }
     let address = from_bytes(b[CALLSIGN_AT..JOIN_BYTES].as_array().unwrap());
-    // Of a station or of a group, as long as books have this version alone. Once there is a second one, a Join of this
-    // version has a station's, 1 to 40^9 - 1.
-    let Some(callsign) = CallAddress::new(address) else {
+    let Some(callsign) = version.joining(address) else {
         return Err(Flaw::Field(CALLSIGN_AT));
     };
-    let Head {
+    let Common {
         tag,
         moment,
         member,
@@ -135,11 +134,11 @@ fn parse_join(head: Head, b: &[u8]) -> Result<(Record, usize), Flaw>
 }
 
 /// The rest of a Leave.
-fn parse_leave(head: Head, b: &[u8]) -> Result<(Record, usize), Flaw>
+fn parse_leave(version: Version, head: Common, b: &[u8]) -> Result<(Record, usize), Flaw>
     requires head { HasHead b.now head }
     requires kind { kind_of b.now ≡ 2 }
-    ensures { MatchResult result (λ found. BeginsWith SpellsRecord b.now found.0 found.1)
-        (RecordFlaw b.now) }
+    ensures { MatchResult result (λ found. BeginsWith (SpellsRecord version) b.now found.0 found.1)
+        (RecordFlaw version b.now) }
 {
     if b.len() <= HEAD_BYTES {
         return Err(Flaw::Cut);
@@ -147,7 +146,7 @@ fn parse_leave(head: Head, b: &[u8]) -> Result<(Record, usize), Flaw>
     let Some(why) = why_of(b[HEAD_BYTES]) else {
         return Err(Flaw::Field(HEAD_BYTES));
     };
-    let Head {
+    let Common {
         tag,
         moment,
         member,
@@ -179,17 +178,17 @@ fn why_of(code: u8) -> Option<Why>
 }
 
 /// The rest of a Packet.
-fn parse_packet(head: Head, b: &[u8]) -> Result<(Record, usize), Flaw>
+fn parse_packet(version: Version, head: Common, b: &[u8]) -> Result<(Record, usize), Flaw>
     requires head { HasHead b.now head }
     requires kind { kind_of b.now ≡ 3 }
-    ensures { MatchResult result (λ found. BeginsWith SpellsRecord b.now found.0 found.1)
-        (RecordFlaw b.now) }
+    ensures { MatchResult result (λ found. BeginsWith (SpellsRecord version) b.now found.0 found.1)
+        (RecordFlaw version b.now) }
 {
     if b.len() <= HEAD_BYTES {
         return Err(Flaw::Cut);
     }
     let code = b[HEAD_BYTES];
-    if code < 1 || code > 8 {
+    if code < 1 || code > version.highest_verdict() {
         return Err(Flaw::Field(HEAD_BYTES));
     }
     if b.len() < PACKET_AT {
@@ -204,7 +203,7 @@ fn parse_packet(head: Head, b: &[u8]) -> Result<(Record, usize), Flaw>
     let Ok(packet) = m17_stream::read(&b[PACKET_AT..PACKET_BYTES]) else {
         return Err(Flaw::Field(PACKET_AT));
     };
-    let Head {
+    let Common {
         tag,
         moment,
         member,

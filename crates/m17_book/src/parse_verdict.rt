@@ -32,7 +32,7 @@ pub(crate) fn parse_place(b: &[u8], at: usize) -> Option<u32>
 /// The verdict of this byte with this value; none where the value is not allowed.
 pub(crate) fn parse_verdict(code: u8, value: &[u8]) -> Option<Verdict>
     requires low { 1 ≤ code }
-    requires high { code ≤ 8 }
+    requires high { code ≤ 9 }
     requires size { length value.now ≡ 12 }
     ensures some { IfSome result (λ verdict. IsValueOf code value.now verdict) }
     ensures none { IfNone result ((verdict : Verdict) → IsValueOf code value.now verdict → ⊥) }
@@ -52,7 +52,8 @@ pub(crate) fn parse_verdict(code: u8, value: &[u8]) -> Option<Verdict>
         4 => Some(Verdict::Repeat),
         6 => Some(Verdict::AfterEnd),
         7 => Some(Verdict::NotMember),
-        _ => Some(Verdict::ListenOnly),
+        8 => Some(Verdict::ListenOnly),
+        _ => Some(Verdict::TimedOut),
     }
 }
 

@@ -1,22 +1,26 @@
-ghost use Rattle.std.specs.Prelude.{◌≡◌, ◌⊎◌, ℕ, List, [], None, Some, Err, true, IfOk, IfErr, MatchResult};
+ghost use Rattle.std.specs.Prelude.{◌≡◌, ◌⊎◌, ℕ, List, [], None, Some, Err, IsSome, IfSome, IfOk, IfErr, MatchResult};
 ghost use Rattle.m17_book.specs.declared.record.Record.{Record};
 ghost use Rattle.m17_book.specs.declared.refusal.FormRefusal.{FormRefusal};
 ghost use Rattle.m17_book.specs.declared.refusal.FormRefusal.TheVariants.{ReadFault};
 ghost use Rattle.m17_book.specs.Book.{StopsBook, HasBookForm};
+ghost use Rattle.m17_book.specs.Records.{IsWritable};
+ghost use Rattle.m17_book.specs.declared.head.Head.{Head};
+ghost use Rattle.m17_book.specs.declared.version.Version.TheVariants.{Two};
 
 use crate::cursor::Cursor;
 use crate::laws::records_are_clear;
 use crate::silent::Silent;
 use crate::steps::{next_record, pass_header};
-use crate::{FormRefusal, Record};
+use crate::version::Version;
+use crate::{FormRefusal, Head, Record};
 use m17_io::{Input, Sink, Source};
 use std::marker::Model;
 
-/// Gives the records of a book one by one. It knows no limit on the book's size.
+/// Gives the header and the records of a book one by one. It knows no limit on the book's size.
 #[derive(Debug, Drop)]
 pub struct Reader {
     cursor: Cursor,
-    begun: bool,
+    header: Option<Head>,
     refusal: Option<FormRefusal>,
 }
 
@@ -25,22 +29,30 @@ impl Model for Reader {
 
     ghost Value = { Progress };
 
-    ghost view = { λ r. progress r.cursor r.begun r.refusal };
+    ghost view = { λ r. progress r.cursor r.header r.refusal };
 }
 
 impl Reader {
-    ghost use Rattle.m17_book.specs.Reading.{HasRead, AnswersNext, HasNext, HasReadCause, IsReadersRefusal};
+    ghost use Rattle.m17_book.specs.Reading.{HasRead, HasHeader, AnswersNext, HasNext, HasReadCause, IsReadersRefusal};
 
     /// A reader that has read nothing.
     pub fn new() -> Reader
         ensures fresh { (bytes : List ℕ) → HasRead result (Some bytes) bytes [] }
         ensures not_refused { result.refusal ≡ None }
+        ensures no_header { result.header ≡ None }
     {
         Reader {
             cursor: Cursor::new(),
-            begun: false,
+            header: None,
             refusal: None,
         }
+    }
+
+    /// What the header says: none exactly until it was read, which `next` does first of all.
+    pub fn head(&self) -> Option<Head>
+        ensures { result ≡ self.now.header }
+    {
+        self.header
     }
 
     /// The next record; none at the end of a book that was read whole. Else why the bytes are no book: `Cut`, `Kind`
@@ -54,10 +66,14 @@ impl Reader {
             → (records : List Record) → (next : Record)
             → HasRead self.old (S.told source.old).left bytes records → HasNext bytes records next
             → MatchResult result (λ found. found ≡ Some next) (λ refusal. refusal ≡ ReadFault) }
-        ensures each_end { self.old.refusal ≡ None → (bytes : List ℕ) → (letter : ℕ)
+        ensures each_end { self.old.refusal ≡ None → (bytes : List ℕ) → (head : Head)
             → (records : List Record) → HasRead self.old (S.told source.old).left bytes records
-            → HasBookForm bytes letter records
+            → HasBookForm Two bytes head records
             → MatchResult result (λ found. found ≡ None) (λ refusal. refusal ≡ ReadFault) }
+        ensures header_read { IfOk result (λ _. IsSome self.new.header) }
+        ensures same_header { (head : Head) → self.old.header ≡ Some head
+            → self.new.header ≡ Some head }
+        ensures writable { IfOk result (λ next. IfSome next IsWritable) }
         ensures open { IfOk result (λ _. self.new.refusal ≡ None) }
         ensures kinds { self.old.refusal ≡ None → IfErr result IsReadersRefusal }
         ensures refused { IfErr result (λ refusal. self.new.refusal ≡ Some refusal) }
@@ -83,10 +99,14 @@ impl Reader {
             → (records : List Record) → (next : Record)
             → HasRead self.old (S.told source.old).left bytes records → HasNext bytes records next
             → MatchResult result (λ found. found ≡ Some next) (λ refusal. refusal ≡ ReadFault) }
-        ensures each_end { self.old.refusal ≡ None → (bytes : List ℕ) → (letter : ℕ)
+        ensures each_end { self.old.refusal ≡ None → (bytes : List ℕ) → (head : Head)
             → (records : List Record) → HasRead self.old (S.told source.old).left bytes records
-            → HasBookForm bytes letter records
+            → HasBookForm Two bytes head records
             → MatchResult result (λ found. found ≡ None) (λ refusal. refusal ≡ ReadFault) }
+        ensures header_read { IfOk result (λ _. IsSome self.new.header) }
+        ensures same_header { (head : Head) → self.old.header ≡ Some head
+            → self.new.header ≡ Some head }
+        ensures writable { IfOk result (λ next. IfSome next IsWritable) }
         ensures open { IfOk result (λ _. self.new.refusal ≡ None) }
         ensures kinds { self.old.refusal ≡ None → IfErr result IsReadersRefusal }
         ensures refused { IfErr result (λ refusal. self.new.refusal ≡ Some refusal) }
@@ -118,12 +138,16 @@ impl Reader {
         ensures answers { (bytes : List ℕ) → (records : List Record)
             → HasRead self.old (S.told source.old).left bytes records
             → AnswersNext result self.new (S.told source.new).left bytes records }
+        ensures header_read { IfOk result (λ _. IsSome self.new.header) }
+        ensures same_header { (head : Head) → self.old.header ≡ Some head
+            → self.new.header ≡ Some head }
+        ensures writable { IfOk result (λ next. IfSome next IsWritable) }
         ensures stays { self.new.refusal ≡ self.old.refusal }
         ensures kinds { IfErr result IsReadersRefusal }
         ensures cause { HasReadCause (S.told source.old).faults (S.told source.new).faults result }
     {
         match self.begin(source, out) {
-            Ok(()) => next_record(&mut self.cursor, source, out),
+            Ok(()) => next_record(Version::Two, &mut self.cursor, source, out),
             Err(refusal) => Err(refusal),
         }
     }
@@ -131,23 +155,26 @@ impl Reader {
     // Passes the header where that was not done yet.
     fn begin<S: Input<K>, K: Sink>(&mut self, source: &mut S, out: &K) -> Result<(), FormRefusal>
         requires quiet { (K.told out.now).held_back ≡ 0 }
-        ensures begun { IfOk result (λ _. self.new.begun ≡ true) }
+        ensures header_read { IfOk result (λ _. IsSome self.new.header) }
+        ensures same_header { (head : Head) → self.old.header ≡ Some head
+            → self.new.header ≡ Some head }
         ensures passed { IfOk result (λ _. (bytes : List ℕ) → (records : List Record)
             → HasRead self.old (S.told source.old).left bytes records
             → HasRead self.new (S.told source.new).left bytes records) }
         ensures refused { IfErr result (λ refusal. (bytes : List ℕ) → (records : List Record)
             → HasRead self.old (S.told source.old).left bytes records
-            → (refusal ≡ ReadFault) ⊎ StopsBook bytes records refusal) }
+            → ((refusal ≡ ReadFault) × HasHeader self.new.header bytes)
+            ⊎ StopsBook Two bytes self.new.header records refusal) }
         ensures stays { self.new.refusal ≡ self.old.refusal }
         ensures kinds { IfErr result IsReadersRefusal }
         ensures cause { HasReadCause (S.told source.old).faults (S.told source.new).faults result }
     {
-        if self.begun {
+        if self.header.is_some() {
             return Ok(());
         }
-        match pass_header(&mut self.cursor, source, out) {
-            Ok(()) => {
-                self.begun = true;
+        match pass_header(Version::Two, &mut self.cursor, source, out) {
+            Ok(head) => {
+                self.header = Some(head);
                 Ok(())
             }
             Err(refusal) => Err(refusal),

@@ -8,7 +8,8 @@ pub enum FormRefusal {
     Kind { at: u64, byte: u8 },
     /// The field at this place has a value that is not allowed; in the header, the first byte that differs.
     Field { at: u64 },
-    /// The input has more bytes than 67,108,864, or, at the place where it begins, one entry more than 1,000,000.
+    /// The input has more bytes than 67,108,864, or 67,108,872 as a book of version 2; or, at the place where it begins,
+    /// one entry more than 1,000,000.
     Large { at: u64 },
     /// The source failed.
     ReadFault,
@@ -23,6 +24,6 @@ pub enum Flaw {
     Cut,
     /// The first byte, which is no kind.
     Kind(u8),
-    /// The field so many bytes from its beginning has a value that is not allowed.
+    /// The field that stands this number of bytes from its beginning has a value that is not allowed.
     Field(usize),
 }

@@ -3,7 +3,7 @@ ghost use Rattle.m17_floor.specs.declared.act.Act.{Act};
 ghost use Rattle.m17_floor.specs.Acts.{with_act, moment_before};
 ghost use Rattle.m17_floor.specs.Floor.{verdict_at};
 ghost use Rattle.m17_floor.specs.StandsFor.{packet_act, join_act, leave_act};
-ghost use Rattle.m17_floor.specs.Legal.{book_places};
+ghost use Rattle.m17_floor.specs.Legal.{book_setup};
 ghost use Rattle.m17_book.specs.Roster.{stay_in, listens_of, RosterStandsFor};
 
 use crate::stay::Stay;
@@ -48,15 +48,15 @@ fn nobody() -> [Option<Stay>; BOOK_PLACES]
 }
 
 impl Roster {
-    // Nobody is in.
-    pub(crate) fn new() -> Roster
-        ensures { RosterStandsFor [] result }
+    // Nobody is in, and the floor has this limit.
+    pub(crate) fn new(limit: u64) -> Roster
+        ensures { RosterStandsFor limit [] result }
     {
         floor_laws::one_act_more_goes_by_what_is_left();
         Roster {
             stays: nobody(),
             lasts: array::from_fn(|_| Last::new()),
-            floor: Floor::new(),
+            floor: Floor::new(limit),
         }
     }
 
@@ -87,8 +87,8 @@ impl Roster {
     // A member comes in at a place where nobody is. Past the places nothing happens.
     pub(crate) fn join(&mut self, k: Member, listens: bool)
         requires { stay_in self.old.stays k.place ≡ None }
-        ensures { (acts : List Act) → (at : ℕ) → RosterStandsFor acts self.old
-            → RosterStandsFor (with_act acts (join_act at k listens)) self.new }
+        ensures { (limit : ℕ) → (acts : List Act) → (at : ℕ) → RosterStandsFor limit acts self.old
+            → RosterStandsFor limit (with_act acts (join_act at k listens)) self.new }
     {
         floor_laws::one_act_more_goes_by_what_is_left();
         floor_laws::strangers_change_nothing();
@@ -107,8 +107,8 @@ impl Roster {
     // A member that is in leaves.
     pub(crate) fn leave(&mut self, k: Member)
         requires { IsSome (listens_of self.old.stays k) }
-        ensures { (acts : List Act) → (at : ℕ) → RosterStandsFor acts self.old
-            → RosterStandsFor (with_act acts (leave_act at k)) self.new }
+        ensures { (limit : ℕ) → (acts : List Act) → (at : ℕ) → RosterStandsFor limit acts self.old
+            → RosterStandsFor limit (with_act acts (leave_act at k)) self.new }
     {
         floor_laws::one_act_more_goes_by_what_is_left();
         floor_laws::comings_and_goings_leave_others();
@@ -119,10 +119,10 @@ impl Roster {
     // Judges a packet of a member that is in, and not to listen only.
     fn speak(&mut self, k: Member, at: u64, p: &StreamPacket) -> Verdict
         requires { listens_of self.old.stays k ≡ Some false }
-        ensures stands { (acts : List Act) → (moment : ℕ)
-            → at ≡ max (moment_before acts (length acts)) moment → RosterStandsFor acts self.old
-            → RosterStandsFor (with_act acts (packet_act moment k p.now)) self.new
-            × (verdict_at book_places (with_act acts (packet_act moment k p.now)) (length acts)
+        ensures stands { (limit : ℕ) → (acts : List Act) → (moment : ℕ)
+            → at ≡ max (moment_before acts (length acts)) moment → RosterStandsFor limit acts self.old
+            → RosterStandsFor limit (with_act acts (packet_act moment k p.now)) self.new
+            × (verdict_at (book_setup limit) (with_act acts (packet_act moment k p.now)) (length acts)
             ≡ Some result) }
     {
         floor_laws::one_act_more_goes_by_what_is_left();
@@ -132,10 +132,10 @@ impl Roster {
 
     // The verdict on a packet of a member, or of one that is none, at the module's moment.
     pub(crate) fn judge(&mut self, k: Member, at: u64, p: &StreamPacket) -> Verdict
-        ensures stands { (acts : List Act) → (moment : ℕ)
-            → at ≡ max (moment_before acts (length acts)) moment → RosterStandsFor acts self.old
-            → RosterStandsFor (with_act acts (packet_act moment k p.now)) self.new
-            × (verdict_at book_places (with_act acts (packet_act moment k p.now)) (length acts)
+        ensures stands { (limit : ℕ) → (acts : List Act) → (moment : ℕ)
+            → at ≡ max (moment_before acts (length acts)) moment → RosterStandsFor limit acts self.old
+            → RosterStandsFor limit (with_act acts (packet_act moment k p.now)) self.new
+            × (verdict_at (book_setup limit) (with_act acts (packet_act moment k p.now)) (length acts)
             ≡ Some result) }
     {
         floor_laws::one_act_more_goes_by_what_is_left();

@@ -1,34 +1,22 @@
 ghost use Rattle.std.specs.Prelude.{◌≡◌, ◌+◌, ◌<◌, ◌≤◌, ◌^◌, ◌∷◌, [], ◌++◌, length};
 ghost use Rattle.arrayvec.specs.ArrayVec.{array_vec_len};
-ghost use Rattle.m17_control.specs.Forms.{IsModule};
 ghost use Rattle.m17_book.specs.Records.{IsWritable, IsLow, IsLowVerdict, FitsHead, FitsVerdict, SpellsRecord, head_bytes, why_code, verdict_code, value_bytes};
-ghost use Rattle.m17_book.specs.Book.{book_header};
+ghost use Rattle.m17_book.specs.declared.version.Version.TheVariants.{Two};
 
 use crate::Record;
-use crate::form::{BOOK_MAGIC, HEADER_BYTES, JOIN, LEAVE, MAGIC_BYTES, PACKET, PACKET_BYTES};
+use crate::form::{JOIN, LEAVE, PACKET, PACKET_BYTES};
 use arrayvec::ArrayVec;
 use m17_callsign::to_bytes;
-use m17_control::{ModuleLetter, Tag, Why};
+use m17_control::{Tag, Why};
 use m17_fields::put;
 use m17_floor::Verdict;
 use m17_values::Member;
-
-/// The nine bytes that the book of a module begins with: `M17BOOK1` and its letter.
-pub fn write_header(letter: ModuleLetter) -> [u8; 9]
-    ensures header { result ≡ book_header letter }
-    ensures in_range { IsModule letter }
-{
-    let mut bytes = [0; HEADER_BYTES];
-    put(&mut bytes, 0, &BOOK_MAGIC);
-    put(&mut bytes, MAGIC_BYTES, &[letter.byte()]);
-    bytes
-}
 
 /// The bytes of a record: 37 of a Join, 31 of a Leave, 97 of a Packet. The record's link is below 4, its places, a
 /// Busy's holder's among them, are below 256, and a Late's number is below 32,768.
 pub fn write_record(r: &Record) -> ArrayVec<u8, 97>
     requires { IsWritable r.now }
-    ensures { SpellsRecord r.now result.items }
+    ensures { SpellsRecord Two r.now result.items }
 {
     match *r {
         Record::Join {
@@ -121,6 +109,7 @@ fn code_of_verdict(verdict: Verdict) -> u8
         Verdict::AfterEnd => 6,
         Verdict::NotMember => 7,
         Verdict::ListenOnly => 8,
+        Verdict::TimedOut => 9,
     }
 }
 

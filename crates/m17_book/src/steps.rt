@@ -1,23 +1,24 @@
-ghost use Rattle.std.specs.Prelude.{◌≡◌, ◌⊎◌, ℕ, ◌≤◌, ◌+◌, ◌<◌, List, length, Option, IsSome, Ok, IfOk, IfErr, OnErr};
+ghost use Rattle.std.specs.Prelude.{◌≡◌, ◌⊎◌, ℕ, ◌≤◌, ◌+◌, ◌<◌, List, length, Option, IsSome, IfSome, Ok, IfOk, IfErr, OnErr};
 ghost use Rattle.m17_book.specs.Ahead.{held, IsAhead};
 ghost use Rattle.m17_book.specs.Answers.{IsOutside};
 ghost use Rattle.m17_book.specs.Flaws.{RecordFlaw};
 ghost use Rattle.m17_book.specs.Limits.{told};
 ghost use Rattle.m17_book.specs.Reading.{HasReadCause, IsReadersRefusal};
-ghost use Rattle.m17_book.specs.Records.{SpellsRecord};
+ghost use Rattle.m17_book.specs.Records.{SpellsRecord, IsWritable};
 ghost use Rattle.m17_book.specs.Steps.{tell, IsNext, PassesHeader};
 ghost use Rattle.m17_book.specs.Walk.{coming, spot, IsAt, PassesMagic, TakesEntry};
 
 use crate::cursor::Cursor;
-use crate::form::{HEADER_BYTES, MAGIC_BYTES, TRACE_MAGIC};
+use crate::form::{MAGIC_BYTES, TRACE_MAGIC};
 use crate::parse_entry::parse_entry;
-use crate::parse_header::{parse_book_header, parse_magic};
+use crate::parse_header::{parse_header, parse_magic};
 use crate::parse_record::parse_record;
-use crate::{Flaw, FormRefusal, Record};
+use crate::version::Version;
+use crate::{Flaw, FormRefusal, Head, Record};
 use m17_io::{Input, Sink};
 use m17_values::Heard;
 
-/// What is said of a flaw of the bytes at a place, of which so many are there.
+/// What is said of a flaw of the bytes at a place, of which this number is there.
 fn refusal_of(flaw: Flaw, place: u64, len: usize) -> FormRefusal
     ensures told { result ≡ tell flaw place len }
     ensures inside { IsOutside result → ⊥ }
@@ -34,15 +35,16 @@ fn refusal_of(flaw: Flaw, place: u64, len: usize) -> FormRefusal
     }
 }
 
-/// Passes the header of a book.
+/// Passes the header of a book of the version, and answers what it says.
 pub(crate) fn pass_header<S: Input<K>, K: Sink>(
+    version: Version,
     cursor: &mut Cursor,
     source: &mut S,
     out: &K,
-) -> Result<(), FormRefusal>
+) -> Result<Head, FormRefusal>
     requires quiet { (K.told out.now).held_back ≡ 0 }
     ensures header { (ahead : List ℕ) → IsAhead (held cursor.old) (S.told source.old).left ahead
-        → PassesHeader result (coming cursor.old.place ahead)
+        → PassesHeader version result (coming cursor.old.place ahead)
         (spot cursor.new (S.told source.new).left) }
     ensures kept { OnErr result ((ahead : List ℕ)
         → IsAhead (held cursor.old) (S.told source.old).left ahead
@@ -55,24 +57,25 @@ pub(crate) fn pass_header<S: Input<K>, K: Sink>(
         return Err(FormRefusal::ReadFault);
     };
     let held = cursor.held();
-    match parse_book_header(held) {
-        Ok(()) => {
-            cursor.pass(HEADER_BYTES);
-            Ok(())
+    match parse_header(version, held) {
+        Ok(head) => {
+            cursor.pass(version.header_bytes());
+            Ok(head)
         }
         Err(flaw) => Err(refusal_of(flaw, cursor.place(), held.len())),
     }
 }
 
-/// The next record; none at the end of the input.
+/// The next record of a book of the version; none at the end of the input.
 pub(crate) fn next_record<S: Input<K>, K: Sink>(
+    version: Version,
     cursor: &mut Cursor,
     source: &mut S,
     out: &K,
 ) -> Result<Option<Record>, FormRefusal>
     requires quiet { (K.told out.now).held_back ≡ 0 }
     ensures next { (ahead : List ℕ) → IsAhead (held cursor.old) (S.told source.old).left ahead
-        → IsNext SpellsRecord RecordFlaw result (coming cursor.old.place ahead)
+        → IsNext (SpellsRecord version) (RecordFlaw version) result (coming cursor.old.place ahead)
         (spot cursor.new (S.told source.new).left) }
     ensures kept { OnErr result ((ahead : List ℕ)
         → IsAhead (held cursor.old) (S.told source.old).left ahead
@@ -80,6 +83,7 @@ pub(crate) fn next_record<S: Input<K>, K: Sink>(
     ensures place { OnErr result (cursor.new.place ≡ cursor.old.place) }
     ensures goes_on { IfOk result (λ next. IsSome next
         → told (cursor.old.place + 1) ≤ cursor.new.place) }
+    ensures writable { IfOk result (λ next. IfSome next IsWritable) }
     ensures kinds { IfErr result IsReadersRefusal }
     ensures cause { HasReadCause (S.told source.old).faults (S.told source.new).faults result }
 {
@@ -90,7 +94,7 @@ pub(crate) fn next_record<S: Input<K>, K: Sink>(
     if held.is_empty() {
         return Ok(None);
     }
-    match parse_record(held) {
+    match parse_record(version, held) {
         Ok((record, size)) => {
             cursor.pass(size);
             Ok(Some(record))

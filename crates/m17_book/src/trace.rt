@@ -11,7 +11,7 @@ ghost use Rattle.m17_book.specs.declared.refusal.FormRefusal.{FormRefusal};
 
 use crate::FormRefusal;
 use crate::cursor::Cursor;
-use crate::form::{MOST_BYTES, MOST_ENTRIES};
+use crate::form::{MOST_ENTRIES, MOST_TRACE_BYTES};
 use crate::laws::traces_are_exact;
 use crate::settle::{add_to, finish};
 use crate::silent::Silent;
@@ -69,7 +69,7 @@ pub fn read_trace_for<S: Input<K>, K: Sink>(
     let mut cursor = Cursor::new();
     let mut heard = Vec::new(alloc);
     let read = add_trace(&mut cursor, s, out, &mut heard);
-    finish(read, heard, &mut cursor, s, out)
+    finish(MOST_TRACE_BYTES, read, heard, &mut cursor, s, out)
 }
 
 /// Adds the entries of a trace and then the end. The size of the input is looked at only so far as it was read.
@@ -106,14 +106,16 @@ fn add_entries<S: Input<K>, K: Sink>(
     requires quiet { (K.told out.now).held_back ≡ 0 }
     requires fits { heard.old.items ≡ [] }
     ensures read { (ahead : List ℕ) → IsAt (spot cursor.old (S.told source.old).left) ahead
-        → AddsAll SpellsEntry WrongEntry result (coming cursor.old.place ahead)
+        → AddsAll SpellsEntry WrongEntry 67108864 result (coming cursor.old.place ahead)
         heard.new.items (spot cursor.new (S.told source.new).left) }
     ensures few { IfOk result (λ _. length heard.new.items ≤ 1000000) }
     ensures cause { HasReadCause (S.told source.old).faults (S.told source.new).faults result }
 {
     'entries: loop {
-        if cursor.place() > MOST_BYTES {
-            return Err(FormRefusal::Large { at: MOST_BYTES });
+        if cursor.place() > MOST_TRACE_BYTES {
+            return Err(FormRefusal::Large {
+                at: MOST_TRACE_BYTES,
+            });
         }
         match add_entry(cursor, source, out, heard) {
             Ok(true) => {}

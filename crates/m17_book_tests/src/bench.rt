@@ -8,8 +8,8 @@ use m17_values::Failed;
 use std::alloc::Global;
 use std::process::Abort;
 
-/// The book of module C with a Join, a Busy packet, a Late packet and a Leave.
-pub(crate) const BOOK: &[u8; 271] = b"M17BOOK1C\
+/// The book of module C, in which one may talk for 180,000 milliseconds, with a Join, a Busy packet, a Late packet and a Leave.
+pub(crate) const BOOK: &[u8; 279] = b"M17BOOK2C\x00\x00\x00\x00\x00\x02\xbf\x20\
 \x01\x01\x00\x00\x00\x00\x00\x00\x00\x05\x00\x00\x00\x00\x00\x00\x00\x0a\
 \x00\x00\x00\x02\x00\x00\x00\x00\x00\x00\x00\x01\x01\x00\x00\x00\x9f\xdd\x51\
 \x03\x01\x00\x00\x00\x00\x00\x00\x00\x05\x00\x00\x00\x00\x00\x00\x00\x0a\
@@ -119,7 +119,7 @@ pub(crate) fn kept<R: Abort>(
     fails: &[u64],
 ) -> Result<usize, FormRefusal> {
     let mut source = source(rt, alloc, bytes, fails);
-    read_book(alloc, &mut source).map(|records| records.len())
+    read_book(alloc, &mut source).map(|book| book.1.len())
 }
 
 /// Bytes with one of them changed.

@@ -69,14 +69,24 @@ fn made(callsign: CallAddress, step: &Step) -> Record {
     }
 }
 
-/// What `check` says of a book with these records.
+/// What `check` says of a book with these records, under no limit.
 fn checked<R: Abort>(rt: &R, alloc: Global, steps: &[Step]) -> Result<Report, Breach> {
+    checked_under(rt, alloc, 0, steps)
+}
+
+/// What it says under this limit.
+fn checked_under<R: Abort>(
+    rt: &R,
+    alloc: Global,
+    limit: u64,
+    steps: &[Step],
+) -> Result<Report, Breach> {
     let callsign = callsign(rt);
     let mut records = Vec::new(alloc);
     for step in steps {
         records.push(made(callsign, step)).ok().expect(rt, "pushed");
     }
-    check(records.as_slice())
+    check(limit, records.as_slice())
 }
 
 fn callsign<R: Abort>(rt: &R) -> CallAddress {
@@ -148,6 +158,27 @@ fn overlapping_streams_are_a_breach(rt: HostRuntime) {
 }
 
 #[test]
+fn a_limit_on_talking_is_the_books(rt: HostRuntime) {
+    let steps = [
+        (0, 0, 0, Joins),
+        (0, 1, 0, Joins),
+        (0, 0, 0, Sends(1, 0, false, OPENED)),
+        (39, 0, 0, Sends(1, 1, false, Verdict::Continued)),
+        (40, 0, 0, Sends(1, 2, false, Verdict::TimedOut)),
+        (40, 1, 0, Sends(2, 0, false, OPENED)),
+    ];
+    let said = [40, 41, 39, 0].map(|limit| checked_under(&rt, rt.alloc(), limit, steps.as_slice()));
+    assert!(rt;
+        said == [
+            legal(6, 2, 3),
+            broken(4, Rule::Verdict),
+            broken(3, Rule::Verdict),
+            broken(4, Rule::Verdict)
+        ]
+    );
+}
+
+#[test]
 fn the_first_rule_that_is_broken_is_told(rt: HostRuntime) {
     assert!(rt;
         checked(&rt, rt.alloc(), &[(10, 0, 0, Joins), (9, 0, 1, Joins)]) == broken(1, Rule::Moment)
@@ -179,7 +210,7 @@ fn the_first_rule_that_is_broken_is_told(rt: HostRuntime) {
 #[test]
 fn a_checker_answers_its_breach_again(rt: HostRuntime) {
     let callsign = callsign(&rt);
-    let mut checker = Checker::new();
+    let mut checker = Checker::new(0);
     let breach = Breach {
         position: 1,
         rule: Rule::Moment,

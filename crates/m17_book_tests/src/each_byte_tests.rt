@@ -9,7 +9,7 @@ use std::process::Abort;
 /// The book of module C. One joins at place 0 and one at place 1, both at 10 ms. At 20 ms the first opens a stream, at
 /// 60 the second finds the floor busy, at 100 a frame of the first is late. At 140 the first leaves, at 180 the second
 /// opens its stream, and at 220 it leaves, for it was silent.
-const LEGAL: &[u8; 533] = b"M17BOOK1C\
+const LEGAL: &[u8; 541] = b"M17BOOK2C\0\0\0\0\0\0\0\0\
 \x01\0\0\0\0\0\0\0\0\0\0\0\0\0\0\0\0\x0a\0\0\0\0\0\0\0\0\0\0\0\0\0\0\0\0\x9f\xdd\x51\
 \x01\0\0\0\0\0\0\0\0\0\0\0\0\0\0\0\0\x0a\0\0\0\x01\0\0\0\0\0\0\0\0\0\0\0\0\x9f\xdd\x51\
 \x03\0\0\0\0\0\0\0\0\0\0\0\0\0\0\0\0\x14\0\0\0\0\0\0\0\0\0\0\0\0\x01\0\0\0\0\0\0\0\0\0\0\0\0\
@@ -49,124 +49,130 @@ use Answer::{Cut, Field, Here, Kind, Legal, Member, Moment, Verdict};
 /// From this byte on, up to the next row's: what is said where a byte becomes FF, and where its lowest bit is turned.
 type Row = (usize, Answer, Answer);
 
-const HEADER: &[Row] = &[(0, Here, Here), (8, Here, Legal)];
+/// There is no limit. Of one millisecond, the first one would have lost the floor before the second one speaks.
+const HEADER: &[Row] = &[
+    (0, Here, Here),
+    (8, Here, Legal),
+    (9, Legal, Legal),
+    (16, Legal, Verdict(3)),
+];
 
 const FIRST_JOINS: &[Row] = &[
-    (9, Kind(9, 255), Kind(9, 0)),
-    (10, Here, Legal),
-    (11, Legal, Legal),
-    (19, Moment(1), Moment(1)),
-    (27, Field(27), Field(27)),
-    (30, Verdict(2), Member(1)),
-    (31, Verdict(2), Verdict(2)),
-    (39, Here, Verdict(2)),
-    (40, Here, Legal),
-    (41, Legal, Legal),
+    (17, Kind(17, 255), Kind(17, 0)),
+    (18, Here, Legal),
+    (19, Legal, Legal),
+    (27, Moment(1), Moment(1)),
+    (35, Field(35), Field(35)),
+    (38, Verdict(2), Member(1)),
+    (39, Verdict(2), Verdict(2)),
+    (47, Here, Verdict(2)),
+    (48, Here, Legal),
+    (49, Legal, Legal),
 ];
 
 const SECOND_JOINS: &[Row] = &[
-    (46, Kind(46, 255), Kind(46, 0)),
-    (47, Here, Legal),
-    (48, Legal, Legal),
-    (56, Moment(2), Moment(2)),
-    (63, Moment(2), Legal),
-    (64, Field(64), Field(64)),
-    (67, Verdict(3), Member(1)),
-    (68, Verdict(3), Verdict(3)),
-    (76, Here, Verdict(3)),
-    (77, Here, Legal),
-    (78, Legal, Legal),
+    (54, Kind(54, 255), Kind(54, 0)),
+    (55, Here, Legal),
+    (56, Legal, Legal),
+    (64, Moment(2), Moment(2)),
+    (71, Moment(2), Legal),
+    (72, Field(72), Field(72)),
+    (75, Verdict(3), Member(1)),
+    (76, Verdict(3), Verdict(3)),
+    (84, Here, Verdict(3)),
+    (85, Here, Legal),
+    (86, Legal, Legal),
 ];
 
 /// A packet whose kind becomes that of a Leave is one of 31 bytes, and the byte behind it is the first of the value.
 const FIRST_OPENS: &[Row] = &[
-    (83, Kind(83, 255), Kind(114, 0)),
-    (84, Here, Legal),
-    (85, Legal, Legal),
-    (93, Moment(3), Moment(3)),
-    (100, Moment(3), Legal),
-    (101, Field(101), Field(101)),
-    (104, Verdict(2), Verdict(3)),
-    (105, Verdict(2), Verdict(2)),
-    (113, Here, Here),
-    (114, Field(114), Field(114)),
-    (126, Field(126), Field(126)),
-    (132, Legal, Field(126)),
-    (138, Field(126), Field(126)),
+    (91, Kind(91, 255), Kind(122, 0)),
+    (92, Here, Legal),
+    (93, Legal, Legal),
+    (101, Moment(3), Moment(3)),
+    (108, Moment(3), Legal),
+    (109, Field(109), Field(109)),
+    (112, Verdict(2), Verdict(3)),
+    (113, Verdict(2), Verdict(2)),
+    (121, Here, Here),
+    (122, Field(122), Field(122)),
+    (134, Field(134), Field(134)),
+    (140, Legal, Field(134)),
+    (146, Field(134), Field(134)),
 ];
 
 /// The first one's second stream would find the floor busy by the same holder.
 const SECOND_IS_REFUSED: &[Row] = &[
-    (180, Kind(180, 255), Kind(211, 0)),
-    (181, Here, Legal),
-    (182, Legal, Legal),
-    (190, Verdict(3), Verdict(3)),
-    (196, Verdict(3), Moment(4)),
-    (197, Moment(4), Legal),
-    (198, Field(198), Field(198)),
-    (201, Verdict(3), Legal),
-    (202, Verdict(3), Verdict(3)),
-    (210, Here, Verdict(3)),
-    (211, Field(211), Field(211)),
-    (214, Verdict(3), Verdict(3)),
-    (223, Field(223), Field(223)),
-    (229, Legal, Field(223)),
-    (235, Field(223), Field(223)),
+    (188, Kind(188, 255), Kind(219, 0)),
+    (189, Here, Legal),
+    (190, Legal, Legal),
+    (198, Verdict(3), Verdict(3)),
+    (204, Verdict(3), Moment(4)),
+    (205, Moment(4), Legal),
+    (206, Field(206), Field(206)),
+    (209, Verdict(3), Legal),
+    (210, Verdict(3), Verdict(3)),
+    (218, Here, Verdict(3)),
+    (219, Field(219), Field(219)),
+    (222, Verdict(3), Verdict(3)),
+    (231, Field(231), Field(231)),
+    (237, Legal, Field(231)),
+    (243, Field(231), Field(231)),
 ];
 
 const FIRST_IS_LATE: &[Row] = &[
-    (277, Kind(277, 255), Kind(308, 0)),
-    (278, Here, Legal),
-    (279, Legal, Legal),
-    (287, Verdict(4), Verdict(4)),
-    (293, Verdict(4), Moment(5)),
-    (294, Moment(5), Legal),
-    (295, Field(295), Field(295)),
-    (298, Verdict(4), Verdict(4)),
-    (307, Here, Field(308)),
-    (308, Field(308), Field(308)),
-    (318, Field(308), Verdict(4)),
-    (319, Verdict(4), Verdict(4)),
-    (320, Field(320), Field(320)),
-    (326, Legal, Field(320)),
-    (332, Field(320), Field(320)),
+    (285, Kind(285, 255), Kind(316, 0)),
+    (286, Here, Legal),
+    (287, Legal, Legal),
+    (295, Verdict(4), Verdict(4)),
+    (301, Verdict(4), Moment(5)),
+    (302, Moment(5), Legal),
+    (303, Field(303), Field(303)),
+    (306, Verdict(4), Verdict(4)),
+    (315, Here, Field(316)),
+    (316, Field(316), Field(316)),
+    (326, Field(316), Verdict(4)),
+    (327, Verdict(4), Verdict(4)),
+    (328, Field(328), Field(328)),
+    (334, Legal, Field(328)),
+    (340, Field(328), Field(328)),
 ];
 
 /// A Leave whose kind becomes that of a packet has the next record's first bytes as its value.
 const FIRST_LEAVES: &[Row] = &[
-    (374, Kind(374, 255), Field(405)),
-    (375, Here, Legal),
-    (376, Legal, Legal),
-    (384, Moment(6), Moment(6)),
-    (391, Moment(6), Legal),
-    (392, Field(392), Field(392)),
-    (395, Member(5), Verdict(6)),
-    (396, Member(5), Member(5)),
-    (404, Here, Here),
+    (382, Kind(382, 255), Field(413)),
+    (383, Here, Legal),
+    (384, Legal, Legal),
+    (392, Moment(6), Moment(6)),
+    (399, Moment(6), Legal),
+    (400, Field(400), Field(400)),
+    (403, Member(5), Verdict(6)),
+    (404, Member(5), Member(5)),
+    (412, Here, Here),
 ];
 
 const SECOND_OPENS: &[Row] = &[
-    (405, Kind(405, 255), Kind(436, 0)),
-    (406, Here, Legal),
-    (407, Legal, Legal),
-    (415, Moment(7), Moment(7)),
-    (422, Moment(7), Legal),
-    (423, Field(423), Field(423)),
-    (426, Verdict(6), Verdict(6)),
-    (435, Here, Here),
-    (436, Field(436), Field(436)),
-    (448, Field(448), Field(448)),
-    (454, Legal, Field(448)),
-    (460, Field(448), Field(448)),
+    (413, Kind(413, 255), Kind(444, 0)),
+    (414, Here, Legal),
+    (415, Legal, Legal),
+    (423, Moment(7), Moment(7)),
+    (430, Moment(7), Legal),
+    (431, Field(431), Field(431)),
+    (434, Verdict(6), Verdict(6)),
+    (443, Here, Here),
+    (444, Field(444), Field(444)),
+    (456, Field(456), Field(456)),
+    (462, Legal, Field(456)),
+    (468, Field(456), Field(456)),
 ];
 
 const SECOND_LEAVES: &[Row] = &[
-    (502, Kind(502, 255), Cut),
-    (503, Here, Legal),
-    (504, Legal, Legal),
-    (520, Field(520), Field(520)),
-    (523, Member(7), Member(7)),
-    (532, Here, Legal),
+    (510, Kind(510, 255), Cut),
+    (511, Here, Legal),
+    (512, Legal, Legal),
+    (528, Field(528), Field(528)),
+    (531, Member(7), Member(7)),
+    (540, Here, Legal),
 ];
 
 const ROWS: [&[Row]; 9] = [
@@ -229,7 +235,7 @@ fn in_full(answer: Answer, at: usize) -> Said {
         Field(at) => Err(FormRefusal::Field { at }),
         Here => Err(FormRefusal::Field { at: at as u64 }),
         Kind(at, byte) => Err(FormRefusal::Kind { at, byte }),
-        Cut => Err(FormRefusal::Cut { at: 533 }),
+        Cut => Err(FormRefusal::Cut { at: 541 }),
     }
 }
 

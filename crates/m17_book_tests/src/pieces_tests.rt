@@ -24,14 +24,14 @@ fn is_heard<R: Abort>(rt: &R, alloc: Global, most: usize, wanted: &[Heard]) -> b
 /// The records of a book.
 fn records<R: Abort>(rt: &R, alloc: Global, bytes: &[u8]) -> Vec<Record> {
     let mut source = source(rt, alloc, bytes, &[]);
-    must(rt, read_book(alloc, &mut source))
+    must(rt, read_book(alloc, &mut source)).1
 }
 
 /// Whether these are the records of a book in pieces of this size.
 fn is_book<R: Abort>(rt: &R, alloc: Global, most: usize, wanted: &[Record]) -> bool {
     let mut pieces = in_pieces(rt, alloc, BOOK, most);
     match read_book(alloc, &mut pieces) {
-        Ok(records) => records.as_slice() == wanted,
+        Ok((_, records)) => records.as_slice() == wanted,
         Err(_) => false,
     }
 }
@@ -69,11 +69,11 @@ fn pieces_of_each_size_are_the_same_trace_and_book(rt: HostRuntime) {
     }
 }
 
-/// The records of that book 40 times, 160 in all, in 10,489 bytes.
+/// The records of that book 40 times, 160 in all, in 10,497 bytes.
 fn long_book<R: Abort>(rt: &R, alloc: Global) -> Vec<u8> {
-    let mut bytes = must(rt, BOOK.as_slice()[..9].to_vec(alloc));
+    let mut bytes = must(rt, BOOK.as_slice()[..17].to_vec(alloc));
     for _ in 0..40 {
-        must(rt, bytes.extend_from_slice(&BOOK.as_slice()[9..]));
+        must(rt, bytes.extend_from_slice(&BOOK.as_slice()[17..]));
     }
     bytes
 }
@@ -88,7 +88,7 @@ fn repeats(book: &[Record], four: &[Record]) -> bool {
 fn a_record_stands_over_the_end_of_a_read(rt: HostRuntime) {
     let alloc = rt.alloc();
     let mut bytes = long_book(&rt, alloc);
-    assert!(rt; bytes.len() == 10_489);
+    assert!(rt; bytes.len() == 10_497);
     let short = records(&rt, alloc, BOOK);
     let book = records(&rt, alloc, &bytes);
     assert!(rt; book.len() == 160 && repeats(&book, &short));
@@ -109,10 +109,10 @@ fn zeros<R: Abort>(rt: &R, alloc: Global, count: usize) -> Vec<u8> {
 #[test]
 fn a_book_of_too_many_bytes_is_large(rt: HostRuntime) {
     let alloc = rt.alloc();
-    let most = zeros(&rt, alloc, 67_108_864);
-    let more = zeros(&rt, alloc, 67_108_865);
+    let most = zeros(&rt, alloc, 67_108_872);
+    let more = zeros(&rt, alloc, 67_108_873);
     let field = FormRefusal::Field { at: 0 };
-    let large = FormRefusal::Large { at: 67_108_864 };
+    let large = FormRefusal::Large { at: 67_108_872 };
     let read = [kept(&rt, alloc, &most, &[]), kept(&rt, alloc, &more, &[])];
     assert!(rt; read == [Err(field), Err(large)]);
     let mut source = source(&rt, alloc, &more, &[]);

@@ -32,13 +32,13 @@ const HEAD: [Field; 5] = [
 
 const JOIN: [Field; 2] = [
     (30, 1, Rule::Within(0, 1)),
-    (31, 6, Rule::Within(1, 262_143_999_999_999)),
+    (31, 6, Rule::Within(1, 268_697_599_999_999)),
 ];
 
 const LEAVE: [Field; 1] = [(30, 1, Rule::Within(1, 5))];
 
 const PACKET: [Field; 3] = [
-    (30, 1, Rule::Within(1, 8)),
+    (30, 1, Rule::Within(1, 9)),
     (31, 12, Rule::Value),
     (43, 54, Rule::Packet),
 ];
@@ -138,12 +138,13 @@ fn look_at_header(b: &[u8]) -> Result<(), FormRefusal> {
     if b.len() < 8 {
         return Err(cut);
     }
-    if let Some(place) = b.iter().zip(b"M17BOOK1").position(|(a, m)| *a != *m) {
+    if let Some(place) = b.iter().zip(b"M17BOOK2").position(|(a, m)| *a != *m) {
         return Err(FormRefusal::Field { at: place as u64 });
     }
     match b.get(8) {
         None => Err(cut),
         Some(letter) if *letter < 65 || *letter > 90 => Err(FormRefusal::Field { at: 8 }),
+        Some(_) if b.len() < 17 => Err(cut),
         Some(_) => Ok(()),
     }
 }
@@ -153,7 +154,7 @@ fn plain<R: Abort>(rt: &R, b: &[u8], rows: &mut Vec<Row>) -> Option<FormRefusal>
     if let Err(refusal) = look_at_header(b) {
         return Some(refusal);
     }
-    let mut at = 9;
+    let mut at = 17;
     for _ in 0..b.len() {
         let Some(kind) = b.get(at) else {
             return None;
@@ -180,6 +181,7 @@ fn code_of(verdict: Verdict) -> u64 {
         Verdict::AfterEnd => 6,
         Verdict::NotMember => 7,
         Verdict::ListenOnly => 8,
+        Verdict::TimedOut => 9,
     }
 }
 
@@ -228,7 +230,7 @@ fn row_of(record: &Record) -> Row {
 fn read<R: Abort>(rt: &R, alloc: Global, b: &[u8], rows: &mut Vec<Row>) -> Option<FormRefusal> {
     let mut source = source(rt, alloc, b, &[]);
     match read_book(alloc, &mut source) {
-        Ok(records) => {
+        Ok((_, records)) => {
             for record in records.iter() {
                 must(rt, rows.push(row_of(record)));
             }

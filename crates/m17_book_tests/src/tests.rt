@@ -3,7 +3,8 @@ ghost use Rattle.m17_book.specs.Records.{IsWritable, IsLowVerdict};
 
 use crate::bench::{BOOK, changed, must, source};
 use m17_book::{
-    FormRefusal, Reader, Record, write_entry, write_header, write_record, write_trace_header,
+    FormRefusal, Head, Reader, Record, read_record, write_entry, write_header, write_record,
+    write_trace_header,
 };
 use m17_callsign::{CallAddress, encode};
 use m17_control::{ModuleLetter, Tag, Why};
@@ -85,13 +86,68 @@ fn is_written(written: Record, bytes: &[u8]) -> bool
 
 #[test]
 fn a_book_is_written_field_by_field(rt: HostRuntime) {
-    let letter = ModuleLetter::new(b'C').expect(&rt, "a module");
     let book = BOOK.as_slice();
-    assert!(rt; write_header(letter).as_slice() == &book[..9]);
-    assert!(rt; is_written(join(&rt), &book[9..46]));
-    assert!(rt; is_written(packet(&rt, BUSY), &book[46..143]));
-    assert!(rt; is_written(packet(&rt, LATE), &book[143..240]));
-    assert!(rt; is_written(leave(), &book[240..]));
+    assert!(rt; write_header(&head(&rt)).as_slice() == &book[..17]);
+    assert!(rt; is_written(join(&rt), &book[17..54]));
+    assert!(rt; is_written(packet(&rt, BUSY), &book[54..151]));
+    assert!(rt; is_written(packet(&rt, LATE), &book[151..248]));
+    assert!(rt; is_written(leave(), &book[248..]));
+}
+
+/// What the book's header says.
+fn head(rt: &impl Abort) -> Head {
+    Head {
+        module: ModuleLetter::new(b'C').expect(rt, "a module"),
+        limit: 180_000,
+    }
+}
+
+/// The record that the first bytes of these spell, so many of them.
+fn read_first(bytes: &[u8], size: usize) -> Option<Record> {
+    if size > bytes.len() {
+        return None;
+    }
+    read_record(&bytes[..size])
+}
+
+/// Whether a record's bytes are read as it alone, and not with one byte less or one more.
+fn is_read_alone(written: Record) -> bool
+    requires { IsWritable written }
+{
+    let mut bytes = [0; 98];
+    let spelled = write_record(&written);
+    for (at, byte) in spelled.as_slice().iter().enumerate() {
+        if let Some(cell) = bytes.get_mut(at) {
+            *cell = *byte;
+        }
+    }
+    let len = spelled.as_slice().len();
+    let less = read_first(&bytes, len.saturating_sub(1));
+    let more = read_first(&bytes, len.saturating_add(1));
+    less.is_none() && read_first(&bytes, len) == Some(written) && more.is_none()
+}
+
+#[test]
+fn a_record_is_read_alone(rt: HostRuntime) {
+    assert!(rt; is_read_alone(join(&rt)));
+    assert!(rt; is_read_alone(packet(&rt, BUSY)));
+    assert!(rt; is_read_alone(packet(&rt, Verdict::TimedOut)));
+    assert!(rt; is_read_alone(leave()));
+    assert!(rt; read_record(&[]).is_none());
+}
+
+/// What a reader says of the header before, and after it gave the first record.
+fn heads<R: Abort>(rt: &R, alloc: Global) -> [Option<Head>; 2] {
+    let mut source = source(rt, alloc, BOOK, &[]);
+    let mut reader = Reader::new();
+    let before = reader.head();
+    let _first = reader.next(&mut source);
+    [before, reader.head()]
+}
+
+#[test]
+fn a_reader_tells_the_header_once_it_was_read(rt: HostRuntime) {
+    assert!(rt; heads(&rt, rt.alloc()) == [None, Some(head(&rt))]);
 }
 
 /// What a reader says the next six times.
@@ -153,10 +209,10 @@ fn each_part_of_a_book_is_a_shorter_book_or_cut(rt: HostRuntime) {
         let (count, refusal) = read_all(&rt, rt.alloc(), &book[..len], &[]);
         let cut = Some(FormRefusal::Cut { at: len as u64 });
         let wanted = match len {
-            9 => (0, None),
-            46 => (1, None),
-            143 => (2, None),
-            240 => (3, None),
+            17 => (0, None),
+            54 => (1, None),
+            151 => (2, None),
+            248 => (3, None),
             _ => (count, cut),
         };
         assert!(rt; (count, refusal) == wanted, "{len}");
@@ -164,23 +220,24 @@ fn each_part_of_a_book_is_a_shorter_book_or_cut(rt: HostRuntime) {
 }
 
 /// Where a byte of the book is changed, to what, and where its field begins then.
-const BAD_FIELDS: [(usize, u8, u64); 16] = [
+const BAD_FIELDS: [(usize, u8, u64); 17] = [
     (0, b'm', 0),
-    (7, b'2', 7),
+    (7, b'1', 7),
     (8, b'c', 8),
-    (10, 4, 10),
-    (29, 1, 27),
-    (39, 2, 39),
-    (40, 255, 40),
-    (76, 0, 76),
-    (76, 9, 76),
-    (76, 1, 77),
-    (79, 1, 77),
-    (89, 0, 89),
-    (142, 0, 89),
-    (182, 1, 174),
-    (184, 128, 174),
-    (270, 6, 270),
+    (18, 4, 18),
+    (37, 1, 35),
+    (47, 2, 47),
+    (48, 255, 48),
+    (84, 0, 84),
+    (84, 10, 84),
+    (84, 9, 85),
+    (84, 1, 85),
+    (87, 1, 85),
+    (97, 0, 97),
+    (150, 0, 97),
+    (190, 1, 182),
+    (192, 128, 182),
+    (278, 6, 278),
 ];
 
 /// Why the book is refused where this byte of it is changed to that.
@@ -199,9 +256,9 @@ fn bad_fields_are_refused_at_their_places(rt: HostRuntime) {
         );
     }
     for byte in [0, 4] {
-        let refusal = refusal_of(&rt, rt.alloc(), 9, byte);
+        let refusal = refusal_of(&rt, rt.alloc(), 17, byte);
         assert!(rt;
-            refusal == Some(FormRefusal::Kind { at: 9, byte }),
+            refusal == Some(FormRefusal::Kind { at: 17, byte }),
             "{byte}"
         );
     }
@@ -222,9 +279,9 @@ const CALLSIGNS: [([u8; 6], bool); 7] = [
 /// How many records of the book with this callsign in its Join a reader gives, and its refusal.
 fn read_with<R: Abort>(rt: &R, alloc: Global, callsign: &[u8]) -> (usize, Option<FormRefusal>) {
     let book: &[u8] = BOOK;
-    let mut bytes = must(rt, book[..40].to_vec(alloc));
+    let mut bytes = must(rt, book[..48].to_vec(alloc));
     must(rt, bytes.extend_from_slice(callsign));
-    must(rt, bytes.extend_from_slice(&book[46..]));
+    must(rt, bytes.extend_from_slice(&book[54..]));
     read_all(rt, alloc, &bytes, &[])
 }
 
@@ -235,7 +292,7 @@ fn a_join_has_the_callsign_of_a_station_or_of_a_group(rt: HostRuntime) {
         let wanted = if is_taken {
             (4, None)
         } else {
-            (0, Some(FormRefusal::Field { at: 40 }))
+            (0, Some(FormRefusal::Field { at: 48 }))
         };
         assert!(rt; read == wanted, "{callsign:?}");
     }

@@ -170,7 +170,7 @@ fn a_book_with_one_byte_changed_is_read_as_record_by_record(rt: HostRuntime) {
     let book = BOOK.as_slice();
     let read = [
         kept(&rt, alloc, book, &[]),
-        kept(&rt, alloc, &book[..9], &[]),
+        kept(&rt, alloc, &book[..17], &[]),
         kept(&rt, alloc, &book[..8], &[]),
         kept(&rt, alloc, &[], &[]),
     ];

@@ -1,11 +1,10 @@
 -- How a run of `check` comes to its end.
-use Rattle.std.proofs.Common.{◌≡◌, ◌⊎◌, ℕ, List, [], ◌++◌, take, drop, Option, None, Some, Result, Ok, Err, inl, inr, refl, ap, sym, subst, ◌∙◌}
+use Rattle.std.proofs.Common.{◌≡◌, ◌⊎◌, ℕ, List, [], ◌++◌, take, drop, Option, Some, Ok, Err, inl, inr, refl, ap, sym, subst, ◌∙◌}
 use Rattle.std.proofs.lemmas.List.{append-nil, take-append-drop}
 use Rattle.m17_book.specs.Answers.{IsOutside}
 use Rattle.m17_book.specs.Book.{RefusesBook}
-use Rattle.m17_book.specs.Checks.{report_of}
-use Rattle.m17_book.specs.declared.record.Record.{Record}
 use Rattle.m17_book.specs.declared.refusal.FormRefusal.{FormRefusal}
+use Rattle.m17_book.specs.declared.version.Version.TheVariants.{Two}
 use Rattle.m17_book.specs.declared.report.Report.{Report}
 use Rattle.m17_io.specs.Sink.{SinkTold}
 use Rattle.m17_print.specs.Endings.{Comes, Grows}
@@ -16,13 +15,13 @@ use Rattle.m17_check.specs.Judged.{HasJudged, Prints}
 use Rattle.m17_check.specs.declared.reason.CheckReason.{CheckReason}
 
 -- a refusal by the bytes alone
-inside : (bytes : List ℕ) (found : FormRefusal) → (IsOutside found → ⊥) → IsOutside found ⊎ RefusesBook bytes found → RefusesBook bytes found
+inside : (bytes : List ℕ) (found : FormRefusal) → (IsOutside found → ⊥) → IsOutside found ⊎ RefusesBook Two bytes found → RefusesBook Two bytes found
 inside bytes found bytes_tell (inl outside) = absurd (bytes_tell outside)
 inside bytes found bytes_tell (inr refused) = refused
 
-pub refused_is : (bytes : List ℕ) (refusal found : FormRefusal) → refusal ≡ found → (IsOutside found → ⊥) → IsOutside refusal ⊎ RefusesBook bytes refusal → RefusesBook bytes found
+pub refused_is : (bytes : List ℕ) (refusal found : FormRefusal) → refusal ≡ found → (IsOutside found → ⊥) → IsOutside refusal ⊎ RefusesBook Two bytes refusal → RefusesBook Two bytes found
 refused_is bytes refusal found is bytes_tell told =
-    let P : FormRefusal → Type 0 = λ r. IsOutside r ⊎ RefusesBook bytes r in
+    let P : FormRefusal → Type 0 = λ r. IsOutside r ⊎ RefusesBook Two bytes r in
     inside bytes found bytes_tell (subst P is told)
 
 -- a legal book whose line was written, or a first part of it

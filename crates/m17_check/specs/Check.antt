@@ -2,12 +2,13 @@
 use Rattle.std.specs.Prelude.{◌≡◌, ◌⊎◌, ℕ, List, [], ◌∷◌, ◌++◌, codes, decimal, Option, Some}
 use Rattle.m17_floor.specs.declared.rule.Rule.{Rule}
 use Rattle.m17_floor.specs.declared.rule.Rule.TheVariants as rules
-use Rattle.m17_book.specs.Answers.{IsBookOf}
-use Rattle.m17_book.specs.Book.{RefusesBook}
+use Rattle.m17_book.specs.Book.{IsBook, RefusesBook}
 use Rattle.m17_book.specs.Checks.{IsLegalBook, IsFirstBreachOf, report_of}
+use Rattle.m17_book.specs.declared.head.Head.{Head}
 use Rattle.m17_book.specs.declared.record.Record.{Record}
 use Rattle.m17_book.specs.declared.refusal.FormRefusal.TheVariants as form
 use Rattle.m17_book.specs.declared.report.Report.{Report}
+use Rattle.m17_book.specs.declared.version.Version.TheVariants.{Two}
 use Rattle.m17_print.specs.Endings.{input_refused_line}
 use Rattle.m17_print.specs.declared.ending.TextEnding.{TextEnding}
 use Rattle.m17_print.specs.declared.ending.TextEnding.TheVariants.{Finished, Refused, ReadFailed, WriteFailed}
@@ -21,21 +22,23 @@ legal_line report =
     codes "legal " ++ decimal report.records ++ codes " records " ++ decimal report.streams
     ++ codes " streams " ++ decimal report.admitted ++ codes " admitted" ++ 10 ∷ []
 
--- The input is a book with these records, which are legal; or its record at this place is the first that breaks a rule,
--- and this the first rule that it breaks.
+-- The input is a book with these records, which are legal under the limit of its header; or its record at this place is
+-- the first that breaks a rule under that limit, and this the first rule that it breaks.
 abbrev pub IsLegalInput : List ℕ → List Record → Type 0
-IsLegalInput input records = IsBookOf input records × IsLegalBook records
+IsLegalInput input records =
+    (head : Head) × IsBook Two input head records × IsLegalBook head.limit records
 
 abbrev pub BreaksRule : List ℕ → ℕ → Rule → Type 0
-BreaksRule input place rule = (records : List Record) × IsBookOf input records
-    × IsFirstBreachOf records (record { position = place; rule = rule })
+BreaksRule input place rule =
+    (head : Head) × (records : List Record) × IsBook Two input head records
+    × IsFirstBreachOf head.limit records (record { position = place; rule = rule })
 
 -- Why the input is refused, and where: it is no book, as the form of books says, or it is one that isn't legal.
 abbrev pub RefusesInput : List ℕ → ℕ → CheckReason → Type 0
-RefusesInput input place Cut = RefusesBook input (form.Cut place)
-RefusesInput input place (Kind byte) = RefusesBook input (form.Kind place byte)
-RefusesInput input place Field = RefusesBook input (form.Field place)
-RefusesInput input place Large = RefusesBook input (form.Large place)
+RefusesInput input place Cut = RefusesBook Two input (form.Cut place)
+RefusesInput input place (Kind byte) = RefusesBook Two input (form.Kind place byte)
+RefusesInput input place Field = RefusesBook Two input (form.Field place)
+RefusesInput input place Large = RefusesBook Two input (form.Large place)
 RefusesInput input place Moment = BreaksRule input place rules.Moment
 RefusesInput input place Member = BreaksRule input place rules.Member
 RefusesInput input place Verdict = BreaksRule input place rules.Verdict

@@ -11,7 +11,8 @@ use m17_book::{Breach, FormRefusal, Report, Rule, check_book_for};
 use m17_io::{Input, Sink};
 use m17_print::{Line, TextEnding};
 
-/// Checks a book: reads it to its end, and writes the line of a legal one, as `legal 12 records 3 streams 9 admitted`.
+/// Checks a book under the limit of its header: reads it to its end, and writes the line of a legal one, as
+/// `legal 12 records 3 streams 9 admitted`.
 /// Nothing is written before the input was read to its end. The input is refused with the place and reason of the form of
 /// books, `Large` first of all; and a book that isn't legal with the number of its first record that breaks a rule, and
 /// that rule: `Moment`, `Member` or `Verdict`. It takes no memory.

@@ -28,7 +28,7 @@ fn refused(place: u64, reason: CheckReason) -> (TextEnding<CheckReason>, bool) {
 }
 
 /// Two join, and each opens a stream of its own at moment 0.
-const OVERLAP: &[u8; 277] = b"M17BOOK1A\
+const OVERLAP: &[u8; 285] = b"M17BOOK2A\x00\x00\x00\x00\x00\x00\x00\x00\
 \x01\x00\x00\x00\x00\x00\x00\x00\x00\x00\x00\x00\x00\x00\x00\x00\x00\x00\x00\x00\x00\x00\x00\x00\x00\x00\x00\x00\
 \x00\x00\x00\x00\x00\x00\x9f\xddQ\
 \x01\x00\x00\x00\x00\x00\x00\x00\x00\x00\x00\x00\x00\x00\x00\x00\x00\x00\x00\x00\x00\x01\x00\x00\x00\x00\x00\x00\
@@ -43,7 +43,7 @@ const OVERLAP: &[u8; 277] = b"M17BOOK1A\
 \x00\x00\x00\x00\x00\x00\x00\x00\xc9\x2c";
 
 /// The same, but the second is told that the first is busy, and the first goes on.
-const BUSY: &[u8; 374] = b"M17BOOK1A\
+const BUSY: &[u8; 382] = b"M17BOOK2A\x00\x00\x00\x00\x00\x00\x00\x00\
 \x01\x00\x00\x00\x00\x00\x00\x00\x00\x00\x00\x00\x00\x00\x00\x00\x00\x00\x00\x00\x00\x00\x00\x00\x00\x00\x00\x00\
 \x00\x00\x00\x00\x00\x00\x9f\xddQ\
 \x01\x00\x00\x00\x00\x00\x00\x00\x00\x00\x00\x00\x00\x00\x00\x00\x00\x00\x00\x00\x00\x01\x00\x00\x00\x00\x00\x00\
@@ -62,14 +62,14 @@ const BUSY: &[u8; 374] = b"M17BOOK1A\
 \x00\x00\x00\x00\x00\x00\x00\x00\x3d\x80";
 
 /// Two join at one place, the second at an earlier moment.
-const FALLS: &[u8; 83] = b"M17BOOK1A\
+const FALLS: &[u8; 91] = b"M17BOOK2A\x00\x00\x00\x00\x00\x00\x00\x00\
 \x01\x00\x00\x00\x00\x00\x00\x00\x00\x00\x00\x00\x00\x00\x00\x00\x00\x0a\x00\x00\x00\x00\x00\x00\x00\x00\x00\x00\
 \x00\x00\x00\x00\x00\x00\x9f\xddQ\
 \x01\x00\x00\x00\x00\x00\x00\x00\x00\x00\x00\x00\x00\x00\x00\x00\x00\x09\x00\x00\x00\x00\x00\x00\x00\x00\x00\x00\
 \x00\x01\x00\x00\x00\x00\x9f\xddQ";
 
 /// Two join at one place, at one moment.
-const HELD: &[u8; 83] = b"M17BOOK1A\
+const HELD: &[u8; 91] = b"M17BOOK2A\x00\x00\x00\x00\x00\x00\x00\x00\
 \x01\x00\x00\x00\x00\x00\x00\x00\x00\x00\x00\x00\x00\x00\x00\x00\x00\x0a\x00\x00\x00\x00\x00\x00\x00\x00\x00\x00\
 \x00\x00\x00\x00\x00\x00\x9f\xddQ\
 \x01\x00\x00\x00\x00\x00\x00\x00\x00\x00\x00\x00\x00\x00\x00\x00\x00\x0a\x00\x00\x00\x00\x00\x00\x00\x00\x00\x00\
@@ -78,20 +78,30 @@ const HELD: &[u8; 83] = b"M17BOOK1A\
 #[test]
 fn a_book_is_legal_or_the_first_record_that_is_not_is_named(rt: HostRuntime) {
     let no_fails: (&[u64], &[u64]) = (&[], &[]);
-    let empty = b"M17BOOK1A";
+    // Under a limit of 180,000 milliseconds.
+    let empty = b"M17BOOK2A\x00\x00\x00\x00\x00\x02\xbf\x20";
     let legal = b"legal 0 records 0 streams 0 admitted\n";
     assert!(rt; ends(&rt, rt.alloc(), empty, no_fails, legal) == (TextEnding::Finished, true));
     let busy = b"legal 5 records 1 streams 2 admitted\n";
     assert!(rt; ends(&rt, rt.alloc(), BUSY, no_fails, busy) == (TextEnding::Finished, true));
-    let cases: [(&[u8], u64, CheckReason); 8] = [
-        (b"M17BOOK1", 8, CheckReason::Cut),
-        (b"M17BOOK1A\x09", 9, CheckReason::Kind(9)),
-        (b"M17BOOK1a", 8, CheckReason::Field),
+    // Under a limit of 40 milliseconds the last frame would have come too late.
+    let mut short = *BUSY;
+    short[16] = 40;
+    assert!(rt; ends(&rt, rt.alloc(), &short, no_fails, b"") == refused(4, CheckReason::Verdict));
+    let cases: [(&[u8], u64, CheckReason); 9] = [
+        (b"M17BOOK2", 8, CheckReason::Cut),
+        (
+            b"M17BOOK2A\x00\x00\x00\x00\x00\x02\xbf\x20\x09",
+            17,
+            CheckReason::Kind(9),
+        ),
+        (b"M17BOOK2a", 8, CheckReason::Field),
+        (b"M17BOOK1A", 7, CheckReason::Field),
         (OVERLAP, 3, CheckReason::Verdict),
         (FALLS, 1, CheckReason::Moment),
         (HELD, 1, CheckReason::Member),
-        (&OVERLAP[..276], 276, CheckReason::Cut),
-        (&HELD[..82], 82, CheckReason::Cut),
+        (&OVERLAP[..284], 284, CheckReason::Cut),
+        (&HELD[..90], 90, CheckReason::Cut),
     ];
     for (input, place, reason) in cases {
         assert!(rt; ends(&rt, rt.alloc(), input, no_fails, b"") == refused(place, reason));
@@ -100,7 +110,7 @@ fn a_book_is_legal_or_the_first_record_that_is_not_is_named(rt: HostRuntime) {
 
 #[test]
 fn a_failed_device_is_told(rt: HostRuntime) {
-    let legal = b"M17BOOK1A";
+    let legal = b"M17BOOK2A\x00\x00\x00\x00\x00\x00\x00\x00";
     let read: (&[u64], &[u64]) = (&[0], &[]);
     assert!(rt; ends(&rt, rt.alloc(), legal, read, b"") == (TextEnding::ReadFailed, true));
     let flushed: (&[u64], &[u64]) = (&[], &[0]);

@@ -23,7 +23,7 @@ stream seed m n = record {
 abbrev pub other : Stream → ℕ
 other s = (s.who + 3) % 12
 
--- How a module stands before a turn: it is quiet for so many turns, and then a stream begins; or the next frame of a
+-- How a module stands before a turn: it is quiet for some turns, and then a stream begins; or the next frame of a
 -- stream has this number; or, before that, the frame two numbers below comes, which was held back.
 pub data Stand : Type 0 where
   Rests : (turns : ℕ) → Stand

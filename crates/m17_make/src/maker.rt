@@ -13,7 +13,7 @@ use std::marker::Model;
 /// The joins come first, as many as there are hotspots.
 const JOINS: u32 = HOTSPOTS as u32;
 
-/// Of so many entries the first ones are PONGs, one of each hotspot.
+/// This number of entries at the beginning are PONGs, one of each hotspot.
 const ROUND: u32 = 300;
 
 /// How many milliseconds there are between the turns of a module.

@@ -10,12 +10,12 @@ pub returns-in-Ok-clause-read : goal.returns-in-Ok-clause-read
 returns-in-Ok-clause-read g c = λ ahead before. (
   c.in-Ok-Some.record,
   c.in-Ok.ensures.added,
-  some_passed SpellsRecord RecordFlaw c.in-Ok-Some.field-0 c.in-Ok-Some.record ahead (held c.next_record.new.cursor)
+  some_passed (SpellsRecord c.args.version) (RecordFlaw c.args.version) c.in-Ok-Some.field-0 c.in-Ok-Some.record ahead (held c.next_record.new.cursor)
       (g.S.Input.told c.next_record.new.source).left c.args.cursor.now.place c.next_record.new.cursor.place c.in-Ok-Some.field-0-is (c.in-Ok-Some.ensures.next ahead before),
 )
 
 pub returns-in-Ok-None-clause-read : goal.returns-in-Ok-None-clause-read
-returns-in-Ok-None-clause-read g c = λ ahead before. let h = none_next SpellsRecord RecordFlaw c.in-Ok-None.field-0 ahead (held c.next_record.new.cursor)
+returns-in-Ok-None-clause-read g c = λ ahead before. let h = none_next (SpellsRecord c.args.version) (RecordFlaw c.args.version) c.in-Ok-None.field-0 ahead (held c.next_record.new.cursor)
     (g.S.Input.told c.next_record.new.source).left c.args.cursor.now.place c.next_record.new.cursor.place c.in-Ok-None.field-0-is (c.in-Ok-None.ensures.next ahead before) in (refl, h.0, h.1, h.2)
 
 pub returns-in-Err-clause-read : goal.returns-in-Err-clause-read

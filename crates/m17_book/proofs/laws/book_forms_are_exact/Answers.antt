@@ -14,4 +14,4 @@ returns c =
       callsigns = c.each_address_has_one_callsign.ensures;
       stream = c.one_spelling.ensures;
     } in
-    book_forms_are_exact (clear law one_record_flaw) (reads_record c.reading_is_exact.ensures law)
+    λ version. book_forms_are_exact version (clear version law (one_record_flaw version)) law.of_64 (reads_record version c.reading_is_exact.ensures law)

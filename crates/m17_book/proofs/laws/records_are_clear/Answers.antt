@@ -12,4 +12,4 @@ returns c =
       callsigns = c.each_address_has_one_callsign.ensures;
       stream = c.one_spelling.ensures;
     } in
-    clear law one_record_flaw
+    λ version. clear version law (one_record_flaw version)

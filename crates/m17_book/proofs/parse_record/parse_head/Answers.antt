@@ -5,9 +5,9 @@ use Rattle.m17_book.proofs.parse_record.parse_head.Goals as goal
 
 pub returns-then-link-ge-LINKS : goal.returns-then-link-ge-LINKS
 returns-then-link-ge-LINKS c =
-    bad_field c.args.b.now Link c.requires.known tt (omega arith) (sound_kind c.args.b.now 1 (omega arith)) (λ low. omega (arith, low))
+    bad_field c.args.version c.args.b.now Link c.requires.known tt (omega arith) (sound_kind c.args.version c.args.b.now 1 (omega arith)) (λ low. omega (arith, low))
 
 pub returns-in_default : goal.returns-in_default
 returns-in_default c =
-    bad_field c.args.b.now Place c.requires.known tt (omega arith) (sound_link c.args.b.now 18 (omega arith) (omega arith))
+    bad_field c.args.version c.args.b.now Place c.requires.known tt (omega arith) (sound_link c.args.version c.args.b.now 18 (omega arith) (omega arith))
     (λ place. c.in_default.ensures.none place.0 place.1 place.2)

@@ -1,6 +1,7 @@
 use Rattle.std.proofs.Common.{[], ◌∷◌, ◌++◌, refl, ap, ◌∙◌}
 use Rattle.m17_stream.specs.Stream.{SpellsStream}
 use Rattle.m17_book.specs.Records.{head_bytes, verdict_code, value_bytes, stream_bytes}
+use Rattle.m17_book.proofs.RecordClear.{code_low}
 use Rattle.m17_book.proofs.spell_record.write_record.Goals as goal
 
 pub returns-in-Packet : goal.returns-in-Packet
@@ -22,4 +23,4 @@ returns-in-Packet c =
     ∙ ap (λ xs. head ++ (verdict_code p.verdict ∷ []) ++ xs) c.value_of.ensures.bytes in
     let three = c.add-in-Packet-3.ensures.items ∙ ap (λ xs. xs ++ c.write.result) two
     ∙ ap (λ xs. head ++ (verdict_code p.verdict ∷ []) ++ value_bytes p.verdict ++ xs) written.spelling in
-    rw p.is ((c.head-bytes-in-Packet.ensures.fits, c.value_of.ensures.fits, stream), three)
+    rw p.is ((c.head-bytes-in-Packet.ensures.fits, (code_low p.verdict, c.value_of.ensures.fits), stream), three)

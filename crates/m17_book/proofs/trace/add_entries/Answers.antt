@@ -27,11 +27,11 @@ returns-in-Ok-false-clause-read g c = λ ahead is.
     let before = c.entries.invariant.passed ahead is in
     ended SpellsEntry WrongEntry c.args.cursor.now.place ahead c.entries.heard.items c.add_entry.new.heard.items
     (spot c.entries.cursor (g.S.Input.told c.entries.source).left) (spot c.add_entry.new.cursor (g.S.Input.told c.add_entry.new.source).left) before
-    ℕ 0 c.in-Ok-false.field-0 c.in-Ok-false.field-0-test (omega arith) (c.in-Ok-false.ensures.read before.rest before.rest_is)
+    ℕ 0 67108864 c.in-Ok-false.field-0 c.in-Ok-false.field-0-test (omega arith) (c.in-Ok-false.ensures.read before.rest before.rest_is)
 
 pub returns-in-Err-clause-read : goal.returns-in-Err-clause-read
 returns-in-Err-clause-read g c = λ ahead is.
     let before = c.entries.invariant.passed ahead is in
     stopped SpellsEntry WrongEntry c.args.cursor.now.place ahead c.entries.heard.items c.add_entry.new.heard.items
     (spot c.entries.cursor (g.S.Input.told c.entries.source).left) (spot c.add_entry.new.cursor (g.S.Input.told c.add_entry.new.source).left) before
-    ℕ c.in-Err.refusal (omega arith) (c.in-Err.ensures.read before.rest before.rest_is)
+    ℕ 67108864 c.in-Err.refusal (omega arith) (c.in-Err.ensures.read before.rest before.rest_is)

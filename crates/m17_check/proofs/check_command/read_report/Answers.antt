@@ -1,4 +1,4 @@
-use Rattle.std.proofs.Common.{ℕ, List, Err, sym, subst}
+use Rattle.std.proofs.Common.{Err, sym, subst}
 use Rattle.m17_book.specs.declared.refusal.FormRefusal.TheVariants as form
 use Rattle.m17_print.specs.declared.ending.TextEnding.{TextEnding}
 use Rattle.m17_check.specs.Judged.{HasJudged}

@@ -12,4 +12,4 @@ invariant-reads g l = record {
 }
 
 abbrev pub decreases-reads : goal.decreases-reads
-decreases-reads g l = 67108865 - (l.self.place + length (held l.self))
+decreases-reads g l = (l.fn.most + 1) - (l.self.place + length (held l.self))

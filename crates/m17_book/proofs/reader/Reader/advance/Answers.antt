@@ -1,15 +1,15 @@
-use Rattle.std.proofs.Common.{sym, ap, subst, ◌∙◌}
+use Rattle.std.proofs.Common.{is_some, sym, ap, subst, ◌∙◌}
 use Rattle.m17_book.specs.Progress.{Progress, progress}
 use Rattle.m17_book.specs.Reading.{HasRead}
-use Rattle.m17_book.proofs.Within.{is_within, answers}
+use Rattle.m17_book.proofs.Within.{is_within, answers, header_of_some}
 use Rattle.m17_book.proofs.reader.Reader.advance.Goals as goal
 
 pub returns-in-Ok-clause-answers : goal.returns-in-Ok-clause-answers
 returns-in-Ok-clause-answers g c = λ bytes records before.
     let r = c.self.inside in
-    let begun = ap (λ (p : Progress). p.begun) c.self.view_is ∙ c.in-Ok.ensures.begun in
+    let begun = header_of_some r.header (ap (λ (p : Progress). is_some p.header) c.self.view_is ∙ c.in-Ok.ensures.header_read) in
     let seen = subst (λ (p : Progress). HasRead p (g.S.Input.told c.begin.new.source).left bytes records) (sym c.self.view_is)
     (c.in-Ok.ensures.passed bytes records before) in
-    let within = is_within (progress r.cursor r.begun r.refusal) _ bytes records begun seen in
-    answers c.next_record.result (progress c.next_record.new.cursor r.begun r.refusal)
-    _ (g.S.Input.told c.begin.new.source).left _ _ bytes records begun within (c.next_record.ensures.next within.rest within.ahead)
+    let within = is_within begun.0 (progress r.cursor r.header r.refusal) _ bytes records begun.1 seen in
+    answers begun.0 c.next_record.result (progress c.next_record.new.cursor r.header r.refusal)
+    _ (g.S.Input.told c.begin.new.source).left _ _ bytes records begun.1 within (c.next_record.ensures.next within.rest within.ahead)

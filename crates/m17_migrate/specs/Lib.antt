@@ -1,0 +1,5 @@
+pub mod Reasons
+pub mod Migrate
+pub mod Laws
+-- for proofs alone
+pub mod Moved
