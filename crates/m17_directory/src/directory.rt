@@ -17,7 +17,7 @@ use m17_values::{Heard, Member, NoMemory};
 use std::alloc::Global;
 use std::marker::Model;
 
-/// A link ends at the last of so many failures of its socket in a row.
+/// The number of failures of its socket in a row that ends a link.
 pub const MOST_FAULTS: u32 = 16;
 
 /// One link's table of the peers that are known, and its departing members: those that have left and whose leaving was

@@ -21,7 +21,7 @@ mod verdict;
 mod whom;
 
 pub use asked::Asked;
-pub use directory::Directory;
+pub use directory::{Directory, MOST_FAULTS};
 pub use dispatch::Dispatch;
 pub use known::{Departed, Known, Request};
 pub use post::Post;

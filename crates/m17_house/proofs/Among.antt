@@ -10,6 +10,8 @@ use Rattle.m17_control.specs.declared.event.Body.TheVariants as body
 use Rattle.m17_control.specs.declared.event.Event.{Event}
 use Rattle.m17_floor.specs.Floor.{verdict_at}
 use Rattle.m17_floor.specs.Laws.{LaterActsChangeNoVerdict, OnlyPacketsHaveVerdicts}
+use Rattle.m17_module.specs.Setup.{floor_setup}
+use Rattle.m17_module.specs.Items as module_items
 use Rattle.m17_module.specs.Events.{act_of, acts_of}
 use Rattle.m17_lookup.specs.Lookup.{last_below}
 use Rattle.m17_lookup.proofs.LastBelow.{last_below_same, last_below_is, last_below_lt, and_then_same}
@@ -23,7 +25,7 @@ use Rattle.m17_directory.specs.Routed.{event_for, link_verdict, posts_at, posted
 use Rattle.m17_directory.specs.Laws.{LaterEntriesChangeNothing, OneEntryMore, EventsCarryTheirIndex, is_packet, packet_letter, packet_routed}
 use Rattle.m17_plan.specs.declared.plan.Plan.{Plan}
 use Rattle.m17_house.specs.Replay.{is_packet_body, is_packet_from, verdict_among, verdict_routed, packet_verdict}
-use Rattle.m17_plan.specs.Planned.{setup_of}
+use Rattle.m17_plan.specs.Planned.{setup_of, module_setup}
 use Rattle.m17_house.specs.Carried.{events_of}
 use Rattle.m17_house.specs.SoFar.{found_from}
 use Rattle.m17_house.proofs.Lists.{slice_get_before, slice_get_end, length_more}
@@ -50,8 +52,8 @@ slice_get_after (x ∷ xs) ys (suc m) j e = slice_get_after xs ys m j (omega ari
 acts_append : (a b : List Event) → acts_of (a ++ b) ≡ acts_of a ++ acts_of b
 acts_append a b = map-append act_of a b
 
-later_verdict : LaterActsChangeNoVerdict → (places : ℕ) (a b : List Event) (n : ℕ) → n < length a → verdict_at places (acts_of (a ++ b)) n ≡ verdict_at places (acts_of a) n
-later_verdict law places a b n below = ap (λ acts. verdict_at places acts n) (acts_append a b) ∙ law places (acts_of a) (acts_of b) n (omega (arith, length-map a act_of))
+later_verdict : LaterActsChangeNoVerdict → (made : module_items.Setup) (a b : List Event) (n : ℕ) → n < length a → verdict_at (floor_setup made) (acts_of (a ++ b)) n ≡ verdict_at (floor_setup made) (acts_of a) n
+later_verdict law made a b n below = ap (λ acts. verdict_at (floor_setup made) acts n) (acts_append a b) ∙ law (floor_setup made) (acts_of a) (acts_of b) n (omega (arith, length-map a act_of))
 
 -- events without a packet, and with another index
 NoPackets : List Event → Type 0
@@ -73,9 +75,9 @@ other_there n i (e ∷ events) zero apart all = and_left (e.tag.index == i) (is_
 other_there n i (e ∷ events) (suc j) apart all = other_there n i events j apart all.1
 
 -- The packet of an entry, with no other behind it.
-among_is : LaterActsChangeNoVerdict → (places n : ℕ) (a : List Event) (event : Event) (b : List Event) → event.tag.index ≡ n → is_packet_body event.body ≡ true → NoPackets b →
-    verdict_among places n (a ++ event ∷ b) ≡ verdict_at places (acts_of (a ++ event ∷ [])) (length a)
-among_is law places n a event b index one none =
+among_is : LaterActsChangeNoVerdict → (made : module_items.Setup) (n : ℕ) (a : List Event) (event : Event) (b : List Event) → event.tag.index ≡ n → is_packet_body event.body ≡ true → NoPackets b →
+    verdict_among made n (a ++ event ∷ b) ≡ verdict_at (floor_setup made) (acts_of (a ++ event ∷ [])) (length a)
+among_is law made n a event b index one none =
     let events : List Event = a ++ event ∷ b in
     let test : ℕ → Bool = λ i. is_packet_from n (slice_get events i) in
     let len : length events ≡ length a + suc (length b) = length-append a (event ∷ b) in
@@ -85,13 +87,13 @@ among_is law places n a event b index one none =
     ap (is_packet_from n) (slice_get_after a (event ∷ b) m (suc (m - suc (length a))) at) ∙ none_there n b (m - suc (length a)) none in
     let found : last_below test (length events) ≡ Some (length a) = last_below_is test (length events) (length a) (omega (arith, len)) here after in
     let split : events ≡ (a ++ event ∷ []) ++ b = sym (append_assoc a (event ∷ []) b) in
-    ap (option_and_then (verdict_at places (acts_of events))) found
-    ∙ ap (λ xs. verdict_at places (acts_of xs) (length a)) split
-    ∙ later_verdict law places (a ++ event ∷ []) b (length a) (omega (arith, length_more a event))
+    ap (option_and_then (verdict_at (floor_setup made) (acts_of events))) found
+    ∙ ap (λ xs. verdict_at (floor_setup made) (acts_of xs) (length a)) split
+    ∙ later_verdict law made (a ++ event ∷ []) b (length a) (omega (arith, length_more a event))
 
 -- Later events of another entry change nothing of it.
-among_before : LaterActsChangeNoVerdict → (places i n : ℕ) (a b : List Event) → (i ≡ n → ⊥) → HaveIndex n b → verdict_among places i (a ++ b) ≡ verdict_among places i a
-among_before law places i n a b apart all =
+among_before : LaterActsChangeNoVerdict → (made : module_items.Setup) (i n : ℕ) (a b : List Event) → (i ≡ n → ⊥) → HaveIndex n b → verdict_among made i (a ++ b) ≡ verdict_among made i a
+among_before law made i n a b apart all =
     let test : ℕ → Bool = λ j. is_packet_from i (slice_get (a ++ b) j) in
     let old : ℕ → Bool = λ j. is_packet_from i (slice_get a j) in
     let past : last_below test (length (a ++ b)) ≡ last_below test (length a) =
@@ -100,9 +102,9 @@ among_before law places i n a b apart all =
     ap (is_packet_from i) (slice_get_after a b k (k - length a) at) ∙ other_there n i b (k - length a) apart all) in
     let same : last_below test (length a) ≡ last_below old (length a) =
     last_below_same test old (length a) (λ m below. ap (is_packet_from i) (slice_get_before a b m below)) in
-    ap (option_and_then (verdict_at places (acts_of (a ++ b)))) (past ∙ same)
-    ∙ and_then_same (last_below old (length a)) (verdict_at places (acts_of (a ++ b))) (verdict_at places (acts_of a))
-    (λ p e. later_verdict law places a b p (last_below_lt old (length a) p e))
+    ap (option_and_then (verdict_at (floor_setup made) (acts_of (a ++ b)))) (past ∙ same)
+    ∙ and_then_same (last_below old (length a)) (verdict_at (floor_setup made) (acts_of (a ++ b))) (verdict_at (floor_setup made) (acts_of a))
+    (λ p e. later_verdict law made a b p (last_below_lt old (length a) p e))
 
 same_packet : (what : Body) → is_packet_body what ≡ is_packet what
 same_packet (body.Packet k p) = refl
@@ -140,7 +142,7 @@ events_between letter front event rest =
     ∙ ap (λ t. events_of letter front ++ cons_option (cond t (Some event) None) (events_of letter rest)) (eq-eqb letter letter refl)
 
 found_routed : OnlyPacketsHaveVerdicts → LaterActsChangeNoVerdict → (plan : Plan) (entries : List Entry) (n : ℕ) (before posts : List Dispatch) (letter : ℕ) → posted (setup_of plan) entries ≡ before ++ posts → HaveIndex n (events_of letter posts) →
-    IsFound plan before posts letter (found_from plan before None posts) → found_from plan before None posts ≡ verdict_among plan.places n (routed (setup_of plan) entries letter)
+    IsFound plan before posts letter (found_from plan before None posts) → found_from plan before None posts ≡ verdict_among (module_setup plan letter) n (routed (setup_of plan) entries letter)
 unfolding routed HaveIndex
 found_routed only later plan entries n before posts letter is index found =
     let front : List Dispatch = found.front in
@@ -150,8 +152,8 @@ found_routed only later plan entries n before posts letter is index found =
     let events : events_of letter (posted (setup_of plan) entries) ≡ events_of letter (before ++ front) ++ event ∷ events_of letter rest = ap (events_of letter) all ∙ events_between letter (before ++ front) event rest in
     let at : event.tag.index ≡ n = index_at n (events_of letter front) event (events_of letter rest)
     (subst (λ (es : List Event). HaveIndex n es) (ap (events_of letter) found.posts_are ∙ events_between letter front event rest) index) in
-    found.verdict ∙ sym (among_is later plan.places n (events_of letter (before ++ front)) event (events_of letter rest) at (same_packet event.body ∙ found.is_one) (no_packets letter rest found.no_other))
-    ∙ ap (verdict_among plan.places n) (sym events)
+    found.verdict ∙ sym (among_is later (module_setup plan letter) n (events_of letter (before ++ front)) event (events_of letter rest) at (same_packet event.body ∙ found.is_one) (no_packets letter rest found.no_other))
+    ∙ ap (verdict_among (module_setup plan letter) n) (sym events)
 
 found_by : OnlyPacketsHaveVerdicts → LaterActsChangeNoVerdict → (plan : Plan) (entries : List Entry) (n : ℕ) (before posts : List Dispatch) → posted (setup_of plan) entries ≡ before ++ posts → ((letter : ℕ) → HaveIndex n (events_of letter posts)) →
     (v : LinkVerdict) → filter_map packet_letter posts ≡ packet_routed v → found_from plan before None posts ≡ verdict_routed plan entries n v
@@ -173,8 +175,8 @@ link_before law plan entries e i below = ap (λ o. o.verdict) (law (setup_of pla
 routed_before : LaterActsChangeNoVerdict → OneEntryMore → EventsCarryTheirIndex → (plan : Plan) (entries : List Entry) (e : Entry) (i : ℕ) → i < length entries → (v : LinkVerdict) → verdict_routed plan (entries ++ e ∷ []) i v ≡ verdict_routed plan entries i v
 unfolding HaveIndex
 routed_before later more carry plan entries e i below (Routed letter act.Packet) =
-    ap (verdict_among plan.places i) (more.routes (setup_of plan) entries e letter)
-    ∙ among_before later plan.places i (length entries) (routed (setup_of plan) entries letter) (filter_map (event_for letter) (posts_at (setup_of plan) (entries ++ e ∷ []) (length entries))) (λ same. omega arith) (carry (setup_of plan) (entries ++ e ∷ []) (length entries) letter)
+    ap (verdict_among (module_setup plan letter) i) (more.routes (setup_of plan) entries e letter)
+    ∙ among_before later (module_setup plan letter) i (length entries) (routed (setup_of plan) entries letter) (filter_map (event_for letter) (posts_at (setup_of plan) (entries ++ e ∷ []) (length entries))) (λ same. omega arith) (carry (setup_of plan) (entries ++ e ∷ []) (length entries) letter)
 routed_before later more carry plan entries e i below _ = refl
 
 pub packet_before : LaterActsChangeNoVerdict → LaterEntriesChangeNothing → OneEntryMore → EventsCarryTheirIndex → (plan : Plan) (entries : List Entry) (e : Entry) (i : ℕ) → i < length entries → packet_verdict plan (entries ++ e ∷ []) i ≡ packet_verdict plan entries i

@@ -13,11 +13,13 @@ use Rattle.m17_floor.specs.Acts.{kind_at, kind_or_other}
 use Rattle.m17_floor.specs.Acts as acts
 use Rattle.m17_floor.specs.Floor.{verdict_at}
 use Rattle.m17_floor.specs.Laws.{OnlyPacketsHaveVerdicts}
+use Rattle.m17_module.specs.Setup.{floor_setup}
 use Rattle.m17_module.specs.Events.{act_of, acts_of, kind_of}
 use Rattle.m17_directory.specs.declared.dispatch.Dispatch.{Dispatch}
 use Rattle.m17_directory.specs.declared.dispatch.Dispatch.TheVariants.{ToModule, ToDoor}
 use Rattle.m17_directory.specs.Laws.{is_packet, packet_letter}
 use Rattle.m17_plan.specs.declared.plan.Plan.{Plan}
+use Rattle.m17_plan.specs.Planned.{module_setup}
 use Rattle.m17_house.specs.Carried.{events_of, answer_to}
 use Rattle.m17_house.specs.SoFar.{found_from}
 use Rattle.m17_house.proofs.Lists.{slice_get_end}
@@ -40,7 +42,7 @@ no_packet_kind body.Stop e = refl
 no_verdict : OnlyPacketsHaveVerdicts → (plan : Plan) (before : List Dispatch) (letter : ℕ) (event : Event) → is_packet event.body ≡ false → answer_to plan before (ToModule letter event) ≡ None
 no_verdict law plan before letter event e =
     let events : List Event = events_of letter before in
-    law plan.places (acts_of (events ++ event ∷ [])) (length events) (ap acts.is_packet (kind_end events event) ∙ no_packet_kind event.body e)
+    law (floor_setup (module_setup plan letter)) (acts_of (events ++ event ∷ [])) (length events) (ap acts.is_packet (kind_end events event) ∙ no_packet_kind event.body e)
 
 -- the letter of a dispatch, by whether its event is a packet
 letter_by : (letter : ℕ) (event : Event) (b : Bool) → is_packet event.body ≡ b → packet_letter (ToModule letter event) ≡ cond b (Some letter) None
@@ -69,7 +71,7 @@ pub record IsFound (plan : Plan) (before posts : List Dispatch) (letter : ℕ) (
   pub posts_are : posts ≡ front ++ ToModule letter event ∷ rest
   pub is_one : is_packet event.body ≡ true
   pub no_other : filter_map packet_letter rest ≡ []
-  pub verdict : found ≡ verdict_at plan.places (acts_of (events_of letter (before ++ front) ++ event ∷ [])) (length (events_of letter (before ++ front)))
+  pub verdict : found ≡ verdict_at (floor_setup (module_setup plan letter)) (acts_of (events_of letter (before ++ front) ++ event ∷ [])) (length (events_of letter (before ++ front)))
 
 found_later : (plan : Plan) (before : List Dispatch) (d : Dispatch) (posts : List Dispatch) (letter : ℕ) (found : Option Verdict) → IsFound plan (before ++ d ∷ []) posts letter found → IsFound plan before (d ∷ posts) letter found
 found_later plan before d posts letter found later = record {
@@ -79,7 +81,7 @@ found_later plan before d posts letter found later = record {
   posts_are = ap (λ xs. d ∷ xs) later.posts_are;
   is_one = later.is_one;
   no_other = later.no_other;
-  verdict = later.verdict ∙ ap (λ xs. verdict_at plan.places (acts_of (events_of letter xs ++ later.event ∷ [])) (length (events_of letter xs))) (append_assoc before (d ∷ []) later.front);
+  verdict = later.verdict ∙ ap (λ xs. verdict_at (floor_setup (module_setup plan letter)) (acts_of (events_of letter xs ++ later.event ∷ [])) (length (events_of letter xs))) (append_assoc before (d ∷ []) later.front);
 }
 
 or_none : {A : Type 0} (o : Option A) → option_or o None ≡ o
@@ -104,7 +106,7 @@ found_here law plan before to event posts letter true e one later =
       posts_are = refl;
       is_one = e;
       no_other = parts.1;
-      verdict = answer ∙ ap (λ xs. verdict_at plan.places (acts_of (events_of to xs ++ event ∷ [])) (length (events_of to xs))) (sym (append-nil before));
+      verdict = answer ∙ ap (λ xs. verdict_at (floor_setup (module_setup plan to)) (acts_of (events_of to xs ++ event ∷ [])) (length (events_of to xs))) (sym (append-nil before));
     })
 found_here law plan before to event posts letter false e one later =
     let rest : filter_map packet_letter posts ≡ letter ∷ [] = ap (λ o. cons_option o (filter_map packet_letter posts)) (sym (letter_by to event false e)) ∙ one in

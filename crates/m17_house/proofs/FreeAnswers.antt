@@ -15,6 +15,7 @@ use Rattle.m17_floor.specs.declared.verdict.Verdict.{Verdict}
 use Rattle.m17_floor.specs.Acts.{is_same}
 use Rattle.m17_floor.specs.Floor.{verdict_at}
 use Rattle.m17_floor.specs.Renamed.{IsOneToOne, unnamed_verdict}
+use Rattle.m17_module.specs.Setup.{floor_setup}
 use Rattle.m17_module.specs.Events.{acts_of}
 use Rattle.m17_module.specs.Laws as module_law
 use Rattle.m17_lookup.specs.Lookup.{last_below}
@@ -146,15 +147,15 @@ module _ (law : PlacesChangeNoVerdict) (joins : JoinsTakeFreePlaces) (saying : m
     free_others = joins (setup_of plan) other letter given.second;
   }
 
-  among : (n letter : ℕ) → unnamed_verdict (verdict_among plan.places n (routed (setup_of plan) one letter)) ≡ unnamed_verdict (verdict_among plan.places n (routed (setup_of plan) other letter))
+  among : (n letter : ℕ) → unnamed_verdict (verdict_among (module_setup plan letter) n (routed (setup_of plan) one letter)) ≡ unnamed_verdict (verdict_among (module_setup plan letter) n (routed (setup_of plan) other letter))
   among n letter =
       let a : List Event = routed (setup_of plan) one letter in
       let b : List Event = routed (setup_of plan) other letter in
       let routes : AreRenamedEvents stands a b = law.routes (setup_of plan) one other given letter in
-      ap (λ o. unnamed_verdict (option_and_then (verdict_at plan.places (acts_of a)) o))
+      ap (λ o. unnamed_verdict (option_and_then (verdict_at (floor_setup (module_setup plan letter)) (acts_of a)) o))
       (last_below_same (λ i. is_packet_from n (slice_get a i)) (λ i. is_packet_from n (slice_get b i)) (length a) (λ i l. packets_at stands n a b i routes)
       ∙ ap (last_below (λ i. is_packet_from n (slice_get b i))) (as_many stands a b routes))
-      ∙ then_alike (verdict_at plan.places (acts_of a)) (verdict_at plan.places (acts_of b)) (last_below (λ i. is_packet_from n (slice_get b i)) (length b)) (judging stands plan.places a b (renamed letter))
+      ∙ then_alike (verdict_at (floor_setup (module_setup plan letter)) (acts_of a)) (verdict_at (floor_setup (module_setup plan letter)) (acts_of b)) (last_below (λ i. is_packet_from n (slice_get b i)) (length b)) (judging stands (module_setup plan letter) a b (renamed letter))
 
   by_verdict : (n : ℕ) (v : LinkVerdict) → unnamed_verdict (verdict_routed plan one n v) ≡ unnamed_verdict (verdict_routed plan other n v)
   by_verdict n (link.Routed letter act.Packet) = among n letter

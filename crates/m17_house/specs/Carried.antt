@@ -9,6 +9,7 @@ use Rattle.m17_control.specs.Modules.{serves, letters_of}
 use Rattle.m17_floor.specs.declared.verdict.Verdict.{Verdict}
 use Rattle.m17_floor.specs.Floor.{verdict_at}
 use Rattle.m17_module.specs.Events.{acts_of}
+use Rattle.m17_module.specs.Setup.{floor_setup}
 use Rattle.m17_module.specs.Items.{items_given}
 use Rattle.m17_module.specs.StandsFor.{ModuleKept, StandsFor}
 use Rattle.m17_directory.specs.declared.dispatch.Dispatch.{Dispatch}
@@ -54,7 +55,9 @@ pub record RoomStands (plan : Plan) (letter : ℕ) (events : List Event) (rooms 
 pub record IsRoomStep (plan : Plan) (letter : ℕ) (events : List Event) (event : Event)
     (after : List (Option ModuleKept) × Option Verdict) : Type 0 where
   pub stands : RoomStands plan letter (events ++ event ∷ []) after.0
-  pub verdict : after.1 ≡ verdict_at plan.places (acts_of (events ++ event ∷ [])) (length events)
+  pub verdict : after.1
+      ≡ verdict_at (floor_setup (module_setup plan letter)) (acts_of (events ++ event ∷ []))
+      (length events)
 
 -- The modules stand for what these dispatches have for them, and the tallies are of what is said by then.
 pub record HasCarried (plan : Plan) (done : List Dispatch) (rooms : List (Option ModuleKept))
@@ -66,7 +69,7 @@ pub record HasCarried (plan : Plan) (done : List Dispatch) (rooms : List (Option
 -- the verdict on a dispatch, carried out after these: only a packet has one
 abbrev pub answer_to : Plan → List Dispatch → Dispatch → Option Verdict
 answer_to plan done (ToModule letter event) =
-    verdict_at plan.places (acts_of (events_of letter done ++ event ∷ []))
+    verdict_at (floor_setup (module_setup plan letter)) (acts_of (events_of letter done ++ event ∷ []))
     (length (events_of letter done))
 answer_to plan done (ToDoor direct) = None
 

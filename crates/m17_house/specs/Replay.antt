@@ -15,6 +15,7 @@ use Rattle.m17_control.specs.Spelled.{packet_said}
 use Rattle.m17_floor.specs.declared.verdict.Verdict.{Verdict}
 use Rattle.m17_floor.specs.Floor.{verdict_at}
 use Rattle.m17_module.specs.Events.{acts_of}
+use Rattle.m17_module.specs.Setup.{floor_setup}
 use Rattle.m17_module.specs.Items as module_items
 use Rattle.m17_lookup.specs.Lookup.{last_below}
 use Rattle.m17_ports.specs.declared.tally.Tally.{Tally}
@@ -90,16 +91,16 @@ abbrev pub is_packet_from : ℕ → Option Event → Bool
 is_packet_from n None = false
 is_packet_from n (Some event) = event.tag.index == n && is_packet_body event.body
 
--- the floor rule's verdict on the packet of the entry with this index, in a module with these events
-abbrev pub verdict_among : ℕ → ℕ → List Event → Option Verdict
-verdict_among places n events =
-    option_and_then (verdict_at places (acts_of events))
+-- the floor rule's verdict on the packet of the entry with this index, in a module that was made so, with these events
+abbrev pub verdict_among : module_items.Setup → ℕ → List Event → Option Verdict
+verdict_among made n events =
+    option_and_then (verdict_at (floor_setup made) (acts_of events))
     (last_below (λ i. is_packet_from n (slice_get events i)) (length events))
 
 -- The floor rule's verdict on the packet of an entry, where it was routed to a module as one.
 abbrev pub verdict_routed : Plan → List Entry → ℕ → LinkVerdict → Option Verdict
 verdict_routed plan entries n (Routed letter act.Packet) =
-    verdict_among plan.places n (routed (setup_of plan) entries letter)
+    verdict_among (module_setup plan letter) n (routed (setup_of plan) entries letter)
 verdict_routed plan entries n _ = None
 
 unfoldable pub packet_verdict : Plan → List Entry → ℕ → Option Verdict

@@ -14,7 +14,7 @@ use m17_port_memory::TallyMouth;
 use m17_values::{Heard, NoMemory};
 use std::alloc::Global;
 
-// No memory holds so many entries that positions would come to their type's end.
+// No memory holds more entries than positions can count.
 fn count(heard: &[Heard]) -> usize
     ensures count { result ≡ length heard.now }
     ensures few { length heard.now < 2 ^ 58 }

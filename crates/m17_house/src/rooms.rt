@@ -42,7 +42,7 @@ fn make_room(alloc: Global, plan: &Plan, letter: u8) -> Result<Option<Module>, N
     if !plan.modules.has(letter) {
         return Ok(None);
     }
-    let module = Module::make(alloc, plan.places, plan.parrots.has(letter))?;
+    let module = Module::make(alloc, plan.places, plan.parrots.has(letter), plan.limit)?;
     Ok(Some(module))
 }
 

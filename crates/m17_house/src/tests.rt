@@ -127,6 +127,7 @@ fn plan(rt: &impl Abort, places: u32) -> Plan
         places,
         patient: true,
         entries: 0,
+        limit: 0,
     }
 }
 

@@ -13,7 +13,7 @@ setup_of plan =
 
 abbrev pub module_setup : Plan → ℕ → module_items.Setup
 module_setup plan letter =
-    record { places = plan.places; parrot = serves plan.parrots letter }
+    record { places = plan.places; parrot = serves plan.parrots letter; limit = plan.limit }
 
 -- The plan can be run: 1 to 256 places, a module or more, and parrots among the modules.
 pub record IsPlan (plan : Plan) : Type 0 where

@@ -18,4 +18,6 @@ pub struct Plan {
     /// Of how many entries of a link, from the first, the verdicts are kept. It is for a reflector with threads:
     /// `replay_plain` answers the verdicts of all entries, and does not read it.
     pub entries: u32,
+    /// How many milliseconds after its opening a stream loses its floor. 0 means that there is no limit.
+    pub limit: u64,
 }

@@ -45,7 +45,7 @@ pub record HasClaimed (patient : Bool) (setup : Setup) (entries : List Entry) (s
 abbrev pub AreOfOnePeer : Notice → Notice → Type 0
 AreOfOnePeer a b = (x : Peer) × (is_from x a ≡ true) × (is_from x b ≡ true)
 
--- Each claim waits for at most as many notes as were popped, and the first so many of them name
+-- Each claim waits for at most as many notes as were popped, and those that it waits for name
 -- each earlier member of its peer.
 pub record IsGreetedAfter (entries : List Entry) (notes : List Member) : Type 0 where
   pub enough : (n : ℕ) (claim : Claim) → claim_at entries n ≡ Some claim →

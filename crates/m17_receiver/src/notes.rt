@@ -9,7 +9,7 @@ use m17_lane::Popper;
 use m17_values::Member;
 use std::sync::Wait;
 
-/// So many notes are popped at the most before an entry is heard.
+/// The most notes that are popped before an entry is heard.
 const MOST_NOTES: u32 = 512;
 
 // Tells the directory of a note, and counts it.
@@ -20,7 +20,7 @@ fn take_note(directory: &mut Directory, noted: &mut u64, member: Member)
     *noted = noted.saturating_add(1);
 }
 
-// Pops the notes that are there, so many at the most, and tells the directory of each.
+// Pops the notes that are there, up to a number, and tells the directory of each.
 pub(crate) fn pop_notes<R: Wait>(
     rt: &R,
     notes: &mut Popper<Member>,

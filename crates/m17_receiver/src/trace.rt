@@ -12,7 +12,7 @@ use m17_book::{write_entry, write_trace_header};
 use m17_ports::Book;
 use m17_values::Heard;
 
-/// The header and an entry have so many bytes at the most.
+/// The most bytes that the header or an entry has.
 const SPELLED_BYTES: usize = 101;
 
 // Writes what was heard to the trace, before the first entry its header, in one write. A trace that failed is written

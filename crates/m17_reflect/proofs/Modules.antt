@@ -24,7 +24,7 @@ use Rattle.m17_plan.specs.declared.plan.Plan.{Plan}
 use Rattle.m17_reflect.specs.Links.{Link, IsLink, At, letter_of, setup_at}
 use Rattle.m17_reflect.specs.Run.{module_count}
 use Rattle.m17_reflect.specs.Trails.{events_of, AreTrails}
-use Rattle.m17_reflect.specs.Judged.{IsModuleTape, IsWritten}
+use Rattle.m17_reflect.specs.Judged.{IsModuleTape, IsWritten, floors_of, head_at}
 use Rattle.m17_reflect.proofs.OneTrail.{Laws, Inboxes, routed_columns, one_trail}
 use Rattle.m17_reflect.proofs.Routes.{at_below, below_at}
 use Rattle.m17_reflect.proofs.There.{is_at, trail_is_there}
@@ -96,9 +96,9 @@ module _ {B : Type 0} where
       (subst (λ (s : module_items.Setup). AllByRecursion (λ event. is_there (length links) s.places event ≡ true) (events_of t)) (sym it.setup) there))
 
   -- how many packets each module admitted
-  pub all_admitted : {BL : Type 0} (writes : B → BookTold BL) (plan : Plan) (links : ℕ) (js ks : List (Worker B)) (trails : List (TrailEnd Event)) → HaveWorked writes plan links js ks → length trails ≡ module_count plan → ((m : ℕ) (j k : Worker B) (t : TrailEnd Event) → slice_get js m ≡ Some j → slice_get ks m ≡ Some k → At trails m t → HasServed writes (events_of t) j k) → map (λ (k : Worker B). k.module.admitted) ks ≡ map (λ (t : TrailEnd Event). admitted_count plan.places (acts_of (events_of t))) trails
+  pub all_admitted : {BL : Type 0} (writes : B → BookTold BL) (plan : Plan) (links : ℕ) (js ks : List (Worker B)) (trails : List (TrailEnd Event)) → HaveWorked writes plan links js ks → length trails ≡ module_count plan → ((m : ℕ) (j k : Worker B) (t : TrailEnd Event) → slice_get js m ≡ Some j → slice_get ks m ≡ Some k → At trails m t → HasServed writes (events_of t) j k) → map (λ (k : Worker B). k.module.admitted) ks ≡ map (λ (t : TrailEnd Event). admitted_count (floors_of plan) (acts_of (events_of t))) trails
   all_admitted writes plan links js ks trails h count did =
-      map_beside (λ (k : Worker B). k.module.admitted) (λ (t : TrailEnd Event). admitted_count plan.places (acts_of (events_of t))) ks trails
+      map_beside (λ (k : Worker B). k.module.admitted) (λ (t : TrailEnd Event). admitted_count (floors_of plan) (acts_of (events_of t))) ks trails
       (worker_count writes plan links js ks h ∙ sym count)
       (λ m k t at_k e.
       let inside = below_at ks m k at_k in
@@ -107,21 +107,21 @@ module _ {B : Type 0} where
       admitted_of writes plan links m j k (events_of t) (h.are m j at_j) (zip_at (HasWorked writes) js ks h.worked m j k at_j at_k) (did m j k t at_j at_k e))
 
   -- the tapes of the modules
-  pub all_tapes : {BL : Type 0} (writes : B → BookTold BL) (plan : Plan) (links : ℕ) (js ks : List (Worker B)) (trails : List (TrailEnd Event)) → HaveWorked writes plan links js ks → ((m : ℕ) (j k : Worker B) (t : TrailEnd Event) → slice_get js m ≡ Some j → slice_get ks m ≡ Some k → At trails m t → HasServed writes (events_of t) j k) → (m : ℕ) (t : TrailEnd Event) (tape : List (Option Verdict)) → At trails m t → At (map (λ (k : Worker B). k.tape.items) ks) m tape → IsModuleTape plan.places (events_of t) plan.entries tape
+  pub all_tapes : {BL : Type 0} (writes : B → BookTold BL) (plan : Plan) (links : ℕ) (js ks : List (Worker B)) (trails : List (TrailEnd Event)) → HaveWorked writes plan links js ks → ((m : ℕ) (j k : Worker B) (t : TrailEnd Event) → slice_get js m ≡ Some j → slice_get ks m ≡ Some k → At trails m t → HasServed writes (events_of t) j k) → (m : ℕ) (t : TrailEnd Event) (tape : List (Option Verdict)) → At trails m t → At (map (λ (k : Worker B). k.tape.items) ks) m tape → IsModuleTape (setup_at plan m) (events_of t) plan.entries tape
   all_tapes writes plan links js ks trails h did m t tape e et =
       let (k, at_k, is_k) = unmapped (λ (k : Worker B). k.tape.items) ks m tape et in
       let inside = below_at ks m k at_k in
       let many = worker_count writes plan links js ks h in
       let (j, at_j) = at_below js m (omega (arith, h.count)) in
-      subst (IsModuleTape plan.places (events_of t) plan.entries) is_k
+      subst (IsModuleTape (setup_at plan m) (events_of t) plan.entries) is_k
       (tape_is writes plan links m j k (events_of t) (h.are m j at_j) (zip_at (HasWorked writes) js ks h.worked m j k at_j at_k) (did m j k t at_j at_k e))
 
   -- the books
-  pub all_books : {BL : Type 0} (writes : B → BookTold BL) (plan : Plan) (links : ℕ) (js ks : List (Worker B)) (trails : List (TrailEnd Event)) (failed : Bool) → HaveWorked writes plan links js ks → ((m : ℕ) (j k : Worker B) (t : TrailEnd Event) → slice_get js m ≡ Some j → slice_get ks m ≡ Some k → At trails m t → HasServed writes (events_of t) j k) → ((m : ℕ) (k : Worker B) → slice_get ks m ≡ Some k → k.book_failed ≡ true → failed ≡ true) → (m : ℕ) (t : TrailEnd Event) (before after : BookTold BL) → At trails m t → At (map (book_tells writes) js) m before → At (map (book_tells writes) ks) m after → IsWritten failed before (book_text (letter_of plan m) (records_of (setup_at plan m) (events_of t))) after
+  pub all_books : {BL : Type 0} (writes : B → BookTold BL) (plan : Plan) (links : ℕ) (js ks : List (Worker B)) (trails : List (TrailEnd Event)) (failed : Bool) → HaveWorked writes plan links js ks → ((m : ℕ) (j k : Worker B) (t : TrailEnd Event) → slice_get js m ≡ Some j → slice_get ks m ≡ Some k → At trails m t → HasServed writes (events_of t) j k) → ((m : ℕ) (k : Worker B) → slice_get ks m ≡ Some k → k.book_failed ≡ true → failed ≡ true) → (m : ℕ) (t : TrailEnd Event) (before after : BookTold BL) → At trails m t → At (map (book_tells writes) js) m before → At (map (book_tells writes) ks) m after → IsWritten failed before (book_text (head_at plan m) (records_of (setup_at plan m) (events_of t))) after
   all_books writes plan links js ks trails failed h did flags m t before after e eb ea =
       let (j, at_j, is_j) = unmapped (book_tells writes) js m before eb in
       let (k, at_k, is_k) = unmapped (book_tells writes) ks m after ea in
-      let text = book_text (letter_of plan m) (records_of (setup_at plan m) (events_of t)) in
+      let text = book_text (head_at plan m) (records_of (setup_at plan m) (events_of t)) in
       subst (λ b. IsWritten failed b text after) is_j
       (subst (λ a. IsWritten failed (book_tells writes j) text a) is_k
       (book_is writes plan links m j k (events_of t) failed (h.are m j at_j) (did m j k t at_j at_k e) (flags m k at_k)))

@@ -10,7 +10,7 @@ use Rattle.m17_control.specs.declared.item.Item.{Item}
 use Rattle.m17_floor.specs.Floor.{admitted_count}
 use Rattle.m17_module.specs.Events.{acts_of}
 use Rattle.m17_module.specs.Items as module_items
-use Rattle.m17_module.specs.Items.{items_at, items_given}
+use Rattle.m17_module.specs.Items.{floor_setup, items_at, items_given}
 use Rattle.m17_lane.specs.Ends.{PushEnd, PopEnd, TrailEnd}
 use Rattle.m17_lane.specs.Orders.{items_of}
 use Rattle.m17_rows.specs.Rows.{grow_each, IsNewRow, IsNewPusher}
@@ -21,11 +21,12 @@ use Rattle.m17_worker.specs.Offers.{Try, queued_for, missed_for, count_missed, c
 use Rattle.m17_worker.specs.Records.{book_text, records_of}
 use Rattle.m17_worker.specs.Taken.{taken, is_there}
 use Rattle.m17_worker.specs.Tape.{verdict_on}
-use Rattle.m17_worker.specs.WorkerDid.{HasServed, HasWorked}
+use Rattle.m17_worker.specs.WorkerDid.{head_of, HasServed, HasWorked}
+use Rattle.m17_book.specs.declared.head.Head.{Head}
 use Rattle.m17_plan.specs.declared.plan.Plan.{Plan}
 use Rattle.m17_run_setup.specs.Jobs.{IsWorkerOf}
 use Rattle.m17_reflect.specs.Links.{At, letter_of, setup_at}
-use Rattle.m17_reflect.specs.Judged.{IsModuleTape, IsWritten}
+use Rattle.m17_reflect.specs.Judged.{IsModuleTape, IsWritten, floors_of, head_at}
 use Rattle.m17_reflect.specs.Queues.{IsQueue, Carry}
 use Rattle.m17_reflect.proofs.Routes.{at_below, below_at}
 use Rattle.m17_reflect.proofs.Came.{all_at}
@@ -50,20 +51,26 @@ served writes j k events h is there =
     (ap (taken j.links j.module.setup.places) is ∙ all_taken j.links j.module.setup.places events there) h.served
 
 module _ {B : Type 0} where
-  pub admitted_of : {BL : Type 0} (writes : B → BookTold BL) (plan : Plan) (links m : ℕ) (j k : Worker B) (events : List Event) → IsWorkerOf plan links m j → HasWorked writes j k → HasServed writes events j k → k.module.admitted ≡ admitted_count plan.places (acts_of events)
+  pub admitted_of : {BL : Type 0} (writes : B → BookTold BL) (plan : Plan) (links m : ℕ) (j k : Worker B) (events : List Event) → IsWorkerOf plan links m j → HasWorked writes j k → HasServed writes events j k → k.module.admitted ≡ admitted_count (floors_of plan) (acts_of events)
   admitted_of writes plan links m j k events is worked h =
-      h.stands.admitted ∙ ap (λ (s : module_items.Setup). admitted_count s.places (acts_of events)) (worked.same.setup ∙ is.setup)
+      h.stands.admitted ∙ ap (λ (s : module_items.Setup). admitted_count (floor_setup s) (acts_of events)) (worked.same.setup ∙ is.setup)
 
-  pub tape_is : {BL : Type 0} (writes : B → BookTold BL) (plan : Plan) (links m : ℕ) (j k : Worker B) (events : List Event) → IsWorkerOf plan links m j → HasWorked writes j k → HasServed writes events j k → IsModuleTape plan.places events plan.entries k.tape.items
+  pub tape_is : {BL : Type 0} (writes : B → BookTold BL) (plan : Plan) (links m : ℕ) (j k : Worker B) (events : List Event) → IsWorkerOf plan links m j → HasWorked writes j k → HasServed writes events j k → IsModuleTape (setup_at plan m) events plan.entries k.tape.items
   tape_is writes plan links m j k events is worked h = record {
     length_is = worked.same.cells ∙ is.cells;
-    verdicts = λ index lt. h.taped index lt ∙ ap (λ (s : module_items.Setup). Some (verdict_on s.places events index)) is.setup;
+    verdicts = λ index lt. h.taped index lt ∙ ap (λ (s : module_items.Setup). Some (verdict_on s events index)) is.setup;
   }
 
-  pub book_is : {BL : Type 0} (writes : B → BookTold BL) (plan : Plan) (links m : ℕ) (j k : Worker B) (events : List Event) (failed : Bool) → IsWorkerOf plan links m j → HasServed writes events j k → (k.book_failed ≡ true → failed ≡ true) → IsWritten failed (book_tells writes j) (book_text (letter_of plan m) (records_of (setup_at plan m) events)) (book_tells writes k)
+  -- the header of a module's book is as the plan has it
+  head_is : (plan : Plan) (links m : ℕ) (j : Worker B) → IsWorkerOf plan links m j → head_of j ≡ head_at plan m
+  head_is plan links m j is =
+      ap (λ (letter : ℕ). let head : Head = record { «module» = letter; limit = j.limit } in head) is.letter
+      ∙ ap (λ (limit : ℕ). let head : Head = record { «module» = letter_of plan m; limit = limit } in head) is.limit
+
+  pub book_is : {BL : Type 0} (writes : B → BookTold BL) (plan : Plan) (links m : ℕ) (j k : Worker B) (events : List Event) (failed : Bool) → IsWorkerOf plan links m j → HasServed writes events j k → (k.book_failed ≡ true → failed ≡ true) → IsWritten failed (book_tells writes j) (book_text (head_at plan m) (records_of (setup_at plan m) events)) (book_tells writes k)
   book_is writes plan links m j k events failed is h flag =
-      subst (λ (letter : ℕ). IsWritten failed (book_tells writes j) (book_text letter (records_of (setup_at plan m) events)) (book_tells writes k)) is.letter
-      (subst (λ (s : module_items.Setup). IsWritten failed (book_tells writes j) (book_text j.letter (records_of s events)) (book_tells writes k)) is.setup
+      subst (λ (head : Head). IsWritten failed (book_tells writes j) (book_text head (records_of (setup_at plan m) events)) (book_tells writes k)) (head_is plan links m j is)
+      (subst (λ (s : module_items.Setup). IsWritten failed (book_tells writes j) (book_text (head_of j) (records_of s events)) (book_tells writes k)) is.setup
       (k.book_failed, h.booked, flag))
 
 -- a count from 0

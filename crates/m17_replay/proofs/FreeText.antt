@@ -38,6 +38,7 @@ packet_text_is letter (Some (floor.Busy k)) = refl
 packet_text_is letter (Some floor.Repeat) = refl
 packet_text_is letter (Some (floor.Late y)) = refl
 packet_text_is letter (Some floor.AfterEnd) = refl
+packet_text_is letter (Some floor.TimedOut) = refl
 packet_text_is letter (Some floor.NotMember) = refl
 packet_text_is letter (Some floor.ListenOnly) = refl
 
@@ -66,6 +67,7 @@ packet_kind_is letter (Some (floor.Busy k)) = refl
 packet_kind_is letter (Some floor.Repeat) = refl
 packet_kind_is letter (Some (floor.Late y)) = refl
 packet_kind_is letter (Some floor.AfterEnd) = refl
+packet_kind_is letter (Some floor.TimedOut) = refl
 packet_kind_is letter (Some floor.NotMember) = refl
 packet_kind_is letter (Some floor.ListenOnly) = refl
 

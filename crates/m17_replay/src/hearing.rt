@@ -6,10 +6,8 @@ ghost use Rattle.m17_directory.specs.Entries.{Entry, SaysEach};
 ghost use Rattle.m17_directory.specs.Laws.{EndsOnce};
 ghost use Rattle.m17_replay.specs.Run.{is_end_heard, is_fault_heard};
 
+use m17_directory::MOST_FAULTS;
 use m17_values::Heard;
-
-/// So many faults in a row end a link.
-const MOST_FAULTS: u32 = 16;
 
 // How many entries the link hears of these: up to the first that ends it.
 pub(crate) fn count_to_end(heard: &[Heard]) -> usize

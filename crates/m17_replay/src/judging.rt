@@ -102,7 +102,7 @@ fn ends_in_fault(heard: &[Heard]) -> bool
     }
 }
 
-// How many entries of so many were heard before the end, by whether the link was lost.
+// How many of these entries were heard before the end, by whether the link was lost.
 fn count_heard(len: usize, lost: bool) -> usize
     requires some { 0 < len }
     ensures { result ≡ (if lost then len else len - 1) }

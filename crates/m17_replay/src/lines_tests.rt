@@ -64,6 +64,7 @@ fn each_packet_has_the_line_of_its_verdict(rt: HostRuntime) -> Result<(), Fail> 
         (Verdict::Repeat, "18446744073709551615 Z repeat\n"),
         (Verdict::Late { last: 5 }, "18446744073709551615 Z late 5\n"),
         (Verdict::AfterEnd, "18446744073709551615 Z after-end\n"),
+        (Verdict::TimedOut, "18446744073709551615 Z timed-out\n"),
         (Verdict::NotMember, "18446744073709551615 Z not-member\n"),
         (Verdict::ListenOnly, "18446744073709551615 Z listen-only\n"),
     ];

@@ -33,6 +33,7 @@ fn plan(places: u32, letters: &str) -> Result<Plan, Fail>
         places,
         patient: true,
         entries: 0,
+        limit: 180_000,
     })
 }
 
@@ -123,8 +124,8 @@ const TWO_JOIN: &[u8; 64] = b"M17TRACE\
 
 const SUMMARY: &str =
     "entries 2\njoin 2\nagain 0\nleave 0\npong 0\nalive 0\nopened 0\ncontinued 0\nbusy 0\nrepeat 0\n\
-late 0\nafter-end 0\nnot-member 0\nlisten-only 0\nrefused 0\nnot-connected 0\nnot-served 0\nfull 0\nstray 0\nquiet 0\n\
-fault 0\npeer 10.0.0.1:17000 ackn 1 nack 0 ping 0 pong 0 disc 1 frame 0\n\
+late 0\nafter-end 0\ntimed-out 0\nnot-member 0\nlisten-only 0\nrefused 0\nnot-connected 0\nnot-served 0\nfull 0\n\
+stray 0\nquiet 0\nfault 0\npeer 10.0.0.1:17000 ackn 1 nack 0 ping 0 pong 0 disc 1 frame 0\n\
 peer 10.0.0.2:17000 ackn 1 nack 0 ping 0 pong 0 disc 1 frame 0\n";
 
 #[test]
@@ -249,12 +250,12 @@ fn a_sink_that_fails_ends_the_run_after_the_lines_before(rt: HostRuntime) -> Res
         (1, ""),
         (2, "entries 2\n"),
         (3, "entries 2\njoin 2\n"),
-        (23, without_last),
+        (24, without_last),
     ] {
         let fails: (&[u64], &[u64]) = (&[], &[call]);
         expect_failing(&rt, rt.alloc(), &plan, true, TWO_JOIN, fails, failed, text)?;
     }
-    let fails: (&[u64], &[u64]) = (&[], &[24]);
+    let fails: (&[u64], &[u64]) = (&[], &[25]);
     let finished = ReplayEnding::Finished;
     expect_failing(
         &rt,

@@ -15,6 +15,8 @@ use Rattle.m17_floor.specs.declared.verdict.Verdict.{Verdict}
 use Rattle.m17_floor.specs.Acts.{is_packet as is_packet_act}
 use Rattle.m17_floor.specs.Floor.{verdict_at}
 use Rattle.m17_lookup.proofs.LastBelow.{last_below_same, last_below_none}
+use Rattle.m17_module.specs.Setup.{floor_setup}
+use Rattle.m17_module.specs.Items as module_items
 use Rattle.m17_module.specs.Events.{acts_of, kind_of}
 use Rattle.m17_directory.specs.declared.verdict.Act.TheVariants as act
 use Rattle.m17_directory.specs.declared.verdict.LinkVerdict.{LinkVerdict}
@@ -25,7 +27,7 @@ use Rattle.m17_directory.specs.Routed.{link_verdict, routed}
 use Rattle.m17_worker.specs.Tape.{is_packet_of, position_of, verdict_on}
 use Rattle.m17_plan.specs.declared.plan.Plan.{Plan}
 use Rattle.m17_house.specs.Replay.{is_packet_body, is_packet_from, verdict_among, verdict_routed, packet_verdict}
-use Rattle.m17_plan.specs.Planned.{setup_of}
+use Rattle.m17_plan.specs.Planned.{setup_of, module_setup}
 use Rattle.m17_reflect.specs.Links.{letter_of}
 use Rattle.m17_reflect.specs.Run.{module_count}
 use Rattle.m17_replay_run.specs.Tapes.{cell_at, packet_on}
@@ -62,10 +64,10 @@ cell_same n None none = refl
 cell_same n (Some event) none = event_same n event (none event refl)
 
 -- Where all events are of link 0, the tape of their module has the verdicts of the packets among them.
-pub verdict_same : (places n : ℕ) (events : List Event) → ((i : ℕ) (event : Event) → slice_get events i ≡ Some event → event.tag.link ≡ 0) → verdict_on places events n ≡ verdict_among places n events
+pub verdict_same : (made : module_items.Setup) (n : ℕ) (events : List Event) → ((i : ℕ) (event : Event) → slice_get events i ≡ Some event → event.tag.link ≡ 0) → verdict_on made events n ≡ verdict_among made n events
 unfolding position_of
-verdict_same places n events none =
-    ap (option_and_then (verdict_at places (acts_of events)))
+verdict_same made n events none =
+    ap (option_and_then (verdict_at (floor_setup made) (acts_of events)))
     (last_below_same (λ i. option_map_or (is_packet_of n) (slice_get events i) false) (λ i. is_packet_from n (slice_get events i)) (length events)
     (λ i lt. cell_same n (slice_get events i) (none i)))
 
@@ -86,10 +88,10 @@ module _ (of_entries : PacketsAreOfEntries) (served : OnlyServedAreRouted) (plan
   setup = setup_of plan
 
   -- no packet of an entry is among the events of a module for which it is none
-  none_among : (letter n : ℕ) → is_packet_for letter (link_verdict setup entries n) ≡ false → verdict_among plan.places n (routed setup entries letter) ≡ None
+  none_among : (letter n : ℕ) → is_packet_for letter (link_verdict setup entries n) ≡ false → verdict_among (module_setup plan letter) n (routed setup entries letter) ≡ None
   none_among letter n other =
       let events : List Event = routed setup entries letter in
-      ap (option_and_then (verdict_at plan.places (acts_of events)))
+      ap (option_and_then (verdict_at (floor_setup (module_setup plan letter)) (acts_of events)))
       (last_below_none (λ i. is_packet_from n (slice_get events i)) (length events) (λ i lt.
       no_from n (slice_get events i) (λ event at is.
       let parts = and_parts (event.tag.index == n) (is_packet_body event.body) is in
@@ -100,10 +102,10 @@ module _ (of_entries : PacketsAreOfEntries) (served : OnlyServedAreRouted) (plan
       false≢true (sym other ∙ kept_passes (λ m. is_packet_for letter (link_verdict setup entries m)) (range_with_len 0 (length entries)) kept.0 n kept.1))))
 
   -- nothing is among the events of a module that is not served
-  unserved : (letter n : ℕ) → serves plan.modules letter ≡ false → verdict_among plan.places n (routed setup entries letter) ≡ None
+  unserved : (letter n : ℕ) → serves plan.modules letter ≡ false → verdict_among (module_setup plan letter) n (routed setup entries letter) ≡ None
   unserved letter n e =
-      ap (verdict_among plan.places n) (served setup entries letter e)
-      ∙ ap (option_and_then (verdict_at plan.places (acts_of []))) (last_below_none (λ i. is_packet_from n (slice_get [] i)) 0 (λ i lt. absurd (omega arith)))
+      ap (verdict_among (module_setup plan letter) n) (served setup entries letter e)
+      ∙ ap (option_and_then (verdict_at (floor_setup (module_setup plan letter)) (acts_of []))) (last_below_none (λ i. is_packet_from n (slice_get [] i)) 0 (λ i lt. absurd (omega arith)))
 
   -- a served letter stands at the number of some module
   letter_there : (letter : ℕ) → serves plan.modules letter ≡ true → (m : ℕ) × (m < module_count plan) × (letter_of plan m ≡ letter)
@@ -118,7 +120,7 @@ module _ (of_entries : PacketsAreOfEntries) (served : OnlyServedAreRouted) (plan
   -- The tapes of the modules have the verdicts of an entry's packet.
   pub record AreCells (tapes : List (List (Option Verdict))) (n : ℕ) : Type 0 where
     pub count : length tapes ≡ module_count plan
-    pub each : (m : ℕ) (tape : List (Option Verdict)) → slice_get tapes m ≡ Some tape → cell_at tape n ≡ verdict_among plan.places n (routed setup entries (letter_of plan m))
+    pub each : (m : ℕ) (tape : List (Option Verdict)) → slice_get tapes m ≡ Some tape → cell_at tape n ≡ verdict_among (module_setup plan (letter_of plan m)) n (routed setup entries (letter_of plan m))
 
   none_on : (tapes : List (List (Option Verdict))) (n : ℕ) → ((m : ℕ) (tape : List (Option Verdict)) → slice_get tapes m ≡ Some tape → cell_at tape n ≡ None) → packet_on tapes n ≡ None
   none_on [] n h = refl
@@ -136,23 +138,23 @@ module _ (of_entries : PacketsAreOfEntries) (served : OnlyServedAreRouted) (plan
 
   module _ (tapes : List (List (Option Verdict))) (n : ℕ) (h : AreCells tapes n) where
     -- the verdict on a packet for one module
-    here_or_none : (letter : ℕ) → link_verdict setup entries n ≡ Routed letter act.Packet → (m : ℕ) → (verdict_among plan.places n (routed setup entries (letter_of plan m)) ≡ None) ⊎ (letter_of plan m ≡ letter)
+    here_or_none : (letter : ℕ) → link_verdict setup entries n ≡ Routed letter act.Packet → (m : ℕ) → (verdict_among (module_setup plan (letter_of plan m)) n (routed setup entries (letter_of plan m)) ≡ None) ⊎ (letter_of plan m ≡ letter)
     here_or_none letter is m = elim (cases_eq letter (letter_of plan m)) [
       | inl same ↦ inr (sym same)
       | inr other ↦ inl (none_among (letter_of plan m) n (ap (is_packet_for (letter_of plan m)) is ∙ ne_eqb letter (letter_of plan m) other))
     ]
 
-    cell_or_none : (letter : ℕ) → link_verdict setup entries n ≡ Routed letter act.Packet → (v : Option Verdict) → verdict_among plan.places n (routed setup entries letter) ≡ v → (m : ℕ) (tape : List (Option Verdict)) → slice_get tapes m ≡ Some tape → (cell_at tape n ≡ None) ⊎ (cell_at tape n ≡ v)
+    cell_or_none : (letter : ℕ) → link_verdict setup entries n ≡ Routed letter act.Packet → (v : Option Verdict) → verdict_among (module_setup plan letter) n (routed setup entries letter) ≡ v → (m : ℕ) (tape : List (Option Verdict)) → slice_get tapes m ≡ Some tape → (cell_at tape n ≡ None) ⊎ (cell_at tape n ≡ v)
     cell_or_none letter is v e m tape at = elim (here_or_none letter is m) [
       | inl none ↦ inl (h.each m tape at ∙ none)
-      | inr same ↦ inr (h.each m tape at ∙ ap (λ l. verdict_among plan.places n (routed setup entries l)) same ∙ e)
+      | inr same ↦ inr (h.each m tape at ∙ ap (λ l. verdict_among (module_setup plan l) n (routed setup entries l)) same ∙ e)
     ]
 
     same_none : (c : Option Verdict) → (c ≡ None) ⊎ (c ≡ None) → c ≡ None
     same_none c (inl none) = none
     same_none c (inr none) = none
 
-    of_packet : (letter : ℕ) → link_verdict setup entries n ≡ Routed letter act.Packet → (v : Option Verdict) → verdict_among plan.places n (routed setup entries letter) ≡ v → packet_on tapes n ≡ v
+    of_packet : (letter : ℕ) → link_verdict setup entries n ≡ Routed letter act.Packet → (v : Option Verdict) → verdict_among (module_setup plan letter) n (routed setup entries letter) ≡ v → packet_on tapes n ≡ v
     of_packet letter is None e = none_on tapes n (λ m tape at. same_none (cell_at tape n) (cell_or_none letter is None e m tape at))
     of_packet letter is (Some v) e = elim (cases_Bool (serves plan.modules letter)) [
       | inr away ↦ absurd (let both : None ≡ Some v = sym (unserved letter n away) ∙ e in cc)
@@ -160,14 +162,14 @@ module _ (of_entries : PacketsAreOfEntries) (served : OnlyServedAreRouted) (plan
           let (m, lt, same) = letter_there letter there in
           let (tape, at) = at_below tapes m (omega (arith, h.count)) in
           one_on tapes n v (cell_or_none letter is (Some v) e) m tape at
-          (h.each m tape at ∙ ap (λ l. verdict_among plan.places n (routed setup entries l)) same ∙ e)
+          (h.each m tape at ∙ ap (λ l. verdict_among (module_setup plan l) n (routed setup entries l)) same ∙ e)
     ]
 
     of_none : (v : LinkVerdict) → link_verdict setup entries n ≡ v → ((letter : ℕ) → is_packet_for letter v ≡ false) → packet_on tapes n ≡ None
     of_none v is other = none_on tapes n (λ m tape at. h.each m tape at ∙ none_among (letter_of plan m) n (ap (is_packet_for (letter_of plan m)) is ∙ other (letter_of plan m)))
 
     by_verdict : (v : LinkVerdict) → link_verdict setup entries n ≡ v → packet_on tapes n ≡ verdict_routed plan entries n v
-    by_verdict (Routed letter act.Packet) is = of_packet letter is (verdict_among plan.places n (routed setup entries letter)) refl
+    by_verdict (Routed letter act.Packet) is = of_packet letter is (verdict_among (module_setup plan letter) n (routed setup entries letter)) refl
     by_verdict v is = of_none v is (λ letter. refl)
 
     -- The tapes have the verdict on the entry's packet.

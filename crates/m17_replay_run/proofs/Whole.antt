@@ -24,10 +24,10 @@ use Rattle.m17_worker.specs.Tape.{verdict_on}
 use Rattle.m17_plan.specs.declared.plan.Plan.{Plan}
 use Rattle.m17_house.specs.Free.{IsFreelyReplayed}
 use Rattle.m17_house.specs.Replay.{packet_verdict, said_to, tally_of, verdict_among, verdicts_of}
-use Rattle.m17_plan.specs.Planned.{setup_of}
+use Rattle.m17_plan.specs.Planned.{setup_of, module_setup}
 use Rattle.m17_reflect.specs.Headline.{Headline}
 use Rattle.m17_reflect.specs.Judged.{IsModuleTape}
-use Rattle.m17_reflect.specs.Links.{Link, letter_of, link_setup}
+use Rattle.m17_reflect.specs.Links.{Link, letter_of, link_setup, setup_at}
 use Rattle.m17_reflect.specs.Run.{Run}
 use Rattle.m17_reflect.specs.Trails.{events_of}
 use Rattle.m17_replay_run.specs.Ending.{HasAnEnd}
@@ -78,12 +78,12 @@ module _ {E M B : Type 0} (laws : Laws) (run : Run E M B) (script : List Heard) 
   few : length entries ≤ run.plan.entries
   few = few_entries run script alone h
 
-  cell_is : (m n : ℕ) (events : List Event) (tape : List (Option Verdict)) → n < length entries → IsModuleTape plan.places events plan.entries tape → events ≡ routed (setup_of plan) entries (letter_of plan m)
-      → cell_at tape n ≡ verdict_among plan.places n (routed (setup_of plan) entries (letter_of plan m))
+  cell_is : (m n : ℕ) (events : List Event) (tape : List (Option Verdict)) → n < length entries → IsModuleTape (setup_at plan m) events plan.entries tape → events ≡ routed (setup_of plan) entries (letter_of plan m)
+      → cell_at tape n ≡ verdict_among (module_setup plan (letter_of plan m)) n (routed (setup_of plan) entries (letter_of plan m))
   cell_is m n events tape lt taped is =
       ap (option_and_then (λ (cell : Option Verdict). cell)) (taped.verdicts n (omega (arith, few, taped.length_is)))
-      ∙ ap (λ es. verdict_on plan.places es n) is
-      ∙ verdict_same plan.places n (routed (setup_of plan) entries (letter_of plan m)) (of_link laws run script alone h (letter_of plan m))
+      ∙ ap (λ es. verdict_on (setup_at plan m) es n) is
+      ∙ verdict_same (setup_at plan m) n (routed (setup_of plan) entries (letter_of plan m)) (of_link laws run script alone h (letter_of plan m))
 
   are_cells : (n : ℕ) → n < length entries → AreCells laws.of_entries laws.served plan entries run.handed.tapes n
   are_cells n lt = record {

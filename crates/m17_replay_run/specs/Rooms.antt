@@ -2,7 +2,7 @@
 use Rattle.std.specs.Prelude.{◌≡◌, ℕ, ◌<◌, [], None, All, vec_capacity, vec_len}
 use Rattle.m17_replay_run.specs.declared.devices.Rooms.{Rooms}
 
--- There is room for one ear and one mouth, and there are books that keep nothing: one trace, and so many more.
+-- There is room for one ear and one mouth, and there are books that keep nothing: one trace, and one for each module.
 pub record HasRooms (modules : ℕ) (rooms : Rooms) : Type 0 where
   pub no_ear : rooms.ears.items ≡ []
   pub ear : vec_len rooms.ears < vec_capacity rooms.ears

@@ -20,7 +20,7 @@ pub(crate) struct Rooms {
     pub books: Vec<Shelf<ListBook>>,
 }
 
-// Makes it, for so many modules.
+// Makes it, for this number of modules.
 pub(crate) fn make_rooms(alloc: Global, modules: u32) -> Result<Rooms, NoMemory>
     ensures { IfOk result (HasRooms modules) }
 {
@@ -47,7 +47,7 @@ fn room_for_one<T: Drop>(alloc: Global) -> Result<Vec<T>, NoMemory>
     }
 }
 
-// So many books that keep nothing.
+// `count` books that keep nothing.
 fn no_books(alloc: Global, count: u32) -> Result<Vec<Shelf<ListBook>>, NoMemory>
     ensures count { IfOk result (λ books. vec_len books ≡ count) }
     ensures none { IfOk result (λ books. All (λ book. book.inner ≡ None) books.items) }

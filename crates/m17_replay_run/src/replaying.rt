@@ -44,7 +44,7 @@ pub struct Refused {
     pub mouth: TallyMouth,
 }
 
-// How many entries are to be heard: so many as a number of 64 bits counts.
+// How many entries are to be heard, in 64 bits.
 fn count(heard: &[Heard]) -> usize
     ensures count { result ≡ length heard.now }
     ensures few { length heard.now < 2 ^ 64 }
@@ -52,7 +52,7 @@ fn count(heard: &[Heard]) -> usize
     heard.len()
 }
 
-// The same plan, patient, with so many cells on each tape.
+// The same plan, patient, with this number of cells on each tape.
 fn patient_plan(plan: &Plan, entries: u32) -> Plan
     ensures { result ≡ record plan.now { patient = true; entries = entries } }
 {
@@ -63,6 +63,7 @@ fn patient_plan(plan: &Plan, entries: u32) -> Plan
         places: plan.places,
         patient: true,
         entries,
+        limit: plan.limit,
     }
 }
 

@@ -112,6 +112,7 @@ fn plan(rt: &impl Abort, places: u32) -> Plan
         places,
         patient: false,
         entries: 0,
+        limit: 0,
     }
 }
 

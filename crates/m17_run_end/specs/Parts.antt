@@ -21,7 +21,7 @@ module _ {E B : Type 0} where
     pub lost : after.lost ≡ (before.lost || list_any (λ j. j.lost) js)
     pub failed : after.failed ≡ (before.failed || list_any (λ j. j.trace_failed) js)
 
-  -- There is room for the parts of so many receivers more.
+  -- There is room for the parts of `count` receivers more.
   pub record HasReceiverRoom (count : ℕ) (parts : ReceiverParts E B) : Type 0 where
     pub ears : vec_len parts.ears + count ≤ vec_capacity parts.ears
     pub traces : vec_len parts.traces + count ≤ vec_capacity parts.traces
@@ -44,7 +44,7 @@ module _ {B : Type 0} where
     pub admitted : after.admitted.items ≡ before.admitted.items ++ map (λ j. j.module.admitted) js
     pub failed : after.failed ≡ (before.failed || list_any (λ j. j.book_failed) js)
 
-  -- There is room for the parts of so many workers more.
+  -- There is room for the parts of `count` workers more.
   pub record HasWorkerRoom (count : ℕ) (parts : WorkerParts B) : Type 0 where
     pub books : vec_len parts.books + count ≤ vec_capacity parts.books
     pub inboxes : vec_len parts.inboxes + count ≤ vec_capacity parts.inboxes

@@ -9,7 +9,7 @@ use Rattle.m17_sender.specs.Places.{at_place, held_at}
 use Rattle.m17_sender.specs.Sent.{EachMouth, SaidByLink}
 use Rattle.m17_run_end.specs.Left.{left, left_in}
 
--- Of so many links the item's is one: it is said. Any other is passed over.
+-- The item's link is one of these: it is said. Any other is passed over.
 abbrev pub has_link : ℕ → Item → Bool
 has_link links item = nat_lt item.link links
 

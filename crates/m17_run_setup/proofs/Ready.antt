@@ -69,6 +69,7 @@ module _ {E M B : Type 0} (plan : Plan) (links : ℕ) (js : List (Receiver E B))
       let row = new_queues 64 (module_count plan) plan.places (map (λ w. w.offers.queues.items) ws) (ends_of js ws s).heads laid.queues m w.offers.queues.items (at_map (λ (w : Worker B). w.offers.queues.items) ws m w at) in record {
         letter = of_letter m w at;
         links_are = h.links_are;
+        limit = h.limit;
         setup = h.setup ∙ ap (module_setup plan) (of_letter m w at);
         patient = h.patient;
         cells = h.cells;
@@ -146,6 +147,7 @@ module _ {E M B : Type 0} (plan : Plan) (links : ℕ) (js : List (Receiver E B))
           letter = h.letter;
           some_link = omega (arith, of_links);
           links = omega (arith, of_links);
+          limit = ap (λ (setup : module_items.Setup). setup.limit) h.setup ∙ sym h.limit;
           places = omega (arith, places, plans.at_most);
           queues = (
             it.count ∙ sym places,

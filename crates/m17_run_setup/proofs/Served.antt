@@ -25,5 +25,5 @@ pub few_modules : (m : Modules) → length (letters_of m) ≤ 26
 few_modules m = omega (arith, length-filter (serves m) (range_with_len 65 26), count_by-le-length (serves m) (range_with_len 65 26), length-range_with_len 65 26)
 
 -- a module is a parrot where the plan says so
-pub setup_is : (plan : Plan) (letter : ℕ) (parrot : Bool) (setup : module_items.Setup) → setup ≡ record { places = plan.places; parrot = parrot } → parrot ≡ serves plan.parrots letter → setup ≡ module_setup plan letter
-setup_is plan letter parrot setup made is = made ∙ ap (λ (b : Bool). record { places = plan.places; parrot = b }) is
+pub setup_is : (plan : Plan) (letter : ℕ) (parrot : Bool) (setup : module_items.Setup) → setup ≡ record { places = plan.places; parrot = parrot; limit = plan.limit } → parrot ≡ serves plan.parrots letter → setup ≡ module_setup plan letter
+setup_is plan letter parrot setup made is = made ∙ ap (λ (b : Bool). record { places = plan.places; parrot = b; limit = plan.limit }) is

@@ -32,6 +32,7 @@ EachFrom P k (x ∷ xs) = P k x × EachFrom P (suc k) xs
 pub record IsNewWorker {B : Type 0} (plan : Plan) (links : ℕ) (j : Worker B) : Type 0 where
   pub letter : IsModule j.letter
   pub links_are : j.links ≡ links
+  pub limit : j.limit ≡ plan.limit
   pub setup : j.module.setup ≡ module_setup plan j.letter
   pub stands : StandsFor j.module []
   pub patient : j.offers.patient ≡ plan.patient
@@ -74,6 +75,7 @@ abbrev pub bare_worker : {B : Type 0} → Worker B → Worker (Unit {0})
 bare_worker j = record {
   letter = j.letter;
   links = j.links;
+  limit = j.limit;
   «module» = j.module;
   basket = j.basket;
   book = tt;

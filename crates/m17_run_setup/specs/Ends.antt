@@ -32,7 +32,7 @@ pub record IsNewLine {T : Type 0} (capacity : ℕ) (pushers : List (PushEnd T))
       → slice_get pushers i ≡ Some q → slice_get poppers i ≡ Some p
       → (p ≡ new_popper p.lane capacity 1) × (q ≡ new_pusher p 0)
 
--- New lanes of that capacity, so many rows of them with so many in each row.
+-- New lanes of that capacity, in `rows` rows of `places` lanes.
 pub record AreNewLines {T : Type 0} (capacity rows places : ℕ) (pushers : List (List (PushEnd T)))
     (poppers : List (List (PopEnd T))) : Type 0 where
   pub count : (length pushers ≡ rows) × (length poppers ≡ rows)

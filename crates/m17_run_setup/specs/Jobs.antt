@@ -25,6 +25,7 @@ AreReceivers {E} {B} plan js =
 pub record IsWorkerOf {B : Type 0} (plan : Plan) (links m : ℕ) (j : Worker B) : Type 0 where
   pub letter : j.letter ≡ letter_of plan m
   pub links_are : j.links ≡ links
+  pub limit : j.limit ≡ plan.limit
   pub setup : j.module.setup ≡ setup_at plan m
   pub patient : j.offers.patient ≡ plan.patient
   pub cells : length j.tape.items ≡ plan.entries

@@ -5,16 +5,16 @@ use Rattle.m17_run_setup.specs.declared.rooms.ModuleRooms.{ModuleRooms}
 use Rattle.m17_run_setup.specs.declared.rooms.TrailRooms.{TrailRooms}
 use Rattle.m17_run_setup.specs.declared.rooms.Rooms.{Rooms}
 
--- The vector is empty and has room for `n` items.
+-- The vector is empty and has room for `count` items.
 abbrev pub IsRoom : {X Z : Type 0} → ℕ → Vec X Z → Type 0
 IsRoom count v = (v.items ≡ []) × (count ≤ vec_capacity v)
 
--- There are so many vectors, each of them empty and with room for so many.
+-- There are `rows` vectors, each of them empty and with room for `count` items.
 pub record AreRooms {X Y Z : Type 0} (rows count : ℕ) (vs : Vec (Vec X Y) Z) : Type 0 where
   pub number : vec_len vs ≡ rows
   pub each : All (IsRoom count) vs.items
 
--- There is room for what so many receivers are made of, but for their devices and seats.
+-- There is room for what the receivers of these links are made of, but for their devices and seats.
 pub record HasLinkRooms (links : ℕ) (r : LinkRooms) : Type 0 where
   pub columns : IsRoom links r.columns
   pub doors : IsRoom links r.doors
@@ -22,7 +22,7 @@ pub record HasLinkRooms (links : ℕ) (r : LinkRooms) : Type 0 where
   pub orders : IsRoom links r.orders
   pub tapes : IsRoom links r.tapes
 
--- There is room for what so many workers are made of, but for their books and seats.
+-- There is room for what the workers of these modules are made of, but for their books and seats.
 pub record HasModuleRooms (modules : ℕ) (r : ModuleRooms) : Type 0 where
   pub inboxes : IsRoom modules r.inboxes
   pub queues : IsRoom modules r.queues
@@ -31,7 +31,7 @@ pub record HasModuleRooms (modules : ℕ) (r : ModuleRooms) : Type 0 where
   pub missed : IsRoom modules r.missed
   pub admitted : IsRoom modules r.admitted
 
--- There is room for the trails of the lanes of so many links, modules and places.
+-- There is room for the trails of the lanes of these links, modules and places.
 pub record HasTrailRooms (links modules places : ℕ) (r : TrailRooms) : Type 0 where
   pub shells : AreRooms modules links r.shells
   pub inboxes : IsRoom modules r.inboxes

@@ -32,12 +32,12 @@ pub record AreBare {M : Type 0} (plan : Plan) (links : ℕ)
 abbrev pub AreOrdersOf : {A : Type 0} → (A → PopEnd Order) → List (PushEnd Order) → List A → Type 0
 AreOrdersOf order ends jobs = IsNewLine 2 ends (map order jobs)
 
--- No job is there yet and none runs, and there is room for so many to be there and to run.
+-- No job is there yet and none runs, and there is room for `count` to be there and to run.
 pub record IsVacant {V W Y Z : Type 0} (count : ℕ) (js : Vec V Y) (rs : Vec W Z) : Type 0 where
   pub jobs : IsRoom count js
   pub running : IsRoom count rs
 
--- All that a run over so many links needs but its devices: its jobs without them, each with a lane of
+-- All that a run over these links needs but its devices: its jobs without them, each with a lane of
 -- orders, where the jobs come, and room for what comes back.
 pub record IsSite {E M B X Y Z : Type 0} (links : ℕ) (site : Site E M B X Y Z) : Type 0 where
   pub made : AreBare site.plan links (map bare site.receivers.items)

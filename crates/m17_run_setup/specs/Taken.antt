@@ -7,7 +7,7 @@ use Rattle.m17_sender.specs.declared.sender.Sender.{Sender}
 use Rattle.m17_run_setup.specs.declared.bare_workers.ModuleEnds.{ModuleEnds}
 use Rattle.m17_run_setup.specs.declared.bare_sender.SenderEnds.{SenderEnds}
 
--- there are ends for so many links
+-- there are ends for each of the links
 pub record HaveLinks (links : ℕ) (ends : LinkEnds) : Type 0 where
   pub inboxes : vec_len ends.inboxes ≡ links
   pub doors : vec_len ends.doors ≡ links
@@ -29,7 +29,7 @@ pub record AreFromLinks {E B : Type 0} (ends : LinkEnds) (js : List (Receiver E 
   pub notes : ends.notes.items ≡ map (λ j. j.notes) js
   pub orders : ends.orders.items ≡ map (λ j. j.order) js
 
--- there are ends for so many modules
+-- there are ends for each of the modules
 pub record HaveModules (modules : ℕ) (ends : ModuleEnds) : Type 0 where
   pub inboxes : vec_len ends.inboxes ≡ modules
   pub queues : vec_len ends.queues ≡ modules

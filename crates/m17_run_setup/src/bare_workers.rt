@@ -82,10 +82,11 @@ fn bare_worker(
     let basket = Basket::make(alloc)?;
     let tape = empty_cells(alloc, plan.entries)?;
     let letter = take_last(letters);
-    let module = Module::make(alloc, plan.places, plan.parrots.has(letter))?;
+    let module = Module::make(alloc, plan.places, plan.parrots.has(letter), plan.limit)?;
     Ok(Worker {
         letter,
         links,
+        limit: plan.limit,
         module,
         basket,
         book: (),

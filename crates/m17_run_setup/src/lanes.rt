@@ -19,19 +19,19 @@ use m17_sender::Hint;
 use m17_values::NoMemory;
 use std::alloc::Global;
 
-/// So many events wait in a module's inbox.
+/// The most events that wait in a module's inbox.
 const INBOX_ROOM: u32 = 256;
 
-/// So many items wait in the queue of a place.
+/// The most items that wait in the queue of a place.
 const QUEUE_ROOM: u32 = 64;
 
-/// So many replies wait at the door.
+/// The most replies that wait at the door.
 const DOOR_ROOM: u32 = 256;
 
-/// So many members wait in the notes of a link.
+/// The most members that wait in the notes of a link.
 const NOTES_ROOM: u32 = 512;
 
-/// So many orders wait for a job: one to begin, and one to end.
+/// The most orders that wait for a job: one to begin, and one to end.
 const ORDERS_ROOM: u32 = 2;
 
 /// All lanes of a run: what the jobs get of them, and what is kept beside the jobs.

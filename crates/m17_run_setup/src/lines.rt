@@ -22,7 +22,7 @@ pub(crate) struct Lines<T> {
     pub(crate) poppers: Vec<Vec<Popper<T>>>,
 }
 
-/// Makes so many lanes, each with room for that many items and a bell of its own.
+/// Makes `count` lanes, each with room for `capacity` items and a bell of its own.
 pub(crate) fn lay_line<T: Drop>(
     alloc: Global,
     count: u32,
@@ -42,7 +42,7 @@ pub(crate) fn lay_line<T: Drop>(
     Ok(Line { pushers, poppers })
 }
 
-/// Makes so many lanes that ring this bell, with marks from this first one on, which has to be the next one.
+/// Makes `count` lanes that ring this bell, with marks from this first one on, which has to be the next one.
 pub(crate) fn lay_marked_line<T: Drop>(
     alloc: Global,
     bell: &mut MarkedBell,

@@ -18,7 +18,7 @@ pub(crate) struct MarkedBell {
 }
 
 impl MarkedBell {
-    /// A bell for so many lanes, of which none is laid.
+    /// A bell for this number of lanes, of which none is laid.
     pub(crate) fn make(alloc: Global, lanes: u32) -> Result<MarkedBell, NoMemory>
         ensures { IfOk result (λ bell. (bell.lanes ≡ lanes) × (bell.laid ≡ 0)) }
     {
@@ -49,7 +49,7 @@ impl MarkedBell {
         make_one_marked(alloc, &self.bell, mark, capacity)
     }
 
-    /// Lays a lane of so many producers with this mark, which has to be the next one.
+    /// Lays a lane of this number of producers with this mark, which has to be the next one.
     pub(crate) fn lay<T: Drop>(
         &mut self,
         alloc: Global,

@@ -71,7 +71,7 @@ struct Bare {
     orders: OrderEnds,
 }
 
-/// Makes all that a run of the plan over so many links needs but its devices. `NoMemory` where there is none for it;
+/// Makes all that a run of the plan over `links` links needs but its devices. `NoMemory` where there is none for it;
 /// nothing else is refused.
 pub fn prepare<
     E: Ear + Drop + Send + 'static,

@@ -158,6 +158,7 @@ fn with_book<B>(worker: Worker<()>, book: B) -> Worker<B>
     Worker {
         letter: worker.letter,
         links: worker.links,
+        limit: worker.limit,
         module: worker.module,
         basket: worker.basket,
         book,

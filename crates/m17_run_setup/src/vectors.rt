@@ -5,7 +5,7 @@ ghost use Rattle.m17_run_setup.specs.Rooms.{AreRooms, IsRoom};
 use m17_values::NoMemory;
 use std::alloc::Global;
 
-/// An empty vector with room for so many.
+/// An empty vector with room for `count` items.
 pub(crate) fn room<T>(alloc: Global, count: u32) -> Result<Vec<T>, NoMemory>
     ensures { IfOk result (IsRoom count) }
 {
@@ -15,7 +15,7 @@ pub(crate) fn room<T>(alloc: Global, count: u32) -> Result<Vec<T>, NoMemory>
     }
 }
 
-/// That many empty vectors, each with room for so many.
+/// `rows` empty vectors, each with room for `count` items.
 pub(crate) fn rooms<T: Drop>(alloc: Global, rows: u32, count: u32) -> Result<Vec<Vec<T>>, NoMemory>
     ensures { IfOk result (λ all. AreRooms rows count all) }
 {

@@ -52,6 +52,7 @@ pub(crate) fn plan(rt: &impl Abort, letters: &str, places: u32) -> Plan
         places,
         patient: false,
         entries: 2,
+        limit: 180_000,
     }
 }
 

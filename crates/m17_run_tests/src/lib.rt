@@ -12,6 +12,8 @@ mod beside_tests;
 #[cfg(test)]
 mod faults_tests;
 #[cfg(test)]
+mod limit_tests;
+#[cfg(test)]
 mod made_tests;
 #[cfg(test)]
 mod meeting;

@@ -49,7 +49,7 @@ fn run<R: Threads + Wait + Abort + Copy + Send + 'static>(
 fn records_of(rt: &impl Abort, alloc: Global, book: &ListBook) -> Vec<Record> {
     let bytes = must(rt, book.bytes().to_vec(alloc));
     let mut source = BytesSource::new(bytes, Vec::new(alloc));
-    must(rt, read_book(alloc, &mut source))
+    must(rt, read_book(alloc, &mut source)).1
 }
 
 // Appends the members that join by these records.
@@ -111,7 +111,7 @@ fn counted(bytes: &[u8]) -> Report {
         streams: 0,
         admitted: 0,
     };
-    let mut at: usize = 9;
+    let mut at: usize = 17;
     for _record in 0..bytes.len() {
         let Some(kind) = bytes.get(at) else {
             return report;

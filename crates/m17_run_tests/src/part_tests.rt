@@ -79,7 +79,8 @@ fn worker<R: Abort>(
     Worker {
         letter,
         links: 1,
-        module: must(rt, Module::make(alloc, 4, false)),
+        limit: 0,
+        module: must(rt, Module::make(alloc, 4, false, 0)),
         basket: must(rt, Basket::make(alloc)),
         book,
         inbox: popper(rt, alloc),

@@ -37,7 +37,7 @@ is_to k item = is_same item.member k
 abbrev pub items_of : Queues → Joined → List Item
 items_of queues j = filter (is_to j.member) (queues j.m j.member.place)
 
--- Its items begin with the Hello that waits for so many notes, and nothing follows a Bye.
+-- Its items begin with the Hello that waits for `after` notes, and nothing follows a Bye.
 pub record IsLifeFrom (after : ℕ) (items : List Item) : Type 0 where
   pub begins : (first : Item) (rest : List Item) → items ≡ first ∷ rest →
       first.body ≡ Hello after

@@ -22,7 +22,7 @@ pub struct Hint {
 }
 
 impl Hint {
-    /// A hint for so many queues of this bell, in which nothing is. The lane of queue q of module m is to have the mark
+    /// A hint for this number of queues of this bell, in which nothing is. The lane of queue q of module m is to have the mark
     /// `m * places + q`, and the door and the orders any other mark of the bell, so that a push on any of them ends the
     /// sender's sleep. `NoMemory` where there is none for it.
     pub fn make(alloc: Global, bell: Bell, queues: u32) -> Result<Hint, NoMemory> {

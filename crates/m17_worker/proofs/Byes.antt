@@ -63,8 +63,8 @@ no_echo_items n seats (Some echo) = no_byes_one (said.Echo n echo.1) refl (seat_
 no_echoes : (setup : Setup) (events : List Event) (n : ℕ) → byes (echoes_at setup events n) ≡ []
 unfolding echoes_at
 no_echoes setup events n =
-    no_byes_if setup.parrot (echo_items n (seats_at setup.places events n) (echo_at setup.places (acts_of events) n))
-    (no_echo_items n (seats_at setup.places events n) (echo_at setup.places (acts_of events) n))
+    no_byes_if setup.parrot (echo_items n (seats_at setup.places events n) (echo_at setup (acts_of events) n))
+    (no_echo_items n (seats_at setup.places events n) (echo_at setup (acts_of events) n))
 
 -- a Bye to somebody, or nobody
 one_bye : (why : Why) (o : Option Seat) → IsFew (to_one (said.Bye why) o)
@@ -98,13 +98,13 @@ few_said now (Reply k control) = (None, no_byes_one (said.Reply control) refl (s
 few_said now Tick = (None, refl)
 few_said now Stop = (None, refl)
 
-few_by : (places : ℕ) (events : List Event) (n : ℕ) (o : Option Event) → IsFew (said_by places events n o)
-few_by places events n None = (None, refl)
-few_by places events n (Some event) = few_said (setting_at places events n event.tag.link) event.body
+few_by : (setup : Setup) (events : List Event) (n : ℕ) (o : Option Event) → IsFew (said_by setup events n o)
+few_by setup events n None = (None, refl)
+few_by setup events n (Some event) = few_said (setting_at setup events n event.tag.link) event.body
 
-few_said_at : (places : ℕ) (events : List Event) (n : ℕ) → IsFew (said_at places events n)
+few_said_at : (setup : Setup) (events : List Event) (n : ℕ) → IsFew (said_at setup events n)
 unfolding said_at
-few_said_at places events n = few_by places events n (slice_get events n)
+few_said_at setup events n = few_by setup events n (slice_get events n)
 
 pub few_byes : (setup : Setup) (events : List Event) (n : ℕ) → IsFew (items_at setup events n)
 unfolding items_at
@@ -113,7 +113,7 @@ few_byes setup events n =
     filter-append is_bye (pings_at setup.places events n) (echoes_at setup events n)
     ∙ ap (λ l. l ++ byes (echoes_at setup events n)) (no_pings setup.places events n)
     ∙ no_echoes setup events n in
-    then_few (pings_at setup.places events n ++ echoes_at setup events n) (said_at setup.places events n) none (few_said_at setup.places events n)
+    then_few (pings_at setup.places events n ++ echoes_at setup events n) (said_at setup events n) none (few_said_at setup events n)
 
 -- the records of Leaves are those of the Byes
 module _ (f : Item → Option Record) (other : (item : Item) → is_bye item ≡ false → f item ≡ None) where

@@ -31,7 +31,7 @@ use Rattle.m17_module.specs.Book.{RecordsAreLegal}
 use Rattle.m17_module.specs.Events.{kind_of, act_of, acts_of}
 use Rattle.m17_module.specs.Seats.{seat_at, seats_at, members_of, seat_in, seat_of, others_than}
 use Rattle.m17_module.specs.Echoes.{echo_at}
-use Rattle.m17_module.specs.Items.{Setup, Setting, item_to, to_one, says, pings_at, echo_items, echoes_at, said_by, said_at, setting_at, items_at, ping_every_ms}
+use Rattle.m17_module.specs.Items.{Setup, floor_setup, Setting, item_to, to_one, says, pings_at, echo_items, echoes_at, said_by, said_at, setting_at, items_at, ping_every_ms}
 use Rattle.m17_book.specs.Checks.{kept_by}
 use Rattle.m17_book.specs.declared.record.Record.{Record}
 use Rattle.m17_book.specs.declared.record.Record.TheVariants as records
@@ -76,15 +76,15 @@ no_echo_items tag moment n seats (Some echo) = no_leave_to tag moment (said.Echo
 no_echoes : (tag : Tag) (moment : ℕ) (setup : Setup) (events : List Event) (n : ℕ) → leaves tag moment (echoes_at setup events n) ≡ []
 unfolding echoes_at
 no_echoes tag moment setup events n =
-    no_leaves_if tag moment setup.parrot (echo_items n (seats_at setup.places events n) (echo_at setup.places (acts_of events) n))
-    (no_echo_items tag moment n (seats_at setup.places events n) (echo_at setup.places (acts_of events) n))
+    no_leaves_if tag moment setup.parrot (echo_items n (seats_at setup.places events n) (echo_at setup (acts_of events) n))
+    (no_echo_items tag moment n (seats_at setup.places events n) (echo_at setup (acts_of events) n))
 
 -- all Leaves are of what the event itself says
-leaves_said : (tag : Tag) (moment : ℕ) (setup : Setup) (events : List Event) (n : ℕ) → leaves tag moment (items_at setup events n) ≡ leaves tag moment (said_at setup.places events n)
+leaves_said : (tag : Tag) (moment : ℕ) (setup : Setup) (events : List Event) (n : ℕ) → leaves tag moment (items_at setup events n) ≡ leaves tag moment (said_at setup events n)
 unfolding items_at
 leaves_said tag moment setup events n =
-    leaves-append tag moment (pings_at setup.places events n ++ echoes_at setup events n) (said_at setup.places events n)
-    ∙ ap (λ xs. xs ++ leaves tag moment (said_at setup.places events n))
+    leaves-append tag moment (pings_at setup.places events n ++ echoes_at setup events n) (said_at setup events n)
+    ∙ ap (λ xs. xs ++ leaves tag moment (said_at setup events n))
     (leaves-append tag moment (pings_at setup.places events n) (echoes_at setup events n)
     ∙ ap (λ xs. xs ++ leaves tag moment (echoes_at setup events n)) (no_pings tag moment setup.places events n)
     ∙ no_echoes tag moment setup events n)
@@ -122,72 +122,72 @@ kept_one moment k p verdict = record { act = packet_act moment k p; verdict = ve
 kept_packet : (now : Noted) (k : Member) (p : StreamPacket) (verdict : Verdict) → now.verdict ≡ Some verdict → map kept_by (option_to_list (own_record now (Packet k p))) ≡ kept_by (records.Packet now.tag now.moment k verdict p) ∷ []
 kept_packet now k p verdict is = ap (λ o. map kept_by (option_to_list (option_map (λ v. records.Packet now.tag now.moment k v p) o))) is
 
-some_verdict : (places : ℕ) (acts : List Act) (n : ℕ) (k : Member) (p : StreamPacket) → kind_at acts n ≡ act.Packet k p → (verdict : Verdict) × (verdict_at places acts n ≡ Some verdict)
+some_verdict : (setup : Setup) (acts : List Act) (n : ℕ) (k : Member) (p : StreamPacket) → kind_at acts n ≡ act.Packet k p → (verdict : Verdict) × (verdict_at (floor_setup setup) acts n ≡ Some verdict)
 unfolding verdict_at verdict_given
-some_verdict places acts n k p is = (verdict_after (past_at places acts n) (incoming k (moment_at acts n) p), ap (verdict_given (past_at places acts n) (moment_at acts n)) is)
+some_verdict setup acts n k p is = (verdict_after (past_at (floor_setup setup) acts n) (incoming k (moment_at acts n) p), ap (verdict_given (past_at (floor_setup setup) acts n) (moment_at acts n)) is)
 
 length_seats : (places : ℕ) (events : List Event) (n : ℕ) → length (seats_at places events n) ≡ places
 unfolding seats_at
 length_seats places events n = length-map-range_with_len (seat_at places events n) 0 places
 
 -- what is kept of the records of one event, by what it is
-by_body : (places : ℕ) (events : List Event) (n : ℕ) (tag : Tag) (body : Body) → kind_at (acts_of events) n ≡ kind_of body →
-    map kept_by (leaves tag (moment_at (acts_of events) n) (says (setting_at places events n tag.link) body))
-    ++ map kept_by (option_to_list (own_record (noted_at places events n tag) body))
-    ≡ keeps.kept_by (keeps.keeping_at places events n) body
-by_body places events n tag (Join k peer callsign listen after) is =
-    kept_join (noted_at places events n tag) (seats_at places events n) k (record { member = k; link = tag.link; peer = peer; listens = listen }) listen callsign after
-    (nat_lt k.place (length (seats_at places events n))) (nat_lt k.place places) (ap (nat_lt k.place) (length_seats places events n))
-by_body places events n tag (Leave k why) is =
-    append-nil (map kept_by (leaves tag (moment_at (acts_of events) n) (to_one (said.Bye why) (seat_of (seats_at places events n) k))))
-    ∙ leave_to tag (moment_at (acts_of events) n) why (seat_of (seats_at places events n) k)
-by_body places events n tag (Packet k p) is =
-    let now : Noted = noted_at places events n tag in
-    let found = some_verdict places (acts_of events) n k p is in
-    let setting : Setting = setting_at places events n tag.link in
+by_body : (setup : Setup) (events : List Event) (n : ℕ) (tag : Tag) (body : Body) → kind_at (acts_of events) n ≡ kind_of body →
+    map kept_by (leaves tag (moment_at (acts_of events) n) (says (setting_at setup events n tag.link) body))
+    ++ map kept_by (option_to_list (own_record (noted_at setup events n tag) body))
+    ≡ keeps.kept_by (keeps.keeping_at setup events n) body
+by_body setup events n tag (Join k peer callsign listen after) is =
+    kept_join (noted_at setup events n tag) (seats_at setup.places events n) k (record { member = k; link = tag.link; peer = peer; listens = listen }) listen callsign after
+    (nat_lt k.place (length (seats_at setup.places events n))) (nat_lt k.place setup.places) (ap (nat_lt k.place) (length_seats setup.places events n))
+by_body setup events n tag (Leave k why) is =
+    append-nil (map kept_by (leaves tag (moment_at (acts_of events) n) (to_one (said.Bye why) (seat_of (seats_at setup.places events n) k))))
+    ∙ leave_to tag (moment_at (acts_of events) n) why (seat_of (seats_at setup.places events n) k)
+by_body setup events n tag (Packet k p) is =
+    let now : Noted = noted_at setup events n tag in
+    let found = some_verdict setup (acts_of events) n k p is in
+    let setting : Setting = setting_at setup events n tag.link in
     let none : leaves tag now.moment (says setting (Packet k p)) ≡ [] =
     no_leaves_if tag now.moment setting.admitted (map (item_to (said.Frame setting.position p)) (others_than k setting.seats)) (no_leaves tag now.moment (said.Frame setting.position p) (others_than k setting.seats) refl) in
     ap (λ xs. map kept_by xs ++ map kept_by (option_to_list (own_record now (Packet k p)))) none
     ∙ kept_packet now k p found.0 found.1
     ∙ ap (λ o. kept_one now.moment k p o ∷ []) (sym found.1)
-by_body places events n tag (Reply k control) is =
-    ap (λ xs. map kept_by xs ++ []) (no_leave_to tag (moment_at (acts_of events) n) (said.Reply control) (seat_of (seats_at places events n) k) refl)
-by_body places events n tag Tick is = refl
-by_body places events n tag Stop is = refl
+by_body setup events n tag (Reply k control) is =
+    ap (λ xs. map kept_by xs ++ []) (no_leave_to tag (moment_at (acts_of events) n) (said.Reply control) (seat_of (seats_at setup.places events n) k) refl)
+by_body setup events n tag Tick is = refl
+by_body setup events n tag Stop is = refl
 
 kind_here : (events : List Event) (n : ℕ) (event : Event) → slice_get events n ≡ Some event → kind_at (acts_of events) n ≡ kind_of event.body
 kind_here events n event is = ap kind_or_other (slice_get-map act_of events n ∙ ap (option_map act_of) is)
 
-said_is : (places : ℕ) (events : List Event) (n : ℕ) (event : Event) → slice_get events n ≡ Some event → said_at places events n ≡ says (setting_at places events n event.tag.link) event.body
+said_is : (setup : Setup) (events : List Event) (n : ℕ) (event : Event) → slice_get events n ≡ Some event → said_at setup events n ≡ says (setting_at setup events n event.tag.link) event.body
 unfolding said_at
-said_is places events n event is = ap (said_by places events n) is
+said_is setup events n event is = ap (said_by setup events n) is
 
-kept_event : (setup : Setup) (events : List Event) (n : ℕ) (event : Event) → slice_get events n ≡ Some event → map kept_by (records_by (noted_at setup.places events n event.tag) (items_at setup events n) event.body) ≡ keeps.kept_by (keeps.keeping_at setup.places events n) event.body
+kept_event : (setup : Setup) (events : List Event) (n : ℕ) (event : Event) → slice_get events n ≡ Some event → map kept_by (records_by (noted_at setup events n event.tag) (items_at setup events n) event.body) ≡ keeps.kept_by (keeps.keeping_at setup events n) event.body
 kept_event setup events n event is =
     let now : ℕ = moment_at (acts_of events) n in
-    let own : Option Record = own_record (noted_at setup.places events n event.tag) event.body in
+    let own : Option Record = own_record (noted_at setup events n event.tag) event.body in
     kept_parts (leaves event.tag now (items_at setup events n)) own
-    ∙ ap (λ xs. map kept_by xs ++ map kept_by (option_to_list own)) (leaves_said event.tag now setup events n ∙ ap (leaves event.tag now) (said_is setup.places events n event is))
-    ∙ by_body setup.places events n event.tag event.body (kind_here events n event is)
+    ∙ ap (λ xs. map kept_by xs ++ map kept_by (option_to_list own)) (leaves_said event.tag now setup events n ∙ ap (leaves event.tag now) (said_is setup events n event is))
+    ∙ by_body setup events n event.tag event.body (kind_here events n event is)
 
-kept_for : (setup : Setup) (events : List Event) (n : ℕ) (o : Option Event) → slice_get events n ≡ o → map kept_by (records_for setup events n o) ≡ keeps.kept_from setup.places events n o
+kept_for : (setup : Setup) (events : List Event) (n : ℕ) (o : Option Event) → slice_get events n ≡ o → map kept_by (records_for setup events n o) ≡ keeps.kept_from setup events n o
 kept_for setup events n None is = refl
 kept_for setup events n (Some event) is = kept_event setup events n event is
 
-kept_position : (setup : Setup) (events : List Event) (n : ℕ) → map kept_by (records_at setup events n) ≡ keeps.kept_at setup.places events n
+kept_position : (setup : Setup) (events : List Event) (n : ℕ) → map kept_by (records_at setup events n) ≡ keeps.kept_at setup events n
 unfolding records_at keeps.kept_at
 kept_position setup events n = kept_for setup events n (slice_get events n) refl
 
-kept_all : (setup : Setup) (events : List Event) (ns : List ℕ) → map kept_by (flat_map (records_at setup events) ns) ≡ flat_map (keeps.kept_at setup.places events) ns
+kept_all : (setup : Setup) (events : List Event) (ns : List ℕ) → map kept_by (flat_map (records_at setup events) ns) ≡ flat_map (keeps.kept_at setup events) ns
 kept_all setup events [] = refl
 kept_all setup events (n ∷ ns) =
     map-append kept_by (records_at setup events n) (flat_map (records_at setup events) ns)
     ∙ ap (λ xs. xs ++ map kept_by (flat_map (records_at setup events) ns)) (kept_position setup events n)
-    ∙ ap (λ xs. keeps.kept_at setup.places events n ++ xs) (kept_all setup events ns)
+    ∙ ap (λ xs. keeps.kept_at setup events n ++ xs) (kept_all setup events ns)
 
 pub records_keep : RecordsKeepTheActs
 unfolding records_of keeps.kept_of
 records_keep setup events = kept_all setup events (range_with_len 0 (length events))
 
 pub books_legal : RecordsAreLegal → BooksAreLegal
-books_legal legal setup events few = subst IsLegal (sym (records_keep setup events)) (legal setup.places events few)
+books_legal legal setup events few = subst (IsLegal setup.limit) (sym (records_keep setup events)) (legal setup events few)

@@ -10,7 +10,7 @@ use Rattle.m17_control.specs.declared.event.Body.{Body}
 use Rattle.m17_control.specs.declared.event.Body.TheVariants as body
 use Rattle.m17_control.specs.declared.item.Item.{Item}
 use Rattle.m17_floor.specs.declared.verdict.Verdict.{Verdict}
-use Rattle.m17_floor.specs.declared.verdict.Verdict.TheVariants.{Opened, Continued, Busy, Repeat, Late, AfterEnd, NotMember, ListenOnly}
+use Rattle.m17_floor.specs.declared.verdict.Verdict.TheVariants.{Opened, Continued, Busy, Repeat, Late, AfterEnd, TimedOut, NotMember, ListenOnly}
 use Rattle.m17_floor.specs.Acts.{moment_at, greatest_moment, is_packet}
 use Rattle.m17_floor.specs.Laws.{LaterActsChangeNoVerdict, LaterActsChangeNoMoment}
 use Rattle.m17_module.specs.Events.{acts_of, kind_of}
@@ -18,6 +18,7 @@ use Rattle.m17_module.specs.Items.{Setup, items_at, items_given}
 use Rattle.m17_module.specs.StandsFor.{ModuleKept, IsStep, stepped}
 use Rattle.m17_module.specs.Laws.{LaterEventsChangeNoItems, OneEventMoreGives, VerdictsFit, FitsIn, IsNumbered}
 use Rattle.m17_ports.specs.Book.{BookTold, HasText}
+use Rattle.m17_book.specs.declared.head.Head.{Head}
 use Rattle.m17_book.specs.Records.{record_bytes, IsLowVerdict}
 use Rattle.m17_rows.specs.Laws.{RowsGrow}
 use Rattle.m17_worker.specs.declared.worker.Worker.{Worker}
@@ -26,7 +27,7 @@ use Rattle.m17_worker.specs.Offers.{AreOffered}
 use Rattle.m17_worker.specs.Gifts.{is_bye, gifts_by, leaves_replaced, gifts, GaveBack}
 use Rattle.m17_worker.specs.Records.{Noted, noted_at, leave_record, own_record, records_of, book_text}
 use Rattle.m17_worker.specs.Tape.{IsTaped}
-use Rattle.m17_worker.specs.WorkerDid.{HasServed}
+use Rattle.m17_worker.specs.WorkerDid.{head_of, HasServed}
 use Rattle.m17_worker.specs.Underway.{noted_text, filled, HasRoom}
 use Rattle.m17_worker.specs.declared.offers.LaneOffers.{LaneOffers}
 use Rattle.m17_roll.specs.Seat.{RollView}
@@ -67,13 +68,13 @@ pub record IsSeen {B L : Type 0} (told : B → BookTold L) (events : List Event)
   pub tape : n.tape.items ≡ filled k.tape.items s.event s.verdict
 
 -- the records of the event are those that were written
-written_is : (laws : Laws) (setup : Setup) (events : List Event) (s : Seen) (kept : ModuleKept) (letter : ℕ)
+written_is : (laws : Laws) (setup : Setup) (events : List Event) (s : Seen) (kept : ModuleKept) (head : Head)
     → IsStep setup events s.event (stepped s.verdict kept s.items) → IsTheBye s.bye s.items
-    → noted_text (book_text letter (records_of setup events)) kept.moment (record { event = s.event; verdict = s.verdict; bye = s.bye; places = setup.places })
-    ≡ book_text letter (records_of setup (events ++ s.event ∷ []))
-written_is laws setup events s kept letter step the_bye =
+    → noted_text (book_text head (records_of setup events)) kept.moment (record { event = s.event; verdict = s.verdict; bye = s.bye; places = setup.places })
+    ≡ book_text head (records_of setup (events ++ s.event ∷ []))
+written_is laws setup events s kept head step the_bye =
     let longer : List Event = events ++ s.event ∷ [] in
-    let now : Noted = noted_at setup.places longer (length events) s.event.tag in
+    let now : Noted = noted_at setup longer (length events) s.event.tag in
     let moment : kept.moment ≡ moment_at (acts_of longer) (length events) =
     step.stands.moment ∙ ap (λ n. greatest_moment (take n (acts_of longer))) (length_more events s.event) in
     let few = few_byes setup longer (length events) in
@@ -86,11 +87,11 @@ written_is laws setup events s kept letter step the_bye =
     let own : option_to_list (own_record (make kept.moment s.verdict) s.event.body) ≡ option_to_list (own_record now s.event.body) =
     ap (λ m. option_to_list (own_record (make m s.verdict) s.event.body)) moment
     ∙ ap (λ v. option_to_list (own_record (make now.moment v) s.event.body)) step.verdict in
-    let before : List ℕ = book_text letter (records_of setup events) in
+    let before : List ℕ = book_text head (records_of setup events) in
     ap (λ rs. (before ++ flat_map record_bytes rs) ++ flat_map record_bytes (option_to_list (own_record (make kept.moment s.verdict) s.event.body))) leave
     ∙ ap (λ rs. (before ++ flat_map record_bytes (filter_map (leave_record s.event.tag now.moment) (items_at setup longer (length events)))) ++ flat_map record_bytes rs) own
-    ∙ sym (text_goes_on letter (records_of setup events) (filter_map (leave_record s.event.tag now.moment) (items_at setup longer (length events))) (option_to_list (own_record now s.event.body)))
-    ∙ ap (book_text letter) (sym (records_more laws.items laws.verdicts laws.moments setup events s.event))
+    ∙ sym (text_goes_on head (records_of setup events) (filter_map (leave_record s.event.tag now.moment) (items_at setup longer (length events))) (option_to_list (own_record now s.event.body)))
+    ∙ ap (book_text head) (sym (records_more laws.items laws.verdicts laws.moments setup events s.event))
 
 pub served_more : {B L : Type 0} (told : B → BookTold L) (laws : Laws) (events : List Event) (s : Seen) (j k n : Worker B)
     → k.module.setup ≡ j.module.setup → is_there k.links k.module.setup.places s.event ≡ true
@@ -105,7 +106,7 @@ served_more told laws events s j k n same there seen h =
     ∙ (and_parts (nat_lt s.event.tag.link k.links) (option_map_or (λ place. nat_lt place k.module.setup.places) (place_of s.event.body) true) there).1 in
     let O : List Item → Type 0 = λ l. AreOffered l j.offers n.offers in
     let G : List Member → Type 0 = λ l. GaveBack j.seat l n.seat in
-    let C : List (Option Verdict) → Type 0 = λ l. IsTaped setup.places longer l in
+    let C : List (Option Verdict) → Type 0 = λ l. IsTaped setup longer l in
     let T : List ℕ → Type 0 = λ l. HasText (told j.book) l n.book_failed (told n.book) in
     record {
       stands = step.stands;
@@ -115,10 +116,10 @@ served_more told laws events s j k n same there seen h =
       gave_back = subst G
           (ap (λ l. gifts setup events ++ gifts_by (not (leaves_replaced s.event.body)) l) step.items ∙ sym (gifts_more laws.items setup events s.event))
           (gave_then j.seat k.seat n.seat (gifts setup events) (gifts_by (not (leaves_replaced s.event.body)) s.items) h.gave_back seen.gave);
-      booked = subst T (written_is laws setup events s n.module j.letter step seen.the_bye)
-          (seen.text (told j.book) (book_text j.letter (records_of setup events)) setup.places fits h.booked);
+      booked = subst T (written_is laws setup events s n.module (head_of j) step seen.the_bye)
+          (seen.text (told j.book) (book_text (head_of j) (records_of setup events)) setup.places fits h.booked);
       taped = subst C (sym seen.tape)
-          (taped_more laws.verdicts setup.places events s.event s.verdict k.tape.items seen.answer step.verdict h.taped);
+          (taped_more laws.verdicts setup events s.event s.verdict k.tape.items seen.answer step.verdict h.taped);
     }
 
 -- what was seen of an event, where the last that was done wrote the book and the tape
@@ -162,6 +163,7 @@ fits_low places (Busy holder) few h = omega (arith, few, h)
 fits_low places Repeat few h = tt
 fits_low places (Late last) few h = h
 fits_low places AfterEnd few h = tt
+fits_low places TimedOut few h = tt
 fits_low places NotMember few h = tt
 fits_low places ListenOnly few h = tt
 
@@ -181,7 +183,7 @@ pub low_verdict : VerdictsFit → (setup : Setup) (events : List Event) (event :
     → setup.places ≤ 256 → IsStep setup events event (stepped verdict kept items)
     → ForSome verdict IsLowVerdict
 low_verdict fit setup events event verdict kept items few step v is =
-    fits_low setup.places v few (fit setup.places (events ++ event ∷ []) (length events) v (all_numbered (events ++ event ∷ [])) (sym step.verdict ∙ is))
+    fits_low setup.places v few (fit setup (events ++ event ∷ []) (length events) v (all_numbered (events ++ event ∷ [])) (sym step.verdict ∙ is))
 
 -- room is left by what writes the book and the tape
 pub room_after : {B : Type 0} (mid n : Worker B) → n ≡ record mid { book = n.book; book_failed = n.book_failed; tape = n.tape } → HasRoom mid → HasRoom n

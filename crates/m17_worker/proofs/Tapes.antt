@@ -12,15 +12,16 @@ use Rattle.m17_floor.specs.Acts.{is_packet}
 use Rattle.m17_floor.specs.Floor.{verdict_at}
 use Rattle.m17_floor.specs.Laws.{LaterActsChangeNoVerdict}
 use Rattle.m17_module.specs.Events.{acts_of, kind_of}
+use Rattle.m17_module.specs.Items.{Setup, floor_setup}
 use Rattle.m17_worker.specs.Underway.{filled}
 use Rattle.m17_worker.specs.Tape.{is_packet_of, position_of, verdict_on, IsTaped}
 use Rattle.m17_worker.proofs.Lists.{slice_get_before, slice_get_end, length_more}
 use Rattle.m17_worker.proofs.Gathered.{acts_append, length_acts}
 
 -- no event, no position
-pub none_taped : (places index : ℕ) → verdict_on places [] index ≡ None
+pub none_taped : (setup : Setup) (index : ℕ) → verdict_on setup [] index ≡ None
 unfolding last_below position_of
-none_taped places index = refl
+none_taped setup index = refl
 
 -- whether the event at a position is the one that is sought
 abbrev test_of : List Event → ℕ → ℕ → Bool
@@ -43,20 +44,20 @@ unfolding position_of
 position_lt events index n e = last_below_lt (test_of events index) (length events) n e
 
 -- the verdict on an entry, if the event is its packet, and if not
-verdict_here : (places : ℕ) (events : List Event) (event : Event) (index : ℕ) → is_packet_of index event ≡ true
-    → verdict_on places (events ++ event ∷ []) index ≡ verdict_at places (acts_of (events ++ event ∷ [])) (length events)
-verdict_here places events event index is =
-    ap (option_and_then (verdict_at places (acts_of (events ++ event ∷ []))))
+verdict_here : (setup : Setup) (events : List Event) (event : Event) (index : ℕ) → is_packet_of index event ≡ true
+    → verdict_on setup (events ++ event ∷ []) index ≡ verdict_at (floor_setup setup) (acts_of (events ++ event ∷ [])) (length events)
+verdict_here setup events event index is =
+    ap (option_and_then (verdict_at (floor_setup setup) (acts_of (events ++ event ∷ []))))
     (position_more events event index ∙ ap (λ b. cond b (Some (length events)) (position_of events index)) is)
 
-verdict_else : LaterActsChangeNoVerdict → (places : ℕ) (events : List Event) (event : Event) (index : ℕ) → is_packet_of index event ≡ false
-    → verdict_on places (events ++ event ∷ []) index ≡ verdict_on places events index
-verdict_else later places events event index is =
-    ap (option_and_then (verdict_at places (acts_of (events ++ event ∷ []))))
+verdict_else : LaterActsChangeNoVerdict → (setup : Setup) (events : List Event) (event : Event) (index : ℕ) → is_packet_of index event ≡ false
+    → verdict_on setup (events ++ event ∷ []) index ≡ verdict_on setup events index
+verdict_else later setup events event index is =
+    ap (option_and_then (verdict_at (floor_setup setup) (acts_of (events ++ event ∷ []))))
     (position_more events event index ∙ ap (λ b. cond b (Some (length events)) (position_of events index)) is)
-    ∙ and_then_same (position_of events index) (verdict_at places (acts_of (events ++ event ∷ []))) (verdict_at places (acts_of events))
-    (λ n e. ap (λ acts. verdict_at places acts n) (acts_append events (event ∷ []))
-    ∙ later places (acts_of events) (acts_of (event ∷ [])) n (omega (arith, position_lt events index n e, length_acts events)))
+    ∙ and_then_same (position_of events index) (verdict_at (floor_setup setup) (acts_of (events ++ event ∷ []))) (verdict_at (floor_setup setup) (acts_of events))
+    (λ n e. ap (λ acts. verdict_at (floor_setup setup) acts n) (acts_append events (event ∷ []))
+    ∙ later (floor_setup setup) (acts_of events) (acts_of (event ∷ [])) n (omega (arith, position_lt events index n e, length_acts events)))
 
 pub set_here : {A : Type 0} (xs : List A) (i : ℕ) (x : A) → i < length xs → slice_get (set xs i x) i ≡ Some x
 set_here [] i x lt = absurd (omega arith)
@@ -84,12 +85,12 @@ no_hit true true c h = h
 no_hit true false c h = refl
 no_hit false b c h = refl
 
-cell_is : LaterActsChangeNoVerdict → (places : ℕ) (events : List Event) (event : Event) (verdict : Option Verdict) (tape : List (Option Verdict)) (b : Bool)
+cell_is : LaterActsChangeNoVerdict → (setup : Setup) (events : List Event) (event : Event) (verdict : Option Verdict) (tape : List (Option Verdict)) (b : Bool)
     → b ≡ ((event.tag.link == 0) && is_packet (kind_of event.body))
-    → verdict ≡ verdict_at places (acts_of (events ++ event ∷ [])) (length events)
-    → IsTaped places events tape → (index : ℕ) → index < length tape
-    → slice_get (cond b (set tape event.tag.index verdict) tape) index ≡ Some (verdict_on places (events ++ event ∷ []) index)
-cell_is later places events event verdict tape true is told h index lt =
+    → verdict ≡ verdict_at (floor_setup setup) (acts_of (events ++ event ∷ [])) (length events)
+    → IsTaped setup events tape → (index : ℕ) → index < length tape
+    → slice_get (cond b (set tape event.tag.index verdict) tape) index ≡ Some (verdict_on setup (events ++ event ∷ []) index)
+cell_is later setup events event verdict tape true is told h index lt =
     let parts = and_parts (event.tag.link == 0) (is_packet (kind_of event.body)) (sym is) in
     elim (cases_eq index event.tag.index) [
       | inl same ↦
@@ -98,20 +99,20 @@ cell_is later places events event verdict tape true is told h index lt =
           ∙ ap (λ b. b && is_packet (kind_of event.body)) (eq-eqb index event.tag.index same) ∙ parts.1 in
           ap (λ i. slice_get (set tape event.tag.index verdict) i) same
           ∙ set_here tape event.tag.index verdict (omega (arith, lt, same))
-          ∙ ap Some (told ∙ sym (verdict_here places events event index hit))
+          ∙ ap Some (told ∙ sym (verdict_here setup events event index hit))
       | inr ne ↦
           let miss : is_packet_of index event ≡ false =
           and_right (event.tag.link == 0) ((index == event.tag.index) && is_packet (kind_of event.body))
           (and_left (index == event.tag.index) (is_packet (kind_of event.body)) (ne_eqb index event.tag.index ne)) in
-          set_else tape event.tag.index index verdict ne ∙ h index lt ∙ ap Some (sym (verdict_else later places events event index miss))
+          set_else tape event.tag.index index verdict ne ∙ h index lt ∙ ap Some (sym (verdict_else later setup events event index miss))
     ]
-cell_is later places events event verdict tape false is told h index lt =
-    h index lt ∙ ap Some (sym (verdict_else later places events event index (no_hit (event.tag.link == 0) (index == event.tag.index) (is_packet (kind_of event.body)) (sym is))))
+cell_is later setup events event verdict tape false is told h index lt =
+    h index lt ∙ ap Some (sym (verdict_else later setup events event index (no_hit (event.tag.link == 0) (index == event.tag.index) (is_packet (kind_of event.body)) (sym is))))
 
-pub taped_more : LaterActsChangeNoVerdict → (places : ℕ) (events : List Event) (event : Event) (verdict : Option Verdict) (tape : List (Option Verdict))
+pub taped_more : LaterActsChangeNoVerdict → (setup : Setup) (events : List Event) (event : Event) (verdict : Option Verdict) (tape : List (Option Verdict))
     → is_some verdict ≡ is_packet (kind_of event.body)
-    → verdict ≡ verdict_at places (acts_of (events ++ event ∷ [])) (length events)
-    → IsTaped places events tape → IsTaped places (events ++ event ∷ []) (filled tape event verdict)
-taped_more later places events event verdict tape packet told h index lt =
-    cell_is later places events event verdict tape ((event.tag.link == 0) && is_some verdict) (ap (λ b. (event.tag.link == 0) && b) packet) told h
+    → verdict ≡ verdict_at (floor_setup setup) (acts_of (events ++ event ∷ [])) (length events)
+    → IsTaped setup events tape → IsTaped setup (events ++ event ∷ []) (filled tape event verdict)
+taped_more later setup events event verdict tape packet told h index lt =
+    cell_is later setup events event verdict tape ((event.tag.link == 0) && is_some verdict) (ap (λ b. (event.tag.link == 0) && b) packet) told h
     index (omega (arith, lt, as_long tape event verdict))

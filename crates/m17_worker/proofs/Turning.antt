@@ -41,6 +41,7 @@ module _ {B L : Type 0} (told : B → BookTold L) (j k : Worker B) (event : Even
         same = record {
           letter = h.same.letter;
           links = h.same.links;
+          limit = h.same.limit;
           setup = h.same.setup;
           inbox = inbox_more j.inbox k.inbox event h.same.inbox;
           cells = h.same.cells;
@@ -100,6 +101,7 @@ module _ {B L : Type 0} (told : B → BookTold L) (j k : Worker B) (event : Even
         same = record {
           letter = same.letter ∙ h.same.letter;
           links = same.links ∙ h.same.links;
+          limit = same.limit ∙ h.same.limit;
           setup = same.setup ∙ h.same.setup;
           inbox = same.inbox ∙ inbox_more j.inbox k.inbox event h.same.inbox ∙ ap (λ l. record j.inbox { popped = l }) (sym popped);
           cells = same.cells ∙ h.same.cells;

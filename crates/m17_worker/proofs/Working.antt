@@ -13,7 +13,8 @@ use Rattle.m17_module.specs.Items.{Setup, items_given}
 use Rattle.m17_module.specs.StandsFor.{ModuleKept, StandsFor}
 use Rattle.m17_ports.specs.Book.{BookTold, HasText}
 use Rattle.m17_ports.specs.Laws.{BooksAreWrittenInTurn}
-use Rattle.m17_book.specs.Book.{book_header}
+use Rattle.m17_book.specs.Versions.{book_header}
+use Rattle.m17_book.specs.declared.version.Version.TheVariants.{Two}
 use Rattle.m17_rows.specs.Laws.{RowsGrow}
 use Rattle.m17_roll.specs.Seat.{RollView}
 use Rattle.m17_worker.specs.declared.offers.LaneOffers.{LaneOffers}
@@ -24,7 +25,7 @@ use Rattle.m17_worker.specs.Gifts.{gifts, GaveBack}
 use Rattle.m17_worker.specs.Records.{records_of, book_text}
 use Rattle.m17_worker.specs.Tape.{IsTaped}
 use Rattle.m17_worker.specs.Ready.{IsFit}
-use Rattle.m17_worker.specs.WorkerDid.{HasServed, HasWorked}
+use Rattle.m17_worker.specs.WorkerDid.{head_of, HasServed, HasWorked}
 use Rattle.m17_worker.specs.Underway.{AreFlags, IsAt}
 use Rattle.m17_worker.proofs.Tries.{offered_none}
 use Rattle.m17_worker.proofs.Giving.{gave_none}
@@ -44,24 +45,24 @@ none_recorded : (setup : Setup) → records_of setup [] ≡ []
 unfolding records_of
 none_recorded setup = refl
 
-empty_tape : (places : ℕ) (tape : List (Option Verdict)) → All (λ cell. cell ≡ None) tape → IsTaped places [] tape
-empty_tape places tape all index lt =
-    slice_get-get_or tape index None lt ∙ ap Some (all index None lt ∙ sym (none_taped places index))
+empty_tape : (setup : Setup) (tape : List (Option Verdict)) → All (λ cell. cell ≡ None) tape → IsTaped setup [] tape
+empty_tape setup tape all index lt =
+    slice_get-get_or tape index None lt ∙ ap Some (all index None lt ∙ sym (none_taped setup index))
 
 module _ {B L : Type 0} (told : B → BookTold L) (j n : Worker B) (rest : n ≡ record j { book = n.book; book_failed = n.book_failed }) (fit : IsFit told j) where
   -- the header is written
   begins : BooksAreWrittenInTurn L
-      → ((start : BookTold L) (text : List ℕ) → HasText start text j.book_failed (told j.book) → HasText start (text ++ book_header j.letter) n.book_failed (told n.book))
-      → HasText (told j.book) (book_text j.letter (records_of j.module.setup [])) n.book_failed (told n.book)
+      → ((start : BookTold L) (text : List ℕ) → HasText start text j.book_failed (told j.book) → HasText start (text ++ book_header Two (head_of j)) n.book_failed (told n.book))
+      → HasText (told j.book) (book_text (head_of j) (records_of j.module.setup [])) n.book_failed (told n.book)
   begins books text =
       let F : Bool → Type 0 = λ b. HasText (told j.book) [] b (told j.book) in
       let T : List ℕ → Type 0 = λ l. HasText (told j.book) l n.book_failed (told n.book) in
-      let header : HasText (told j.book) (book_header j.letter) n.book_failed (told n.book) =
+      let header : HasText (told j.book) (book_header Two (head_of j)) n.book_failed (told n.book) =
       text (told j.book) [] (subst F (sym fit.unused.book_failed) (books.nothing (told j.book))) in
-      subst T (sym (append-nil (book_header j.letter)) ∙ ap (book_text j.letter) (sym (none_recorded j.module.setup))) header
+      subst T (sym (append-nil (book_header Two (head_of j))) ∙ ap (book_text (head_of j)) (sym (none_recorded j.module.setup))) header
 
   nothing_served : RowsGrow Item → BooksAreWrittenInTurn L
-      → ((start : BookTold L) (text : List ℕ) → HasText start text j.book_failed (told j.book) → HasText start (text ++ book_header j.letter) n.book_failed (told n.book))
+      → ((start : BookTold L) (text : List ℕ) → HasText start text j.book_failed (told j.book) → HasText start (text ++ book_header Two (head_of j)) n.book_failed (told n.book))
       → HasServed told [] j n
   nothing_served law books text =
       let S : ModuleKept → Type 0 = λ m. StandsFor m [] in
@@ -69,20 +70,20 @@ module _ {B L : Type 0} (told : B → BookTold L) (j n : Worker B) (rest : n ≡
       let P : List Item → Type 0 = λ l. AreOffered l j.offers n.offers in
       let G : RollView → Type 0 = λ s. GaveBack j.seat [] s in
       let Q : List Member → Type 0 = λ l. GaveBack j.seat l n.seat in
-      let T : List (Option Verdict) → Type 0 = λ l. IsTaped j.module.setup.places [] l in
+      let T : List (Option Verdict) → Type 0 = λ l. IsTaped j.module.setup [] l in
       record {
         stands = subst S (sym (ap (λ (w : Worker B). w.module) rest)) fit.stands;
         offered = subst P (sym (none_given j.module.setup)) (subst O (sym (ap (λ (w : Worker B). w.offers) rest)) (offered_none j.offers law));
         gave_back = subst Q (sym (none_gifts j.module.setup)) (subst G (sym (ap (λ (w : Worker B). w.seat) rest)) (gave_none j.seat));
         booked = begins books text;
-        taped = subst T (sym (ap (λ (w : Worker B). w.tape.items) rest)) (empty_tape j.module.setup.places j.tape.items fit.unused.tape);
+        taped = subst T (sym (ap (λ (w : Worker B). w.tape.items) rest)) (empty_tape j.module.setup j.tape.items fit.unused.tape);
       }
 
   no_events : n.inbox.popped ≡ []
   no_events = ap (λ (w : Worker B). w.inbox.popped) rest ∙ fit.unused.inbox
 
   pub starts_at : RowsGrow Item → BooksAreWrittenInTurn L
-      → ((start : BookTold L) (text : List ℕ) → HasText start text j.book_failed (told j.book) → HasText start (text ++ book_header j.letter) n.book_failed (told n.book))
+      → ((start : BookTold L) (text : List ℕ) → HasText start text j.book_failed (told j.book) → HasText start (text ++ book_header Two (head_of j)) n.book_failed (told n.book))
       → IsAt told j 0 (false ∷ false ∷ false ∷ false ∷ []) n
   starts_at law books text =
       let e : taken j.links j.module.setup.places n.inbox.popped ≡ [] = ap (taken j.links j.module.setup.places) no_events in
@@ -98,6 +99,7 @@ module _ {B L : Type 0} (told : B → BookTold L) (j n : Worker B) (rest : n ≡
         same = record {
           letter = ap (λ (w : Worker B). w.letter) rest;
           links = links_are;
+          limit = ap (λ (w : Worker B). w.limit) rest;
           setup = setup_is;
           inbox = inbox_is ∙ ap (λ l. record j.inbox { popped = l }) (sym (ap (λ (q : PopEnd Event). q.popped) inbox_is));
           cells = ap (λ (w : Worker B). length w.tape.items) rest;

@@ -11,10 +11,10 @@ use Rattle.m17_worker.specs.Records.{records_of}
 abbrev pub RecordsKeepTheActs : Type 0
 RecordsKeepTheActs =
     (setup : Setup) (events : List Event) →
-    kept_of (records_of setup events) ≡ keeps.kept_of setup.places events
+    kept_of (records_of setup events) ≡ keeps.kept_of setup events
 
--- The records of a module of at most 256 places are legal.
+-- The records of a module of at most 256 places are legal under its limit.
 abbrev pub BooksAreLegal : Type 0
 BooksAreLegal =
     (setup : Setup) (events : List Event) → setup.places ≤ book_places →
-    IsLegalBook (records_of setup events)
+    IsLegalBook setup.limit (records_of setup events)

@@ -42,7 +42,7 @@ missed_for tries place =
 abbrev pub count_missed : List Try → ℕ
 count_missed tries = count_by (λ t. not t.queued) tries
 
--- A count, and then so many more. One that has come to 2^64 - 1 stays there.
+-- A count that goes on by a number. One that has come to 2^64 - 1 stays there.
 abbrev pub counted_on : ℕ → ℕ → ℕ
 counted_on count zero = count
 counted_on count (suc more) = min (count + suc more) (2 ^ 64 - 1)
@@ -75,6 +75,6 @@ pub record AreOffered (items : List Item) (before after : LaneOffers) : Type 0 w
 abbrev pub IsQueue : PushEnd Item → Type 0
 IsQueue q = (q.producers ≡ 1) × (q.capacity ≡ 64)
 
--- There is a queue for each of so many places.
+-- There is a queue for each of the places.
 abbrev pub AreQueues : ℕ → List (PushEnd Item) → Type 0
 AreQueues places queues = (length queues ≡ places) × All IsQueue queues

@@ -21,12 +21,13 @@ pub record IsUnused {B L : Type 0} (told : B → BookTold L) (j : Worker B) : Ty
   pub seat : HasLists [] [] [] j.seat
   pub tape : All (λ cell. cell ≡ None) j.tape.items
 
--- The worker's letter is A to Z, there are 1 to 4 links, its module is as made, of at most 256
--- places, each with a queue; and it is unused.
+-- The worker's letter is A to Z, there are 1 to 4 links, its module is as made, with the worker's
+-- limit and of at most 256 places, each with a queue; and it is unused.
 pub record IsFit {B L : Type 0} (told : B → BookTold L) (j : Worker B) : Type 0 where
   pub letter : IsModule j.letter
   pub some_link : 0 < j.links
   pub links : j.links ≤ 4
+  pub limit : j.module.setup.limit ≡ j.limit
   pub places : j.module.setup.places ≤ 256
   pub queues : AreQueues j.module.setup.places j.offers.queues.items
   pub stands : StandsFor j.module []

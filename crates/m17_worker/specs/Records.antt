@@ -11,9 +11,11 @@ use Rattle.m17_floor.specs.declared.verdict.Verdict.{Verdict}
 use Rattle.m17_floor.specs.Acts.{moment_at}
 use Rattle.m17_floor.specs.Floor.{verdict_at}
 use Rattle.m17_module.specs.Events.{acts_of}
-use Rattle.m17_module.specs.Items.{Setup, items_at}
-use Rattle.m17_book.specs.Book.{book_header}
+use Rattle.m17_module.specs.Items.{Setup, floor_setup, items_at}
+use Rattle.m17_book.specs.Versions.{book_header}
+use Rattle.m17_book.specs.declared.version.Version.TheVariants.{Two}
 use Rattle.m17_book.specs.Records.{record_bytes}
+use Rattle.m17_book.specs.declared.head.Head.{Head}
 use Rattle.m17_book.specs.declared.record.Record.{Record}
 use Rattle.m17_book.specs.declared.record.Record.TheVariants.{Join, Leave, Packet}
 use Rattle.m17_worker.specs.Gifts.{why_left}
@@ -45,19 +47,19 @@ abbrev pub records_by : Noted → List Item → Body → List Record
 records_by now items what =
     filter_map (leave_record now.tag now.moment) items ++ option_to_list (own_record now what)
 
--- Position n of the events, in a module of `places` places.
-abbrev pub noted_at : ℕ → List Event → ℕ → Tag → Noted
-noted_at places events n tag = record {
+-- Position n of the events, in a module that was made so.
+abbrev pub noted_at : Setup → List Event → ℕ → Tag → Noted
+noted_at setup events n tag = record {
   tag = tag;
   moment = moment_at (acts_of events) n;
-  verdict = verdict_at places (acts_of events) n;
-  places = places;
+  verdict = verdict_at (floor_setup setup) (acts_of events) n;
+  places = setup.places;
 }
 
 abbrev pub records_for : Setup → List Event → ℕ → Option Event → List Record
 records_for setup events n None = []
 records_for setup events n (Some event) =
-    records_by (noted_at setup.places events n event.tag) (items_at setup events n) event.body
+    records_by (noted_at setup events n event.tag) (items_at setup events n) event.body
 
 -- The records of position n, and of all the events, in order.
 unfoldable pub records_at : Setup → List Event → ℕ → List Record
@@ -67,5 +69,5 @@ unfoldable pub records_of : Setup → List Event → List Record
 records_of setup events = flat_map (records_at setup events) (range_with_len 0 (length events))
 
 -- The bytes of a module's book: its header, and then the records of the events.
-abbrev pub book_text : ℕ → List Record → List ℕ
-book_text letter records = book_header letter ++ flat_map record_bytes records
+abbrev pub book_text : Head → List Record → List ℕ
+book_text head records = book_header Two head ++ flat_map record_bytes records

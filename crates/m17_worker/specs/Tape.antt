@@ -7,6 +7,7 @@ use Rattle.m17_lookup.specs.Lookup.{last_below}
 use Rattle.m17_floor.specs.Acts.{is_packet}
 use Rattle.m17_floor.specs.Floor.{verdict_at}
 use Rattle.m17_module.specs.Events.{acts_of, kind_of}
+use Rattle.m17_module.specs.Items.{Setup, floor_setup}
 
 -- The event is a packet, and comes from the entry of link 0 with this index.
 abbrev pub is_packet_of : ℕ → Event → Bool
@@ -19,13 +20,13 @@ position_of events index =
     last_below (λ n. option_map_or (is_packet_of index) (slice_get events n) false) (length events)
 
 -- The verdict on the packet that came from the entry of link 0 with this index, if one did.
-abbrev pub verdict_on : ℕ → List Event → ℕ → Option Verdict
-verdict_on places events index =
-    option_and_then (verdict_at places (acts_of events)) (position_of events index)
+abbrev pub verdict_on : Setup → List Event → ℕ → Option Verdict
+verdict_on setup events index =
+    option_and_then (verdict_at (floor_setup setup) (acts_of events)) (position_of events index)
 
 -- Each cell has the verdict on the entry whose index is the cell's number, and is empty where there
 -- is none.
-abbrev pub IsTaped : ℕ → List Event → List (Option Verdict) → Type 0
-IsTaped places events tape =
+abbrev pub IsTaped : Setup → List Event → List (Option Verdict) → Type 0
+IsTaped setup events tape =
     (index : ℕ) → index < length tape →
-    slice_get tape index ≡ Some (verdict_on places events index)
+    slice_get tape index ≡ Some (verdict_on setup events index)

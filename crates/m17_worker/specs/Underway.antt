@@ -35,7 +35,7 @@ pub record CanServe {B : Type 0} (events : List Event) (event : Event) (k : Work
     pub few : length events < 2 ^ 64 - 1
     pub there : is_there k.links k.module.setup.places event ≡ true
 
--- So many events were served of those popped, each link's flag says whether it was stopped, and all
+-- Of the events popped the first `served` were served, each link's flag says whether it was stopped, and all
 -- else is as it has to be.
 pub record IsAt {B L : Type 0} (told : B → BookTold L) (j : Worker B) (served : ℕ)
     (flags : List Bool) (k : Worker B) : Type 0 where
@@ -49,6 +49,7 @@ pub record IsAt {B L : Type 0} (told : B → BookTold L) (j : Worker B) (served 
 pub record IsServing {B : Type 0} (before after : Worker B) : Type 0 where
   pub letter : after.letter ≡ before.letter
   pub links : after.links ≡ before.links
+  pub limit : after.limit ≡ before.limit
   pub setup : after.module.setup ≡ before.module.setup
   pub inbox : after.inbox ≡ before.inbox
   pub order : after.order ≡ before.order

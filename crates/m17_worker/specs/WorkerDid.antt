@@ -2,6 +2,7 @@
 use Rattle.std.specs.Prelude.{◌≡◌, Bool, true, false, List, [], length}
 use Rattle.m17_control.specs.declared.event.Event.{Event}
 use Rattle.m17_ports.specs.Book.{BookTold, HasText}
+use Rattle.m17_book.specs.declared.head.Head.{Head}
 use Rattle.m17_rows.specs.Starts.{HasStarted}
 use Rattle.m17_module.specs.Items.{items_given}
 use Rattle.m17_module.specs.StandsFor.{StandsFor}
@@ -12,6 +13,10 @@ use Rattle.m17_worker.specs.Gifts.{gifts, GaveBack}
 use Rattle.m17_worker.specs.Records.{records_of, book_text}
 use Rattle.m17_worker.specs.Tape.{IsTaped}
 
+-- What the header of a worker's book says: the letter of its module, and the plan's limit.
+abbrev pub head_of : {B : Type 0} → Worker B → Head
+head_of j = record { «module» = j.letter; limit = j.limit }
+
 -- What became of these events: the module stands for them; all that they give was offered, in
 -- order; the members with a Bye were given back; the book, which is the same one, has their records,
 -- and the tape their verdicts.
@@ -20,15 +25,16 @@ pub record HasServed {B L : Type 0} (told : B → BookTold L) (events : List Eve
   pub stands : StandsFor k.module events
   pub offered : AreOffered (items_given j.module.setup events) j.offers k.offers
   pub gave_back : GaveBack j.seat (gifts j.module.setup events) k.seat
-  pub booked : HasText (told j.book) (book_text j.letter (records_of j.module.setup events))
+  pub booked : HasText (told j.book) (book_text (head_of j) (records_of j.module.setup events))
       k.book_failed (told k.book)
-  pub taped : IsTaped j.module.setup.places events k.tape.items
+  pub taped : IsTaped j.module.setup events k.tape.items
 
 -- It is the same worker: what it was made with stays, of its inbox it popped events and nothing
 -- else, its tape has as many cells, and nothing is left in its basket.
 pub record IsSameWorker {B : Type 0} (j k : Worker B) : Type 0 where
   pub letter : k.letter ≡ j.letter
   pub links : k.links ≡ j.links
+  pub limit : k.limit ≡ j.limit
   pub setup : k.module.setup ≡ j.module.setup
   pub inbox : k.inbox ≡ record j.inbox { popped = k.inbox.popped }
   pub cells : length k.tape.items ≡ length j.tape.items

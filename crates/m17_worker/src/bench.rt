@@ -20,6 +20,9 @@ use std::alloc::Global;
 use std::process::Abort;
 use std::sync::Wait;
 
+/// For how long a stream holds the floor in the tests' modules, in milliseconds.
+pub(crate) const LIMIT: u64 = 180_000;
+
 pub(crate) fn member(place: u32, generation: u64) -> Member {
     Member { place, generation }
 }
@@ -140,7 +143,8 @@ pub(crate) fn lay<B: Book + Drop, R: Abort>(
     let worker = Worker {
         letter: b'A',
         links: 1,
-        module: must(rt, Module::make(alloc, places, parrot)),
+        limit: LIMIT,
+        module: must(rt, Module::make(alloc, places, parrot, LIMIT)),
         basket: must(rt, Basket::make(alloc)),
         book,
         inbox,

@@ -6,7 +6,7 @@ ghost use Rattle.m17_worker.specs.Taken.{is_stop};
 
 use m17_control::{Body, Event};
 
-/// A reflector has so many links at the most.
+/// The most links that a reflector has.
 pub(crate) const MOST_LINKS: usize = 4;
 
 // Sets the flag of the event's link, where the event is its Stop.

@@ -4,9 +4,11 @@ ghost use Rattle.std.specs.Prelude.{◌↔◌, IsTrue, None};
 ghost use Rattle.m17_ports.specs.Told.{StartsEmpty};
 ghost use Rattle.m17_book.specs.Records.{IsLow};
 
-use crate::bench::{Bench, callsign, event, join, lay, leaves, let_go, member, must, run, sends};
+use crate::bench::{
+    Bench, LIMIT, callsign, event, join, lay, leaves, let_go, member, must, run, sends,
+};
 use arrayvec::ArrayVec;
-use m17_book::{Record, write_header, write_record};
+use m17_book::{Head, Record, write_header, write_record};
 use m17_control::{Body, Event, Item, ModuleLetter, Said, Tag, Why};
 use m17_crew::Order;
 use m17_floor::Verdict;
@@ -141,8 +143,11 @@ fn written<R: Abort>(rt: &R, alloc: Global, writes: usize) -> Vec<u8> {
     if writes == 0 {
         return bytes;
     }
-    let letter = ModuleLetter::new(b'A').expect(rt, "a letter");
-    must(rt, bytes.extend_from_slice(&write_header(letter)));
+    let head = Head {
+        module: ModuleLetter::new(b'A').expect(rt, "a letter"),
+        limit: LIMIT,
+    };
+    must(rt, bytes.extend_from_slice(&write_header(&head)));
     for row in RECORDS.iter().take(writes - 1) {
         let line = spell(&record_of(rt, row)).expect(rt, "a record of low places");
         must(rt, bytes.extend_from_slice(line.as_slice()));

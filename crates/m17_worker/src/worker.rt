@@ -1,14 +1,15 @@
 ghost use Rattle.std.specs.Prelude.{◌≡◌, ℕ, List, ◌++◌};
 ghost use Rattle.m17_control.specs.Forms.{IsModule};
 ghost use Rattle.m17_ports.specs.Book.{BookTold, HasText};
-ghost use Rattle.m17_book.specs.Book.{book_header};
+ghost use Rattle.m17_book.specs.Versions.{book_header};
+ghost use Rattle.m17_book.specs.declared.version.Version.TheVariants.{Two};
 ghost use Rattle.m17_worker.specs.Ready.{IsFit, IsReady};
-ghost use Rattle.m17_worker.specs.WorkerDid.{HasWorked, WorkerDid};
+ghost use Rattle.m17_worker.specs.WorkerDid.{head_of, HasWorked, WorkerDid};
 
 use crate::LaneOffers;
 use crate::book::write_whole;
 use crate::stops::{MOST_LINKS, all_stopped};
-use m17_book::write_header;
+use m17_book::{Head, write_header};
 use m17_control::{Event, Item, ModuleLetter};
 use m17_crew::{Order, Work};
 use m17_floor::Verdict;
@@ -33,6 +34,8 @@ pub struct Worker<B> {
     pub letter: u8,
     /// How many links there are, 1 to 4.
     pub links: u32,
+    /// How long the module lets a stream hold its floor, in milliseconds, as its book says; 0 is no limit.
+    pub limit: u64,
     /// Who is in the module, and who may speak.
     pub module: Module,
     /// What an event gave and was not handed out yet.
@@ -91,7 +94,7 @@ impl<B: Book> Worker<B> {
         requires { IsModule self.old.letter }
         ensures text { (start : BookTold B.Label) (text : List ℕ) →
             HasText start text self.old.book_failed (B.told self.old.book) →
-            HasText start (text ++ book_header self.old.letter) self.new.book_failed
+            HasText start (text ++ book_header Two (head_of self.old)) self.new.book_failed
             (B.told self.new.book) }
         ensures rest { self.new ≡ record self.old {
           book = self.new.book;
@@ -103,8 +106,12 @@ impl<B: Book> Worker<B> {
             return;
         }
         match ModuleLetter::new(self.letter) {
-            Some(letter) => {
-                write_whole(&mut self.book, &mut self.book_failed, &write_header(letter));
+            Some(module) => {
+                let head = Head {
+                    module,
+                    limit: self.limit,
+                };
+                write_whole(&mut self.book, &mut self.book_failed, &write_header(&head));
             }
             None => unreachable!(),
         }

@@ -9,6 +9,7 @@ returns-clause-new c =
     let letter = c.take_last-letter in let made = c.in_ok-module in record {
       letter = (All-pop IsModule c.args.letters.now.items letter.new.from.items (Some letter.result) letter.ensures.last c.requires.letters).1;
       links_are = refl;
+      limit = refl;
       setup = setup_is c.args.plan.now letter.result c.has.result made.«module».setup made.ensures.setup c.has.ensures;
       stands = made.ensures.stands;
       patient = refl;
