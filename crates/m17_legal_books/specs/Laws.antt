@@ -9,28 +9,31 @@ use Rattle.m17_lane.specs.Ends.{TrailEnd}
 use Rattle.m17_book.specs.Checks.{IsLegalBook}
 use Rattle.m17_book.specs.declared.record.Record.{Record}
 use Rattle.m17_worker.specs.Records.{book_text, records_of}
-use Rattle.m17_reflect.specs.Links.{At, letter_of, setup_at}
+use Rattle.m17_reflect.specs.Links.{At, setup_at}
 use Rattle.m17_reflect.specs.Trails.{events_of}
+use Rattle.m17_reflect.specs.Judged.{head_at}
 use Rattle.m17_reflect.specs.Headline.{Headline}
 use Rattle.m17_reflect.specs.Run.{Devices, Run, Handed}
 use Rattle.m17_words.specs.declared.order.ServeOrder.{ServeOrder}
-use Rattle.m17_serve.specs.Served.{Around, IsServable, Serves, run_told}
+use Rattle.m17_gate.specs.declared.rule.Rule.{Rule}
+use Rattle.m17_serve.specs.Gates.{behind_gates}
+use Rattle.m17_serve.specs.Served.{Around, IsServable, Serves, ServesBy, run_told}
 
 -- the records of module m of a run that has this trail
 abbrev pub trail_records : {E M B : Type 0} → Run E M B → ℕ → TrailEnd Event → List Record
 trail_records run m trail = records_of (setup_at run.plan m) (events_of trail)
 
 -- The bytes are the book of module m: its header, and the records of its trail, which break no
--- rule.
+-- rule under the limit of that header.
 pub record HaveLegalBook {E M B : Type 0} (run : Run E M B) (m : ℕ) (bytes : List ℕ) : Type 0
   where
     pub trail : TrailEnd Event
     pub is_there : At run.handed.trails m trail
-    pub text : bytes ≡ book_text (letter_of run.plan m) (trail_records run m trail)
-    pub legal : IsLegalBook (trail_records run m trail)
+    pub text : bytes ≡ book_text (head_at run.plan m) (trail_records run m trail)
+    pub legal : IsLegalBook (head_at run.plan m).limit (trail_records run m trail)
 
 -- A book that told nothing at first and tells bytes in the end, and whose count of faults didn't
--- rise, is a legal book of its module.
+-- rise, is a legal book of its module, under the limit of its header.
 abbrev pub BooksOfRunsAreLegal : (E M B : Type 0) → Type 0
 BooksOfRunsAreLegal E M B =
     (run : Run E M B) (headline : Headline run) → run.plan.places ≤ book_places →
@@ -38,7 +41,8 @@ BooksOfRunsAreLegal E M B =
     At run.after.books m after → StartsEmpty before.written → after.written ≡ Some bytes →
     ¬ HasRisen before.faults after.faults → HaveLegalBook run m bytes
 
--- A book that is handed back, tells its bytes and has never failed is a legal book of its module.
+-- A book that is handed back, tells its bytes and has never failed is a legal book of its module,
+-- under the limit of its header.
 abbrev pub BooksOfServeAreLegal : (E M B : Type 0) → Type 0
 BooksOfServeAreLegal E M B =
     (order : ServeOrder) (run : Around E M B) (devices : Devices E M (Option B))
@@ -46,3 +50,12 @@ BooksOfServeAreLegal E M B =
     (m : ℕ) (book : BookTold (Option B)) (bytes : List ℕ) → At devices.books m book →
     book.written ≡ Some bytes → book.faults ≡ 0 →
     HaveLegalBook (run_told order serves.new devices handed) m bytes
+
+-- The same of a run by rules, in which the links heard what passed the gates.
+abbrev pub BooksByRulesAreLegal : (E M B : Type 0) → Type 0
+BooksByRulesAreLegal E M B =
+    (rules : List Rule) (order : ServeOrder) (run : Around E M B) (devices : Devices E M (Option B))
+    (handed : Handed) (serves : ServesBy (behind_gates rules) order run devices handed) →
+    IsServable order → (m : ℕ) (book : BookTold (Option B)) (bytes : List ℕ) →
+    At devices.books m book → book.written ≡ Some bytes → book.faults ≡ 0 → HaveLegalBook
+    (run_told order (behind_gates rules serves.new) (behind_gates rules devices) handed) m bytes

@@ -1,19 +1,26 @@
 //! What follows for the books of a run. Each function does nothing: its clause is the law.
-ghost use Rattle.m17_legal_books.specs.Laws.{BooksOfRunsAreLegal, BooksOfServeAreLegal};
+ghost use Rattle.m17_legal_books.specs.Laws.{BooksByRulesAreLegal, BooksOfRunsAreLegal, BooksOfServeAreLegal};
 
 /// The book of a module is legal, whatever its links heard: where it told nothing before the run and tells bytes after it,
-/// and its count of faults didn't rise, these are its header and records that break no rule. At most 256 places. `E`,
-/// `M` and `B` are the kinds of the labels of ears, mouths and books.
+/// and its count of faults didn't rise, these are its header, which names the plan's limit, and records that break no rule
+/// under that limit. At most 256 places. `E`, `M` and `B` are the kinds of the labels of ears, mouths and books.
 pub fn books_of_runs_are_legal<E, M, B>()
     ensures { BooksOfRunsAreLegal E M B }
 {
     m17_worker::laws::books_are_legal();
 }
 
-/// A book that `serve` hands back, tells its bytes and has never failed is a legal book of its module, whatever the links
-/// heard.
+/// A book that `serve` hands back, tells its bytes and has never failed is a legal book of its module, under the
+/// limit of its header, whatever the links heard. That is the limit of the words.
 pub fn books_of_serve_are_legal<E, M, B>()
     ensures { BooksOfServeAreLegal E M B }
 {
     books_of_runs_are_legal::<E, M, Option<B>>();
+}
+
+/// The same of a book that `serve_by_rules` hands back, whatever its rules denied.
+pub fn books_by_rules_are_legal<E, M, B>()
+    ensures { BooksByRulesAreLegal E M B }
+{
+    books_of_runs_are_legal::<m17_gate::GateLabel<E>, M, Option<B>>();
 }

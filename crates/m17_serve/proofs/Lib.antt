@@ -5,3 +5,6 @@ mod NewOnes
 mod Printing
 mod Told
 mod Endings
+mod Gating
+mod ByRules
+mod Passing

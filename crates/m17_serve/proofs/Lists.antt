@@ -1,5 +1,6 @@
 -- Facts on lists: two maps, items at places, and numbers in a row.
-use Rattle.std.proofs.Common.{◌≡◌, ℕ, zero, suc, ◌+◌, List, [], ◌∷◌, ◌++◌, map, length, All, Some, refl, sym, ap, ap₂, subst, ◌∙◌, arith, add-zero, zero-add}
+use Rattle.std.proofs.Common.{◌≡◌, ℕ, zero, suc, ◌+◌, List, [], ◌∷◌, ◌++◌, map, reverse, length, All, Some, refl, sym, ap, ap₂, subst, ◌∙◌, arith, add-zero, zero-add, append_assoc, append-nil}
+use Rattle.std.proofs.lemmas.List.{reverse-append}
 use Rattle.std.specs.Prelude.{slice_get}
 use Rattle.std.specs.List.{range_with_len}
 use Rattle.std.proofs.lemmas.List.Elements.{All-nil, All-cons, All-head}
@@ -42,3 +43,15 @@ range_split a (suc k) m =
     let on : (a + 1) + k ≡ a + suc k = omega arith in
     ap (range_with_len a) more ∙ ap (λ (l : List ℕ). a ∷ l) (range_split (a + 1) k m)
     ∙ ap (λ (b : ℕ). a ∷ (range_with_len (a + 1) k ++ range_with_len b m)) on
+
+-- what is taken from the end of a list and put at the end of another stands there in reverse
+module _ {A B : Type 0} where
+  pub none_moved : (f : A → B) (all : List A) (put : List B) → put ≡ [] → map f all ≡ map f all ++ reverse put
+  none_moved f all put none = sym (append-nil (map f all)) ∙ sym (ap (λ (l : List B). map f all ++ reverse l) none)
+
+  pub one_moved : (f : A → B) (all before left : List A) (x : A) (y : B) (put more : List B) → map f all ≡ map f before ++ reverse put
+      → before ≡ left ++ x ∷ [] → y ≡ f x → more ≡ put ++ y ∷ [] → map f all ≡ map f left ++ reverse more
+  one_moved f all before left x y put more was taken same came =
+      was ∙ ap (λ (l : List A). map f l ++ reverse put) taken ∙ ap (λ (l : List B). l ++ reverse put) (map_push f left x)
+      ∙ append_assoc (map f left) (f x ∷ []) (reverse put) ∙ ap (λ (z : B). map f left ++ z ∷ reverse put) (sym same)
+      ∙ sym (ap (λ (l : List B). map f left ++ reverse l) came ∙ ap (λ (l : List B). map f left ++ l) (reverse-append put (y ∷ [])))

@@ -7,6 +7,7 @@ use Rattle.m17_ports.specs.Ear.{EarTold}
 use Rattle.m17_ports.specs.Mouth.{MouthTold}
 use Rattle.m17_ports.specs.Ports.{HasAsked, PortsTold}
 use Rattle.m17_control.specs.Modules.{letters_of}
+use Rattle.m17_gate.specs.declared.rule.Rule.{Rule}
 use Rattle.m17_plan.specs.declared.plan.Plan.{Plan}
 use Rattle.m17_plan.specs.Planned.{IsPlan}
 use Rattle.m17_words.specs.declared.order.ServeOrder.{ServeOrder}
@@ -22,6 +23,7 @@ use Rattle.m17_serve.specs.declared.served.ServeEnding.TheVariants.{Finished, Li
 use Rattle.m17_serve.specs.declared.served.Served.{Served}
 use Rattle.m17_serve.specs.Asked.{questions_of}
 use Rattle.m17_serve.specs.Devices.{AreNew, house_back, refused_back}
+use Rattle.m17_serve.specs.Gates.{behind_gates}
 use Rattle.m17_serve.specs.Lines.{module_lines}
 
 -- the plan of the words: nothing waits for room, and no tapes are kept
@@ -33,6 +35,7 @@ serve_plan order = record {
   places = order.places;
   patient = Bool.false;
   entries = 0;
+  limit = order.limit;
 }
 
 -- The values of the words are within their bounds.
@@ -82,19 +85,6 @@ module _ {E M B : Type 0} where
   FailsAtPort order run =
       FailsAmong (questions_of order) run.before run.after × HandsNothing run
 
-  -- The reflector ran over the devices that the ports handed out, which were new, and the same devices are handed back:
-  -- the headline holds of that run.
-  pub record Serves (order : ServeOrder) (run : Around E M B) (devices : Devices E M (Option B))
-      (handed : Handed) : Type 0 where
-    pub asked : HasAsked (questions_of order) run.before run.after
-    pub no_fault : run.after.faults ≡ run.before.faults
-    pub new : Devices E M (Option B)
-    pub are_new : AreNew order run.before.calls new
-    pub headline : Headline (run_told order new devices handed)
-    pub same_devices : AreSameDevices new devices
-    pub handed_back : run.house ≡ Some (devices, handed)
-    pub none : run.refused ≡ None
-
   -- The reflector refused to run over the devices that the ports handed out, for this reason. They are handed back, still
   -- new.
   pub record Refuses (order : ServeOrder) (why : HouseRefusal) (run : Around E M B) : Type 0 where
@@ -104,6 +94,27 @@ module _ {E M B : Type 0} where
     pub are_new : AreNew order run.before.calls devices
     pub handed_back : run.refused ≡ Some (devices, why)
     pub none : run.house ≡ None
+
+-- What the reflector sees of its devices may be more than they themselves tell, as an ear behind a gate is: `seen` says
+-- what it is of them.
+module _ {E X M B : Type 0} where
+  -- The reflector ran over the devices that the ports handed out, which were new, and the same devices are handed back:
+  -- the headline holds of the run over what it saw of them.
+  pub record ServesBy (seen : Devices E M (Option B) → Devices X M (Option B)) (order : ServeOrder)
+      (run : Around E M B) (devices : Devices E M (Option B)) (handed : Handed) : Type 0 where
+    pub asked : HasAsked (questions_of order) run.before run.after
+    pub no_fault : run.after.faults ≡ run.before.faults
+    pub new : Devices E M (Option B)
+    pub are_new : AreNew order run.before.calls new
+    pub headline : Headline (run_told order (seen new) (seen devices) handed)
+    pub same_devices : AreSameDevices (seen new) (seen devices)
+    pub handed_back : run.house ≡ Some (devices, handed)
+    pub none : run.refused ≡ None
+
+-- the same where it saw the devices themselves
+abbrev pub Serves : {E M B : Type 0} → ServeOrder → Around E M B → Devices E M (Option B) → Handed
+    → Type 0
+Serves order run devices handed = ServesBy (λ d. d) order run devices handed
 
 -- how the command ends where the reflector ran and its lines were written: a lost link comes before a failed book
 abbrev pub ending_by : Bool → Bool → ServeEnding
@@ -117,21 +128,33 @@ ending_of handed = ending_by handed.lost handed.book_failed
 abbrev pub lines_of : ServeOrder → Handed → List ℕ
 lines_of order handed = module_lines (letters_of order.modules) handed.admitted handed.missed
 
-module _ {E M B : Type 0} where
+module _ {E X M B : Type 0} where
   -- The reflector ran, its lines were appended to what stood written, and this is how the command ends then.
-  abbrev pub EndsServe : ServeOrder → ServeEnding → Around E M B → Option (List ℕ)
-      → Option (List ℕ) → Type 0
-  EndsServe order ending run first written =
-      (devices : Devices E M (Option B)) × (handed : Handed) × Serves order run devices handed
+  abbrev pub EndsBy : (Devices E M (Option B) → Devices X M (Option B)) → ServeOrder → ServeEnding
+      → Around E M B → Option (List ℕ) → Option (List ℕ) → Type 0
+  EndsBy seen order ending run first written =
+      (devices : Devices E M (Option B)) × (handed : Handed)
+      × ServesBy seen order run devices handed
       × (ending ≡ ending_of handed) × ((before : List ℕ) → first ≡ Some before
       → written ≡ Some (before ++ lines_of order handed))
 
   -- The reflector ran, and a first part of its lines was appended.
-  abbrev pub CutsServe : ServeOrder → Around E M B → Option (List ℕ) → Option (List ℕ) → Type 0
-  CutsServe order run first written =
-      (devices : Devices E M (Option B)) × (handed : Handed) × Serves order run devices handed
+  abbrev pub CutsBy : (Devices E M (Option B) → Devices X M (Option B)) → ServeOrder
+      → Around E M B → Option (List ℕ) → Option (List ℕ) → Type 0
+  CutsBy seen order run first written =
+      (devices : Devices E M (Option B)) × (handed : Handed)
+      × ServesBy seen order run devices handed
       × ((before : List ℕ) → first ≡ Some before
       → AppendsPrefix before (lines_of order handed) written)
+
+module _ {E M B : Type 0} where
+  -- the same where the reflector saw the devices themselves
+  abbrev pub EndsServe : ServeOrder → ServeEnding → Around E M B → Option (List ℕ)
+      → Option (List ℕ) → Type 0
+  EndsServe order ending run first written = EndsBy (λ d. d) order ending run first written
+
+  abbrev pub CutsServe : ServeOrder → Around E M B → Option (List ℕ) → Option (List ℕ) → Type 0
+  CutsServe order run first written = CutsBy (λ d. d) order run first written
 
   -- What each ending of `serve` says. Nothing is written before the reflector has run. Want of memory comes before the
   -- ports are asked for anything, or before anything was heard.
@@ -145,6 +168,24 @@ module _ {E M B : Type 0} where
   ComesToServe order CrewRefused run first written =
       Refuses order refusals.Crew run × (written ≡ first)
   ComesToServe order NoMemory run first written =
+      (AsksNothing run ⊎ Refuses order refusals.NoMemory run) × (written ≡ first)
+
+  -- The same by rules: each ear stood behind a gate of them, and the headline holds of what was heard behind the gates.
+  abbrev pub ComesByRules : List Rule → ServeOrder → ServeEnding → Around E M B
+      → Option (List ℕ) → Option (List ℕ) → Type 0
+  ComesByRules rules order Finished run first written =
+      EndsBy (behind_gates rules) order Finished run first written
+  ComesByRules rules order LinkLost run first written =
+      EndsBy (behind_gates rules) order LinkLost run first written
+  ComesByRules rules order BookFailed run first written =
+      EndsBy (behind_gates rules) order BookFailed run first written
+  ComesByRules rules order WriteFailed run first written =
+      CutsBy (behind_gates rules) order run first written
+  ComesByRules rules order PortFailed run first written =
+      FailsAtPort order run × (written ≡ first)
+  ComesByRules rules order CrewRefused run first written =
+      Refuses order refusals.Crew run × (written ≡ first)
+  ComesByRules rules order NoMemory run first written =
       (AsksNothing run ⊎ Refuses order refusals.NoMemory run) × (written ≡ first)
 
 -- The reflector never ran.

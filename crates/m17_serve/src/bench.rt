@@ -54,6 +54,8 @@ fn order(rt: &impl Abort, alloc: Global, book: Option<&str>) -> ServeOrder
         seconds: None,
         book,
         binds,
+        limit: 180_000,
+        rules: false,
     }
 }
 

@@ -8,6 +8,9 @@
 
 #[cfg(test)]
 mod bench;
+mod carrying;
+mod gates;
+pub mod laws;
 mod letters;
 mod line;
 mod names;
@@ -17,5 +20,5 @@ mod served;
 #[cfg(test)]
 mod tests;
 
-pub use serve_command::serve;
+pub use serve_command::{serve, serve_by_rules};
 pub use served::{ServeEnding, Served};

@@ -1,24 +1,21 @@
-ghost use Rattle.std.specs.Prelude.{◌≡◌, ◌+◌, ◌≤◌, false, length, vec_len, None, Option, IfOk, OnOk, OnErr};
+ghost use Rattle.std.specs.Prelude.{◌≡◌, ◌≤◌, length, vec_len, None, IfOk};
 ghost use Rattle.m17_control.specs.Modules.{letters_of};
 ghost use Rattle.m17_print.specs.Endings.{Grows};
-ghost use Rattle.m17_reflect.specs.Laws.{DevicesStay};
-ghost use Rattle.m17_reflect.specs.declared.returned.HouseRefusal.TheVariants as refusals;
 ghost use Rattle.m17_ports.specs.Ports.{FailsLast};
-ghost use Rattle.m17_serve.specs.Served.{around, counts, ending_by, serve_plan, ComesToServe, HasCauses, IsServable, NeverAsked, NeverRan};
+ghost use Rattle.m17_serve.specs.Served.{around, counts, ComesByRules, ComesToServe, HasCauses, IsServable, NeverAsked, NeverRan};
 ghost use Rattle.m17_serve.specs.Steps.{AreNames, HasRooms};
 
-use crate::letters::served_letters;
-use crate::line::print_modules;
+use crate::carrying::carry_out;
+use crate::gates::{gate_all, open_served, rules_for};
+use crate::letters::{room, served_letters};
 use crate::names::{Names, make_names};
 use crate::opening::{Opened, make_rooms, open};
 use crate::{ServeEnding, Served};
 use m17_crew::Crew;
+use m17_gate::{Gate, Rules};
 use m17_io::Sink;
-use m17_plan::Plan;
-use m17_ports::{Book, Ear, Mouth, Ports};
-use m17_reflect::laws::devices_stay;
-use m17_reflect::{HouseRefusal, reflect};
-use m17_values::{Failed, NoMemory};
+use m17_ports::Ports;
+use m17_values::NoMemory;
 use m17_words::ServeOrder;
 use std::alloc::Global;
 use std::sync::Wait;
@@ -61,7 +58,6 @@ pub fn serve<R: Threads + Wait + Copy + Send + 'static, P: Ports, C: Crew, K: Si
     ensures untouched { NeverRan result.ending → out.new ≡ out.old }
     ensures unasked { NeverAsked result.ending → crew.new ≡ crew.old }
 {
-    of_runs::<P::Ear, P::Mouth, P::Book>();
     let Ok(made) = make(alloc, order) else {
         return without(ServeEnding::NoMemory);
     };
@@ -73,42 +69,69 @@ pub fn serve<R: Threads + Wait + Copy + Send + 'static, P: Ports, C: Crew, K: Si
     let Ok(opened) = open(order, &names, letters.len(), ports, rooms) else {
         return without(ServeEnding::PortFailed);
     };
-    let plan = plan_of(order);
-    let ran = reflect(
-        rt,
-        alloc,
-        &plan,
-        opened.ears,
-        opened.mouths,
-        opened.traces,
-        opened.books,
-        crew,
-    );
-    match ran {
-        Ok(house) => {
-            let admitted = house.admitted.as_slice();
-            let missed = house.missed.as_slice();
-            let printed = print_modules(letters.as_slice(), admitted, missed, out);
-            Served {
-                ending: ending_of(house.lost, house.book_failed, printed),
-                house: Some(house),
-                refused: None,
-            }
-        }
-        Err(refused) => Served {
-            ending: ending_for(refused.why),
-            house: None,
-            refused: Some(refused),
-        },
-    }
+    carry_out(rt, alloc, order, &letters, opened, crew, out)
 }
 
-// What becomes of the devices of a run.
-#[inline]
-fn of_runs<E: Ear, M: Mouth, B: Book>()
-    ensures { DevicesStay E.Label M.Label (Option B.Label) }
+/// The same by rules of callsigns: each ear stands behind a gate of them while the reflector runs, so that who is denied
+/// is not heard, and there is no answer to what is denied. What is handed back are the ears themselves. Want of memory comes
+/// before anything was heard.
+pub fn serve_by_rules<R: Threads + Wait + Copy + Send + 'static, P: Ports, C: Crew, K: Sink>(
+    rt: &R,
+    alloc: Global,
+    order: &ServeOrder,
+    rules: &Rules,
+    ports: &mut P,
+    crew: &mut C,
+    out: &mut K,
+) -> Served<P::Ear, P::Mouth, P::Book>
+    requires servable { IsServable order.now }
+    // A failure is told exactly where the count of what failed rose.
+    ensures causes { HasCauses result.ending
+        (counts (P.told ports.old).faults (C.refusals crew.old) (K.told out.old).faults)
+        (counts (P.told ports.new).faults (C.refusals crew.new) (K.told out.new).faults) }
+    // What the ending says of the ports and of what is handed back holds, and what it prints stands written. The headline
+    // holds of what was heard behind the gates.
+    ensures ended { ComesByRules rules.now order.now result.ending
+        (around P.Ear.told P.Mouth.told P.Book.told (P.told ports.old) (P.told ports.new) result)
+        (K.told out.old).written (K.told out.new).written }
+    ensures appended { Grows (K.told out.old).written (K.told out.new).written }
+    // Where the ports fail, that was the last question: until then their count of faults stands.
+    ensures fails_last { FailsLast P.told ports.old ports.new }
+    // Where the reflector never ran, the sink is as it was; and before the threads are started, so is the crew.
+    ensures untouched { NeverRan result.ending → out.new ≡ out.old }
+    ensures unasked { NeverAsked result.ending → crew.new ≡ crew.old }
 {
-    devices_stay::<E::Label, M::Label, Option<B::Label>>();
+    let Ok(made) = make(alloc, order) else {
+        return without(ServeEnding::NoMemory);
+    };
+    let Made {
+        letters,
+        names,
+        rooms,
+    } = made;
+    let Ok(quick) = rules_for(alloc, order.binds.len(), rules) else {
+        return without(ServeEnding::NoMemory);
+    };
+    let Ok(mut gates) = room::<Gate<P::Ear>>(alloc, order.binds.len()) else {
+        return without(ServeEnding::NoMemory);
+    };
+    let Ok(ears) = room::<P::Ear>(alloc, order.binds.len()) else {
+        return without(ServeEnding::NoMemory);
+    };
+    let Ok(opened) = open(order, &names, letters.len(), ports, rooms) else {
+        return without(ServeEnding::PortFailed);
+    };
+    gate_all(opened.ears, quick, &mut gates);
+    let gated = Opened {
+        ears: gates,
+        mouths: opened.mouths,
+        traces: opened.traces,
+        books: opened.books,
+    };
+    open_served(
+        carry_out(rt, alloc, order, &letters, gated, crew, out),
+        ears,
+    )
 }
 
 // What is made first.
@@ -132,20 +155,6 @@ fn make<E: Drop, M: Drop, B: Drop>(
     })
 }
 
-// The plan of the words.
-fn plan_of(order: &ServeOrder) -> Plan
-    ensures { result ≡ serve_plan order.now }
-{
-    Plan {
-        name: order.call,
-        modules: order.modules,
-        parrots: order.parrots,
-        places: order.places,
-        patient: false,
-        entries: 0,
-    }
-}
-
 // What the command came to where nothing is handed back.
 fn without<E, M, B>(ending: ServeEnding) -> Served<E, M, B>
     ensures ending { result.ending ≡ ending }
@@ -156,33 +165,5 @@ fn without<E, M, B>(ending: ServeEnding) -> Served<E, M, B>
         ending,
         house: None,
         refused: None,
-    }
-}
-
-// How the command ends where the reflector ran.
-fn ending_of(lost: bool, book_failed: bool, printed: Result<(), Failed>) -> ServeEnding
-    ensures ok { OnOk printed (result ≡ ending_by lost book_failed) }
-    ensures err { OnErr printed (result ≡ ServeEnding.WriteFailed) }
-{
-    if printed.is_err() {
-        return ServeEnding::WriteFailed;
-    }
-    if lost {
-        return ServeEnding::LinkLost;
-    }
-    if book_failed {
-        return ServeEnding::BookFailed;
-    }
-    ServeEnding::Finished
-}
-
-// How it ends where the reflector refused to run.
-fn ending_for(why: HouseRefusal) -> ServeEnding
-    ensures crew { why ≡ refusals.Crew → result ≡ ServeEnding.CrewRefused }
-    ensures memory { why ≡ refusals.NoMemory → result ≡ ServeEnding.NoMemory }
-{
-    match why {
-        HouseRefusal::Crew => ServeEnding::CrewRefused,
-        HouseRefusal::NoMemory => ServeEnding::NoMemory,
     }
 }

@@ -1,0 +1,10 @@
+pub mod Patterns
+pub mod Text
+pub mod Asking
+pub mod Fits
+pub mod Gated
+pub mod Laws
+-- for proofs alone
+pub mod Answers
+pub mod Steps
+pub mod Unended

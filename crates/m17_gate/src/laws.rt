@@ -1,0 +1,28 @@
+//! What a gate does to packets, for callers to cite by name. Each is a function without
+//! arguments, which does nothing and ensures the law.
+ghost use Rattle.m17_gate.specs.Laws.{BytesAskAsPackets, GateIsExact, DeniedIsNotHeard};
+
+/// The bytes of a datagram ask what the packet asks that they spell, and nothing where they spell
+/// none.
+pub fn bytes_ask_as_packets()
+    ensures { BytesAskAsPackets }
+{
+    m17_fields::laws::fields_of_16_bits_are_exact();
+    m17_crc::laws::crc_has_16_bits();
+    m17_callsign::laws::each_address_has_one_callsign();
+}
+
+/// A gate replaces exactly the datagrams that spell a packet that is not allowed.
+pub fn gate_is_exact()
+    ensures { GateIsExact }
+{
+    bytes_ask_as_packets();
+}
+
+/// No datagram that is heard behind a gate spells a CONN, a LSTN or a stream packet that is not
+/// allowed.
+pub fn denied_is_not_heard()
+    ensures { DeniedIsNotHeard }
+{
+    bytes_ask_as_packets();
+}

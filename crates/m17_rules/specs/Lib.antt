@@ -1,0 +1,4 @@
+pub mod Reasons
+pub mod Taking
+pub mod Endings
+pub mod Laws
