@@ -20,6 +20,7 @@ mod state;
 mod talking;
 
 pub use client::{Client, MOST_ACTIONS};
+pub use run::MOST_FAULTS;
 pub use script::is_in_order;
 pub use state::{Action, Ending, Input, LastKept, SAID_BYTES, State};
 pub use talking::{TalkEnd, talk};

@@ -17,8 +17,8 @@ use m17_ports::{Book, Mouth};
 use m17_stream::StreamPacket;
 use m17_values::{Heard, Peer};
 
-/// So many Faults in a row end a run.
-const MOST_FAULTS: u32 = 16;
+/// The number of Faults in a row that ends a run.
+pub const MOST_FAULTS: u32 = 16;
 
 // Where a run stands: its client, how many Faults stand last in a row, and whether the ear said End.
 #[derive(Debug, Drop)]

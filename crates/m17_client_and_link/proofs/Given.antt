@@ -22,7 +22,7 @@ use Rattle.m17_module.specs.declared.seat.Seat.{Seat}
 use Rattle.m17_module.specs.Events.{act_of, acts_of, kind_of}
 use Rattle.m17_module.specs.Seats.{members_of, others_than, seat_in, seat_of, seats_at}
 use Rattle.m17_module.specs.Echoes.{echo_at}
-use Rattle.m17_module.specs.Items.{Setting, Setup, echo_items, echoes_at, item_to, items_at, items_given, pings_at, said_at, said_by, says, setting_at, to_one}
+use Rattle.m17_module.specs.Items.{Setting, Setup, floor_setup, echo_items, echoes_at, item_to, items_at, items_given, pings_at, said_at, said_by, says, setting_at, to_one}
 use Rattle.m17_client_and_link.specs.BothEnds.{GivesOut}
 use Rattle.m17_client_and_link.proofs.Listed.{alone, map_of, none_there, one_of}
 
@@ -118,12 +118,12 @@ kind_there : (events : List Event) (n : ℕ) (event : Event) → slice_get event
 kind_there events n event e =
     ap kind_or_other (slice_get-map act_of events n ∙ ap (λ (o : Option Event). option_map act_of o) e)
 
-position_speaks : (places : ℕ) (events : List Event) (n : ℕ) (o : Option Event) (item : Item) (q : StreamPacket)
-    → slice_get events n ≡ o → Contains (said_by places events n o) item → Speaks q item.body
-    → (k : Member) × IsAdmittedPacket places (acts_of events) n k q
-position_speaks places events n None item q e h speak = absurd (none_there item h)
-position_speaks places events n (Some event) item q e h speak =
-    let (k, is, admitted) = event_speaks (setting_at places events n event.tag.link) event.body item q h speak in
+position_speaks : (setup : Setup) (events : List Event) (n : ℕ) (o : Option Event) (item : Item) (q : StreamPacket)
+    → slice_get events n ≡ o → Contains (said_by setup events n o) item → Speaks q item.body
+    → (k : Member) × IsAdmittedPacket (floor_setup setup) (acts_of events) n k q
+position_speaks setup events n None item q e h speak = absurd (none_there item h)
+position_speaks setup events n (Some event) item q e h speak =
+    let (k, is, admitted) = event_speaks (setting_at setup events n event.tag.link) event.body item q h speak in
     (k, record { packet_is = kind_there events n event e ∙ ap kind_of is; admitted = admitted })
 
 -- so it is with all that a position gives, and with all that is given
@@ -132,16 +132,16 @@ at_position : (setup : Setup) (events : List Event) (n : ℕ) (item : Item) (q :
 unfolding items_at pings_at echoes_at said_at
 at_position setup events n item q h speak =
     elim (Contains-append_cases (pings_at setup.places events n ++ echoes_at setup events n)
-    (said_at setup.places events n) item h) [
+    (said_at setup events n) item h) [
       | inl before ↦ elim (Contains-append_cases (pings_at setup.places events n) (echoes_at setup events n) item before) [
         | inl ping ↦ absurd (ping_is_silent _ (members_of (seats_at setup.places events n)) item q ping speak)
         | inr echo ↦
             let (k, parrot, e) = echoes_speak setup.parrot n (seats_at setup.places events n)
-            (echo_at setup.places (acts_of events) n) item q echo speak in
+            (echo_at setup (acts_of events) n) item q echo speak in
             (k, inr (parrot, e))
       ]
       | inr own ↦
-          let (k, is) = position_speaks setup.places events n (slice_get events n) item q refl own speak in
+          let (k, is) = position_speaks setup events n (slice_get events n) item q refl own speak in
           (k, inl is)
     ]
 

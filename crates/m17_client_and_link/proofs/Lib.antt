@@ -6,3 +6,4 @@ mod Told
 mod Asked
 mod Answered
 mod Agreed
+mod Bridged

@@ -16,7 +16,7 @@ use Rattle.m17_floor.specs.Laws.{IsAdmittedPacket}
 use Rattle.m17_module.specs.Events.{acts_of}
 use Rattle.m17_module.specs.Echoes.{echo_at}
 use Rattle.m17_module.specs.Items as module_items
-use Rattle.m17_module.specs.Items.{items_at}
+use Rattle.m17_module.specs.Items.{floor_setup, items_at}
 use Rattle.m17_module.specs.Laws.{FollowsJoin}
 use Rattle.m17_lane.specs.Ends.{TrailEnd}
 use Rattle.m17_reflect.specs.Links.{At, link_setup, setup_at}
@@ -47,8 +47,8 @@ pub record IsLinksEnd {E M B : Type 0} (run : Run E M B) (i : ℕ) (way : Way) :
 -- parrot and plays the packet back there.
 abbrev pub GivesOut : module_items.Setup → List Event → ℕ → StreamPacket → Type 0
 GivesOut setup events n packet = (k : Member)
-    × (IsAdmittedPacket setup.places (acts_of events) n k packet
-    ⊎ ((setup.parrot ≡ true) × (echo_at setup.places (acts_of events) n ≡ Some (k, packet))))
+    × (IsAdmittedPacket (floor_setup setup) (acts_of events) n k packet
+    ⊎ ((setup.parrot ≡ true) × (echo_at setup (acts_of events) n ≡ Some (k, packet))))
 
 -- The packet is given out at a position of some module's trail.
 pub record IsInATrail {E M B : Type 0} (run : Run E M B) (packet : StreamPacket) : Type 0 where

@@ -20,3 +20,13 @@ pub fn both_ends_agree<E, M, B, L>()
     m17_module::laws::later_events_change_no_items();
     m17_module::laws::items_follow_their_joins();
 }
+
+/// The same of a run of a bridge: each packet that passes from a side is an admitted packet of some module's trail at the
+/// reflector of that side, or a parrot's echo there.
+pub fn bridges_agree<E, M, B, L>()
+    ensures { law.BridgesAgree E M B L }
+{
+    both_ends_agree::<E, M, B, L>();
+    m17_bridge::laws::passing_is_kept();
+    m17_bridge::laws::sides_are_clients_ends::<L>();
+}

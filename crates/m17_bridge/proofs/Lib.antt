@@ -1,0 +1,11 @@
+mod Picked
+mod Rule
+mod OneStep
+mod Taking
+mod WholeStep
+mod Table
+mod Frames
+mod CrossTurns
+mod CrossEnded
+mod Listed
+mod ClientsEnd

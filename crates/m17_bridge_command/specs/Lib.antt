@@ -1,0 +1,4 @@
+pub mod Bridged
+pub mod Endings
+-- for proofs alone
+pub mod Printing
