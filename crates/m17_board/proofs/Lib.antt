@@ -1,0 +1,4 @@
+mod Records
+mod Moves
+mod Pairs
+mod Made

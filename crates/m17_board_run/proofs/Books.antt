@@ -1,0 +1,171 @@
+-- What is told of the books of a run with a board.
+use Rattle.std.proofs.Common.{◌≡◌, ℕ, suc, List, [], ◌∷◌, ◌++◌, map, length, All, Option, refl, sym, ap, ap₂, subst, ◌∙◌}
+use Rattle.std.specs.List.{AllZip}
+use Rattle.std.proofs.lemmas.List.{length-map}
+use Rattle.std.proofs.lemmas.List.Elements.{All-cons, All-head, All-tail, All-nil}
+use Rattle.m17_ports.specs.Book.{BookTold}
+use Rattle.m17_ports.specs.Marks.{Device}
+use Rattle.m17_ports.specs.Told.{StartsEmpty}
+use Rattle.m17_ports.specs.declared.shelf.Shelf.{Shelf}
+use Rattle.m17_board.specs.Ends.{AreOfOneBoard, EyeEnd, PostEnd}
+use Rattle.m17_board_book.specs.Kept.{BoardKept}
+use Rattle.m17_board_book.specs.declared.board_book.BoardLabel.{BoardLabel}
+use Rattle.m17_board_run.specs.Kept.{kept_told, plain_told, posting_each, told_of_shelf}
+use Rattle.m17_board_run.specs.Putting.{IsPosting, plain, plain_of, posters_of}
+use Rattle.m17_board_run.specs.declared.kept.Kept.{Kept}
+use Rattle.m17_board_run.specs.declared.kept.Kept.TheVariants as kept
+use Rattle.m17_board_run.specs.declared.kept.KeptLabel.{KeptLabel}
+use Rattle.m17_board_run.specs.declared.kept.KeptLabel.TheVariants.{Plain, Posting}
+
+-- the posters are those of one board, at one place each, whatever they posted
+pub record IsSameEnd (p q : PostEnd) : Type 0 where
+  pub cell : p.cell ≡ q.cell
+  pub number : p.number ≡ q.number
+
+module _ (B R L : Type 0) where
+  pub plain_all : (shelves : List (Shelf B)) → map (plain_of {B = B} {R = R} {L = L}) (map (plain {B = B} {R = R} {L = L}) shelves) ≡ shelves
+  plain_all [] = refl
+  plain_all (shelf ∷ shelves) = ap (λ (l : List (Shelf B)). shelf ∷ l) (plain_all shelves)
+
+  -- traces tell what their shelves do
+  pub plain_traces : (told : B → BookTold L) (shelves : List (Shelf B)) → map (kept_told told) (map (plain {B = B} {R = R} {L = L}) shelves) ≡ map plain_told (map (told_of_shelf told) shelves)
+  plain_traces told [] = refl
+  plain_traces told (shelf ∷ shelves) = ap (λ (l : List (BookTold (KeptLabel L))). plain_told (told_of_shelf told shelf) ∷ l) (plain_traces told shelves)
+
+module _ {B R L : Type 0} where
+  pub posters_push : (some : List (Kept B R L)) (book : BoardKept (Shelf B)) → posters_of (some ++ kept.Posting book ∷ []) ≡ posters_of some ++ book.poster ∷ []
+  posters_push [] book = refl
+  posters_push (kept.Plain shelf ∷ some) book = posters_push some book
+  posters_push (kept.Posting one ∷ some) book = ap (λ (l : List PostEnd). one.poster ∷ l) (posters_push some book)
+
+  pub posters_count : (some : List (Kept B R L)) → All IsPosting some → length (posters_of some) ≡ length some
+  posters_count [] all = refl
+  posters_count (kept.Plain shelf ∷ some) all = absurd (All-head IsPosting (kept.Plain shelf) some all)
+  posters_count (kept.Posting one ∷ some) all = ap suc (posters_count some (All-tail IsPosting (kept.Posting one) some all))
+
+  -- there are as many as shelves
+  pub length_over : (some : List (Kept B R L)) (shelves : List (Shelf B)) → map plain_of some ≡ shelves → length some ≡ length shelves
+  length_over [] [] over = refl
+  length_over [] (s ∷ shelves) over = absurd (let e = over in cc)
+  length_over (one ∷ some) [] over = absurd (let e = over in cc)
+  length_over (one ∷ some) (s ∷ shelves) over = ap suc (length_over some shelves (let e = over in cc))
+
+  pub length_plain : (some : List (Kept B R L)) (shelves : List (Shelf B)) → some ≡ map plain shelves → length some ≡ length shelves
+  length_plain some shelves are = ap length are ∙ length-map shelves (plain {B = B} {R = R} {L = L})
+
+module _ {B R L : Type 0} (told : B → BookTold L) where
+  one_fresh : (one : Kept B R L) → StartsEmpty (told_of_shelf told (plain_of one)).written → StartsEmpty (kept_told told one).written
+  one_fresh (kept.Plain shelf) empty = empty
+  one_fresh (kept.Posting book) empty = empty
+
+  -- nothing is written in books over shelves in which nothing is written
+  all_fresh : (some : List (Kept B R L)) → All (λ shelf. StartsEmpty (told_of_shelf told shelf).written) (map plain_of some)
+      → All (λ one. StartsEmpty (kept_told told one).written) some
+  all_fresh [] empty = All-nil (λ one. StartsEmpty (kept_told told one).written)
+  all_fresh (one ∷ some) empty =
+      All-cons (λ one. StartsEmpty (kept_told told one).written) one some
+      (one_fresh one (All-head (λ shelf. StartsEmpty (told_of_shelf told shelf).written) (plain_of one) (map plain_of some) empty))
+      (all_fresh some (All-tail (λ shelf. StartsEmpty (told_of_shelf told shelf).written) (plain_of one) (map plain_of some) empty))
+
+  pub fresh_over : (some : List (Kept B R L)) (shelves : List (Shelf B)) → map plain_of some ≡ shelves → All (λ shelf. StartsEmpty (told_of_shelf told shelf).written) shelves
+      → All (λ one. StartsEmpty (kept_told told one).written) some
+  fresh_over some shelves over empty = all_fresh some (subst (All (λ shelf. StartsEmpty (told_of_shelf told shelf).written)) (sym over) empty)
+
+  -- books tell what their shelves do, with their posters
+  pub posting_books : (some : List (Kept B R L)) → All IsPosting some
+      → map (kept_told told) some ≡ posting_each (posters_of some) (map (told_of_shelf told) (map plain_of some))
+  posting_books [] all = refl
+  posting_books (kept.Plain shelf ∷ some) all = absurd (All-head IsPosting (kept.Plain shelf) some all)
+  posting_books (kept.Posting book ∷ some) all =
+      ap (λ (l : List (BookTold (KeptLabel L))). kept_told {R = R} told (kept.Posting book) ∷ l) (posting_books some (All-tail IsPosting (kept.Posting book) some all))
+
+abbrev unposted : PostEnd → PostEnd
+unposted p = record p { posted = [] }
+
+same_unposted : (p q : PostEnd) → IsSameEnd p q → unposted p ≡ unposted q
+same_unposted p q same =
+    ap (λ x. record { cell = x; number = p.number; posted = [] }) same.cell ∙ ap (λ x. record { cell = q.cell; number = x; posted = [] }) same.number
+
+abbrev posting_by : {L : Type 0} → PostEnd → BookTold (Option L) → BookTold (KeptLabel L)
+posting_by end book = record {
+  written = book.written;
+  faults = book.faults;
+  device = record { mark = book.device.mark; label = Posting record { inner = book.device.label; poster = end } };
+}
+
+module _ {L : Type 0} where
+  -- what is told of books with posters is told with any others of the same board
+  pub same_posting : (ps qs : List PostEnd) (books : List (BookTold (Option L))) → AllZip IsSameEnd ps qs → posting_each ps books ≡ posting_each qs books
+  same_posting [] [] books same = refl
+  same_posting [] (q ∷ qs) books same = absurd same
+  same_posting (p ∷ ps) [] books same = absurd same
+  same_posting (p ∷ ps) (q ∷ qs) [] same = refl
+  same_posting (p ∷ ps) (q ∷ qs) (book ∷ books) same =
+      ap₂ (λ (x : BookTold (KeptLabel L)) (xs : List (BookTold (KeptLabel L))). x ∷ xs) (ap (λ (end : PostEnd). posting_by end book) (same_unposted p q same.0))
+      (same_posting ps qs books same.1)
+
+-- eyes are of one board with each of these
+pub same_board : (ps qs : List PostEnd) (eyes : List EyeEnd) → AllZip IsSameEnd ps qs → AreOfOneBoard ps eyes → AreOfOneBoard qs eyes
+same_board [] [] eyes same board = board
+same_board [] (q ∷ qs) eyes same board = absurd same
+same_board (p ∷ ps) [] eyes same board = absurd same
+same_board (p ∷ ps) (q ∷ qs) [] same board = board
+same_board (p ∷ ps) (q ∷ qs) (e ∷ eyes) same board =
+    ((board.0.0 ∙ same.0.cell, board.0.1 ∙ same.0.number), same_board ps qs eyes same.1 board.1)
+
+module _ {L : Type 0} where
+  same_head : (a b : BookTold (KeptLabel L)) (xs ys : List (BookTold (KeptLabel L))) → map (λ told. told.device) (a ∷ xs) ≡ map (λ told. told.device) (b ∷ ys) → a.device ≡ b.device
+  same_head a b xs ys same = cc
+
+  same_tail : (a b : BookTold (KeptLabel L)) (xs ys : List (BookTold (KeptLabel L))) → map (λ told. told.device) (a ∷ xs) ≡ map (λ told. told.device) (b ∷ ys)
+      → map (λ told. told.device) xs ≡ map (λ told. told.device) ys
+  same_tail a b xs ys same = cc
+
+  -- the poster that a label names
+  abbrev poster_in : PostEnd → KeptLabel L → PostEnd
+  poster_in other (Plain label) = other
+  poster_in other (Posting label) = label.poster
+
+  labels_apart : (a b : BookTold (KeptLabel L)) (label : Option L) (other : BoardLabel (Option L)) → a.device.label ≡ Plain label → b.device.label ≡ Posting other → a.device ≡ b.device → ⊥
+  labels_apart a b label other is is' same = let plain_is : Plain label ≡ Posting other = sym is ∙ ap (λ (d : Device ℕ (KeptLabel L)). d.label) same ∙ is' in cc
+
+module _ {B R L : Type 0} (told : B → BookTold L) where
+  abbrev AreSame : List (Kept B R L) → List (Kept B R L) → Type 0
+  AreSame now was = map (λ (t : BookTold (KeptLabel L)). t.device) (map (kept_told told) now) ≡ map (λ (t : BookTold (KeptLabel L)). t.device) (map (kept_told told) was)
+
+  pub as_many : (now was : List (Kept B R L)) → AreSame now was → length now ≡ length was
+  as_many [] [] same = refl
+  as_many [] (w ∷ was) same = absurd (let e = same in cc)
+  as_many (n ∷ now) [] same = absurd (let e = same in cc)
+  as_many (n ∷ now) (w ∷ was) same =
+      ap suc (as_many now was (same_tail (kept_told told n) (kept_told told w) (map (kept_told told) now) (map (kept_told told) was) same))
+
+  -- books that are the same devices as books that post do so, and their posters are of the same board
+  pub stay_posting : (now was : List (Kept B R L)) → AreSame now was → All IsPosting was → All IsPosting now × AllZip IsSameEnd (posters_of was) (posters_of now)
+  stay_posting [] [] same all = (All-nil IsPosting, tt)
+  stay_posting [] (w ∷ was) same all = absurd (let e = same in cc)
+  stay_posting (n ∷ now) [] same all = absurd (let e = same in cc)
+  stay_posting (n ∷ now) (kept.Plain shelf ∷ was) same all = absurd (All-head IsPosting (kept.Plain shelf) was all)
+  stay_posting (kept.Plain shelf ∷ now) (kept.Posting w ∷ was) same all =
+      absurd (labels_apart (kept_told {R = R} told (kept.Plain shelf)) (kept_told {R = R} told (kept.Posting w)) _ _ refl refl
+      (same_head (kept_told {R = R} told (kept.Plain shelf)) (kept_told {R = R} told (kept.Posting w)) (map (kept_told told) now) (map (kept_told told) was) same))
+  stay_posting (kept.Posting n ∷ now) (kept.Posting w ∷ was) same all =
+      let first = same_head (kept_told {R = R} told (kept.Posting n)) (kept_told {R = R} told (kept.Posting w)) (map (kept_told told) now) (map (kept_told told) was) same in
+      let end : unposted n.poster ≡ unposted w.poster = ap (λ (d : Device ℕ (KeptLabel L)). poster_in n.poster d.label) first in
+      let rest = stay_posting now was (same_tail (kept_told {R = R} told (kept.Posting n)) (kept_told {R = R} told (kept.Posting w)) (map (kept_told told) now) (map (kept_told told) was) same)
+      (All-tail IsPosting (kept.Posting w) was all) in (
+        All-cons IsPosting (kept.Posting n) now tt rest.0,
+        (record { cell = sym (ap (λ (p : PostEnd). p.cell) end); number = sym (ap (λ (p : PostEnd). p.number) end) }, rest.1),
+      )
+
+  -- traces that are the same devices as traces without posters tell what their shelves do
+  pub stay_plain : (now : List (Kept B R L)) (shelves : List (Shelf B)) → AreSame now (map plain shelves)
+      → map (kept_told told) now ≡ map plain_told (map (told_of_shelf told) (map plain_of now))
+  stay_plain [] shelves same = refl
+  stay_plain (n ∷ now) [] same = absurd (let e = same in cc)
+  stay_plain (kept.Plain own ∷ now) (shelf ∷ shelves) same =
+      ap (λ (l : List (BookTold (KeptLabel L))). plain_told (told_of_shelf told own) ∷ l)
+      (stay_plain now shelves (same_tail (kept_told {R = R} told (kept.Plain own)) (kept_told {R = R} told (kept.Plain shelf)) (map (kept_told told) now) (map (kept_told told) (map plain shelves)) same))
+  stay_plain (kept.Posting book ∷ now) (shelf ∷ shelves) same =
+      absurd (labels_apart (kept_told {R = R} told (kept.Plain shelf)) (kept_told {R = R} told (kept.Posting book)) _ _ refl refl
+      (sym (same_head (kept_told {R = R} told (kept.Posting book)) (kept_told {R = R} told (kept.Plain shelf)) (map (kept_told told) now) (map (kept_told told) (map plain shelves)) same)))

@@ -1,0 +1,35 @@
+-- Shelves and the books over them.
+use Rattle.std.specs.Prelude.{◌≡◌, ℕ, List, [], ◌∷◌, Some}
+use Rattle.m17_ports.specs.Book.{BookTold}
+use Rattle.m17_ports.specs.declared.shelf.Shelf.{Shelf}
+use Rattle.m17_board.specs.Ends.{PostEnd}
+use Rattle.m17_board_book.specs.Whole.{StandWhole}
+use Rattle.m17_board_run.specs.Kept.{told_of_shelf}
+use Rattle.m17_board_run.specs.declared.kept.Kept.{Kept}
+use Rattle.m17_board_run.specs.declared.kept.Kept.TheVariants.{Plain, Posting}
+
+module _ {B R L : Type 0} where
+  -- the shelf as it is
+  abbrev pub plain : Shelf B → Kept B R L
+  plain shelf = Plain shelf
+
+  -- the shelf of a trace or a book
+  abbrev pub plain_of : Kept B R L → Shelf B
+  plain_of (Plain shelf) = shelf
+  plain_of (Posting book) = book.inner
+
+  -- the book posts
+  abbrev pub IsPosting : Kept B R L → Type 0
+  IsPosting (Plain shelf) = ⊥
+  IsPosting (Posting book) = Unit {0}
+
+  -- the posters of those that post, in order
+  abbrev pub posters_of : List (Kept B R L) → List PostEnd
+  posters_of [] = []
+  posters_of (Plain shelf ∷ kept) = posters_of kept
+  posters_of (Posting book ∷ kept) = book.poster ∷ posters_of kept
+
+-- What was posted is what stands whole in the bytes of the shelf, where it tells them and never failed.
+abbrev pub IsBack : {B L : Type 0} → (B → BookTold L) → Shelf B → PostEnd → Type 0
+IsBack told shelf poster = (bytes : List ℕ) → (told_of_shelf told shelf).written ≡ Some bytes
+    → (told_of_shelf told shelf).faults ≡ 0 → StandWhole bytes poster.posted

@@ -1,0 +1,18 @@
+//! The reflector with a live board: the books of its modules post what is written to them, and a watch in a thread of its own
+//! writes a line for each change while they do. When the reflector has ended, the watch is told to quit, and the board
+//! ends with a line of all that was posted for each module whose last line says less.
+//! It promises that the headline holds of that run as of any other, with books that say at which poster they post; that the
+//! devices come back without the board; and that the lines show what stands whole in the bytes of the books, module by
+//! module. What runs between the threads is left to `m17_reflect`, what a line says to `m17_board_watch`.
+#![tactic(auto)]
+
+mod board;
+mod kept;
+mod putting;
+mod running;
+#[cfg(test)]
+mod tests;
+
+pub use board::{Board, make_board};
+pub use kept::{Kept, KeptLabel};
+pub use running::{OnBoard, RefusedOnBoard, reflect_on_board};

@@ -1,0 +1,255 @@
+//! The run itself.
+ghost use Rattle.std.specs.Prelude.{◌≡◌, ◌<◌, ◌≤◌, true, All, IfErr, IfOk, length, vec_len};
+ghost use Rattle.std.specs.List.{AllZip};
+ghost use Rattle.m17_ports.specs.Told.{StartsEmpty};
+ghost use Rattle.m17_control.specs.Modules.{letters_of};
+ghost use Rattle.m17_plan.specs.Planned.{IsPlan, module_count};
+ghost use Rattle.m17_board.specs.Ends.{AreOfOneBoard};
+ghost use Rattle.m17_board_watch.specs.Ending.{IsFresh};
+ghost use Rattle.m17_board_watch.specs.Shows.{WatchDid};
+ghost use Rattle.m17_board_watch.specs.Written.{ShowsBoard};
+ghost use Rattle.m17_board_run.specs.Board.{IsMade};
+ghost use Rattle.m17_board_run.specs.Boarded.{RanOnBoard, RefusedAsWere};
+ghost use Rattle.m17_board_run.specs.Kept.{told_of_shelf};
+ghost use Rattle.m17_board_run.specs.Putting.{IsBack, IsPosting, posters_of};
+ghost use Rattle.m17_board_run.specs.Returning.{HasRoom, IsOff, IsOffRefused};
+
+use crate::board::Board;
+use crate::kept::{Kept, KeptLabel};
+use crate::putting::{keep_plain, keep_posting, plain_back, posting_back};
+use m17_board::{Glance, Poster};
+use m17_board_watch::Watch;
+use m17_crew::{Crew, Order, Running};
+use m17_lane::Pusher;
+use m17_plan::Plan;
+use m17_ports::{Book, Ear, Mouth, Shelf};
+use m17_reflect::{HouseRefusal, Refused, Returned, reflect};
+use std::alloc::Global;
+use std::sync::Wait;
+use std::thread::Threads;
+use std::time::Clock;
+
+/// What a run with a board hands back: what the reflector does, with the book of the lines, and whether a write of it failed.
+#[derive(Drop)]
+pub struct OnBoard<E, M, B> {
+    /// What the reflector hands back.
+    pub house: Returned<E, M, Shelf<B>>,
+    /// Where the lines were written.
+    pub lines: B,
+    /// Whether a write of a line failed.
+    pub lines_failed: bool,
+}
+
+/// What comes back where nothing was run: the devices as they were handed in, and the book of the lines, where the watch had
+/// begun.
+#[derive(Drop)]
+pub struct RefusedOnBoard<E, M, B> {
+    /// The devices, and why nothing was run.
+    pub refused: Refused<E, M, Shelf<B>>,
+    /// Where lines would have been written. None where the crew refused the watch.
+    pub lines: Option<B>,
+}
+
+// Room for what comes back.
+#[derive(Drop)]
+struct Back<B> {
+    traces: Vec<Shelf<B>>,
+    books: Vec<Shelf<B>>,
+    posters: Vec<Poster>,
+    glances: Vec<Glance>,
+}
+
+/// Runs the reflector of this plan over these devices as `reflect` does, with a board: its books post, and a watch, which is
+/// started before all other jobs and ends after them, writes a line for each change to `lines`. The board is made for as
+/// many links and modules.
+///
+/// Where the crew refuses the watch, or the reflector refuses to run, all devices come back as they were. The watch is joined
+/// in any case but the first. Labels of books are types that live for ever, since the type of a book that posts has one in it.
+pub fn reflect_on_board<
+    E: Ear + Drop + Send + 'static,
+    M: Mouth + Drop + Send + 'static,
+    B: Book + Drop + Send + 'static,
+    C: Crew,
+    R: Threads + Wait + Clock + Copy + Drop + Send + 'static,
+>(
+    rt: &R,
+    alloc: Global,
+    plan: &Plan,
+    ears: Vec<E>,
+    mouths: Vec<M>,
+    traces: Vec<Shelf<B>>,
+    books: Vec<Shelf<B>>,
+    lines: B,
+    board: Board<B, R>,
+    crew: &mut C,
+) -> Result<OnBoard<E, M, B>, RefusedOnBoard<E, M, B>>
+where
+    B::Label: 'static,
+    requires plan { IsPlan plan.now }
+    requires board { IsMade (vec_len ears) (module_count plan.now) board }
+    requires links { (0 < vec_len ears) × (vec_len ears ≤ 4) }
+    requires alone { plan.now.patient ≡ true → vec_len ears ≡ 1 }
+    requires mouths { vec_len mouths ≡ vec_len ears }
+    requires traces { vec_len traces ≡ vec_len ears }
+    requires books { vec_len books ≡ module_count plan.now }
+    requires new_ears { All (λ ear. StartsEmpty (E.told ear).heard) ears.items }
+    requires new_traces { All (λ trace. StartsEmpty (told_of_shelf B.told trace).written) traces.items }
+    requires new_books { All (λ book. StartsEmpty (told_of_shelf B.told book).written) books.items }
+    // The reflector ran, and the lines show what its books were written.
+    ensures ran { IfOk result (λ r. RanOnBoard E.told M.told B.told plan.now (record {
+      ears = ears.items;
+      mouths = mouths.items;
+      traces = traces.items;
+      books = books.items;
+    }) lines r) }
+    ensures refused { IfErr result (λ r. RefusedAsWere (record {
+      ears = ears.items;
+      mouths = mouths.items;
+      traces = traces.items;
+      books = books.items;
+    }) r) }
+{
+    m17_reflect::laws::devices_stay::<E::Label, M::Label, KeptLabel<B::Label>>();
+    m17_board_watch::laws::ends_stay::<B, R>();
+    m17_board_watch::laws::numbers_of_lines_rise::<B, R>();
+    let Board {
+        posters,
+        eyes,
+        last,
+        quit,
+        order,
+        glances,
+        traces: plain,
+        books: posting,
+        traces_back,
+        books_back,
+        posters_back,
+    } = board;
+    let watch = Watch {
+        modules: plan.modules,
+        eyes,
+        last,
+        book: lines,
+        failed: false,
+        order,
+        clock: *rt,
+    };
+    let Ok(watching) = crew.start(rt, alloc, watch) else {
+        return Err(RefusedOnBoard {
+            refused: Refused {
+                why: HouseRefusal::Crew,
+                ears,
+                mouths,
+                traces,
+                books,
+            },
+            lines: None,
+        });
+    };
+    let back = Back {
+        traces: traces_back,
+        books: books_back,
+        posters: posters_back,
+        glances,
+    };
+    let traces = keep_plain(traces, plain);
+    let books = keep_posting(rt, books, posters, posting);
+    let ran = reflect(rt, alloc, plan, ears, mouths, traces, books, crew);
+    let watch = end_watch(rt, watching, quit);
+    match ran {
+        Ok(house) => Ok(end_run(rt, alloc, house, watch, back)),
+        Err(refused) => Err(hand_back(refused, watch, back)),
+    }
+}
+
+// Tells the watch to quit, and waits for it.
+fn end_watch<B: Book + Drop + Send + 'static, R: Threads + Wait + Clock + Drop + Send + 'static>(
+    rt: &R,
+    watching: Running<Watch<B, R>>,
+    quit: Pusher<Order>,
+) -> Watch<B, R>
+    ensures { WatchDid B.told watching result }
+{
+    let mut quit = quit;
+    quit.push_waiting(rt, Order::Quit);
+    watching.join(rt)
+}
+
+// Takes the books off the board, and ends it.
+fn end_run<E: Drop, M: Drop, B: Book + Drop, R: Wait + Drop>(
+    rt: &R,
+    alloc: Global,
+    house: Returned<E, M, Kept<B, R>>,
+    watch: Watch<B, R>,
+    back: Back<B>,
+) -> OnBoard<E, M, B>
+    requires posting { All IsPosting house.books.items }
+    requires board { AreOfOneBoard (posters_of house.books.items) watch.eyes.items }
+    requires each { vec_len house.books ≡ length (letters_of watch.modules) }
+    requires numbers { vec_len watch.last ≡ length (letters_of watch.modules) }
+    requires room { HasRoom (vec_len house.traces) (vec_len house.books) back }
+    ensures off { IsOff house result.house }
+    // What was posted at each book is what stands whole in the bytes of its shelf.
+    ensures posted { AllZip (IsBack B.told) result.house.books.items
+        (posters_of house.books.items) }
+    // Of what the watch was before, as a job, all lines show what was posted.
+    ensures shows { (j : Watch B R) → WatchDid B.told j watch → IsFresh j
+        → ShowsBoard watch.modules (posters_of house.books.items) result.lines_failed
+        (B.told j.book) (B.told result.lines) }
+{
+    let Back {
+        traces,
+        books,
+        posters,
+        mut glances,
+    } = back;
+    let (books, posters) = posting_back(house.books, books, posters);
+    let (lines, lines_failed) = watch.end(rt, alloc, posters, &mut glances);
+    OnBoard {
+        house: Returned {
+            ears: house.ears,
+            mouths: house.mouths,
+            traces: plain_back(house.traces, traces),
+            books,
+            trails: house.trails,
+            queues: house.queues,
+            roll: house.roll,
+            missed: house.missed,
+            admitted: house.admitted,
+            link_tapes: house.link_tapes,
+            tapes: house.tapes,
+            lost: house.lost,
+            book_failed: house.book_failed,
+        },
+        lines,
+        lines_failed,
+    }
+}
+
+// Takes the books off the board where nothing was run.
+fn hand_back<E: Drop, M: Drop, B: Book + Drop, R: Drop>(
+    refused: Refused<E, M, Kept<B, R>>,
+    watch: Watch<B, R>,
+    back: Back<B>,
+) -> RefusedOnBoard<E, M, B>
+    requires room { HasRoom (vec_len refused.traces) (vec_len refused.books) back }
+    ensures { IsOffRefused refused result.refused }
+{
+    let Refused {
+        why,
+        ears,
+        mouths,
+        traces,
+        books,
+    } = refused;
+    RefusedOnBoard {
+        refused: Refused {
+            why,
+            ears,
+            mouths,
+            traces: plain_back(traces, back.traces),
+            books: plain_back(books, back.books),
+        },
+        lines: Some(watch.book),
+    }
+}

@@ -1,0 +1,4 @@
+mod Looks
+mod Lines
+mod Ends
+mod Closing

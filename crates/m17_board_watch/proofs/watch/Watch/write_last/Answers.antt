@@ -1,0 +1,37 @@
+use Rattle.std.proofs.Common.{◌≡◌, ◌+◌, ℕ, length, sym, ap, ◌∙◌, subst, arith}
+use Rattle.m17_control.specs.Modules.{letters_before, letters_of}
+use Rattle.m17_control.specs.declared.modules.Modules.{Modules}
+use Rattle.m17_board_watch.specs.Shows.{shown_of}
+use Rattle.m17_board_watch.specs.Ending.{GoesOn, HasLast}
+use Rattle.m17_board_watch.proofs.Closing.{goes_on}
+use Rattle.m17_board_watch.proofs.watch.Watch.write_last.Goals as goal
+
+pub write_last_for-place-requires-clause-numbers : goal.write_last_for-place-requires-clause-numbers
+write_last_for-place-requires-clause-numbers g c =
+    c.loop-letter.invariant.as_many ∙ c.requires.numbers ∙ sym (ap (λ (m : Modules). length (letters_of m)) c.loop-letter.invariant.modules_are)
+
+pub write_last_for-place-requires-clause-glances : goal.write_last_for-place-requires-clause-glances
+write_last_for-place-requires-clause-glances g c =
+    c.requires.glances ∙ sym (ap (λ (m : Modules). length (letters_of m)) c.loop-letter.invariant.modules_are)
+
+pub loop-letter-preserved : goal.loop-letter-preserved
+loop-letter-preserved g c =
+    let before = c.loop-letter.invariant in
+    let step = c.write_last_for-place.ensures in
+    let was = shown_of c.loop-letter.self in
+    let now = shown_of c.write_last_for-place.new.self in
+    record {
+      at = step.next ∙ ap (λ (m : Modules). length (letters_before m (c.loop-letter.letter + 1))) before.modules_are;
+      on = goes_on g.B.Book.told c.args.self.now.modules c.args.glances.now (shown_of c.args.self.now) was now before.on
+          (subst (λ (m : Modules). GoesOn g.B.Book.told m c.args.glances.now was now) before.modules_are step.on);
+      last = λ ok. step.last ok (before.last (step.failed ok));
+      modules_are = step.modules ∙ before.modules_are;
+      as_many = step.as_many ∙ before.as_many;
+    }
+
+pub returns-clause-last : goal.returns-clause-last
+returns-clause-last g c ok =
+    let end : c.loop-letter.letter ≡ 91 = omega (arith, c.loop-letter-test.false, c.loop-letter.auto.letter-end) in
+    let all : c.loop-letter.place ≡ length c.args.glances.now =
+    c.loop-letter.invariant.at ∙ ap (λ (n : ℕ). length (letters_before c.args.self.now.modules n)) end ∙ sym c.requires.glances in
+    subst (HasLast c.args.glances.now c.loop-letter.self.last.items) all (c.loop-letter.invariant.last ok)
