@@ -34,14 +34,20 @@ module _ {E : Type 0} where
       }
 
   -- or a first part of it
-  pub cuts_by : (prints : E → List ℕ → Option (List ℕ) → List ℕ → Type 0) (line : List ℕ) (own status : Status) (ending : E) (before mid after : Streams)
-      → Printed prints ending before mid → WritesLast line own status mid after → CutsBy prints line ending before after
-  cuts_by prints line own status ending before mid after printed last = λ input first is is_first.
-      let text = printed input first is is_first in (
-        text.0,
-        last.part (first ++ text.0) text.1,
-        subst (λ (rest : Option (List ℕ)). prints ending input rest text.0) (sym (ap (λ (told : SourceTold). told.left) last.input_untouched)) text.2,
-      )
+  pub cuts_by : (says : E → List ℕ → Option (List ℕ) → Type 0) (prints : E → List ℕ → Option (List ℕ) → List ℕ → Type 0) (line : List ℕ) (own status : Status) (ending : E)
+      (before mid after : Streams) → Said says ending before mid → Printed prints ending before mid → WritesLast line own status mid after
+      → CutsBy says prints line ending before after
+  cuts_by says prints line own status ending before mid after said printed last =
+      let left : after.source.left ≡ mid.source.left = ap (λ (told : SourceTold). told.left) last.input_untouched in
+      record {
+        said = λ input is. subst (λ (rest : Option (List ℕ)). says ending input rest) (sym left) (said input is);
+        printed = λ input first is is_first.
+            let text = printed input first is is_first in (
+              text.0,
+              last.part (first ++ text.0) text.1,
+              subst (λ (rest : Option (List ℕ)). prints ending input rest text.0) (sym left) text.2,
+            );
+      }
 
   -- what was printed and the last line are the whole text of the input
   pub adds_text : (says : E → List ℕ → Option (List ℕ) → Type 0) (prints : E → List ℕ → Option (List ℕ) → List ℕ → Type 0) (is_text : List ℕ → List ℕ → Type 0) (line : List ℕ)

@@ -1,4 +1,5 @@
 mod Keeping
+pub mod Nothing
 pub mod Statuses
 pub mod LastLines
 pub mod Causes
@@ -9,5 +10,7 @@ pub mod MakeRuns
 pub mod ReplayRuns
 pub mod TalkRuns
 pub mod ServeRuns
+pub mod BridgeRuns
+mod RuledRuns
 pub mod Runnable
 pub mod Codes

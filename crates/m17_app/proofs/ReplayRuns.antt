@@ -152,7 +152,7 @@ ran plan summary ending status before mid after ports crew exact law tells came 
       ending,
       (λ is. sound_from own (failed_device ending) (replay_last_line ending) status before mid after causes last (ap failed_device is)),
       (λ is. tells.refused is),
-      cuts_by (PrintsTrace plan summary) (replay_last_line ending) own status ending before mid after printed last,
+      cuts_by (SaysReplay plan summary) (PrintsTrace plan summary) (replay_last_line ending) own status ending before mid after said printed last,
     ) in
     let all : TellsReplay plan summary crew status before after = elim (is_write_failed status) [
       | inl four ↦ subst (λ (s : Status). TellsReplay plan summary crew s before after) (sym four) cut

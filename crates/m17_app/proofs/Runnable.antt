@@ -7,7 +7,7 @@ use Rattle.std.proofs.lemmas.Bool.Decides.{nat_tests}
 use Rattle.m17_control.specs.declared.modules.Modules.{Modules}
 use Rattle.m17_control.specs.Modules.{serves, letters_of}
 use Rattle.m17_words.specs.declared.command.Command.{Command}
-use Rattle.m17_words.specs.declared.command.Command.TheVariants.{Judge, Show, Replay, Make, Check, Talk, Serve}
+use Rattle.m17_words.specs.declared.command.Command.TheVariants.{Judge, Show, Replay, Make, Check, Migrate, Talk, Serve, Bridge}
 use Rattle.m17_words.specs.Values.{IsNumberIfAny, NamesModules, NamesParrots}
 use Rattle.m17_words.specs.Words.{Names, Gives}
 use Rattle.m17_app.specs.Commands.{IsRunnable}
@@ -53,7 +53,9 @@ gives_runnable words Judge gives = tt
 gives_runnable words Show gives = tt
 gives_runnable words (Make seed count) gives = gives.1.count_is.at_most
 gives_runnable words Check gives = tt
+gives_runnable words Migrate gives = tt
 gives_runnable words (Talk order) gives = tt
+gives_runnable words (Bridge order) gives = few_seconds _ order.seconds gives.1.seconds_are
 gives_runnable words (Serve order) gives = record {
   plan = record {
     some_place = omega (arith, gives.1.places_are.at_least);
@@ -65,7 +67,7 @@ gives_runnable words (Serve order) gives = record {
   few_links = gives.1.few_binds;
   few_seconds = few_seconds _ order.seconds gives.1.seconds_are;
 }
-gives_runnable words (Replay call modules parrots places summary) gives = record {
+gives_runnable words (Replay call modules parrots places summary limit) gives = record {
   some_place = omega (arith, gives.1.places_are.at_least);
   at_most = omega (arith, gives.1.places_are.at_most);
   some_module = some_module _ modules gives.1.modules_are;

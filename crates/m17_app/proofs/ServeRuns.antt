@@ -19,7 +19,7 @@ use Rattle.m17_serve.specs.Served.{ending_by, ending_of, lines_of, run_told, Com
 use Rattle.m17_app.specs.declared.status.Status.{Status}
 use Rattle.m17_app.specs.declared.status.Status.TheVariants.{Finished, WriteFailed, PortFailed, CrewRefused, LinkLost, BookFailed, NoMemory}
 use Rattle.m17_app.specs.Doing.{Doing, beside_of, serve_side}
-use Rattle.m17_app.specs.Serve.{serve_last_line, serve_status, serve_terms, CutsServe, RanServe, TellsServe}
+use Rattle.m17_app.specs.Serve.{serve_last_line, serve_status, plain_terms, CutsServe, RanServe, TellsServe}
 use Rattle.m17_app.specs.Status.{HasCause, Streams, RoseBy, WritesLast}
 use Rattle.m17_app.specs.Terms.{RunsCommand}
 use Rattle.m17_app.specs.Written.{LeavesInput}
@@ -28,7 +28,7 @@ use Rattle.m17_app.proofs.Causes.{cause_from, counts, memory_cause, runs_by}
 use Rattle.m17_app.proofs.Written.{adds_after, adds_part_after, part_longer, same_written}
 
 -- the device of the streams that an ending tells of
-abbrev fault_of : ServeEnding → Option Fault
+abbrev pub fault_of : ServeEnding → Option Fault
 fault_of endings.Finished = None
 fault_of endings.LinkLost = None
 fault_of endings.BookFailed = None
@@ -37,7 +37,7 @@ fault_of endings.PortFailed = None
 fault_of endings.CrewRefused = None
 fault_of endings.NoMemory = None
 
-told : (ending : ServeEnding) → ending ≢ endings.NoMemory → Told (serve_status ending) (fault_of ending)
+pub told : (ending : ServeEnding) → ending ≢ endings.NoMemory → Told (serve_status ending) (fault_of ending)
 told endings.Finished other = record { read_told = λ e. cc; read_failed = λ e. cc; write_told = λ e. cc; write_failed = λ e. cc; no_memory = λ e. cc }
 told endings.LinkLost other = record { read_told = λ e. cc; read_failed = λ e. cc; write_told = λ e. cc; write_failed = λ e. cc; no_memory = λ e. cc }
 told endings.BookFailed other = record { read_told = λ e. cc; read_failed = λ e. cc; write_told = λ e. cc; write_failed = λ e. cc; no_memory = λ e. cc }
@@ -65,12 +65,12 @@ is_write endings.CrewRefused e = cc
 is_write endings.NoMemory e = cc
 
 -- what the status says of what came back
-was_lost : (lost failed : Bool) → LinkLost ≡ serve_status (ending_by lost failed) → IsTrue lost
+pub was_lost : (lost failed : Bool) → LinkLost ≡ serve_status (ending_by lost failed) → IsTrue lost
 was_lost true failed e = refl
 was_lost false true e = cc
 was_lost false false e = cc
 
-had_failed : (lost failed : Bool) → BookFailed ≡ serve_status (ending_by lost failed) → IsTrue failed
+pub had_failed : (lost failed : Bool) → BookFailed ≡ serve_status (ending_by lost failed) → IsTrue failed
 had_failed true failed e = cc
 had_failed false true e = refl
 had_failed false false e = cc
@@ -103,7 +103,7 @@ memory_ending endings.CrewRefused status mid after last is = absurd (never NoMem
 memory_ending endings.NoMemory status mid after last is = refl
 
 -- the endings with the statuses 5 and 6
-port_ending : (ending : ServeEnding) → serve_status ending ≡ PortFailed → ending ≡ endings.PortFailed
+pub port_ending : (ending : ServeEnding) → serve_status ending ≡ PortFailed → ending ≡ endings.PortFailed
 port_ending endings.Finished e = cc
 port_ending endings.LinkLost e = cc
 port_ending endings.BookFailed e = cc
@@ -112,7 +112,7 @@ port_ending endings.PortFailed e = refl
 port_ending endings.CrewRefused e = cc
 port_ending endings.NoMemory e = cc
 
-crew_ending : (ending : ServeEnding) → serve_status ending ≡ CrewRefused → ending ≡ endings.CrewRefused
+pub crew_ending : (ending : ServeEnding) → serve_status ending ≡ CrewRefused → ending ≡ endings.CrewRefused
 crew_ending endings.Finished e = cc
 crew_ending endings.LinkLost e = cc
 crew_ending endings.BookFailed e = cc
@@ -121,7 +121,7 @@ crew_ending endings.PortFailed e = cc
 crew_ending endings.CrewRefused e = refl
 crew_ending endings.NoMemory e = cc
 
-rose_so : (which : Status) (that ending : ServeEnding) (a b : ℕ) → serve_status that ≡ which → (serve_status ending ≡ which → ending ≡ that) → RoseWhere (ending ≡ that) a b
+pub rose_so : (which : Status) (that ending : ServeEnding) (a b : ℕ) → serve_status that ≡ which → (serve_status ending ≡ which → ending ≡ that) → RoseWhere (ending ≡ that) a b
     → RoseBy which (serve_status ending) a b
 rose_so which that ending a b is back rose = record {
   rose = λ e. rose.rose (back e);
@@ -129,7 +129,7 @@ rose_so which that ending a b is back rose = record {
 }
 
 -- the causes, as those of the streams
-causes_of : (ending : ServeEnding) (before mid : Streams) → mid.source.faults ≡ before.source.faults → before.sink.faults ≤ mid.sink.faults → RoseWhere (ending ≡ endings.WriteFailed) before.sink.faults mid.sink.faults
+pub causes_of : (ending : ServeEnding) (before mid : Streams) → mid.source.faults ≡ before.source.faults → before.sink.faults ≤ mid.sink.faults → RoseWhere (ending ≡ endings.WriteFailed) before.sink.faults mid.sink.faults
     → HasCauses (counts before) (counts mid) (fault_of ending)
 causes_of ending before mid same counted sink = record {
   reads_counted = omega (arith, same);
@@ -141,10 +141,10 @@ causes_of ending before mid same counted sink = record {
 }
 
 -- A last line was written behind what an ending printed.
-abbrev AddsLine : ServeEnding → Streams → Streams → Type 0
+abbrev pub AddsLine : ServeEnding → Streams → Streams → Type 0
 AddsLine ending mid after = (xs : List ℕ) → mid.sink.written ≡ Some xs → after.sink.written ≡ Some (xs ++ serve_last_line ending)
 
-abbrev AddsLinePart : ServeEnding → Streams → Streams → Type 0
+abbrev pub AddsLinePart : ServeEnding → Streams → Streams → Type 0
 AddsLinePart ending mid after = (xs : List ℕ) → mid.sink.written ≡ Some xs → AppendsPrefix xs (serve_last_line ending) after.sink.written
 
 module _ {E M B : Type 0} where
@@ -217,16 +217,16 @@ module _ {E M B : Type 0} where
 
   -- a command that refuses no input, and whose words are not refused
   by_terms : (order : ServeOrder) (status : Status) (before after : Streams) (run : Doing E M B) → HasCause status before after (beside_of run) → LeavesInput before after
-      → TellsServe order run status before after → RunsCommand (serve_terms order run) status before after (beside_of run)
+      → TellsServe order run status before after → RunsCommand (plain_terms order run) status before after (beside_of run)
   by_terms order status before after run cause input tells =
-      runs_by (serve_terms order run) status before after (beside_of run) cause (input, tells) (λ t _. t.1) (λ t. t.1) (loses_none order before after run) (fails_none order before after run)
+      runs_by (plain_terms order run) status before after (beside_of run) cause (input, tells) (λ t _. t.1) (λ t. t.1) (loses_none order before after run) (fails_none order before after run)
 
   -- there was memory
   with_memory : (order : ServeOrder) (ending : ServeEnding) (status : Status) (before mid after : Streams) (run : Doing E M B) → ending ≢ endings.NoMemory
       → ComesToServe order ending (serve_side run) before.sink.written mid.sink.written
       → serve.HasCauses ending (serve.counts run.before.faults run.crew_before before.sink.faults) (serve.counts run.after.faults run.crew_after mid.sink.faults)
       → mid.source ≡ before.source → WritesLast (serve_last_line ending) (serve_status ending) status mid after
-      → RunsCommand (serve_terms order run) status before after (beside_of run)
+      → RunsCommand (plain_terms order run) status before after (beside_of run)
   with_memory order ending status before mid after run room came causes same last =
       let own : status ≢ WriteFailed → status ≡ serve_status ending = own_status (serve_status ending) status last.answer in
       let named : HasCause status before after (beside_of run) = cause_from (serve_status ending) (fault_of ending) (serve_last_line ending) status before mid after (beside_of run)
@@ -242,7 +242,7 @@ module _ {E M B : Type 0} where
 
   -- there was none
   without_memory : (order : ServeOrder) (before after : Streams) (run : Doing E M B) (first written : Option (List ℕ)) → ComesToServe order endings.NoMemory (serve_side run) first written
-      → run.after.faults ≡ run.before.faults → run.crew_after ≡ run.crew_before → after ≡ before → RunsCommand (serve_terms order run) NoMemory before after (beside_of run)
+      → run.after.faults ≡ run.before.faults → run.crew_after ≡ run.crew_before → after ≡ before → RunsCommand (plain_terms order run) NoMemory before after (beside_of run)
   without_memory order before after run first written came ports crew stays =
       by_terms order NoMemory before after run
       (memory_cause before after (beside_of run) (ap (λ (o : Streams). o.source.faults) stays) (ap (λ (o : Streams). o.sink.faults) stays) ports crew)
@@ -254,7 +254,7 @@ module _ {E M B : Type 0} where
       → serve.HasCauses ending (serve.counts run.before.faults run.crew_before before.sink.faults) (serve.counts run.after.faults run.crew_after mid.sink.faults)
       → mid.source ≡ before.source
       → (ending ≢ endings.NoMemory → WritesLast (serve_last_line ending) (serve_status ending) status mid after)
-      → (ending ≡ endings.NoMemory → (status ≡ NoMemory) × (after ≡ before)) → RunsCommand (serve_terms order run) status before after (beside_of run)
+      → (ending ≡ endings.NoMemory → (status ≡ NoMemory) × (after ≡ before)) → RunsCommand (plain_terms order run) status before after (beside_of run)
   served order endings.Finished status before mid after run came causes same last none = with_memory order endings.Finished status before mid after run (λ e. cc) came causes same (last (λ e. cc))
   served order endings.LinkLost status before mid after run came causes same last none = with_memory order endings.LinkLost status before mid after run (λ e. cc) came causes same (last (λ e. cc))
   served order endings.BookFailed status before mid after run came causes same last none = with_memory order endings.BookFailed status before mid after run (λ e. cc) came causes same (last (λ e. cc))
@@ -263,5 +263,5 @@ module _ {E M B : Type 0} where
   served order endings.CrewRefused status before mid after run came causes same last none = with_memory order endings.CrewRefused status before mid after run (λ e. cc) came causes same (last (λ e. cc))
   served order endings.NoMemory status before mid after run came causes same last none =
       let all = none refl in
-      subst (λ (s : Status). RunsCommand (serve_terms order run) s before after (beside_of run)) (sym all.0)
+      subst (λ (s : Status). RunsCommand (plain_terms order run) s before after (beside_of run)) (sym all.0)
       (without_memory order before after run before.sink.written mid.sink.written came (causes.ports.stands (λ e. cc)) (causes.crew.stands (λ e. cc)) all.1)

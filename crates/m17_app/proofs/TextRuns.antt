@@ -7,11 +7,17 @@ use Rattle.m17_check.specs.Check.{IsCheckText, IsLegalInput, PrintsCheck, SaysCh
 use Rattle.m17_check.specs.Laws.{LegalIsNotRefused}
 use Rattle.m17_check.specs.Reasons.{check_reason_words}
 use Rattle.m17_check.specs.declared.reason.CheckReason.{CheckReason}
+use Rattle.m17_book.specs.Laws.{BookKept, BooksAreExact}
+use Rattle.m17_book.specs.Versions.{header_of}
+use Rattle.m17_book.specs.declared.version.Version.TheVariants.{One}
 use Rattle.m17_judge.specs.Judge.{IsJudgeText, IsTextOfRecords, PrintsJudge, SaysJudge}
 use Rattle.m17_judge.specs.Reasons.{judge_reason_words}
 use Rattle.m17_judge.specs.Records.{AreRecords, RefusesRecords}
 use Rattle.m17_judge.specs.declared.reason.JudgeReason.{JudgeReason}
 use Rattle.m17_judge.specs.declared.reason.JudgeReason.TheVariants.{Cut, Large}
+use Rattle.m17_migrate.specs.Migrate.{IsMigrated, IsOldBook, PrintsMigrate, SaysMigrate}
+use Rattle.m17_migrate.specs.Reasons.{migrate_reason_words, refusal_told}
+use Rattle.m17_migrate.specs.declared.reason.MigrateReason.{MigrateReason}
 use Rattle.m17_print.specs.Endings.{failed_device, input_refused_line, text_ending, Comes, Grows}
 use Rattle.m17_print.specs.declared.ending.TextEnding.{TextEnding}
 use Rattle.m17_print.specs.declared.ending.TextEnding.TheVariants as endings
@@ -22,7 +28,7 @@ use Rattle.m17_app.specs.declared.status.Status.{Status}
 use Rattle.m17_app.specs.declared.status.Status.TheVariants.{InputRefused, WriteFailed, PortFailed, CrewRefused, NoMemory}
 use Rattle.m17_app.specs.Status.{Beside, HasCause, Streams, WritesLast, beside, count_from, status_of}
 use Rattle.m17_app.specs.Terms.{RunsCommand}
-use Rattle.m17_app.specs.Text.{check_command, judge_command, show_command, text_line, text_terms, CutsText, TellsText, TextCommand}
+use Rattle.m17_app.specs.Text.{check_command, judge_command, migrate_command, show_command, text_line, text_terms, CutsText, IsMigrateText, TellsText, TextCommand}
 use Rattle.m17_app.proofs.Statuses.{is_write_failed, no_crew, no_ports, own_status, told}
 use Rattle.m17_app.proofs.Causes.{cause_from, counts, memory_cause, own_last, runs_by, sound_from, stays}
 use Rattle.m17_app.proofs.Ended.{adds_text, cuts_by, ends_by}
@@ -72,10 +78,11 @@ module _ {R : Type 0} where
   cut_tells : (command : TextCommand R) (ending : TextEnding R) (status : Status) (before mid after : Streams) → Came command ending before mid
       → HasCauses (counts before) (counts mid) (failed_device ending) → Last command ending status mid after → CutsText command before after
   cut_tells command ending status before mid after came causes last =
+      let said = λ (input : List ℕ) (is : before.source.left ≡ Some input). (came input is).said in
       let printed = λ (input first : List ℕ) (is : before.source.left ≡ Some input) (is_first : before.sink.written ≡ Some first). (came input is).printed first is_first in (
         ending,
         (λ is. sound_from (status_of (text_ending ending)) (failed_device ending) (text_line command ending) status before mid after causes last (ap failed_device is)),
-        cuts_by command.prints (text_line command ending) (status_of (text_ending ending)) status ending before mid after printed last,
+        cuts_by command.says command.prints (text_line command ending) (status_of (text_ending ending)) status ending before mid after said printed last,
       )
 
   -- an input that the command takes isn't refused
@@ -143,6 +150,33 @@ check_takes legal_or input left place reason (records, legal) said = legal_or in
 
 pub check_is_sound : LegalIsNotRefused → IsSound check_command
 check_is_sound legal_or = record { finished = check_finished; refused = check_refused; not_refused = check_takes legal_or }
+
+migrate_finished : (input text : List ℕ) (left : Option (List ℕ)) → SaysMigrate endings.Finished input left → PrintsMigrate endings.Finished input left text
+    → IsMigrateText input (text ++ [])
+migrate_finished input text left said is = inl (subst (λ (xs : List ℕ). IsMigrated input xs) (sym (append-nil text)) is)
+
+migrate_refused : (input text : List ℕ) (left : Option (List ℕ)) (place : ℕ) (reason : MigrateReason) → SaysMigrate (endings.Refused place reason) input left
+    → PrintsMigrate (endings.Refused place reason) input left text → IsMigrateText input (text ++ input_refused_line place (migrate_reason_words reason))
+migrate_refused input text left place reason said is =
+    inr (place, reason, said, ap (λ (xs : List ℕ). xs ++ input_refused_line place (migrate_reason_words reason)) is)
+
+migrate_takes : BooksAreExact → (input : List ℕ) (left : Option (List ℕ)) (place : ℕ) (reason : MigrateReason) → IsOldBook input
+    → SaysMigrate (endings.Refused place reason) input left → ⊥
+migrate_takes exact input left place reason (letter, records, is) said =
+    let kept : BookKept = record { header = header_of letter; records = records } in
+    (exact One).not_both input kept (refusal_told place reason) is said
+
+pub migrate_is_sound : BooksAreExact → IsSound migrate_command
+migrate_is_sound exact = record { finished = migrate_finished; refused = migrate_refused; not_refused = migrate_takes exact }
+
+-- there was no memory for the records of `migrate`
+pub no_migrate : BooksAreExact → (before after : Streams) (ports crew : ℕ) → after.sink.written ≡ before.sink.written
+    → after.source.faults ≡ before.source.faults → after.sink.faults ≡ before.sink.faults
+    → RunsCommand (text_terms migrate_command) NoMemory before after (beside (count_from ports ports) (count_from crew crew))
+no_migrate exact before after ports crew written reads writes =
+    let others : Beside = beside (count_from ports ports) (count_from crew crew) in
+    runs_by (text_terms migrate_command) NoMemory before after others (memory_cause before after others reads writes refl refl) (written, reads, writes)
+    (refuses_none migrate_command (migrate_is_sound exact) before after) (λ t. t) (λ t _. t) (λ t _. t)
 
 -- there was no memory for the table of `judge`
 pub no_run : (before : Streams) (ports crew : ℕ) → RunsCommand (text_terms judge_command) NoMemory before before (beside (count_from ports ports) (count_from crew crew))

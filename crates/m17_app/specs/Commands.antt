@@ -4,11 +4,12 @@ use Rattle.m17_control.specs.declared.modules.Modules.{Modules}
 use Rattle.m17_plan.specs.declared.plan.Plan.{Plan}
 use Rattle.m17_plan.specs.Planned.{IsPlan}
 use Rattle.m17_words.specs.declared.command.Command.{Command}
-use Rattle.m17_words.specs.declared.command.Command.TheVariants.{Judge, Show, Replay, Make, Check, Talk, Serve}
+use Rattle.m17_words.specs.declared.command.Command.TheVariants.{Judge, Show, Replay, Make, Check, Migrate, Talk, Serve, Bridge}
 use Rattle.m17_words.specs.Words.{Names}
 use Rattle.m17_app.specs.declared.status.Status.{Status}
 use Rattle.m17_app.specs.declared.status.Status.TheVariants.{NoMemory}
-use Rattle.m17_app.specs.Doing.{Doing, AsksForNothing, DoesNothing, ServesNothing, beside_of, talk_side}
+use Rattle.m17_app.specs.Bridge.{bridge_terms}
+use Rattle.m17_app.specs.Doing.{Doing, AsksForNothing, DoesNothing, ServesNothing, beside_of, bridge_side, talk_side}
 use Rattle.m17_app.specs.Make.{make_terms}
 use Rattle.m17_app.specs.Replayed.{replay_terms}
 use Rattle.m17_app.specs.Run.{AreRefused, refused_terms}
@@ -16,42 +17,48 @@ use Rattle.m17_app.specs.Serve.{serve_terms}
 use Rattle.m17_app.specs.Status.{Streams, count_from}
 use Rattle.m17_app.specs.Talk.{talk_terms}
 use Rattle.m17_app.specs.Terms.{RunsCommand, Terms}
-use Rattle.m17_app.specs.Text.{check_command, judge_command, show_command, text_terms}
+use Rattle.m17_app.specs.Text.{check_command, judge_command, migrate_command, show_command, text_terms}
 use Rattle.m17_serve.specs.Served.{IsServable}
+use Rattle.m17_bridge_command.specs.Bridged.{IsBridgeable}
 
 -- the plan of a replay: patient, and with no tapes
-abbrev pub replay_plan : ℕ → Modules → Modules → ℕ → Plan
-replay_plan call modules parrots places = record {
+abbrev pub replay_plan : ℕ → Modules → Modules → ℕ → ℕ → Plan
+replay_plan call modules parrots places limit = record {
   name = call;
   modules = modules;
   parrots = parrots;
   places = places;
   patient = Bool.true;
   entries = 0;
+  limit = limit;
 }
 
 module _ {E M B : Type 0} where
-  -- The terms of each command, and what it leaves alone. Only `talk` and `serve` ask the ports for anything, and hand back
-  -- devices; only `replay` and `serve` have the crew start threads.
+  -- The terms of each command, and what it leaves alone. Only `talk`, `serve` and `bridge` ask the ports for anything, and
+  -- hand back devices, each its own; only `replay` and `serve` have the crew start threads.
   abbrev pub terms_of : Command → Doing E M B → Terms
   terms_of Judge run = text_terms judge_command
   terms_of Show run = text_terms show_command
   terms_of (Make seed count) run = make_terms seed count
   terms_of Check run = text_terms check_command
-  terms_of (Replay call modules parrots places summary) run =
-      replay_terms (replay_plan call modules parrots places) summary
+  terms_of Migrate run = text_terms migrate_command
+  terms_of (Replay call modules parrots places summary limit) run =
+      replay_terms (replay_plan call modules parrots places limit) summary
       (count_from run.crew_before run.crew_after)
   terms_of (Talk order) run = talk_terms order (talk_side run)
   terms_of (Serve order) run = serve_terms order run
+  terms_of (Bridge order) run = bridge_terms order (bridge_side run)
 
   abbrev pub LeavesAlone : Command → Doing E M B → Type 0
   LeavesAlone Judge run = DoesNothing run
   LeavesAlone Show run = DoesNothing run
   LeavesAlone (Make seed count) run = DoesNothing run
   LeavesAlone Check run = DoesNothing run
-  LeavesAlone (Replay call modules parrots places summary) run = AsksForNothing run
-  LeavesAlone (Talk order) run = ServesNothing run
-  LeavesAlone (Serve order) run = run.talk ≡ None
+  LeavesAlone Migrate run = DoesNothing run
+  LeavesAlone (Replay call modules parrots places summary limit) run = AsksForNothing run
+  LeavesAlone (Talk order) run = ServesNothing run × (run.bridge ≡ None)
+  LeavesAlone (Serve order) run = (run.talk ≡ None) × (run.bridge ≡ None)
+  LeavesAlone (Bridge order) run = ServesNothing run × (run.talk ≡ None)
 
   -- What the run of a command promises.
   abbrev pub Runs : Command → Status → Streams → Streams → Doing E M B → Type 0
@@ -89,7 +96,9 @@ IsRunnable Judge = Unit {0}
 IsRunnable Show = Unit {0}
 IsRunnable (Make seed count) = count ≤ 100000
 IsRunnable Check = Unit {0}
-IsRunnable (Replay call modules parrots places summary) =
-    IsPlan (replay_plan call modules parrots places)
+IsRunnable Migrate = Unit {0}
+IsRunnable (Replay call modules parrots places summary limit) =
+    IsPlan (replay_plan call modules parrots places limit)
 IsRunnable (Talk order) = Unit {0}
 IsRunnable (Serve order) = IsServable order
+IsRunnable (Bridge order) = IsBridgeable order

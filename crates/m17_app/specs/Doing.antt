@@ -11,13 +11,15 @@ use Rattle.m17_serve.specs.Devices.{house_back, refused_back, told_of_shelf}
 use Rattle.m17_serve.specs.Served.{Around}
 use Rattle.m17_talk.specs.Devices.{DevicesTold, devices_told}
 use Rattle.m17_talk.specs.Talked.{Handed, handed}
+use Rattle.m17_bridge.specs.CrossDevices as bridge
+use Rattle.m17_bridge_command.specs.Bridged as bridged
 use Rattle.m17_app.specs.declared.done.Done.{Done}
 use Rattle.m17_app.specs.declared.done.Ended.{Ended}
 use Rattle.m17_app.specs.Status.{Beside, beside, code_of, count_from}
 
 -- What the ports told before the run and after it, how many starts the crew had refused then, and what the run hands
--- back: the devices of a talk that ran, those of a reflector that ran with what went through its threads, or those of one
--- that refused to run with the reason.
+-- back: the devices of a talk that ran, those of a reflector that ran with what went through its threads, those of one
+-- that refused to run with the reason, or those of a bridge that ran.
 pub record Doing (E M B : Type 0) : Type 0 where
   pub before : PortsTold
   pub after : PortsTold
@@ -26,6 +28,7 @@ pub record Doing (E M B : Type 0) : Type 0 where
   pub talk : Option (DevicesTold E M (Option B))
   pub house : Option (reflect.Devices E M (Option B) × reflect.Handed)
   pub refused : Option (reflect.Devices E M (Option B) × HouseRefusal)
+  pub bridge : Option (bridge.DevicesTold E M)
 
 module _ {E M B : Type 0} where
   -- what is told of the run that came to `done`; `ear`, `mouth` and `book` say what each kind of device tells
@@ -39,6 +42,7 @@ module _ {E M B : Type 0} where
     talk = option_map (λ d. devices_told (ear d.0) (mouth d.1) (told_of_shelf book d.2)) done.talk;
     house = house_back ear mouth book done.house;
     refused = refused_back ear mouth book done.refused;
+    bridge = option_map (bridged.bridge_told ear mouth) done.bridge;
   }
 
   -- a run that ended so, with the number of its status
@@ -48,11 +52,15 @@ module _ {E M B : Type 0} where
     talk = ended.talk;
     house = ended.house;
     refused = ended.refused;
+    bridge = ended.bridge;
   }
 
-  -- the part of it that the clauses of `talk` speak of, and the part that those of `serve` speak of
+  -- the part of it that the clauses of `talk` speak of, that of `bridge`, and that of `serve`
   abbrev pub talk_side : Doing E M B → Handed E M B
   talk_side run = handed run.before run.after run.talk
+
+  abbrev pub bridge_side : Doing E M B → bridged.Handed E M
+  bridge_side run = bridged.handed run.before run.after run.bridge
 
   abbrev pub serve_side : Doing E M B → Around E M B
   serve_side run = record {
@@ -73,6 +81,7 @@ module _ {E M B : Type 0} where
     pub talk : run.talk ≡ None
     pub house : run.house ≡ None
     pub refused : run.refused ≡ None
+    pub bridge : run.bridge ≡ None
 
   -- no reflector was to run: the crew was asked for nothing, and no devices of one are handed back
   pub record ServesNothing (run : Doing E M B) : Type 0 where
@@ -84,4 +93,5 @@ module _ {E M B : Type 0} where
   pub record DoesNothing (run : Doing E M B) : Type 0 where
     pub ports : run.after ≡ run.before
     pub talk : run.talk ≡ None
+    pub bridge : run.bridge ≡ None
     pub serve : ServesNothing run

@@ -8,5 +8,6 @@ pub mod Replayed
 pub mod Talk
 pub mod Doing
 pub mod Serve
+pub mod Bridge
 pub mod Commands
 pub mod Started

@@ -46,13 +46,15 @@ EndsReplay plan summary ending before after =
     EndsBy (SaysReplay plan summary) (PrintsTrace plan summary) (replay_last_line ending) ending
     before after
 
--- Some ending was come to, and the sink failed, while it printed or at the last line; of `read failed` and `crew refused`
--- a first part is written only where the count of the source, or of the crew, rose.
+-- Some ending was come to, and the sink failed, while it printed or at the last line: what the ending says of the input
+-- holds, so of no refusal but the input's own a first part is written, and of `read failed` and `crew refused` only where
+-- the count of the source, or of the crew, rose.
 abbrev pub CutsReplay : Plan → Bool → Streams → Streams → Count → Type 0
 CutsReplay plan summary before after crew = (ending : ReplayEnding)
     × (ending ≡ endings.ReadFailed → HasRisen before.source.faults after.source.faults)
     × (ending ≡ endings.CrewRefused → HasRisen crew.before crew.after)
-    × CutsBy (PrintsTrace plan summary) (replay_last_line ending) ending before after
+    × CutsBy (SaysReplay plan summary) (PrintsTrace plan summary) (replay_last_line ending) ending
+    before after
 
 -- What each status says of a run of `replay`. With 0 and 7 the whole text stands written; with 1, 3 and 6 the last line
 -- alone, whatever the source tells; with 4 a first part of what would have been written. Want of memory comes before

@@ -8,6 +8,7 @@ use Rattle.m17_reflect.specs.declared.returned.HouseRefusal.{HouseRefusal}
 use Rattle.m17_reflect.specs.Run as reflect
 use Rattle.m17_ports.specs.Ports.{PortsTold}
 use Rattle.m17_talk.specs.Devices.{DevicesTold}
+use Rattle.m17_bridge.specs.CrossDevices as bridge
 use Rattle.m17_app.specs.declared.status.Status.{Status}
 use Rattle.m17_app.specs.declared.status.Status.TheVariants.{NoMemory}
 use Rattle.m17_app.specs.Commands.{RunsWords}
@@ -23,6 +24,7 @@ pub record HasRun (E M B : Type 0) (words : List (List ℕ)) (status : Status)
   pub talk : Option (DevicesTold E M (Option B))
   pub house : Option (reflect.Devices E M (Option B) × reflect.Handed)
   pub refused : Option (reflect.Devices E M (Option B) × HouseRefusal)
+  pub bridge : Option (bridge.DevicesTold E M)
   pub ran : RunsWords words status before after (record {
     before = first;
     after = last;
@@ -31,6 +33,7 @@ pub record HasRun (E M B : Type 0) (words : List (List ℕ)) (status : Status)
     talk = talk;
     house = house;
     refused = refused;
+    bridge = bridge;
   })
 
 -- The same, where there was memory for the words; else nothing was run.

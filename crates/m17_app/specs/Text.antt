@@ -1,7 +1,9 @@
--- The commands that read their input, print, and ask for nothing more: `judge`, `show` and `check`.
-use Rattle.std.specs.Prelude.{◌≡◌, ℕ, List, Option, Some}
+-- The commands that read their input, print, and ask for nothing more: `judge`, `show`, `check` and `migrate`.
+use Rattle.std.specs.Prelude.{◌≡◌, ◌⊎◌, ℕ, List, Option, Some}
 use Rattle.m17_io.specs.Faults.{HasRisen}
+use Rattle.m17_book.specs.Book.{RefusesBook}
 use Rattle.m17_book.specs.declared.record.Record.{Record}
+use Rattle.m17_book.specs.declared.version.Version.TheVariants.{One}
 use Rattle.m17_check.specs.Check.{IsCheckText, IsLegalInput, PrintsCheck, SaysCheck}
 use Rattle.m17_check.specs.Reasons.{check_reason_words}
 use Rattle.m17_check.specs.declared.reason.CheckReason.{CheckReason}
@@ -9,7 +11,10 @@ use Rattle.m17_judge.specs.Judge.{IsJudgeText, PrintsJudge, SaysJudge}
 use Rattle.m17_judge.specs.Reasons.{judge_reason_words}
 use Rattle.m17_judge.specs.Records.{AreRecords}
 use Rattle.m17_judge.specs.declared.reason.JudgeReason.{JudgeReason}
-use Rattle.m17_print.specs.Endings.{last_line, text_ending}
+use Rattle.m17_migrate.specs.Migrate.{IsMigrated, IsOldBook, PrintsMigrate, SaysMigrate}
+use Rattle.m17_migrate.specs.Reasons.{migrate_reason_words, refusal_told}
+use Rattle.m17_migrate.specs.declared.reason.MigrateReason.{MigrateReason}
+use Rattle.m17_print.specs.Endings.{input_refused_line, last_line, text_ending}
 use Rattle.m17_print.specs.declared.ending.TextEnding.{TextEnding}
 use Rattle.m17_print.specs.declared.ending.TextEnding.TheVariants as endings
 use Rattle.m17_show.specs.Lines.{RefusesLine}
@@ -42,12 +47,13 @@ module _ {R : Type 0} where
   EndsText command ending before after =
       EndsBy command.says command.prints (text_line command ending) ending before after
 
-  -- Some ending was come to, and the sink failed, while it printed or at the last line; of `read failed` a first part is
-  -- written only where the source's count rose.
+  -- Some ending was come to, and the sink failed, while it printed or at the last line: what the ending says of the input
+  -- holds, so of no refusal but the input's own a first part is written, and of `read failed` only where the source's count
+  -- rose.
   abbrev pub CutsText : TextCommand R → Streams → Streams → Type 0
   CutsText command before after = (ending : TextEnding R)
       × (ending ≡ endings.ReadFailed → HasRisen before.source.faults after.source.faults)
-      × CutsBy command.prints (text_line command ending) ending before after
+      × CutsBy command.says command.prints (text_line command ending) ending before after
 
   -- What each status says of a run. With 0 and 1 the whole text of the input stands written; with 3 the lines of what was
   -- taken whole, and `read failed`; with 4 a first part of what would have been written.
@@ -100,4 +106,24 @@ check_command = record {
   is_text = IsCheckText;
   takes = λ input. (records : List Record) × IsLegalInput input records;
   no_memory = λ before after. ⊥;
+}
+
+-- What `migrate` writes for the input: the book of version 2, or the line that says where and why the input is no book of
+-- version 1.
+abbrev pub IsMigrateText : List ℕ → List ℕ → Type 0
+IsMigrateText input text = IsMigrated input text
+    ⊎ ((place : ℕ) × (reason : MigrateReason) × RefusesBook One input (refusal_told place reason)
+    × (text ≡ input_refused_line place (migrate_reason_words reason)))
+
+-- `migrate` takes a book of version 1, legal or not. Want of memory comes before anything is written, and no device has
+-- failed then.
+abbrev pub migrate_command : TextCommand MigrateReason
+migrate_command = record {
+  says = SaysMigrate;
+  prints = PrintsMigrate;
+  words = migrate_reason_words;
+  is_text = IsMigrateText;
+  takes = IsOldBook;
+  no_memory = λ before after. (after.sink.written ≡ before.sink.written)
+      × (after.source.faults ≡ before.source.faults) × (after.sink.faults ≡ before.sink.faults);
 }

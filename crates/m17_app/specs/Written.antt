@@ -35,11 +35,12 @@ module _ {E : Type 0} where
     pub last : (first : List ℕ) → before.sink.written ≡ Some first
         → (text : List ℕ) × (after.sink.written ≡ Some (first ++ text ++ line))
 
-  -- The run came to this ending, and the sink failed: what it prints stands written, and then a first part of the last
-  -- line, perhaps nothing.
-  abbrev pub CutsBy : (E → List ℕ → Option (List ℕ) → List ℕ → Type 0) → List ℕ → E → Streams
-      → Streams → Type 0
-  CutsBy prints line ending before after =
-      (input first : List ℕ) → before.source.left ≡ Some input → before.sink.written ≡ Some first
-      → (text : List ℕ) × AppendsPrefix (first ++ text) line after.sink.written
-      × prints ending input after.source.left text
+  -- The run came to this ending, and the sink failed: what the ending says of the input holds, and what it prints stands
+  -- written, and then a first part of the last line, perhaps nothing.
+  pub record CutsBy (says : E → List ℕ → Option (List ℕ) → Type 0)
+      (prints : E → List ℕ → Option (List ℕ) → List ℕ → Type 0) (line : List ℕ) (ending : E)
+      (before after : Streams) : Type 0 where
+    pub said : (input : List ℕ) → before.source.left ≡ Some input → says ending input after.source.left
+    pub printed : (input first : List ℕ) → before.source.left ≡ Some input → before.sink.written ≡ Some first
+        → (text : List ℕ) × AppendsPrefix (first ++ text) line after.sink.written
+        × prints ending input after.source.left text

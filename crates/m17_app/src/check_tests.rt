@@ -3,8 +3,8 @@ use crate::tests::{Piece, Row, expect};
 
 const CHECK: &[&str] = &["check"];
 
-/// What a book of module A begins with.
-pub(crate) const BOOK: Piece = Piece::Bytes(b"M17BOOK1A");
+/// What a book of module A begins with, whose limit on talking is 180,000 milliseconds.
+pub(crate) const BOOK: Piece = Piece::Bytes(b"M17BOOK2A\0\0\0\0\0\x02\xbf\x20");
 
 /// A book without records, and what is said of it.
 pub(crate) const EMPTY: &[Piece] = &[BOOK];
@@ -71,13 +71,15 @@ pub(crate) const HELD: &[Piece] = &[
 
 #[test]
 fn a_book_is_legal_or_its_first_record_that_is_not_is_named(rt: HostRuntime) {
-    const CUT: &[Piece] = &[Piece::Bytes(b"M17BOOK1")];
+    const CUT: &[Piece] = &[Piece::Bytes(b"M17BOOK2")];
+    const OLD: &[Piece] = &[Piece::Bytes(b"M17BOOK1A")];
     const KIND: &[Piece] = &[BOOK, Piece::Bytes(b"\x09")];
     const BUSY_LINE: &str = "legal 4 records 1 streams 1 admitted\n";
-    const ROWS: [Row; 7] = [
+    const ROWS: [Row; 8] = [
         (CHECK, EMPTY, &[], &[], 0, EMPTY_LINE),
         (CHECK, CUT, &[], &[], 1, "input refused at 8: cut\n"),
-        (CHECK, KIND, &[], &[], 1, "input refused at 9: kind 09\n"),
+        (CHECK, OLD, &[], &[], 1, "input refused at 7: field\n"),
+        (CHECK, KIND, &[], &[], 1, "input refused at 17: kind 09\n"),
         (CHECK, OVERLAP, &[], &[], 1, "input refused at 3: verdict\n"),
         (CHECK, BUSY, &[], &[], 0, BUSY_LINE),
         (CHECK, FALLS, &[], &[], 1, "input refused at 1: moment\n"),
@@ -99,6 +101,28 @@ fn each_way_to_end_has_its_status_and_last_line(rt: HostRuntime) {
         (CHECK, HELD, &[], &[1], 4, ""),
         (CHECK, HELD, &[], &[2], 4, "input refused at 1: member\n"),
         (&["check", "A.book"], EMPTY, &[0], &[], 2, "words refused\n"),
+    ];
+    expect(&rt, rt.alloc(), &ROWS);
+}
+
+// Call 0 of the sink hands on what it held back before the input is read, and call 1 writes the header of the new book. A
+// book of version 2 is none of version 1, and the records of one of version 1 are not judged.
+#[test]
+fn a_book_of_version_1_becomes_one_of_version_2(rt: HostRuntime) {
+    const MIGRATE: &[&str] = &["migrate"];
+    const OLD: &[Piece] = &[Piece::Bytes(b"M17BOOK1A")];
+    const CUT: &[Piece] = &[Piece::Bytes(b"M17BOOK1A"), JOIN, Piece::Cut(1)];
+    const NEW: &str = "M17BOOK2A\0\0\0\0\0\0\0\0";
+    const ROWS: [Row; 9] = [
+        (MIGRATE, OLD, &[], &[], 0, NEW),
+        (MIGRATE, EMPTY, &[], &[], 1, "input refused at 7: field\n"),
+        (MIGRATE, CUT, &[], &[], 1, "input refused at 45: cut\n"),
+        (&["migrate", "x"], OLD, &[0], &[], 2, "words refused\n"),
+        (MIGRATE, OLD, &[0], &[], 3, "read failed\n"),
+        (MIGRATE, OLD, &[], &[0], 4, ""),
+        (MIGRATE, OLD, &[], &[1], 4, ""),
+        (MIGRATE, OLD, &[], &[2], 4, NEW),
+        (MIGRATE, OLD, &[], &[3], 4, NEW),
     ];
     expect(&rt, rt.alloc(), &ROWS);
 }

@@ -5,7 +5,7 @@ use crate::status::Status;
 use m17_devices::Shelf;
 use m17_reflect::{Refused, Returned};
 
-/// What a run of the program came to: its status, and the devices of a talk that ran or of a reflector.
+/// What a run of the program came to: its status, and the devices of a talk or a bridge that ran or of a reflector.
 #[derive(Drop)]
 pub struct Done<E, M, B> {
     /// The number that the program ends with.
@@ -16,6 +16,8 @@ pub struct Done<E, M, B> {
     pub house: Option<Returned<E, M, Shelf<B>>>,
     /// The devices of `serve`, where its reflector refused to run, and why.
     pub refused: Option<Refused<E, M, Shelf<B>>>,
+    /// The ear and the mouth of each side of `bridge`, near first, where it ran.
+    pub bridge: Option<((E, M), (E, M))>,
 }
 
 // The same before its status is a number.
@@ -25,6 +27,7 @@ pub(crate) struct Ended<E, M, B> {
     pub(crate) talk: Option<(E, M, Shelf<B>)>,
     pub(crate) house: Option<Returned<E, M, Shelf<B>>>,
     pub(crate) refused: Option<Refused<E, M, Shelf<B>>>,
+    pub(crate) bridge: Option<((E, M), (E, M))>,
 }
 
 // The run of a command that hands back no devices.
@@ -33,12 +36,14 @@ pub(crate) fn alone<E, M, B>(status: Status) -> Ended<E, M, B>
     ensures none { result.talk ≡ None }
     ensures no_house { result.house ≡ None }
     ensures no_refusal { result.refused ≡ None }
+    ensures no_bridge { result.bridge ≡ None }
 {
     Ended {
         status,
         talk: None,
         house: None,
         refused: None,
+        bridge: None,
     }
 }
 
@@ -48,17 +53,20 @@ pub(crate) fn answer_of<E, M, B>(ended: Ended<E, M, B>) -> Done<E, M, B>
     ensures talk { result.talk ≡ ended.talk }
     ensures house { result.house ≡ ended.house }
     ensures refused { result.refused ≡ ended.refused }
+    ensures bridge { result.bridge ≡ ended.bridge }
 {
     let Ended {
         status,
         talk,
         house,
         refused,
+        bridge,
     } = ended;
     Done {
         status: status.code(),
         talk,
         house,
         refused,
+        bridge,
     }
 }

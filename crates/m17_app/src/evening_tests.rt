@@ -4,7 +4,7 @@ use crate::tests::{must, text_of};
 // What a second program says of it, which was written from the rules alone (conformance/reference.py). The counts of
 // the entries are 20,000 together.
 const PAGE: &str = "entries 20000\njoin 12\nagain 0\nleave 0\npong 0\nalive 804\nopened 223\n\
-    continued 15121\nbusy 1115\nrepeat 857\nlate 803\nafter-end 0\nnot-member 0\nlisten-only 0\n\
+    continued 15121\nbusy 1115\nrepeat 857\nlate 803\nafter-end 0\ntimed-out 0\nnot-member 0\nlisten-only 0\n\
     refused 0\nnot-connected 0\nnot-served 0\nfull 0\nstray 0\nquiet 1065\nfault 0\n\
     peer 10.0.0.1:17000 ackn 1 nack 0 ping 88 pong 0 disc 1 frame 4003\n\
     peer 10.0.0.2:17000 ackn 1 nack 0 ping 88 pong 0 disc 1 frame 3875\n\

@@ -276,7 +276,7 @@ const SOUND: Outcome = Outcome {
     back: Back::OfARun,
     said: 6,
     trace: 375,
-    book: 533,
+    book: 541,
 };
 
 const LOST: Outcome = Outcome {
@@ -285,7 +285,7 @@ const LOST: Outcome = Outcome {
     back: Back::OfARun,
     said: 0,
     trace: 24,
-    book: 9,
+    book: 17,
 };
 
 const LOST_LATE: Outcome = Outcome {
@@ -321,7 +321,7 @@ const PORT_FAILED: Outcome = Outcome {
 /// its header and each of its records.
 const TRACE_BEFORE: [usize; 7] = [0, 36, 107, 135, 206, 277, 304];
 
-const BOOK_BEFORE: [usize; 9] = [0, 9, 46, 143, 180, 277, 374, 405, 502];
+const BOOK_BEFORE: [usize; 9] = [0, 17, 54, 151, 188, 285, 382, 413, 510];
 
 /// How often each device is called.
 const CALLS: [(&str, Device, usize); 7] = [

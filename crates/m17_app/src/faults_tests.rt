@@ -111,17 +111,22 @@ const LEAVES: &[Piece] = &[Piece::Bytes(&[0; 8]), Piece::Frame(0x1234, 0, false)
 
 const SAID: &str = "0 opened\n1 busy 3\n";
 
+/// A book of version 1 without records, and the same in version 2.
+const OLD_BOOK: &[Piece] = &[Piece::Bytes(b"M17BOOK1A")];
+
+const NEW_BOOK: &str = "M17BOOK2A\0\0\0\0\0\0\0\0";
+
 const REFUSED: &str = "words refused\n";
 
 const PAGE: &str =
     "entries 0\njoin 0\nagain 0\nleave 0\npong 0\nalive 0\nopened 0\ncontinued 0\nbusy 0\nrepeat 0\n\
-late 0\nafter-end 0\nnot-member 0\nlisten-only 0\nrefused 0\nnot-connected 0\nnot-served 0\nfull 0\nstray 0\nquiet 0\n\
-fault 0\n";
+late 0\nafter-end 0\ntimed-out 0\nnot-member 0\nlisten-only 0\nrefused 0\nnot-connected 0\nnot-served 0\nfull 0\n\
+stray 0\nquiet 0\nfault 0\n";
 
 /// `check` and `replay` hand on what was held back before they read, which is call 0 of their sink. The last two calls
 /// write the last line, which is empty where there is none, and hand on what was written. Of a source that has less than
 /// a buffer they read once more for the header and for each record or entry.
-const TURNS: [Turns; 6] = [
+const TURNS: [Turns; 7] = [
     (JUDGE, TWO_TALKERS, (0, SAID), &[0, 9, 18], &[0, 9, 18, 18]),
     (
         &["show"],
@@ -143,6 +148,13 @@ const TURNS: [Turns; 6] = [
         (1, "input refused at 1: member\n"),
         &[0; 5],
         &[0, 0, 27],
+    ),
+    (
+        &["migrate"],
+        OLD_BOOK,
+        (0, NEW_BOOK),
+        &[0, 0, 0],
+        &[0, 0, 17, 17],
     ),
     (
         &["make", "0", "2"],
@@ -169,8 +181,8 @@ const HEARING: [Turns; 5] = [
         (0, PAGE),
         &[0; 3],
         &[
-            0, 0, 10, 17, 25, 33, 40, 48, 57, 69, 76, 85, 92, 104, 117, 131, 141, 157, 170, 177,
-            185, 193, 201, 201,
+            0, 0, 10, 17, 25, 33, 40, 48, 57, 69, 76, 85, 92, 104, 116, 129, 143, 153, 169, 182,
+            189, 197, 205, 213, 213,
         ],
     ),
     (

@@ -11,8 +11,10 @@ mod conclude;
 mod done;
 mod interruption;
 mod run;
+mod run_bridge;
 mod run_check;
 mod run_make;
+mod run_migrate;
 mod run_replay;
 mod run_serve;
 mod run_talk;
@@ -83,6 +85,8 @@ fn start<
 }
 
 #[cfg(test)]
+mod bridge_tests;
+#[cfg(test)]
 mod check_tests;
 #[cfg(test)]
 mod evening_tests;
@@ -91,9 +95,13 @@ mod failing_tests;
 #[cfg(test)]
 mod faults_tests;
 #[cfg(test)]
+mod limit_tests;
+#[cfg(test)]
 mod loopback_tests;
 #[cfg(test)]
 mod replay_tests;
+#[cfg(test)]
+mod rules_tests;
 #[cfg(test)]
 mod serve_tests;
 #[cfg(test)]

@@ -53,7 +53,7 @@ fn each_way_to_end_has_its_status_and_last_line(rt: HostRuntime) {
 fn the_summary_counts(rt: HostRuntime) {
     const PAGE: &str =
         "entries 2\njoin 2\nagain 0\nleave 0\npong 0\nalive 0\nopened 0\ncontinued 0\nbusy 0\n\
-        repeat 0\nlate 0\nafter-end 0\nnot-member 0\nlisten-only 0\nrefused 0\nnot-connected 0\n\
+        repeat 0\nlate 0\nafter-end 0\ntimed-out 0\nnot-member 0\nlisten-only 0\nrefused 0\nnot-connected 0\n\
         not-served 0\nfull 0\nstray 0\nquiet 0\nfault 0\n\
         peer 10.0.0.1:17000 ackn 1 nack 0 ping 0 pong 0 disc 1 frame 0\n\
         peer 10.0.0.2:17000 ackn 1 nack 0 ping 0 pong 0 disc 1 frame 0\n";
@@ -77,7 +77,7 @@ fn a_listener_hears_until_it_leaves(rt: HostRuntime) {
         "0 A join\n1 A opened\n2 A join\n3 A continued\n4 A continued\n5 A leave\n6 A continued\n";
     const PAGE: &str =
         "entries 7\njoin 2\nagain 0\nleave 1\npong 0\nalive 0\nopened 1\ncontinued 3\nbusy 0\n\
-        repeat 0\nlate 0\nafter-end 0\nnot-member 0\nlisten-only 0\nrefused 0\nnot-connected 0\n\
+        repeat 0\nlate 0\nafter-end 0\ntimed-out 0\nnot-member 0\nlisten-only 0\nrefused 0\nnot-connected 0\n\
         not-served 0\nfull 0\nstray 0\nquiet 0\nfault 0\n\
         peer 10.0.0.1:17000 ackn 1 nack 0 ping 0 pong 0 disc 1 frame 0\n\
         peer 10.0.0.2:17000 ackn 1 nack 0 ping 0 pong 0 disc 1 frame 2\n";
@@ -146,7 +146,7 @@ fn push_wait(rt: &impl Abort, trace: &mut Vec<u8>) {
 fn a_parrot_gives_back_750_of_751_frames(rt: HostRuntime) {
     const PAGE: &str =
         "entries 1503\njoin 1\nagain 0\nleave 0\npong 0\nalive 1\nopened 1\ncontinued 750\nbusy 0\n\
-        repeat 0\nlate 0\nafter-end 0\nnot-member 0\nlisten-only 0\nrefused 0\nnot-connected 0\n\
+        repeat 0\nlate 0\nafter-end 0\ntimed-out 0\nnot-member 0\nlisten-only 0\nrefused 0\nnot-connected 0\n\
         not-served 0\nfull 0\nstray 0\nquiet 750\nfault 0\n\
         peer 10.0.0.1:17000 ackn 1 nack 0 ping 20 pong 0 disc 1 frame 750\n";
     let mut input = input_of(&rt, rt.alloc(), &[Piece::Header, Piece::Came(0, 1, &JOIN)]);
@@ -169,7 +169,7 @@ fn who_was_heard_is_named_and_who_came_behind_the_end_is_not(rt: HostRuntime) {
     ];
     const PAGE: &str =
         "entries 18\njoin 1\nagain 0\nleave 0\npong 0\nalive 0\nopened 0\ncontinued 0\nbusy 0\n\
-        repeat 0\nlate 0\nafter-end 0\nnot-member 0\nlisten-only 0\nrefused 1\nnot-connected 0\n\
+        repeat 0\nlate 0\nafter-end 0\ntimed-out 0\nnot-member 0\nlisten-only 0\nrefused 1\nnot-connected 0\n\
         not-served 0\nfull 0\nstray 0\nquiet 0\nfault 16\n\
         peer 10.0.0.1:17000 ackn 1 nack 0 ping 0 pong 0 disc 1 frame 0\n\
         peer 10.0.0.9:17000 ackn 0 nack 0 ping 0 pong 0 disc 0 frame 0\n\

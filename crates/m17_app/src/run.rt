@@ -9,8 +9,10 @@ ghost use Rattle.m17_app.specs.Text.{judge_command, show_command, text_terms};
 
 use crate::conclude::{conclude, refuse_words};
 use crate::done::{Done, Ended, alone, answer_of};
+use crate::run_bridge::run_bridge;
 use crate::run_check::run_check;
 use crate::run_make::run_make;
+use crate::run_migrate::run_migrate;
 use crate::run_replay::run_replay;
 use crate::run_serve::run_serve;
 use crate::run_talk::run_talk;
@@ -77,12 +79,14 @@ fn run_command<R: Threads + Wait + Copy + Send + 'static, P: Ports, C: Crew, S: 
         Command::Show => alone(run_show(input, out)),
         Command::Make { seed, count } => alone(run_make(seed, count, input, out)),
         Command::Check => alone(run_check(input, out)),
+        Command::Migrate => alone(run_migrate(alloc, input, out)),
         Command::Replay {
             call,
             modules,
             parrots,
             places,
             summary,
+            limit,
         } => {
             let plan = Plan {
                 name: call,
@@ -91,11 +95,13 @@ fn run_command<R: Threads + Wait + Copy + Send + 'static, P: Ports, C: Crew, S: 
                 places,
                 patient: true,
                 entries: 0,
+                limit,
             };
             alone(run_replay(rt, alloc, &plan, summary, crew, input, out))
         }
         Command::Talk(order) => run_talk(rt, alloc, &order, ports, input, out),
-        Command::Serve(order) => run_serve(rt, alloc, &order, ports, crew, out),
+        Command::Serve(order) => run_serve(rt, alloc, &order, ports, crew, input, out),
+        Command::Bridge(order) => run_bridge(rt, &order, ports, out),
     }
 }
 
@@ -103,8 +109,8 @@ fn run_command<R: Threads + Wait + Copy + Send + 'static, P: Ports, C: Crew, S: 
 /// sink, and answers the status: 0 where the command went to its end, 1 where the input is refused, 2 where the words
 /// are, 3 where the source failed, 4 where the sink failed, in place of all others, 5 where the ports failed, 6 where
 /// the crew refused a start, 7 where a link was lost, 8 where a book failed, and 70 where there was no memory. Only
-/// `talk` and `serve` ask the ports for anything; where they ran, their devices are handed back. Only `replay` and
-/// `serve` have the crew start threads. `make` reads no input, and ends with 0 or 4.
+/// `talk`, `serve` and `bridge` ask the ports for anything; where they ran, their devices are handed back. Only `replay`
+/// and `serve` have the crew start threads. `make` and `bridge` read no input, and `make` ends with 0 or 4.
 pub fn run<R: Threads + Wait + Copy + Send + 'static, P: Ports, C: Crew, S: Input<K>, K: Sink>(
     rt: &R,
     alloc: Global,

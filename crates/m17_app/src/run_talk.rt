@@ -40,6 +40,7 @@ pub(crate) fn run_talk<R: Wait, P: Ports, S: Input<K>, K: Sink>(
                 talk: devices,
                 house: None,
                 refused: None,
+                bridge: None,
             }
         }
         Err(_) => alone(Status::NoMemory),

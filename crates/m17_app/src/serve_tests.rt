@@ -39,20 +39,25 @@ pub(crate) const BOOK: &[&str] = &[
 
 // What fails beside the ear: calls of the ports, of the trace and of the sink.
 #[derive(Clone, Copy)]
-struct Fails {
+pub(crate) struct Fails {
     ports: &'static [u64],
     trace: &'static [u64],
     sink: &'static [u64],
 }
 
-const NONE: Fails = Fails {
+pub(crate) const NONE: Fails = Fails {
     ports: &[],
     trace: &[],
     sink: &[],
 };
 
 // Ports with one link, whose ear hears this, and two books.
-fn ports(rt: &impl Abort, alloc: Global, heard: Vec<Heard>, fails: Fails) -> ScriptPorts {
+pub(crate) fn ports(
+    rt: &impl Abort,
+    alloc: Global,
+    heard: Vec<Heard>,
+    fails: Fails,
+) -> ScriptPorts {
     let mouth = must(rt, ListMouth::make(alloc, 8, Vec::new(alloc)));
     let trace_fails = must(rt, fails.trace.to_vec(alloc));
     let trace = must(rt, ListBook::make(alloc, 500, trace_fails));
@@ -62,7 +67,7 @@ fn ports(rt: &impl Abort, alloc: Global, heard: Vec<Heard>, fails: Fails) -> Scr
     ScriptPorts::new(links, books, must(rt, fails.ports.to_vec(alloc)))
 }
 
-type Serve = Done<ScriptEar, ListMouth, ListBook>;
+pub(crate) type Serve = Done<ScriptEar, ListMouth, ListBook>;
 
 // Runs `serve` by these words: what it came to, and whether that has this status and this text.
 fn served<C: Crew, R: Threads + Wait + Abort + Copy + Send + 'static>(
@@ -83,7 +88,7 @@ fn served<C: Crew, R: Threads + Wait + Abort + Copy + Send + 'static>(
 }
 
 // Whether devices come back from a run, from a refusal and from a talk.
-fn back_of(done: &Serve) -> [bool; 3] {
+pub(crate) fn back_of(done: &Serve) -> [bool; 3] {
     [
         done.house.is_some(),
         done.refused.is_some(),
@@ -91,7 +96,7 @@ fn back_of(done: &Serve) -> [bool; 3] {
     ]
 }
 
-fn let_go(_done: Serve) {}
+pub(crate) fn let_go(_done: Serve) {}
 
 // The words, how many faults are heard, what fails, the status, the text, and whether devices come back from a run.
 type Row = (
@@ -171,7 +176,7 @@ pub(crate) fn evening(rt: &impl Abort, alloc: Global) -> Vec<Heard> {
 }
 
 // Whether just these datagrams were said to this peer, in order.
-fn were_said(list: &[(Peer, Gram)], to: u8, wanted: &[&[u8]]) -> bool {
+pub(crate) fn were_said(list: &[(Peer, Gram)], to: u8, wanted: &[&[u8]]) -> bool {
     let mut rest = wanted.iter();
     for (to_whom, said) in list {
         if *to_whom == peer(to) && rest.next().copied() != Some(said.bytes()) {

@@ -175,20 +175,21 @@ const REPLAYED: Torn = (
 
 const ONE: &str = "legal 1 records 0 streams 0 admitted\n";
 
-/// The generation of the member, in eight bytes, may be any.
+/// The limit on talking and the generation of the member, in eight bytes each, may be any.
 const CHECKED: Torn = (
     &["check"],
     &[check_tests::BOOK, check_tests::JOIN],
-    &[(9, check_tests::EMPTY_LINE), (46, ONE)],
+    &[(17, check_tests::EMPTY_LINE), (54, ONE)],
     &[
         (0, Said::Here),
-        (9, Said::Kind),
-        (10, Said::Here),
-        (11, Said::Text(ONE)),
-        (27, Said::Field(27)),
-        (30, Said::Text(ONE)),
-        (39, Said::Here),
-        (41, Said::Text(ONE)),
+        (9, Said::Text(ONE)),
+        (17, Said::Kind),
+        (18, Said::Here),
+        (19, Said::Text(ONE)),
+        (35, Said::Field(35)),
+        (38, Said::Text(ONE)),
+        (47, Said::Here),
+        (49, Said::Text(ONE)),
     ],
 );
 

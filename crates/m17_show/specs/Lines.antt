@@ -22,7 +22,7 @@ unfoldable pub lines_of : List ℕ → List (List ℕ)
 lines_of [] = []
 lines_of (byte ∷ rest) = if byte == 10 then [] ∷ lines_of rest else begin_first byte (lines_of rest)
 
--- there are `n` line feeds in the bytes: `n` lines have ended
+-- there are `count` line feeds in the bytes: that many lines have ended
 abbrev pub AreEnded : List ℕ → ℕ → Type 0
 AreEnded bytes count = count_by (λ byte. byte == 10) bytes ≡ count
 
@@ -34,7 +34,7 @@ last_byte line = slice_index line (length line - 1)
 abbrev pub content_of : List ℕ → List ℕ
 content_of line = if last_byte line == 13 then take (length line - 1) line else line
 
--- the input has `n` lines, 1,000,000 at the most
+-- the input has `count` lines, 1,000,000 at the most
 pub record AreLineCount (input : List ℕ) (count : ℕ) : Type 0 where
   pub whole : length (lines_of input) ≡ count
   pub not_large : count ≤ most_lines

@@ -6,7 +6,7 @@ use Rattle.m17_show.specs.Lines.{AreEnded}
 abbrev pub IsAhead : List ℕ → Option (List ℕ) → List ℕ → Type 0
 IsAhead held left ahead = (rest : List ℕ) × (left ≡ Some rest) × (ahead ≡ held ++ rest)
 
--- so many more bytes of the rest are held; none only where there is no rest
+-- the next `count` bytes of the rest are held too; none only where there is no rest
 pub record IsMoreOf (rest : List ℕ) (count : ℕ) (held held' : List ℕ) (left : Option (List ℕ)) :
     Type 0 where
   pub no_more : count ≤ length rest
@@ -18,7 +18,7 @@ pub record IsMoreOf (rest : List ℕ) (count : ℕ) (held held' : List ℕ) (lef
 abbrev pub HasNoFeed : List ℕ → Type 0
 HasNoFeed bytes = AreEnded bytes 0
 
--- a line of so many bytes stands first, and then its line feed
+-- a line of `size` bytes stands first, and then its line feed
 pub record BeginsWithLine (bytes : List ℕ) (size : ℕ) : Type 0 where
   pub within : size < length bytes
   pub no_feed : HasNoFeed (take size bytes)

@@ -43,7 +43,7 @@ abbrev pub ending_at : ℕ → NotShown → TextEnding ShowReason
 ending_at number (not_shown.Refused reason) = Refused number reason
 ending_at number not_shown.WriteFailed = WriteFailed
 
--- So many lines stand before the rest of the input, each with its line feed.
+-- `count` lines stand before the rest of the input, each with its line feed.
 pub record IsAt (input : List ℕ) (count : ℕ) (rest : List ℕ) : Type 0 where
   pub lines : List (List ℕ)
   pub lines_count : length lines ≡ count
@@ -52,7 +52,7 @@ pub record IsAt (input : List ℕ) (count : ℕ) (rest : List ℕ) : Type 0 wher
   pub input_is : input ≡ before ++ rest
   pub ended : AreEnded before count
 
--- So many lines of the input were shown. `first` is what was written before the run, `written` what
+-- The first `count` lines of the input were shown. `first` is what was written before the run, `written` what
 -- is written now.
 pub record AreShown (input : List ℕ) (count : ℕ) (held : List ℕ) (left first written : Option (List
     ℕ)) : Type 0 where

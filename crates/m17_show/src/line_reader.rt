@@ -14,7 +14,7 @@ pub(crate) const LINE_ROOM: usize = 257;
 /// What stands next before a reader of lines.
 #[derive(Clone, Copy, Debug, PartialEq, Eq)]
 pub(crate) enum Next {
-    /// A line of so many bytes, and its line feed.
+    /// A line of this number of bytes, and its line feed.
     Line(usize),
     /// The beginning of a line that has more bytes than a line may have.
     Long,
@@ -54,7 +54,7 @@ impl LineReader {
         &self.bytes[self.start..self.end]
     }
 
-    /// Takes the first so many bytes.
+    /// Takes the first `count` bytes.
     #[inline]
     pub(crate) fn take(&mut self, count: usize)
         requires { count ≤ length (pending self.old) }

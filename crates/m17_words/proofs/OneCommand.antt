@@ -1,5 +1,5 @@
 -- Words name one command.
-use Rattle.std.proofs.Common.{◌≡◌, ℕ, Bool, true, false, List, [], ◌∷◌, Option, None, Some, sym, ap, subst, ap₂, refl, ◌∙◌, rules}
+use Rattle.std.proofs.Common.{◌≡◌, ℕ, ◌*◌, Bool, true, false, List, [], ◌∷◌, Option, None, Some, sym, ap, subst, ap₂, refl, ◌∙◌, rules}
 use Rattle.std.specs.Prelude.{IsTrue, map, string_bytes}
 use Rattle.m17_callsign.specs.Laws.{EachAddressHasOneCallsign}
 use Rattle.m17_words.specs.declared.order.ServeOrder.{ServeOrder}
@@ -9,10 +9,10 @@ use Rattle.m17_control.specs.Modules.{serves}
 use Rattle.m17_words.specs.declared.command.Command.{Command}
 use Rattle.m17_words.specs.declared.command.Command.TheVariants as command
 use Rattle.m17_words.specs.declared.first.FirstWord.{FirstWord}
-use Rattle.m17_words.specs.declared.first.FirstWord.TheVariants.{Judge, Show, Replay, Make, Check, Talk, Serve}
+use Rattle.m17_words.specs.declared.first.FirstWord.TheVariants.{Judge, Show, Replay, Make, Check, Migrate, Talk, Serve, Bridge}
 use Rattle.m17_words.specs.Given.{IsGiven}
 use Rattle.m17_words.proofs.Named.{first_of, word_is, gives, values_of}
-use Rattle.m17_words.specs.Values.{IsNumberIfAny, NamesLetter, NamesModules, NamesParrots}
+use Rattle.m17_words.specs.Values.{IsLimit, IsNumberIfAny, NamesLetter, NamesModules, NamesParrots}
 use Rattle.m17_words.specs.Laws.{SameCommand, OneCommand}
 use Rattle.m17_control.specs.Laws.{SetsAreTheirLetters}
 use Rattle.std.proofs.lemmas.Bool.{false≢true}
@@ -45,6 +45,13 @@ one_number least most (Some text) None n' a b = absurd a
 one_number least most (Some text) (Some n) None a b = absurd b
 one_number least most (Some text) (Some n) (Some n') a b = ap Some (b.value ∙ sym a.value)
 
+one_limit : (text : List ℕ) (a b : ℕ) → IsLimit text a → IsLimit text b → b ≡ a
+one_limit text a b x y =
+    let seconds : y.0 ≡ x.0 = y.1.value ∙ sym x.1.value in
+    let first : a ≡ 1000 * x.0 = x.2 in
+    let second : b ≡ 1000 * y.0 = y.2 in
+    cc
+
 same_binds : (found : Option (List Text)) (o o' : ServeOrder) → found ≡ Some (map string_bytes o.binds.items)
     → found ≡ Some (map string_bytes o'.binds.items) → map string_bytes o'.binds.items ≡ map string_bytes o.binds.items
 same_binds found o o' a b = let e : Some (map string_bytes o'.binds.items) ≡ Some (map string_bytes o.binds.items) = sym b ∙ a in cc
@@ -53,20 +60,22 @@ same_binds found o o' a b = let e : Some (map string_bytes o'.binds.items) ≡ S
 one_given : SetsAreTheirLetters → EachAddressHasOneCallsign → (word : FirstWord) (found : List Row) (given other : Command) → IsGiven word found given → IsGiven word found other → SameCommand given other
 one_given law calls Judge found given other a b = subst (λ (given : Command). SameCommand given other) (sym a) b
 one_given law calls Show found given other a b = subst (λ (given : Command). SameCommand given other) (sym a) b
-one_given law calls Replay found (command.Replay c m p n s) (command.Replay c' m' p' n' s') a b =
+one_given law calls Replay found (command.Replay c m p n s l) (command.Replay c' m' p' n' s' l') a b =
     let call : c' ≡ c = calls.one_address _ _ _ b.call_is a.call_is in
     let modules : m' ≡ m = same_modules law _ m m' a.modules_are b.modules_are in
     let parrots : p' ≡ p = same_parrots law _ m m' p p' a.parrots_are b.parrots_are in
     let places : n' ≡ n = b.places_are.value ∙ sym a.places_are.value in
     let summaries : s' ≡ s = one_truth s' s (λ h. a.summary_is.1 (b.summary_is.0 h)) (λ h. b.summary_is.1 (a.summary_is.0 h)) in
+    let limits : l' ≡ l = one_limit _ l l' a.limit_is b.limit_is in
     cc
-one_given law calls Replay found (command.Replay c m p n s) _ a b = absurd b
+one_given law calls Replay found (command.Replay c m p n s l) _ a b = absurd b
 one_given law calls Replay found _ other a b = absurd a
 one_given law calls Make found (command.Make seed count) (command.Make seed' count') a b =
     ap₂ command.Make (b.seed_is.value ∙ sym a.seed_is.value) (b.count_is.value ∙ sym a.count_is.value)
 one_given law calls Make found (command.Make seed count) _ a b = absurd b
 one_given law calls Make found _ other a b = absurd a
 one_given law calls Check found given other a b = subst (λ (given : Command). SameCommand given other) (sym a) b
+one_given law calls Migrate found given other a b = subst (λ (given : Command). SameCommand given other) (sym a) b
 one_given law calls Talk found (command.Talk o) (command.Talk o') a b = record {
   call = calls.one_address _ _ _ b.call_is a.call_is;
   letter = one_letter _ o.letter o'.letter a.module_is b.module_is;
@@ -86,9 +95,23 @@ one_given law calls Serve found (command.Serve o) (command.Serve o') a b = recor
   seconds = one_number _ _ _ o.seconds o'.seconds a.seconds_are b.seconds_are;
   book = b.book_is ∙ sym a.book_is;
   binds = same_binds _ o o' a.binds_are b.binds_are;
+  limit = one_limit _ o.limit o'.limit a.limit_is b.limit_is;
+  rules = one_truth o'.rules o.rules (λ h. a.rules_are.1 (b.rules_are.0 h)) (λ h. b.rules_are.1 (a.rules_are.0 h));
 }
 one_given law calls Serve found (command.Serve o) _ a b = absurd b
 one_given law calls Serve found _ other a b = absurd a
+one_given law calls Bridge found (command.Bridge o) (command.Bridge o') a b = record {
+  call = calls.one_address _ _ _ b.call_is a.call_is;
+  near = b.near_is ∙ sym a.near_is;
+  near_peer = sym b.near_peer_is.text_is ∙ a.near_peer_is.text_is;
+  near_letter = one_letter _ o.near_letter o'.near_letter a.near_module_is b.near_module_is;
+  far = b.far_is ∙ sym a.far_is;
+  far_peer = sym b.far_peer_is.text_is ∙ a.far_peer_is.text_is;
+  far_letter = one_letter _ o.far_letter o'.far_letter a.far_module_is b.far_module_is;
+  seconds = one_number _ _ _ o.seconds o'.seconds a.seconds_are b.seconds_are;
+}
+one_given law calls Bridge found (command.Bridge o) _ a b = absurd b
+one_given law calls Bridge found _ other a b = absurd a
 
 pub one_command : SetsAreTheirLetters → EachAddressHasOneCallsign → OneCommand
 one_command law calls [] given other h h' = absurd h

@@ -36,9 +36,15 @@ same_parrots text m m' (Some t) p named named' some = (
 -- where there is no plan, there is no replay and no run of the reflector
 pub no_replay : (found : List Row) → ((plan : Plan) → IsPlan found (codes "M17-TST") plan → ⊥)
     → (command : Command) → IsReplayWith found command → ⊥
-no_replay found none (Replay call modules parrots places summary) replay = none
-    (record { call = call; modules = modules; parrots = parrots; places = places })
-    (record { call_is = replay.call_is; modules_are = replay.modules_are; parrots_are = replay.parrots_are; places_are = replay.places_are })
+no_replay found none (Replay call modules parrots places summary limit) replay = none
+    (record { call = call; modules = modules; parrots = parrots; places = places; limit = limit })
+    (record {
+      call_is = replay.call_is;
+      modules_are = replay.modules_are;
+      parrots_are = replay.parrots_are;
+      places_are = replay.places_are;
+      limit_is = replay.limit_is;
+    })
 no_replay found none _ replay = replay
 
 pub no_make : (found : List Row) → ((seed count : ℕ) → IsMake found seed count → ⊥) → (command : Command) → IsMakeWith found command → ⊥
@@ -52,5 +58,11 @@ no_serve found none _ serve = serve
 
 pub no_plan : (found : List Row) → ((plan : Plan) → IsPlan found [] plan → ⊥) → (order : ServeOrder) → IsServe found order → ⊥
 no_plan found none order serve = none
-    (record { call = order.call; modules = order.modules; parrots = order.parrots; places = order.places })
-    (record { call_is = serve.call_is; modules_are = serve.modules_are; parrots_are = serve.parrots_are; places_are = serve.places_are })
+    (record { call = order.call; modules = order.modules; parrots = order.parrots; places = order.places; limit = order.limit })
+    (record {
+      call_is = serve.call_is;
+      modules_are = serve.modules_are;
+      parrots_are = serve.parrots_are;
+      places_are = serve.places_are;
+      limit_is = serve.limit_is;
+    })

@@ -5,8 +5,9 @@ use Rattle.clap.specs.Words.{Text}
 use Rattle.m17_peer.specs.Text.{text_of}
 use Rattle.m17_words.specs.declared.order.TalkOrder.{TalkOrder}
 use Rattle.m17_words.specs.declared.order.ServeOrder.{ServeOrder}
+use Rattle.m17_words.specs.declared.order.BridgeOrder.{BridgeOrder}
 use Rattle.m17_words.specs.declared.command.Command.{Command}
-use Rattle.m17_words.specs.declared.command.Command.TheVariants.{Judge, Show, Replay, Make, Check, Talk, Serve}
+use Rattle.m17_words.specs.declared.command.Command.TheVariants.{Judge, Show, Replay, Make, Check, Migrate, Talk, Serve, Bridge}
 use Rattle.m17_words.specs.Words.{Names}
 
 -- the orders are one: each value is the same, and of each text and of the peer what it spells
@@ -19,6 +20,16 @@ pub record SameOrder (o o' : TalkOrder) : Type 0 where
   pub stay : o'.stay ≡ o.stay
   pub book : option_map string_bytes o'.book ≡ option_map string_bytes o.book
 
+pub record SameBridge (o o' : BridgeOrder) : Type 0 where
+  pub call : o'.call ≡ o.call
+  pub near : string_bytes o'.near ≡ string_bytes o.near
+  pub near_peer : text_of o'.near_peer ≡ text_of o.near_peer
+  pub near_letter : o'.near_letter ≡ o.near_letter
+  pub far : string_bytes o'.far ≡ string_bytes o.far
+  pub far_peer : text_of o'.far_peer ≡ text_of o.far_peer
+  pub far_letter : o'.far_letter ≡ o.far_letter
+  pub seconds : o'.seconds ≡ o.seconds
+
 pub record SameServe (o o' : ServeOrder) : Type 0 where
   pub call : o'.call ≡ o.call
   pub modules : o'.modules ≡ o.modules
@@ -27,19 +38,24 @@ pub record SameServe (o o' : ServeOrder) : Type 0 where
   pub seconds : o'.seconds ≡ o.seconds
   pub book : option_map string_bytes o'.book ≡ option_map string_bytes o.book
   pub binds : map string_bytes o'.binds.items ≡ map string_bytes o.binds.items
+  pub limit : o'.limit ≡ o.limit
+  pub rules : o'.rules ≡ o.rules
 
 -- The commands are one, with the same values.
 abbrev pub SameCommand : Command → Command → Type 0
 SameCommand Judge other = other ≡ Judge
 SameCommand Show other = other ≡ Show
-SameCommand (Replay call modules parrots places summary) other =
-    other ≡ Replay call modules parrots places summary
+SameCommand (Replay call modules parrots places summary limit) other =
+    other ≡ Replay call modules parrots places summary limit
 SameCommand (Make seed count) other = other ≡ Make seed count
 SameCommand Check other = other ≡ Check
+SameCommand Migrate other = other ≡ Migrate
 SameCommand (Talk order) (Talk order') = SameOrder order order'
 SameCommand (Talk order) other = ⊥
 SameCommand (Serve order) (Serve order') = SameServe order order'
 SameCommand (Serve order) other = ⊥
+SameCommand (Bridge order) (Bridge order') = SameBridge order order'
+SameCommand (Bridge order) other = ⊥
 
 -- words name one command
 abbrev pub OneCommand : Type 0

@@ -3,6 +3,7 @@ pub mod Values
 pub mod Words
 pub mod Laws
 -- for proofs alone
+pub mod BridgeValues
 pub mod First
 pub mod Given
 pub mod Listed

@@ -52,6 +52,7 @@ replay_table = table_of (codes "replay") (
     ∷ option (codes "parrots")
     ∷ option (codes "places")
     ∷ flag (codes "summary")
+    ∷ option (codes "limit")
     ∷ [])
 
 unfoldable pub make_table : App
@@ -59,6 +60,9 @@ make_table = table_of (codes "make") (argument (codes "seed") ∷ argument (code
 
 unfoldable pub check_table : App
 check_table = table_of (codes "check") []
+
+unfoldable pub migrate_table : App
+migrate_table = table_of (codes "migrate") []
 
 unfoldable pub talk_table : App
 talk_table = table_of (codes "talk") (
@@ -71,6 +75,18 @@ talk_table = table_of (codes "talk") (
     ∷ option (codes "book")
     ∷ [])
 
+unfoldable pub bridge_table : App
+bridge_table = table_of (codes "bridge") (
+    needed (codes "call")
+    ∷ needed (codes "near")
+    ∷ needed (codes "near-peer")
+    ∷ needed (codes "near-module")
+    ∷ needed (codes "far")
+    ∷ needed (codes "far-peer")
+    ∷ needed (codes "far-module")
+    ∷ option (codes "for")
+    ∷ [])
+
 unfoldable pub serve_table : App
 serve_table = table_of (codes "serve") (
     needed (codes "call")
@@ -80,6 +96,8 @@ serve_table = table_of (codes "serve") (
     ∷ option (codes "for")
     ∷ option (codes "book")
     ∷ arguments (codes "bind")
+    ∷ option (codes "limit")
+    ∷ flag (codes "rules")
     ∷ [])
 
 -- the words that such a command takes, and what it finds among them, are known from `clap`'s own definitions

@@ -1,5 +1,5 @@
 -- The values of options and arguments: which texts they are, and their bounds.
-use Rattle.std.specs.Prelude.{◌≡◌, ℕ, Bool, false, ◌≤◌, ◌↔◌, List, [], ◌∷◌, All, Contains, IsTrue, codes, Option, None, Some}
+use Rattle.std.specs.Prelude.{◌≡◌, ℕ, Bool, false, ◌*◌, ◌≤◌, ◌↔◌, List, [], ◌∷◌, All, Contains, IsTrue, codes, Option, None, Some}
 use Rattle.std.specs.Str.Parse.{IsNumeral, digits_value}
 use Rattle.m17_control.specs.declared.modules.Modules.{Modules}
 use Rattle.m17_control.specs.Forms.{IsModule}
@@ -18,6 +18,10 @@ IsNumberIfAny least most None None = Unit {0}
 IsNumberIfAny least most None (Some number) = ⊥
 IsNumberIfAny least most (Some text) None = ⊥
 IsNumberIfAny least most (Some text) (Some number) = IsNumber least most text number
+
+-- The text is a number of seconds, 86,400 at the most, and the limit on talking has 1,000 milliseconds for each.
+abbrev pub IsLimit : List ℕ → ℕ → Type 0
+IsLimit text limit = (seconds : ℕ) × IsNumber 0 86400 text seconds × (limit ≡ 1000 * seconds)
 
 -- The text names these modules: letters from A to Z, each once.
 pub record NamesModules (text : List ℕ) (modules : Modules) : Type 0 where

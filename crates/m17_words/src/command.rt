@@ -1,4 +1,4 @@
-use crate::{ServeOrder, TalkOrder};
+use crate::{BridgeOrder, ServeOrder, TalkOrder};
 use m17_callsign::CallAddress;
 use m17_control::Modules;
 
@@ -10,13 +10,14 @@ pub enum Command {
     /// `show`: what the bytes of hex lines are.
     Show,
     /// `replay`: what a reflector does with a trace, line by line, or its summary. `call` is the reflector's callsign,
-    /// `parrots` are among the `modules`, and there are 1 to 256 `places`.
+    /// `parrots` are among the `modules`, there are 1 to 256 `places`, and the `limit` on talking is in milliseconds.
     Replay {
         call: CallAddress,
         modules: Modules,
         parrots: Modules,
         places: u32,
         summary: bool,
+        limit: u64,
     },
     /// `make`: the trace of an evening, drawn from a seed, with 0 to 100,000 entries.
     Make {
@@ -25,10 +26,14 @@ pub enum Command {
     },
     /// `check`: whether a book is legal.
     Check,
+    /// `migrate`: a book of version 1 as one of version 2.
+    Migrate,
     /// `talk`: a client of a reflector, by a script.
     Talk(TalkOrder),
     /// `serve`: the reflector.
     Serve(ServeOrder),
+    /// `bridge`: a client of two reflectors, which says in each what is said in the other.
+    Bridge(BridgeOrder),
 }
 
 /// Why the words give no command.

@@ -3,7 +3,7 @@ use crate::tests::{expect_all, expect_each};
 
 // A value that is missing, one that stands twice, values just past their bounds, also past those of 64 bits, and words
 // that no command has.
-const REFUSED: [&str; 37] = [
+const REFUSED: [&str; 43] = [
     "replay --call",
     "replay --call=",
     "replay --call ABCDEFGHIJ",
@@ -21,6 +21,12 @@ const REFUSED: [&str; 37] = [
     "replay --places 0x10",
     "replay --places 64 --places=64",
     "replay --places 18446744073709551680",
+    "replay --limit",
+    "replay --limit=",
+    "replay --limit 86401",
+    "replay --limit +1",
+    "replay --limit -1",
+    "replay --limit 180 --limit 180",
     "replay --summary x",
     "replay -- --summary",
     "replay -s",
@@ -44,7 +50,7 @@ const REFUSED: [&str; 37] = [
 ];
 
 // The least and the greatest values, and where a lone `--` may stand.
-const TAKEN: [&str; 13] = [
+const TAKEN: [&str; 15] = [
     "replay --places 1",
     "replay --places 00000000000000000001",
     "replay --places 10 --",
@@ -53,6 +59,8 @@ const TAKEN: [&str; 13] = [
     "replay --modules ABCDEFGHIJKLMNOPQRSTUVWXYZ",
     "replay --modules ZYX --parrots XYZ",
     "replay --parrots A",
+    "replay --limit 00",
+    "replay --limit 86400",
     "make 00 00",
     "make 0 -- 1",
     "make 0 1 --",

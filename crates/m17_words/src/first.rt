@@ -10,8 +10,10 @@ pub(crate) enum FirstWord {
     Replay,
     Make,
     Check,
+    Migrate,
     Talk,
     Serve,
+    Bridge,
 }
 
 // Which command's first word a text is, byte for byte.
@@ -25,8 +27,10 @@ pub(crate) fn first_word(text: &str) -> Option<FirstWord>
         "replay" => Some(FirstWord::Replay),
         "make" => Some(FirstWord::Make),
         "check" => Some(FirstWord::Check),
+        "migrate" => Some(FirstWord::Migrate),
         "talk" => Some(FirstWord::Talk),
         "serve" => Some(FirstWord::Serve),
+        "bridge" => Some(FirstWord::Bridge),
         _ => None,
     }
 }

@@ -5,6 +5,7 @@
 //! program, and so are words that are not UTF-8, which it may not hand in.
 #![tactic(auto)]
 
+mod bridge_words;
 mod clap_words;
 mod command;
 mod first;
@@ -18,9 +19,11 @@ mod talk_words;
 mod values;
 
 pub use command::{Command, WordsRefusal};
-pub use order::{ServeOrder, TalkOrder};
+pub use order::{BridgeOrder, ServeOrder, TalkOrder};
 pub use reading::read_words;
 
+#[cfg(test)]
+mod bridge_tests;
 #[cfg(test)]
 mod edge_tests;
 #[cfg(test)]

@@ -21,6 +21,27 @@ pub struct TalkOrder {
     pub book: Option<String>,
 }
 
+/// What `bridge` is to do, as its words say it.
+#[derive(Debug, PartialEq, Eq, Drop)]
+pub struct BridgeOrder {
+    /// The callsign of its client on both sides.
+    pub call: CallAddress,
+    /// Where its near link is bound: any text, which the ports understand.
+    pub near: String,
+    /// The reflector on the near side.
+    pub near_peer: Peer,
+    /// The module there.
+    pub near_letter: ModuleLetter,
+    /// Where its far link is bound: any text, which the ports understand.
+    pub far: String,
+    /// The reflector on the far side.
+    pub far_peer: Peer,
+    /// The module there.
+    pub far_letter: ModuleLetter,
+    /// For how many seconds it runs, 1 to 1,000,000; until it is stopped where none are named.
+    pub seconds: Option<u64>,
+}
+
 /// What `serve` is to do, as its words say it.
 #[derive(Debug, PartialEq, Eq, Drop)]
 pub struct ServeOrder {
@@ -38,4 +59,8 @@ pub struct ServeOrder {
     pub book: Option<String>,
     /// Where its links are bound, 1 to 4: any texts, which the ports understand.
     pub binds: Vec<String>,
+    /// The limit on talking, in milliseconds, 86,400,000 at the most. 0 means none.
+    pub limit: u64,
+    /// Whether the input has rules of callsigns, by which it serves.
+    pub rules: bool,
 }

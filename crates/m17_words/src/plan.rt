@@ -19,6 +19,7 @@ pub(crate) struct Plan {
     pub(crate) modules: Modules,
     pub(crate) parrots: Modules,
     pub(crate) places: u32,
+    pub(crate) limit: u64,
 }
 
 // The plan that was found, with this callsign where none is.
@@ -31,10 +32,12 @@ pub(crate) fn plan_of<'a>(matches: &ArgMatches<'a>, call: &'a str) -> Option<Pla
     let modules = values::modules(text_or(matches, "modules", "ABC"))?;
     let parrots = values::parrots(text_of(matches, "parrots"), &modules)?;
     let places = values::number(text_or(matches, "places", "64"), 1, PLACES_MAX)?;
+    let limit = values::limit(text_or(matches, "limit", "180"))?;
     Some(Plan {
         call,
         modules,
         parrots,
         places: places as u32,
+        limit,
     })
 }

@@ -5,6 +5,7 @@ ghost use Rattle.m17_words.specs.Words.{Names, IsReplayWith, IsMakeWith};
 ghost use Rattle.m17_words.specs.First.{text_of_first};
 ghost use Rattle.m17_words.specs.Given.{IsGiven};
 
+use crate::bridge_words::bridge_of;
 use crate::clap_words::{find, is_there, text_or};
 use crate::first::{FirstWord, first_word};
 use crate::plan::plan_of;
@@ -63,8 +64,10 @@ fn given(alloc: Global, word: FirstWord, matches: &ArgMatches) -> Result<Command
         FirstWord::Replay => replay_of(matches),
         FirstWord::Make => make_of(matches),
         FirstWord::Check => Ok(Command::Check),
+        FirstWord::Migrate => Ok(Command::Migrate),
         FirstWord::Talk => talk_of(alloc, matches),
         FirstWord::Serve => serve_of(alloc, matches),
+        FirstWord::Bridge => bridge_of(alloc, matches),
     }
 }
 
@@ -81,6 +84,7 @@ fn replay_of(matches: &ArgMatches) -> Result<Command, WordsRefusal>
             parrots: plan.parrots,
             places: plan.places,
             summary: is_there(matches, "summary"),
+            limit: plan.limit,
         }),
         None => Err(WordsRefusal::Refused),
     }

@@ -19,6 +19,8 @@ fn what_is_left_out_has_its_default(rt: HostRuntime) {
         seconds: None,
         book: None,
         binds: must(&rt, Vec::from_array(alloc, [text(&rt, alloc, "x")])),
+        limit: 180_000,
+        rules: false,
     });
     expect(&rt, alloc, &LINES, &wanted);
 }
@@ -26,8 +28,8 @@ fn what_is_left_out_has_its_default(rt: HostRuntime) {
 #[test]
 fn each_value_stands_in_the_order(rt: HostRuntime) {
     const LINES: [&str; 2] = [
-        "serve --call M17-TST --modules AZ --parrots Z --places 256 --for 1000000 --book d a b c d",
-        "serve a --for=1000000 b --book=d --parrots=Z c --modules=ZA --places=256 d --call=M17-TST",
+        "serve --call M17-TST --modules AZ --parrots Z --places 256 --for 1000000 --book d --limit 86400 --rules a b c d",
+        "serve a --limit=086400 --for=1000000 --rules b --book=d --parrots=Z c --modules=ZA --places=256 d --call=M17-TST",
     ];
     let alloc = rt.alloc();
     let binds = ["a", "b", "c", "d"].map(|bind| text(&rt, alloc, bind));
@@ -39,12 +41,14 @@ fn each_value_stands_in_the_order(rt: HostRuntime) {
         seconds: Some(1_000_000),
         book: Some(text(&rt, alloc, "d")),
         binds: must(&rt, Vec::from_array(alloc, binds)),
+        limit: 86_400_000,
+        rules: true,
     });
     expect(&rt, alloc, &LINES, &wanted);
 }
 
 // Words behind `serve`, and whether they are taken.
-const SERVES: [(&str, bool); 27] = [
+const SERVES: [(&str, bool); 34] = [
     ("--call M17-TST a b c d", true),
     ("--call M17-TST a b c d e", false),
     ("--call M17-TST", false),
@@ -61,6 +65,9 @@ const SERVES: [(&str, bool); 27] = [
     ("--call M17-TST a --for", false),
     ("--call M17-TST --places 0 a", false),
     ("--call M17-TST --places 257 a", false),
+    ("--call M17-TST --limit 0 a", true),
+    ("--call M17-TST --limit 86401 a", false),
+    ("--call M17-TST a --limit", false),
     ("--call M17-TST --modules AA a", false),
     ("--call M17-TST --parrots D a", false),
     ("--call M17-TST --modules D --parrots D a", true),
@@ -69,6 +76,10 @@ const SERVES: [(&str, bool); 27] = [
     ("--call M17-TST a --book", false),
     ("--call M17-TST --listen a", false),
     ("--call M17-TST --summary a", false),
+    ("--call M17-TST --rules a", true),
+    ("--call M17-TST a --rules", true),
+    ("--call M17-TST --rules --rules a", false),
+    ("--call M17-TST --rules= a", false),
     ("--call M17-TST --bind a", false),
     ("--call M17-TST -- -a --b", true),
     ("--call M17-TST -h", false),

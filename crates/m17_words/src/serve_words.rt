@@ -6,15 +6,15 @@ ghost use Rattle.m17_words.specs.Tables.{text_of, texts_of};
 ghost use Rattle.m17_words.specs.Values.{IsNumberIfAny};
 ghost use Rattle.m17_words.specs.Words.{IsServeWith};
 
-use crate::clap_words::{text_of, texts_of};
+use crate::clap_words::{is_there, text_of, texts_of};
 use crate::plan::{Plan, plan_of};
 use crate::talk_words::{book_of, owned};
 use crate::{Command, ServeOrder, WordsRefusal, values};
 use clap::ArgMatches;
 use std::alloc::Global;
 
-/// For how many seconds a reflector may be told to serve at the most.
-const SECONDS_MAX: u64 = 1_000_000;
+/// For how many seconds a reflector may be told to serve at the most, and a bridge to run.
+pub(crate) const SECONDS_MAX: u64 = 1_000_000;
 
 /// The most links of a reflector.
 const BINDS_MAX: usize = 4;
@@ -58,6 +58,8 @@ fn serve_with(
         seconds,
         book,
         binds,
+        limit: plan.limit,
+        rules: is_there(matches, "rules"),
     }))
 }
 

@@ -30,6 +30,7 @@ const REPLAY: &[(&str, Kind)] = &[
     ("parrots", Kind::Value),
     ("places", Kind::Value),
     ("summary", Kind::Flag),
+    ("limit", Kind::Value),
 ];
 
 const MAKE: &[(&str, Kind)] = &[("seed", Kind::Argument), ("count", Kind::Argument)];
@@ -44,6 +45,17 @@ const TALK: &[(&str, Kind)] = &[
     ("book", Kind::Value),
 ];
 
+const BRIDGE: &[(&str, Kind)] = &[
+    ("call", Kind::Needed),
+    ("near", Kind::Needed),
+    ("near-peer", Kind::Needed),
+    ("near-module", Kind::Needed),
+    ("far", Kind::Needed),
+    ("far-peer", Kind::Needed),
+    ("far-module", Kind::Needed),
+    ("for", Kind::Value),
+];
+
 const SERVE: &[(&str, Kind)] = &[
     ("call", Kind::Needed),
     ("modules", Kind::Value),
@@ -52,10 +64,12 @@ const SERVE: &[(&str, Kind)] = &[
     ("for", Kind::Value),
     ("book", Kind::Value),
     ("bind", Kind::Arguments),
+    ("limit", Kind::Value),
+    ("rules", Kind::Flag),
 ];
 
 // The table of a command.
-#[tactic(auto, unfolding(crate::specs::Tables::judge_table, crate::specs::Tables::show_table, crate::specs::Tables::replay_table, crate::specs::Tables::make_table, crate::specs::Tables::check_table, crate::specs::Tables::talk_table, crate::specs::Tables::serve_table))]
+#[tactic(auto, unfolding(crate::specs::Tables::judge_table, crate::specs::Tables::show_table, crate::specs::Tables::replay_table, crate::specs::Tables::make_table, crate::specs::Tables::check_table, crate::specs::Tables::migrate_table, crate::specs::Tables::talk_table, crate::specs::Tables::serve_table, crate::specs::Tables::bridge_table))]
 pub(crate) fn table<'a>(alloc: Global, word: FirstWord) -> Result<Command<'a>, WordsRefusal>
     ensures table { IfOk result (λ c. app_of c ≡ table_of_word word) }
     ensures memory { IfErr result (λ e. e ≡ WordsRefusal.NoMemory) }
@@ -66,8 +80,10 @@ pub(crate) fn table<'a>(alloc: Global, word: FirstWord) -> Result<Command<'a>, W
         FirstWord::Replay => listed(alloc, "replay", REPLAY),
         FirstWord::Make => listed(alloc, "make", MAKE),
         FirstWord::Check => Ok(bare(alloc, "check")),
+        FirstWord::Migrate => Ok(bare(alloc, "migrate")),
         FirstWord::Talk => listed(alloc, "talk", TALK),
         FirstWord::Serve => listed(alloc, "serve", SERVE),
+        FirstWord::Bridge => listed(alloc, "bridge", BRIDGE),
     }
 }
 

@@ -73,6 +73,7 @@ fn replay(
     parrots: Modules,
     places: u32,
     summary: bool,
+    limit: u64,
 ) -> Command {
     Command::Replay {
         call: call(rt, name),
@@ -80,27 +81,29 @@ fn replay(
         parrots,
         places,
         summary,
+        limit,
     }
 }
 
 #[test]
 fn values_that_are_left_out_have_their_defaults(rt: HostRuntime) {
-    const LINES: [&str; 5] = [
+    const LINES: [&str; 6] = [
         "replay",
         "replay --",
         "replay --places=64",
         "replay --places 064",
         "replay --modules ABC --call=M17-TST",
+        "replay --limit 180",
     ];
-    let defaults = replay(&rt, "M17-TST", "ABC", Modules::none(), 64, false);
+    let defaults = replay(&rt, "M17-TST", "ABC", Modules::none(), 64, false, 180_000);
     expect(&rt, rt.alloc(), &LINES, &defaults);
 }
 
 #[test]
 fn each_value_is_read(rt: HostRuntime) {
     const REPLAYS: [&str; 2] = [
-        "replay --call=-A --modules ZB --parrots Z --places 256 --summary",
-        "replay --summary --places=0000000000000000000000000256 --parrots=Z --modules=ZB --call=-A",
+        "replay --call=-A --modules ZB --parrots Z --places 256 --summary --limit 0",
+        "replay --limit=0 --summary --places=00000000000000000256 --parrots=Z --modules=ZB --call=-A",
     ];
     const MAKES: [&str; 2] = [
         "make 18446744073709551615 100000",
@@ -117,18 +120,19 @@ fn each_value_is_read(rt: HostRuntime) {
         &rt,
         alloc,
         &REPLAYS,
-        &replay(&rt, "-A", "ZB", parrots, 256, true),
+        &replay(&rt, "-A", "ZB", parrots, 256, true, 0),
     );
     expect(&rt, alloc, &MAKES, &MOST);
     expect(&rt, alloc, &["make 0 0"], &LEAST);
     expect(&rt, alloc, &["judge", "judge --"], &Command::Judge);
     expect(&rt, alloc, &["show"], &Command::Show);
     expect(&rt, alloc, &["check", "check --"], &Command::Check);
+    expect(&rt, alloc, &["migrate", "migrate --"], &Command::Migrate);
 }
 
 // Words that name no command: no word of a command, another case, help and the version, too many words and too few, a
 // value twice or none, values out of bounds, signs, digits of other scripts, parrots that are no modules.
-const REFUSED: [&str; 50] = [
+const REFUSED: [&str; 53] = [
     "",
     "judges",
     "Judge",
@@ -147,6 +151,9 @@ const REFUSED: [&str; 50] = [
     "judge -- x",
     "show x",
     "check x",
+    "migrates",
+    "migrate x",
+    "migrate --limit 0",
     "replay -h",
     "replay --help",
     "replay --version",

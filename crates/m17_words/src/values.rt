@@ -4,11 +4,14 @@ ghost use Rattle.m17_values.specs.declared.peer.Peer.{Peer};
 ghost use Rattle.m17_control.specs.declared.modules.Modules.{Modules};
 ghost use Rattle.m17_control.specs.Modules.{serves};
 ghost use Rattle.m17_peer.specs.Text.{IsTextOf};
-ghost use Rattle.m17_words.specs.Values.{IsNumber, IsNumberIfAny, NamesLetter, NamesModules, NamesParrots};
+ghost use Rattle.m17_words.specs.Values.{IsLimit, IsNumber, IsNumberIfAny, NamesLetter, NamesModules, NamesParrots};
 
 use m17_callsign::{CallAddress, encode};
 use m17_control::{ModuleLetter, Modules};
 use m17_values::Peer;
+
+/// For how many seconds a stream may be let go on at the most, where there is a limit on talking.
+const LIMIT_SECONDS_MAX: u64 = 86_400;
 
 // The number that a text of decimal digits writes, where it is within these bounds.
 pub(crate) fn number(text: &str, least: u64, most: u64) -> Option<u64>
@@ -38,6 +41,17 @@ pub(crate) fn number_if_any(text: Option<&str>, least: u64, most: u64) -> Option
             Some(n) => Some(Some(n)),
             None => None,
         },
+    }
+}
+
+// The limit on talking, in milliseconds, of a text of seconds.
+pub(crate) fn limit(text: &str) -> Option<u64>
+    ensures some { IfSome result (IsLimit text.now) }
+    ensures none { IfNone result ((limit : ℕ) → ¬ IsLimit text.now limit) }
+{
+    match number(text, 0, LIMIT_SECONDS_MAX) {
+        Some(seconds) => Some(1000 * seconds),
+        None => None,
     }
 }
 

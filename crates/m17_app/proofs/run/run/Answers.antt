@@ -1,7 +1,8 @@
-use Rattle.std.proofs.Common.{rules, Err, inl, inr, refl, sym, ap, ◌∙◌}
+use Rattle.std.proofs.Common.{rules, Err, inl, inr, sym, ap, ◌∙◌}
 use Rattle.m17_app.specs.Commands.{IsRunnable}
 use Rattle.m17_app.specs.Status.{code_of}
 use Rattle.m17_app.proofs.Codes.{is_no_memory}
+use Rattle.m17_app.proofs.Nothing.{does_nothing}
 use Rattle.m17_app.proofs.Runnable.{names_runnable}
 use Rattle.m17_app.proofs.run.run.Goals as goal
 
@@ -11,7 +12,7 @@ run_command-requires-clause-runnable g c =
 
 pub returns-in-Ok-clause-runs : goal.returns-in-Ok-clause-runs
 returns-in-Ok-clause-runs g c =
-    rw (c.answer_of.ensures.talk, c.answer_of.ensures.house, c.answer_of.ensures.refused)
+    rw (c.answer_of.ensures.talk, c.answer_of.ensures.house, c.answer_of.ensures.refused, c.answer_of.ensures.bridge)
     (c.run_command.result.status, c.answer_of.ensures.code, inl (c.in-Ok.command, c.in-Ok.ensures.named, c.run_command.ensures.runs))
 
 pub returns-in-Ok-clause-unasked : goal.returns-in-Ok-clause-unasked
@@ -19,25 +20,29 @@ returns-in-Ok-clause-unasked g c seventy = c.run_command.ensures.unasked (is_no_
 
 pub returns-in-Err-Refused-clause-runs : goal.returns-in-Err-Refused-clause-runs
 returns-in-Err-Refused-clause-runs g c =
-    rw (c.answer_of-in-Err-Refused.ensures.talk, c.answer_of-in-Err-Refused.ensures.house, c.answer_of-in-Err-Refused.ensures.refused, c.alone.ensures.none, c.alone.ensures.no_house, c.alone.ensures.no_refusal) (
+    let answer = c.answer_of-in-Err-Refused in (
       c.run_nothing.result,
-      c.answer_of-in-Err-Refused.ensures.code ∙ ap code_of c.alone.ensures.status,
+      answer.ensures.code ∙ ap code_of c.alone.ensures.status,
       inr (inl (
         c.in-Err-Refused.ensures.refused (ap Err c.in-Err-Refused.field-0-is),
         (
           c.run_nothing.ensures (g.P.Ports.told c.args.ports.now).faults (g.C.Crew.refusals c.args.crew.now),
-          record { ports = refl; talk = refl; serve = record { crew = refl; house = refl; refused = refl } },
+          does_nothing g.P.Ear.Ear.told g.P.Mouth.Mouth.told g.P.Book.Book.told (g.P.Ports.told c.args.ports.now) (g.C.Crew.refusals c.args.crew.now) answer.result
+              (answer.ensures.talk ∙ c.alone.ensures.none) (answer.ensures.house ∙ c.alone.ensures.no_house)
+              (answer.ensures.refused ∙ c.alone.ensures.no_refusal) (answer.ensures.bridge ∙ c.alone.ensures.no_bridge),
         ),
       )),
     )
 
 pub returns-in-Err-Refused-clause-refused : goal.returns-in-Err-Refused-clause-refused
 returns-in-Err-Refused-clause-refused g c = λ are.
-    rw (c.answer_of-in-Err-Refused.ensures.talk, c.answer_of-in-Err-Refused.ensures.house, c.answer_of-in-Err-Refused.ensures.refused, c.alone.ensures.none, c.alone.ensures.no_house, c.alone.ensures.no_refusal) (
+    let answer = c.answer_of-in-Err-Refused in (
       c.run_nothing.result,
-      c.answer_of-in-Err-Refused.ensures.code ∙ ap code_of c.alone.ensures.status,
+      answer.ensures.code ∙ ap code_of c.alone.ensures.status,
       inl (
         c.run_nothing.ensures (g.P.Ports.told c.args.ports.now).faults (g.C.Crew.refusals c.args.crew.now),
-        record { ports = refl; talk = refl; serve = record { crew = refl; house = refl; refused = refl } },
+        does_nothing g.P.Ear.Ear.told g.P.Mouth.Mouth.told g.P.Book.Book.told (g.P.Ports.told c.args.ports.now) (g.C.Crew.refusals c.args.crew.now) answer.result
+            (answer.ensures.talk ∙ c.alone.ensures.none) (answer.ensures.house ∙ c.alone.ensures.no_house)
+            (answer.ensures.refused ∙ c.alone.ensures.no_refusal) (answer.ensures.bridge ∙ c.alone.ensures.no_bridge),
       ),
     )

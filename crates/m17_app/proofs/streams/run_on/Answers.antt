@@ -22,7 +22,7 @@ returns-clause-crew_refused g c six = crew_failed _ c.run.result.status _ _ _ c.
 pub returns-clause-ran : goal.returns-clause-ran
 returns-clause-ran g c =
     let told = c.run.ensures.runs in
-    (told.0, told.1, record { before = _; after = _; talk = _; house = _; refused = _; ran = told.2 })
+    (told.0, told.1, record { before = _; after = _; talk = _; house = _; refused = _; bridge = _; ran = told.2 })
 
 pub returns-in_default-clause-ran : goal.returns-in_default-clause-ran
 returns-in_default-clause-ran g c = (
@@ -34,7 +34,8 @@ returns-in_default-clause-ran g c = (
     talk = None;
     house = None;
     refused = None;
-    ran = inr (inr (refl, refl, record { ports = refl; talk = refl; serve = record { crew = refl; house = refl; refused = refl } }));
+    bridge = None;
+    ran = inr (inr (refl, refl, record { ports = refl; talk = refl; bridge = refl; serve = record { crew = refl; house = refl; refused = refl } }));
   },
 )
 
@@ -48,6 +49,7 @@ returns-in_default-make-clause-ran g c = (
     talk = None;
     house = None;
     refused = None;
-    ran = inr (inr (refl, refl, record { ports = refl; talk = refl; serve = record { crew = refl; house = refl; refused = refl } }));
+    bridge = None;
+    ran = inr (inr (refl, refl, record { ports = refl; talk = refl; bridge = refl; serve = record { crew = refl; house = refl; refused = refl } }));
   },
 )

@@ -1,6 +1,6 @@
 use Rattle.std.proofs.Common.{◌≢◌}
 use Rattle.m17_words.specs.declared.first.FirstWord.{FirstWord}
-use Rattle.m17_words.specs.declared.first.FirstWord.TheVariants.{Judge, Show, Replay, Make, Check, Talk, Serve}
+use Rattle.m17_words.specs.declared.first.FirstWord.TheVariants.{Judge, Show, Replay, Make, Check, Migrate, Talk, Serve, Bridge}
 use Rattle.m17_words.specs.First.{text_of_first}
 use Rattle.m17_words.proofs.first.first_word.Goals as goal
 
@@ -11,6 +11,8 @@ returns-in_default-clause-no_word c = λ word. elim word as (λ (word : FirstWor
   | Replay ↦ c.in_default.not-replay
   | Make ↦ c.in_default.not-make
   | Check ↦ c.in_default.not-check
+  | Migrate ↦ c.in_default.not-migrate
   | Talk ↦ c.in_default.not-talk
   | Serve ↦ c.in_default.not-serve
+  | Bridge ↦ c.in_default.not-bridge
 ]

@@ -1,0 +1,25 @@
+use Rattle.std.proofs.Common.{None, false, refl, sym, ap, subst, ◌∙◌, inr}
+use Rattle.m17_serve.specs.Served.{NeverRan}
+use Rattle.m17_app.specs.Doing.{doing}
+use Rattle.m17_app.specs.Status.{Streams, code_of, streams}
+use Rattle.m17_app.proofs.ServeRuns.{memory_ending, served}
+use Rattle.m17_app.proofs.run_serve.run_plainly.Goals as goal
+
+pub returns-clause-runs : goal.returns-clause-runs
+returns-clause-runs g c = λ source.
+    let mid : Streams = streams source (g.K.Sink.told c.serve.new.out) in
+    let done = c.end_served in
+    let run = doing g.P.Ear.Ear.told g.P.Mouth.Mouth.told g.P.Book.Book.told (g.P.Ports.told c.args.ports.now) (g.P.Ports.told c.serve.new.ports)
+    (g.C.Crew.refusals c.args.crew.now) (g.C.Crew.refusals c.serve.new.crew)
+    (record { status = code_of done.result.status; talk = None; house = c.serve.result.house; refused = c.serve.result.refused; bridge = None }) in
+    rw (done.ensures.no_talk, done.ensures.no_bridge, done.ensures.house, done.ensures.refused) (served c.args.order.now c.serve.result.ending done.result.status _ mid _ run c.serve.ensures.ended c.serve.ensures.causes refl
+    (λ other. done.ensures.concluded other source)
+    (λ none.
+    let same = done.ensures.memory none in
+    let unwritten = c.serve.ensures.untouched (subst NeverRan (sym none) tt) in
+    (same.0, ap (λ out. streams source (g.K.Sink.told out)) (same.1 ∙ unwritten))))
+
+pub returns-clause-unasked : goal.returns-clause-unasked
+returns-clause-unasked g c is =
+    let mid : Streams = streams (record { left = None; at_hand = false; faults = 0 }) (g.K.Sink.told c.serve.new.out) in
+    c.serve.ensures.unasked (inr (memory_ending c.serve.result.ending c.end_served.result.status mid _ (λ other. c.end_served.ensures.concluded other mid.source) is))
