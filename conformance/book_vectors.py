@@ -2,12 +2,13 @@
 
 from books import book_record
 from draws import stream
-from files import BOOK_MAGIC
+from files import ONE as VERSION_1
+from files import TWO, book_head
 from packets import encode
 
 
-def book(*parts):
-    return BOOK_MAGIC + b"A" + b"".join(parts)
+def book(*parts, limit=0):
+    return book_head(ord("A"), limit) + b"".join(parts)
 
 
 def joined(moment, place, generation=0, listens=0, callsign="AB1CD"):
@@ -121,12 +122,48 @@ BOOKS = (
         book(*ONE, judged(9999, 0, stream(1, 0), 4), judged(10000, 0, stream(1, 0), 1)),
         "A frame is remembered less than 10,000 ms.",
     ),
+    # a limit on talking
+    (
+        "limit",
+        book(*ONE, judged(39, 0, stream(1, 1), 2), judged(40, 0, stream(1, 2), 9), judged(40, 1, stream(2, 0), 1), limit=40),
+        "A stream loses the floor once the limit has passed since it was opened.",
+    ),
+    ("limit-passed", book(*ONE, judged(40, 0, stream(1, 1), 2), limit=40), "What comes then is timed out."),
+    ("limit-to-come", book(*ONE, judged(39, 0, stream(1, 1), 9), limit=40), "And nothing that comes before."),
+    ("no-limit", book(*ONE, judged(1500, 0, stream(1, 1), 2), judged(1500, 0, stream(1, 1), 4)), "0 is no limit."),
+    (
+        "limit-remembered",
+        book(*ONE, judged(10039, 0, stream(1, 1), 1), judged(10039, 0, stream(1, 2), 2), limit=40),
+        "A stream that was timed out opens again once it is forgotten.",
+    ),
+    ("limit-of-default", book(limit=180000), "The limit that a reflector has by itself."),
     # what is no book
-    ("module", BOOK_MAGIC + b"a\0", "The module byte is a field."),
+    ("old", b"M17BOOK1A", "A book of version 1."),
+    ("cut-limit", book()[:-1], "The limit is a field."),
+    ("module", TWO.magic + b"a\0", "The module byte is a field."),
     ("value", book(judged(0, 0, stream(1, 0), 5, behind(32768))), "The value is a field."),
     ("packet", book(judged(0, 0, spoiled_crc(stream(1, 0)), 7)), "So is the packet."),
     ("kind", book(joined(0, 0), b"\4"), "An unknown kind of record."),
     ("cut", book(joined(0, 0), joined(0, 0))[:-1], "A book is read whole first."),
     ("cut-first", book(*ONE, joined(0, 0), b"\3"), "What is no book is not judged."),
     ("kind-first", book(*ONE, joined(0, 0), b"\t"), "The same at an unknown kind."),
+)
+
+
+def old(*parts):
+    return ONE_OF_OLD + b"".join(parts)
+
+
+ONE_OF_OLD = VERSION_1.magic + b"A"
+GROUP = book_record(1, 0, 0, 0, (0, 0), b"\0" + encode("#AB").to_bytes(6, "big"))
+
+# The same as version 1, with what `migrate` does.
+OLD_BOOKS = (
+    ("nothing", old(), "A book without records."),
+    ("legal", old(*TALK), "Each verdict once."),
+    ("not-legal", old(joined(10, 0), joined(9, 0, 1)), "Nothing is judged."),
+    ("group", old(GROUP), "Groups didn't join."),
+    ("timed-out", old(*ONE, judged(0, 0, stream(1, 1), 9)), "Nothing was timed out."),
+    ("new", book(), "A book of version 2."),
+    ("cut", old(joined(0, 0))[:-1], "A book is read whole first."),
 )

@@ -1,6 +1,6 @@
 """Cases of `check`: legal books, books with something changed, and wrong bytes."""
 
-from files import BOOK_MAGIC, VERDICTS, value_bytes
+from files import ONE, TWO, VERDICTS, book_head, value_bytes
 from packets import Stream, decode
 from reflector import Floor, Member
 from draws import CALLSIGNS, CALM, LAST_MOMENT, SHARP, WILD, Clock, Talk, sealed, spoiled, stream
@@ -23,10 +23,13 @@ def book_record(kind, link, index, moment, member, rest):
 class Book:
     """The records of one module: joins, leaves and packets, each with its right verdict."""
 
-    def __init__(self, draw, steps):
+    def __init__(self, draw, steps, version=TWO):
         self.draw = draw
+        self.version = version
         self.clock = Clock(draw, dict(steps, back=0))
-        self.floor = Floor()
+        # None, one that is soon over, or the one that a reflector has by itself.
+        self.limit = draw.pick((0, 1, 40, 1600, 5000, draw.below(20000), 180000, 2**64 - 1)) if version.limit_bytes else 0
+        self.floor = Floor(self.limit)
         self.members = {}  # by place
         self.places = [0, 1, 2, draw.pick((3, 255))]
         self.talk = Talk(draw, self.places, draw.between(1, 3))
@@ -47,7 +50,8 @@ class Book:
         if member is None:
             member = Member(place, draw.pick(self.generations), listens=draw.chance(20))
             self.members[place] = member
-            self.add(1, member, bytes([member.listens]) + draw.pick(CALLSIGNS).to_bytes(6, "big"))
+            calls = [call for call in CALLSIGNS if call < self.version.end_of_calls]
+            self.add(1, member, bytes([member.listens]) + draw.pick(calls).to_bytes(6, "big"))
         elif draw.chance(25):
             del self.members[place]
             member.is_in = False
@@ -79,20 +83,21 @@ class Book:
         self.add(3, member, code + value_bytes(verdict) + packet.bytes)
 
     def data(self):
-        letter = chr(ord("A") + self.draw.below(26)).encode()
-        return BOOK_MAGIC + letter + b"".join(self.records)
+        letter = ord("A") + self.draw.below(26)
+        head = book_head(letter, self.limit) if self.version == TWO else ONE.magic + bytes([letter])
+        return head + b"".join(self.records)
 
 
-def some_book(draw):
-    book = Book(draw, draw.pick((CALM, SHARP, WILD)))
+def some_book(draw, version=TWO):
+    book = Book(draw, draw.pick((CALM, SHARP, WILD)), version)
     for _ in range(draw.between(0, 100)):
         book.deed()
     return book
 
 
-def a_book(draw, least):
+def a_book(draw, least, version=TWO):
     """A book with so many records at least."""
-    book = Book(draw, draw.pick((CALM, SHARP, WILD)))
+    book = Book(draw, draw.pick((CALM, SHARP, WILD)), version)
     while len(book.records) < least:
         book.deed()
     return book
@@ -170,7 +175,7 @@ def with_another_verdict(draw, record):
     elif way < 2 and record[30] == 5:
         record[42] ^= 1
     elif way < 2:
-        record[30] = draw.between(1, 8)
+        record[30] = draw.between(1, 9)
         if record[30] not in (3, 5):
             record[31:43] = bytes(12)
     else:
@@ -190,10 +195,10 @@ FIELDS = {
     # of a leave
     "why": (30, (b"\0", b"\1", b"\5", b"\6")),
     # of a packet: verdict and value
-    "verdict": (30, tuple(bytes([code]) + bytes(12) for code in range(10))),
+    "verdict": (30, tuple(bytes([code]) + bytes(12) for code in range(11))),
     "busy": (30, tuple(b"\3" + (place << 64 | 5).to_bytes(12, "big") for place in (0, 255, 256, 2**31))),
     "late": (30, tuple(b"\5" + number.to_bytes(12, "big") for number in (0, 0x7FFF, 0x8000, 1 << 16, 1 << 95))),
-    "other": (30, tuple(bytes([code]) + bytes(11) + b"\1" for code in (1, 2, 4, 6, 7, 8))),
+    "other": (30, tuple(bytes([code]) + bytes(11) + b"\1" for code in (1, 2, 4, 6, 7, 8, 9))),
 }
 FIELDS_OF = {1: ("link", "place", "listens", "callsign"), 2: ("link", "place", "why")}
 FIELDS_OF[3] = ("link", "place", "verdict", "busy", "late", "other", "packet", "packet")
@@ -213,25 +218,61 @@ def at_a_bound(draw):
     return record[:at] + value + record[at + len(value) :]
 
 
-def check_bounds(draw):
+def bounds(draw, version):
     """A record with a field at a bound, behind some that are right."""
-    data = BOOK_MAGIC + draw.pick((b"A", b"Z", b"A", b"@", b"[")) + b"".join(a_book(draw, draw.below(5)).records)
-    return ["check"], data + at_a_bound(draw)
+    book = a_book(draw, draw.below(5), version)
+    data = bytearray(book.data())
+    data[8] = draw.pick(b"AZA@[")
+    return bytes(data) + at_a_bound(draw)
 
 
-def check_bytes(draw):
-    data = some_book(draw).data()
-    data = data[: draw.pick((9, 60, 200, len(data)))]
-    way = draw.below(8)
+def check_bounds(draw):
+    return ["check"], bounds(draw, TWO)
+
+
+def wrong_bytes(draw, version):
+    data = some_book(draw, version).data()
+    head = 9 + version.limit_bytes
+    data = data[: draw.pick((head, 60, 200, len(data)))]
+    way = draw.below(9)
     if way == 0:
         data = data[: draw.below(len(data) + 1)]
     elif way == 1:
-        data = data[: draw.below(10)]
+        data = data[: draw.below(head + 1)]
+    elif way == 8:
+        data = draw.pick((ONE, TWO)).magic + data[8:]
     elif way == 2:
         data += draw.pick((b"\t", b"\0", b"\4", b"\1", b"\xff"))
     elif way == 3:
         data = spoiled(draw, data)
     else:
-        data = data[:9] + at_a_bound(draw)
+        data = data[:head] + at_a_bound(draw)
         data = data[: draw.below(len(data))] if draw.chance(15) else data
-    return ["check"], data
+    return data
+
+
+def check_bytes(draw):
+    return ["check"], wrong_bytes(draw, TWO)
+
+
+# ---- books of version 1
+
+
+def migrate_legal(draw):
+    return ["migrate"], some_book(draw, ONE).data()
+
+
+def migrate_broken(draw):
+    """Nothing is judged: what breaks a rule is written as it stands."""
+    book = some_book(draw, ONE)
+    if book.records:
+        spoil_records(draw, book.records)
+    return ["migrate"], book.data()
+
+
+def migrate_bounds(draw):
+    return ["migrate"], bounds(draw, ONE)
+
+
+def migrate_bytes(draw):
+    return ["migrate"], wrong_bytes(draw, ONE)

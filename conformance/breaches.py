@@ -2,7 +2,7 @@
 
 from books import a_book, at_a_bound, book_record, moment_of
 from draws import CALLSIGNS, sealed, stream
-from files import BOOK_MAGIC
+from files import book_head
 
 
 # ---- one rule broken at a place
@@ -69,7 +69,7 @@ def breach_verdict(draw, records, at):
     packets = [n for n, record in enumerate(records) if record[0] == 3]
     if packets:
         at = min(packets, key=lambda n: abs(n - at))
-        code = draw.between(1, 8)
+        code = draw.between(1, 9)
         value = {3: (draw.below(4) << 64).to_bytes(12, "big"), 5: draw.below(0x8000).to_bytes(12, "big")}
         records[at] = changed(records[at], 30, bytes([code]) + value.get(code, bytes(12)))
 
@@ -192,6 +192,8 @@ def each_verdict():
         (3, 200, (255, 0), (1, 0, stream(2, 1))),
         (3, 1799, (0, 0), (3, 255 << 64, stream(3, 0))),
         (3, 1800, (0, 0), (1, 0, stream(3, 0))),
+        (3, 3000, (0, 0), (2, 0, stream(3, 1))),
+        (3, 3700, (0, 0), (9, 0, stream(3, 2))),
     )
     for kind, moment, member, rest in steps:
         if kind == 3:
@@ -202,7 +204,7 @@ def each_verdict():
 
 def with_each_byte_changed(masks):
     """A name and the bytes of each book that differs from that one in one byte."""
-    data = BOOK_MAGIC + b"A" + b"".join(each_verdict())
+    data = book_head(ord("A"), 1900) + b"".join(each_verdict())
     yield "as it is", data
     for at in range(len(data)):
         for mask in masks:

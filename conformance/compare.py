@@ -23,7 +23,7 @@ import breaches
 import generate
 import made
 import reference
-from files import BOOK_MAGIC, TRACE_MAGIC
+from files import ONE, TRACE_MAGIC, TWO, book_head
 from traces import FAULT
 
 Result = collections.namedtuple("Result", "status output has_errors")
@@ -136,8 +136,10 @@ LARGE = {
     "trace-cut-before-the-limit": (["replay"], lambda: TRACE_MAGIC + FAULT * 999999 + b"\1"),
     "trace-one-byte-more": (["replay"], lambda: bytes(67108865)),
     "trace-most-bytes": (["replay"], lambda: bytes(67108864)),
-    "book-one-byte-more": (["check"], lambda: bytes(67108865)),
-    "book-most-bytes": (["check"], lambda: BOOK_MAGIC + b"A" + b"\t" * 67108855),
+    "book-one-byte-more": (["check"], lambda: bytes(67108873)),
+    "book-most-bytes": (["check"], lambda: book_head(65, 0) + b"\t" * 67108855),
+    "old-book-one-byte-more": (["migrate"], lambda: bytes(67108865)),
+    "old-book-most-bytes": (["migrate"], lambda: ONE.magic + b"A" + b"\t" * 67108855),
     "make-most": (["make", "1", "100000"], lambda: b""),
     "evening": (["replay", "--summary"], lambda: b"".join(made.make(17, 20000))),
     "evening-lines": (["replay"], lambda: b"".join(made.make(18, 20000))),
@@ -172,8 +174,9 @@ def parts_of(words, data):
         return b"", [line + b"\n" for line in data.split(b"\n")]
     if command == b"replay":
         return data[:8], chunks(data, 8, entry_length)
-    if command == b"check":
-        return data[:9], chunks(data, 9, record_length)
+    if command in (b"check", b"migrate"):
+        head = 9 + (TWO if command == b"check" else ONE).limit_bytes
+        return data[:head], chunks(data, head, record_length)
     return b"", [data]
 
 

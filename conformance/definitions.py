@@ -21,9 +21,10 @@ Place = namedtuple("Place", "place generation")
 class Trail:
     """The events of one module."""
 
-    def __init__(self, events, places, is_parrot, name):
+    def __init__(self, events, places, is_parrot, name, limit):
         self.events = events
         self.places = places
+        self.limit = limit
         self.is_parrot = is_parrot
         self.name = name
         self.verdicts = []
@@ -68,7 +69,12 @@ class Trail:
         joined = self.joined(self.events[a].member, n)
         if self.events[a].packet.last or self.now(n) - self.now(a) >= 1600 or joined is None or joined >= a:
             return None
-        return a
+        return None if self.is_out_of_time(a, n) else a
+
+    def is_out_of_time(self, a, n):
+        """Whether, at n, the limit has passed since the last opened position at or below a."""
+        opened = [o for o in range(a + 1) if self.verdicts[o] is not None and self.verdicts[o][0] == "opened"]
+        return self.limit > 0 and self.now(n) - self.now(opened[-1]) >= self.limit
 
     def own(self, n):
         k = self.events[n].member
@@ -102,6 +108,8 @@ class Trail:
                 return "repeat", None
             if (packet.number - y.number) % 32768 >= 16384:
                 return "late", y.number
+            if self.is_out_of_time(own, n):
+                return "timed-out", None
         return ("opened" if holder is None else "continued"), None
 
     def value(self, n):
@@ -156,7 +164,7 @@ class Trail:
         return items
 
 
-def trail_of(records):
+def trail_of(records, limit):
     """What happened, by the records of a book."""
     kinds = {1: "join", 2: "leave", 3: "packet"}
     events = []
@@ -165,7 +173,7 @@ def trail_of(records):
         events.append(
             Event(n, record.moment, kinds[record.kind], member, listens=record.listens, packet=record.packet)
         )
-    return Trail(events, 256, False, 0)
+    return Trail(events, 256, False, 0, limit)
 
 
 def broken_rule(records, trail, n):
@@ -182,9 +190,9 @@ def broken_rule(records, trail, n):
     return None
 
 
-def check_line(records):
-    """What `check` says of a book with these records."""
-    trail = trail_of(records)
+def check_line(head, records):
+    """What `check` says of a book with this head and these records."""
+    trail = trail_of(records, head.limit)
     rules = [broken_rule(records, trail, n) for n in range(len(records))]
     for n, rule in enumerate(rules):
         if rule:
@@ -201,7 +209,7 @@ def judged(records):
     for moment, talker, packet in records:
         kind = "packet" if isinstance(packet, Stream) else "other"
         events.append(Event(len(events), moment, kind, Place(talker, 0), packet=packet))
-    return Trail(events, 65536, False, 0).verdicts[len(talkers) :]
+    return Trail(events, 65536, False, 0, 180000).verdicts[len(talkers) :]
 
 
 class House:
@@ -222,7 +230,7 @@ class House:
         self.lines = [self.verdict(j) for j in range(len(self.heard))]
         self.route()
         self.trails = {
-            letter: Trail(events, plan.places, letter in plan.parrots, plan.name)
+            letter: Trail(events, plan.places, letter in plan.parrots, plan.name, plan.limit)
             for letter, events in self.routed.items()
         }
 

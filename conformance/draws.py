@@ -153,6 +153,58 @@ class Talk:
         return sender, spoiled(draw, packet) if draw.chance(3) else packet
 
 
+def talked_out(draw, senders, limit, start):
+    """Moments, senders and packets: a stream goes on until its limit has passed, with almost no gap that frees the floor; and
+    then what comes at the milliseconds that count, of the limit, the silence and the memory of a stream. Once or twice."""
+    holder = draw.pick(senders)
+    others = [sender for sender in senders if sender != holder]
+    sid = draw.below(65536)
+    number = draw.pick((0, 0, 32700))
+    gap = (1500, 1599) if limit >= 20000 else (limit // 10, limit // 5)
+    call = draw.pick(CALLSIGNS)
+    said = []
+
+    def holder_says(moment):
+        nonlocal number
+        number = (number + draw.pick((1, 1, 1, 1, 2, 16383 if draw.chance(3) else 1))) % 0x8000
+        said.append((moment, holder, stream(sid, number, False, call)))
+
+    def other_says(moment, is_last):
+        said.append((moment, draw.pick(others), stream(draw.pick((sid, sid ^ 1)), number, is_last, draw.pick(CALLSIGNS))))
+
+    opened = start
+    for _ in range(draw.between(1, 2)):
+        moment = opened
+        while moment < opened + limit:
+            last = moment
+            holder_says(moment)
+            if draw.chance(8):
+                other_says(moment, draw.chance(30))
+            if draw.chance(4):
+                said.append((moment, *said[-1][1:]))  # as it was
+            moment += draw.between(*gap)
+        for before in (2, 1):
+            if draw.chance(50) and last < opened + limit - before:
+                last = opened + limit - before
+                holder_says(last)
+        edges = [opened + limit, opened + limit, opened + limit + 1, last + 1599, last + 1600]
+        edges += [last + 1601 + draw.below(8000), last + 9998, last + 9999, last + 9999]
+        for moment in sorted(edge for edge in edges if draw.chance(60) and edge >= opened + limit):
+            way = draw.below(20)
+            if way < 5:
+                other_says(moment, draw.chance(70))
+            elif way < 7:
+                said.append((moment, holder, stream(sid, number - draw.pick((0, 0, 1)), draw.chance(30), call)))
+            elif way == 7:
+                said.append((moment, holder, stream(sid ^ 2, number, draw.chance(70), call)))
+            else:
+                holder_says(moment)
+        opened = last + 10000
+        if draw.chance(80):
+            holder_says(opened)
+    return [(min(moment, LAST_MOMENT), sender, packet) for moment, sender, packet in said]
+
+
 class Clock:
     """Moments that creep, jump, go back and meet each bound of the rules to the millisecond."""
 

@@ -17,9 +17,9 @@ FILE_LIMIT = 67108864
 class Fields:
     """The fields of an input, one after another. A field is judged when all its bytes are there."""
 
-    def __init__(self, data):
-        if len(data) > FILE_LIMIT:
-            raise InputRefused(FILE_LIMIT, "large")
+    def __init__(self, data, most=FILE_LIMIT):
+        if len(data) > most:
+            raise InputRefused(most, "large")
         self.data = data
         self.at = 0
 
@@ -82,21 +82,33 @@ def read_datagram(fields):
     return Datagram(moment, Peer(family == b"\6", ip.ljust(16, b"\0"), port), fields.take(length))
 
 
-BOOK_MAGIC = b"M17BOOK1"
-VERDICTS = ("opened", "continued", "busy", "repeat", "late", "after-end", "not-member", "listen-only")
+VERDICTS = ("opened", "continued", "busy", "repeat", "late", "after-end", "not-member", "listen-only", "timed-out")
 
+# A version of books: how it begins, how many bytes its limit has, how many verdicts it knows, and the first address above
+# those that may join.
+Version = namedtuple("Version", "magic limit_bytes verdicts end_of_calls")
+ONE = Version(b"M17BOOK1", 0, 8, 40**9)
+TWO = Version(b"M17BOOK2", 8, 9, 40**9 + 40**8)
+
+Head = namedtuple("Head", "letter limit")
 Record = namedtuple("Record", "kind moment place generation listens verdict value packet")
 
 
-def read_book(data):
-    """All records: a book is judged that is a book to its end."""
-    return list(book_records(data))
+def book_head(letter, limit):
+    """What a book of version 2 begins with."""
+    return TWO.magic + bytes([letter]) + limit.to_bytes(8, "big")
 
 
-def book_records(data):
-    fields = Fields(data)
-    fields.magic(BOOK_MAGIC)
-    fields.number(1, ord("A"), ord("Z"))
+def read_book(data, version=TWO, to_its_end=True):
+    """The head and the records: a book is judged that is a book to its end."""
+    fields = Fields(data, FILE_LIMIT + version.limit_bytes)
+    fields.magic(version.magic)
+    head = Head(fields.number(1, ord("A"), ord("Z")), fields.number(version.limit_bytes))
+    records = book_records(fields, version)
+    return head, list(records) if to_its_end else records
+
+
+def book_records(fields, version):
     while True:
         kind = fields.kind((1, 2, 3))
         if kind is None:
@@ -109,11 +121,11 @@ def book_records(data):
         listens = verdict = value = packet = None
         if kind == 1:
             listens = fields.number(1, 0, 1) == 1
-            fields.take(6, lambda field: has_callsign(number(field)))
+            fields.take(6, lambda field: has_callsign(number(field)) and number(field) < version.end_of_calls)
         elif kind == 2:
             fields.number(1, 1, 5)  # why
         else:
-            verdict = VERDICTS[fields.number(1, 1, 8) - 1]
+            verdict = VERDICTS[fields.number(1, 1, version.verdicts) - 1]
             value = fields.take(12, lambda field: is_value(verdict, field))
             packet = decode(fields.take(54, lambda field: isinstance(decode(field), Stream)))
         yield Record(kind, moment, place, generation, listens, verdict, value, packet)

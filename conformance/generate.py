@@ -10,9 +10,11 @@ import sys
 
 import books
 import breaches
+import rule_cases
 import traces
-from draws import CALM, SHARP, WILD, Clock, Draw, Talk, any_packet, sealed, spoiled
-from files import BOOK_MAGIC
+from draws import CALM, LAST_MOMENT, SHARP, WILD, Clock, Draw, Talk, any_packet, sealed, spoiled, talked_out
+from files import book_head
+from reference import LIMIT_MS
 
 # ---- judge
 
@@ -42,6 +44,18 @@ def judge_sharp(draw):
 
 def judge_wild(draw):
     return ["judge"], b"".join(judge_records(draw, WILD))
+
+
+def judge_limit(draw):
+    """A stream is talked out; now and then a packet comes again with a moment that goes back."""
+    talkers = draw.pick(([3, 4], [0, 1, 2], [65535, 255, 256]))
+    start = draw.pick((0, 0, 7, 10**12, LAST_MOMENT - LIMIT_MS - 5000, LAST_MOMENT - LIMIT_MS // 2))
+    records = []
+    for moment, talker, packet in talked_out(draw, talkers, LIMIT_MS, start):
+        records.append(judge_record(moment, talker, packet))
+        if draw.chance(2):
+            records.append(judge_record(max(0, moment - draw.below(5000)), talker, packet))
+    return ["judge"], b"".join(records)
 
 
 def judge_bytes(draw):
@@ -98,6 +112,15 @@ def make_small(draw):
     return words, b""
 
 
+# ---- serve
+
+
+def serve_rules(draw):
+    """Rules that are read before a port is asked for, which is one that cannot be opened."""
+    words = draw.pick((["--rules", "--call", "M17-TST", "x"], ["x", "--call=M17-TST", "--rules"]))
+    return ["serve"] + words, rule_cases.text(draw)
+
+
 # ---- words
 
 SPOILING = ["--", "-", "", " ", "x", "-x", "--x", "---", "--summary", "\u00e9"]
@@ -111,7 +134,7 @@ def words_plain(command):
     choices += [["--help"], ["-h"], ["help"], ["--version"]]
 
     def words(draw):
-        return [command] + draw.pick(choices), draw.pick((b"", b"41434B4E\n", BOOK_MAGIC + b"A", bytes(64)))
+        return [command] + draw.pick(choices), draw.pick((b"", b"41434B4E\n", book_head(65, 0), bytes(64)))
 
     return words
 
@@ -121,6 +144,7 @@ GOOD = {
     "modules": ["A", "ABC", "CBA", "ZA", "ABCDEFGHIJKLMNOPQRSTUVWXYZ"],
     "parrots": ["A"],
     "places": ["1", "256", "0001", "00000000000000000000000000000256", "64"],
+    "limit": ["0", "1", "86400", "0000", "00000000000000000000000000000180", "2"],
 }
 BAD = {
     "call": ["", "ABCDEFGHIJ", "a", "A ", "A_B", " ", "#", "##", "A#", "#ABCDEFGHI", "\u00c4", "-A", "--", b"\xff", b"A\xff"],
@@ -128,6 +152,7 @@ BAD = {
     "parrots": ["", "AA", "AD", "D", "ABCD", "a", b"\xff"],
     "places": ["0", "0", "257", "257", "", "+1", "-1", " 1", "1 ", "0x10", "1e1", "1.0", "_1", "1_0", "\u0661"],
 }
+BAD["limit"] = ["86401", "", "+1", "-1", " 1", "1 ", "0x1", "1e1", "1.0", "\u0661", b"1\xff", str(2**64), "9" * 5000]
 BAD["places"] += ["257", "0", "000", "+1", "+64", "+256", b"1\xff", str(2**64 + 1), "9" * 5000, "0" * 5000]
 
 
@@ -173,6 +198,47 @@ def words_make(draw):
     return ["make"] + words, b""
 
 
+BRIDGE_GOOD = {
+    "call": GOOD["call"],
+    "near": ["x", "", "127.0.0.1", "host:1"],
+    "near-peer": ["10.0.0.9:17000", "0.0.0.0:0", "255.255.255.255:65535", "[0000:0000:0000:0000:0000:0000:0000:000a]:17000"],
+    "near-module": ["A", "M", "Z"],
+    "for": ["1", "1000000", "0001", "00000000000000000000000000000060"],
+}
+BRIDGE_BAD = {
+    "call": BAD["call"],
+    "near": [b"\xff"],
+    "near-peer": ["", "10.0.0.9", "10.0.0.9:", "10.0.0:1", "010.0.0.9:1", "10.0.0.256:1", "10.0.0.9:65536", "10.0.0.9:01", "::1",
+                  "[::1]:1", "[0000:0000:0000:0000:0000:0000:0000:000A]:1", "host:17000", " 10.0.0.9:1", "10.0.0.9:1 ", "10.0.0.9:+1",
+                  "10.0.0.\u0661:1", b"10.0.0.9:1\xff", "1.2.3.4:" + "9" * 5000],
+    "near-module": ["", "a", "AB", "1", "[", "@", "\u00c4", b"A\xff"],
+    "for": ["0", "1000001", "", "+1", "-1", " 1", "1.0", "\u0661", str(2**64 + 1), "9" * 5000],
+}
+for values in (BRIDGE_GOOD, BRIDGE_BAD):
+    for name in ("near", "near-peer", "near-module"):
+        values["far" + name[4:]] = values[name]
+
+
+def words_bridge(draw):
+    """The words of a bridge whose ports cannot be opened, in most cases with one thing that may be wrong."""
+    trouble = draw.below(14)
+    bad = draw.pick(list(BRIDGE_BAD)) if trouble < 4 else None
+    names = [name for name in BRIDGE_GOOD if name != bad and (name != "for" or draw.chance(50))]
+    options = [option(draw, name, draw.pick(BRIDGE_GOOD[name])) for name in names]
+    if bad:
+        options.append(option(draw, bad, draw.pick(BRIDGE_BAD[bad])))
+    options.insert(draw.below(len(options)), options.pop())
+    if trouble == 4:
+        options.append(draw.pick(options + [["--call=A", "--call", "A"]]))
+    elif trouble == 5:
+        options.insert(draw.between(0, len(options)), [draw.pick(SPOILING)])
+    elif trouble == 6:
+        options.append(draw.pick((["--listen"], ["--near="], ["--fa=x"], ["--for"], ["--book", "b"], ["x"])))
+    elif trouble == 7:
+        options.pop(draw.below(len(options)))
+    return ["bridge"] + [word for words in options for word in words], b""
+
+
 def words_first(draw):
     """First words that name no command, none at all, and texts that are no UTF-8."""
     first = ["", "Judge", "judge ", " judge", "jud", "judges", "JUDGE", "--judge", "--", "-", "-x", "x", "0"]
@@ -185,6 +251,7 @@ KINDS = {
     "judge-calm": (3, judge_calm),
     "judge-sharp": (8, judge_sharp),
     "judge-wild": (4, judge_wild),
+    "judge-limit": (3, judge_limit),
     "judge-bytes": (3, judge_bytes),
     "show-packets": (5, show_packets),
     "show-lines": (5, show_lines),
@@ -197,6 +264,7 @@ KINDS = {
     "replay-faults": (4, traces.replay_faults),
     "replay-hostile": (4, traces.replay_hostile),
     "replay-wild": (6, traces.replay_wild),
+    "replay-limit": (3, traces.replay_limit),
     "replay-many": (1, traces.replay_many),
     "replay-all-letters": (1, traces.replay_all_letters),
     "replay-parrot": (8, traces.replay_parrot),
@@ -211,11 +279,18 @@ KINDS = {
     "check-long": (1, breaches.check_long),
     "check-bounds": (6, books.check_bounds),
     "check-bytes": (6, books.check_bytes),
+    "migrate-legal": (2, books.migrate_legal),
+    "migrate-broken": (2, books.migrate_broken),
+    "migrate-bounds": (4, books.migrate_bounds),
+    "migrate-bytes": (4, books.migrate_bytes),
+    "serve-rules": (8, serve_rules),
     "words-judge": (1, words_plain("judge")),
     "words-show": (1, words_plain("show")),
     "words-check": (1, words_plain("check")),
+    "words-migrate": (1, words_plain("migrate")),
     "words-replay": (8, words_replay),
     "words-make": (4, words_make),
+    "words-bridge": (4, words_bridge),
     "words-first": (1, words_first),
 }
 

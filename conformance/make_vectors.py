@@ -11,10 +11,10 @@ import os
 
 import made
 import reference
-from book_vectors import BOOKS, spoiled_crc
+from book_vectors import BOOKS, OLD_BOOKS, spoiled_crc
 from compare import parts_of
 from draws import LAST_MOMENT, named, stream
-from files import BOOK_MAGIC, TRACE_MAGIC, InputRefused, read_book, read_trace
+from files import ONE, TRACE_MAGIC, TWO, InputRefused, book_head, read_book, read_trace
 from generate import judge_record
 from packets import Refused, Stream, decode, encode, number, packet_text
 from reflector import Datagram, Quiet, peer_text
@@ -151,6 +151,20 @@ vector("show-nothing", "show", b"", "An empty input has no line.")
 
 # ---- judge
 
+vector(
+    "judge-limit",
+    "judge",
+    records(
+        *[(1500 * number, 0, stream(1, number)) for number in range(120)],
+        (179999, 0, stream(1, 120)),
+        (180000, 0, stream(1, 121)),
+        (180000, 1, stream(2, 0)),
+        (180040, 0, stream(1, 122)),
+        (189998, 0, stream(1, 123)),
+        (189999, 0, stream(1, 124)),
+    ),
+    "A stream loses the floor 180,000 ms after it was opened, and is timed out until its last admitted frame is forgotten.",
+)
 vector(
     "judge-two-talkers",
     "judge",
@@ -369,6 +383,40 @@ vector(
     ),
     "What a member sent is forgotten with its membership.",
 )
+vector(
+    "replay-limit",
+    "replay --limit 1",
+    trace(
+        datagram(0, P1, conn("AB1CD", "A")),
+        datagram(0, P2, conn("N0CALL", "A")),
+        datagram(0, P1, stream(1, 0)),
+        datagram(500, P1, stream(1, 1)),
+        datagram(999, P1, stream(1, 2)),
+        datagram(999, P2, stream(2, 0)),
+        datagram(1000, P1, stream(1, 3)),
+        datagram(1000, P1, stream(1, 2)),
+        datagram(1000, P2, stream(2, 1)),
+        datagram(1040, P1, stream(1, 4)),
+        datagram(1080, P2, stream(2, 2, True)),
+        datagram(10998, P1, stream(1, 5)),
+        datagram(10999, P1, stream(1, 6)),
+        datagram(11999, P1, stream(1, 7)),
+        datagram(11999, P1, stream(3, 0)),
+    ),
+    "One may talk for a second: at 1,000 ms the stream loses the floor, and is timed out until 10,000 ms have passed since its"
+    " last admitted frame. A new stream of the same talker is opened at once.",
+)
+NO_LIMIT = trace(
+    datagram(0, P1, conn("AB1CD", "A")),
+    *(datagram(1500 * number, P1, stream(1, number)) for number in range(122)),
+)
+vector("replay-no-limit", "replay --limit 0", NO_LIMIT, "With 0 one may talk for as long as one likes.")
+vector(
+    "replay-limit-unsaid",
+    "replay --summary",
+    NO_LIMIT,
+    "The same where no limit is said: it is 180 seconds, and what comes from 180,000 ms on is timed out.",
+)
 SILENCE = trace(
     datagram(0, P1, conn("AB1CD", "A")),
     datagram(1, P2, conn("AB1CD", "A")),
@@ -512,6 +560,46 @@ vector("make-evening", "make 18446744073709551615 0150", b"", "The greatest seed
 
 for its_name, its_data, it_shows in BOOKS:
     vector("check-" + its_name, "check", its_data, it_shows)
+for its_name, its_data, it_shows in OLD_BOOKS:
+    vector("migrate-" + its_name, "migrate", its_data, it_shows)
+
+# ---- serve by rules: a text that is taken comes to `port failed`, since no port is named x
+
+RULES = "serve --rules --call M17-TST x"
+
+for its_name, its_text, it_shows in (
+    ("nothing", "", "An empty text allows all."),
+    (
+        "each-part",
+        "allow conn A AB1CD\ndeny lstn BA #CLUB\r\n\r\n; passed over\nallow talk * N0*\ndeny any * *",
+        "Each act, kind and form of modules and pattern; ends of lines, an empty line, and one that begins with `;`.",
+    ),
+    (
+        "patterns",
+        "deny any * ABCDEFGHI\ndeny any * ABCDEFGHI*\ndeny any * #ABCDEFGH*\ndeny any * #*\ndeny any *  *\n"
+        "deny any *  A\ndeny any * AB1CD P\ndeny any * A *\ndeny any * /.-*",
+        "Nine letters, before a `*` too, `#` counted in; a space may be the first, stand between, and be the last before"
+        " the `*`.",
+    ),
+    ("act", "allow any * *\n\n; none\nAllow any * *", "Lines count from 0, those that are passed over too."),
+    ("kind", "allow", "A missing part is empty, and the first refused part is named."),
+    ("kind-of-two-spaces", "allow  any * *", "Two spaces in a row leave a part empty."),
+    ("modules", "deny talk A N0CALL", "Who speaks is not asked by module."),
+    ("modules-twice", "deny conn ABA N0CALL", "A module stands once."),
+    ("modules-before-pattern", "deny talk A", "The first refused part, where two are."),
+    ("pattern", "deny conn A ", "An empty pattern."),
+    ("pattern-of-a-space", "deny any * AB1CD ", "A callsign doesn't end in a space."),
+    ("pattern-of-a-group", "deny any * #", "A `#` alone is no callsign."),
+    ("pattern-inside", "deny any * A#*", "A `#` stands first alone."),
+    ("pattern-twice", "deny any * **", "Before the `*` stand letters."),
+    ("pattern-lower", "deny any * ab1cd", "Letters are upper case."),
+    ("pattern-long", "deny any * ABCDEFGHIJ*", "Ten letters."),
+    ("pattern-comment", "deny any * N0CALL ; out", "Behind a rule nothing else stands."),
+    ("two-carriage-returns", "deny any * *\r\r\n", "Only one carriage return is dropped."),
+    ("most", "\n" * 65536, "A text of 65,536 bytes."),
+    ("large", "wrong\n" + "\n" * 65531, "One byte more is refused before a wrong line is."),
+):
+    vector("rules-" + its_name, RULES, its_text.encode(), it_shows)
 
 # ---- words
 
@@ -541,7 +629,8 @@ the bytes of the standard output, and `NAME.status` the status with which the pr
     python3 conformance/compare.py --program ./m17 --vectors conformance/vectors
 
 `show` reads datagrams in hex, `judge` moments, talkers and stream packets, `replay` what a link heard, and `check` what
-a module did; `inputs.txt` tells in words what the inputs of the last three hold. All of them are spelled out in
+a module did; `inputs.txt` tells in words what the inputs of the last three hold. `serve --rules` reads rules of callsigns
+before it asks for its port `x`, which is none: `port failed` says that the text was taken. All of them are spelled out in
 `../make_vectors.py`, which writes this folder.
 
 | name | words | status | what it shows |
@@ -557,7 +646,7 @@ MOST_PARTS = 40
 def input_text(words, data):
     head, parts = parts_of([word.encode() for word in words[:1]], data)
     told = [part_text(words, part) for part in parts]
-    if head and head not in (TRACE_MAGIC, BOOK_MAGIC + b"A"):
+    if head and head not in (TRACE_MAGIC, book_head(65, 0), ONE.magic + b"A"):
         told.insert(0, "bytes " + head.hex().upper())
     if len(told) > MOST_PARTS:
         told[MOST_PARTS:] = ["and %d more" % (len(told) - MOST_PARTS)]
@@ -570,7 +659,9 @@ def part_text(words, part):
         if words[:1] == ["replay"]:
             return entry_text(read_trace(TRACE_MAGIC + part)[0])
         if words[:1] == ["check"]:
-            return record_text(read_book(BOOK_MAGIC + b"A" + part)[0])
+            return record_text(read_book(book_head(65, 0) + part)[1][0])
+        if words[:1] == ["migrate"]:
+            return record_text(read_book(ONE.magic + b"A" + part, ONE)[1][0])
     except InputRefused:
         pass
     if words[:1] == ["judge"] and len(part) == 64:
@@ -617,7 +708,7 @@ def files():
         contents[name + ".out"] = output
         contents[name + ".status"] = b"%d\n" % status
         rows.append("| `%s` | %s | %d | %s |\n" % (name, "`%s`" % " ".join(words) if words else "none", status, shows))
-        if data and words[:1] != ["show"]:
+        if data and words[:1] not in (["show"], ["serve"]):
             inputs.append("%s\n%s" % (name, input_text(words, data)))
     contents["README.md"] = (README + "".join(rows)).encode()
     contents["inputs.txt"] = "\n".join(inputs).encode()

@@ -1,20 +1,27 @@
 #!/usr/bin/env python3
-"""A second implementation of the commands judge, show, check, replay and make, written from the rules alone.
+"""A second implementation of the commands judge, show, check, migrate, replay and make, written from the rules alone.
 
-    reference.py judge|show|check|replay|make WORDS < input > output
+    reference.py judge|show|check|migrate|replay|make WORDS < input > output
+    reference.py serve --call CALL --rules BIND < rules > output
+    reference.py bridge WORDS > output
+
+Of `serve` it has only what comes of the rules: none is refused, or `port failed`, since no BIND can be opened here. Of `bridge`
+it has the words alone; what a bridge does is in `bridges.py`.
 
 It shares no line with the reflector's own program and is there to be compared with it, so it is short and plain. The
 rules stand in `packets.py`, `reflector.py`, `files.py` and `made.py`; here are the commands and their words.
 """
 
 import os
+import re
 import sys
 from collections import namedtuple
 
-from files import InputRefused, read_book, read_trace, value_bytes
+from files import ONE, InputRefused, book_head, read_book, read_trace, value_bytes
 from made import make
 from packets import Refused, decode, encode, number, packet_text
 from reflector import Datagram, Floor, Link, Member, peer_text
+from rules import RulesRefused, read_rules
 
 # ---- the commands: each gives its lines one by one, and raises what ends it
 
@@ -23,8 +30,16 @@ class LinkLost(Exception):
     """The link's last 16 entries are faults."""
 
 
+class PortFailed(Exception):
+    """The port of a link cannot be opened, as no port can here."""
+
+
+# How long one may talk where nothing else is said, in milliseconds.
+LIMIT_MS = 180000
+
+
 def judge(data):
-    floor = Floor()
+    floor = Floor(LIMIT_MS)
     talkers = {}
     for index, at in enumerate(range(0, len(data), 64)):
         if index == 1000000:
@@ -65,10 +80,11 @@ def show(data):
 
 
 def check(data):
-    floor = Floor()
+    head, kept = read_book(data)
+    floor = Floor(head.limit)
     members = {}
     records = streams = admitted = 0
-    for index, record in enumerate(read_book(data)):
+    for index, record in enumerate(kept):
         if record.moment < floor.moment:
             raise InputRefused(index, "moment")
         floor.moves_to(record.moment)
@@ -92,11 +108,18 @@ def check(data):
     yield "legal %d records %d streams %d admitted" % (records, streams, admitted)
 
 
-Plan = namedtuple("Plan", "name modules parrots places")
+def migrate(data):
+    """A book of version 1 as one of version 2, which says the same of a module without a limit."""
+    head, _ = read_book(data, ONE)
+    yield book_head(head.letter, 0)
+    yield data[len(ONE.magic) + 1 :]
+
+
+Plan = namedtuple("Plan", "name modules parrots places limit")
 
 COUNTED = (
-    "join again leave pong alive opened continued busy repeat late after-end not-member listen-only"
-    " refused not-connected not-served full stray quiet fault"
+    "join again leave pong alive opened continued busy repeat late after-end timed-out not-member"
+    " listen-only refused not-connected not-served full stray quiet fault"
 ).split()
 TALLIED = {b"ACKN": "ackn", b"NACK": "nack", b"PING": "ping", b"PONG": "pong", b"DISC": "disc", b"M17 ": "frame"}
 NOTHING_SAID = dict.fromkeys(TALLIED.values(), 0)
@@ -196,9 +219,37 @@ def read_plan(options):
     modules = read_modules(options.get("modules", "ABC"))
     parrots = read_modules(options["parrots"]) if "parrots" in options else set()
     places = read_number(options.get("places", "64"), 1, 256)
+    limit = read_number(options["limit"], 0, 86400) * 1000 if "limit" in options else LIMIT_MS
     if name is None or not parrots <= modules:
         raise WordsRefused()
-    return Plan(name, modules, parrots, places)
+    return Plan(name, modules, parrots, places, limit)
+
+
+def read_peer(text):
+    """An IPv4 address or one of IPv6 with all its digits, and a port, each number without zeros before it."""
+    four = re.fullmatch(r"([0-9]+)\.([0-9]+)\.([0-9]+)\.([0-9]+):([0-9]+)", text)
+    six = re.fullmatch(r"\[(?:[0-9a-f]{4}:){7}[0-9a-f]{4}\]:([0-9]+)", text)
+    if not four and not six:
+        raise WordsRefused()
+    *bytes_of_four, port = (four or six).groups()
+    for part, most in [(part, 255) for part in bytes_of_four] + [(port, 65535)]:
+        if part.startswith("0") and part != "0" or len(part) > 5 or int(part) > most:
+            raise WordsRefused()
+
+
+SIDES = ("near", "near-peer", "near-module", "far", "far-peer", "far-module")
+
+
+def read_bridge(rest):
+    options, _ = read_words(rest, ("call", "for") + SIDES, (), 0)
+    if any(name not in options for name in ("call",) + SIDES) or encode(options["call"]) is None:
+        raise WordsRefused()
+    for side in ("near", "far"):
+        read_peer(options[side + "-peer"])
+        if not re.fullmatch("[A-Z]", options[side + "-module"]):
+            raise WordsRefused()
+    if "for" in options:
+        read_number(options["for"], 1, 1000000)
 
 
 def pieces_of(words, read):
@@ -209,12 +260,25 @@ def pieces_of(words, read):
     if command in ("judge", "show", "check"):
         read_words(rest, (), (), 0)
         return as_lines({"judge": judge, "show": show, "check": check}[command](read()))
+    if command == "migrate":
+        read_words(rest, (), (), 0)
+        return migrate(read())
     if command == "make":
         seed, count = read_words(rest, (), (), 2)[1]
         return make(read_number(seed, 0, 2**64 - 1), read_number(count, 0, 100000))
     if command == "replay":
-        options, _ = read_words(rest, ("call", "modules", "parrots", "places"), ("summary",), 0)
+        options, _ = read_words(rest, ("call", "modules", "parrots", "places", "limit"), ("summary",), 0)
         return as_lines(replay(read_plan(options), "summary" in options, read()))
+    if command == "serve":
+        options, _ = read_words(rest, ("call",), ("rules",), 1)
+        if "call" not in options or encode(options["call"]) is None:
+            raise WordsRefused()
+        if "rules" in options:
+            read_rules(read())
+        raise PortFailed()
+    if command == "bridge":
+        read_bridge(rest)
+        raise PortFailed()
     raise WordsRefused()
 
 
@@ -238,8 +302,10 @@ def run(words, read):
             out.append(piece)
     except WordsRefused:
         return ends(2, "words refused")
-    except InputRefused as refusal:
+    except (InputRefused, RulesRefused) as refusal:
         return ends(1, str(refusal))
+    except PortFailed:
+        return ends(5, "port failed")
     except LinkLost:
         return ends(7, "link lost")
     return 0, b"".join(out)

@@ -12,7 +12,8 @@ from packets import Refused, Stream, crc, decode, with_source
 FLOOR_MS = 1600
 STREAM_MEMORY_MS = 10000
 
-Frame = namedtuple("Frame", "member moment packet")
+# An admitted frame, with the moment of the one that opened the floor for it.
+Frame = namedtuple("Frame", "member moment packet opened")
 Verdict = namedtuple("Verdict", "word value", defaults=(None,))
 
 
@@ -29,18 +30,23 @@ class Member:
 
 
 class Floor:
-    def __init__(self):
+    def __init__(self, limit):
+        self.limit = limit  # how long one may talk; 0 is as long as one likes
         self.moment = 0  # the greatest so far
         self.last = None  # the last admitted frame, whoever sent it
 
     def moves_to(self, moment):
         self.moment = max(self.moment, moment)
 
+    def has_run_out(self, frame):
+        """Whether the limit has passed since the floor was opened for this frame."""
+        return self.limit != 0 and self.moment - frame.opened >= self.limit
+
     def holding(self):
         """The last admitted frame, where its sender holds the floor by it."""
         last = self.last
         is_held = last and not last.packet.last and self.moment - last.moment < FLOOR_MS and last.member.is_in
-        return last if is_held else None
+        return last if is_held and not self.has_run_out(last) else None
 
     def verdict(self, member, packet):
         if member is None or not member.is_in:
@@ -59,13 +65,16 @@ class Floor:
                 return Verdict("repeat")
             if ahead >= 0x4000:
                 return Verdict("late", own.packet.number)
+            if self.has_run_out(own):
+                return Verdict("timed-out")
         return Verdict("continued" if held else "opened")
 
     def judge(self, member, packet):
         """The verdict; an admitted frame becomes the floor's and the sender's last one."""
         verdict = self.verdict(member, packet)
         if verdict.word in ("opened", "continued"):
-            self.last = member.own = Frame(member, self.moment, packet)
+            opened = self.moment if verdict.word == "opened" else self.last.opened
+            self.last = member.own = Frame(member, self.moment, packet, opened)
         return verdict
 
 
@@ -101,12 +110,12 @@ class Recording:
 
 
 class Module:
-    def __init__(self, name, is_parrot, say):
+    def __init__(self, name, is_parrot, limit, say):
         self.name = name  # the reflector's address
         self.is_parrot = is_parrot
         self.say = say  # say(peer, datagram)
         self.members = {}  # by place
-        self.floor = Floor()
+        self.floor = Floor(limit)
         self.recording = None
 
     def in_order(self):
@@ -193,7 +202,7 @@ class Link:
         self.places = plan.places
         self.say = say
         self.modules = {
-            letter: Module(plan.name, letter in plan.parrots, say) for letter in sorted(plan.modules)
+            letter: Module(plan.name, letter in plan.parrots, plan.limit, say) for letter in sorted(plan.modules)
         }
         self.moment = 0
         self.known = {}  # by peer

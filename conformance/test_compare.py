@@ -24,11 +24,11 @@ import reference
 from wrong import WRONG
 
 FOLDER = os.path.dirname(os.path.abspath(__file__))
-FILES = ("packets.py", "reflector.py", "files.py", "made.py", "reference.py")
+FILES = ("packets.py", "reflector.py", "files.py", "made.py", "rules.py", "reference.py")
 CASES = 400
 
 # The kinds of all commands, those that the program doesn't have yet among them.
-ALL = "judge,show,replay,make,check,words"
+ALL = "judge,show,replay,make,check,migrate,serve,words"
 
 
 RUNNER = """

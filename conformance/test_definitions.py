@@ -26,10 +26,10 @@ class WholeLists(unittest.TestCase):
     def agree(self, kind, index):
         words, data = generate.case(kind, 5, index)
         try:
-            entries = read_trace(data)[: 90 if kind == "replay-parrot" else 40]
+            entries = read_trace(data)[: 90 if kind in ("replay-parrot", "replay-limit") else 40]
         except InputRefused:
             return
-        names = ("call", "modules", "parrots", "places")
+        names = ("call", "modules", "parrots", "places", "limit")
         options, _ = reference.read_words([word.decode() for word in words[1:]], names, ("summary",), 0)
         plan = reference.read_plan(options)
         house = definitions.House(plan, entries)
@@ -50,7 +50,7 @@ class WholeLists(unittest.TestCase):
     def check(self, words, data, of):
         """The reference says what the definitions say of the records, or that there are none."""
         try:
-            wanted = definitions.check_line(read_book(data))
+            wanted = definitions.check_line(*read_book(data))
         except InputRefused as refusal:
             wanted = str(refusal)
         self.assertEqual(output(words, data), [wanted], of)
@@ -66,10 +66,10 @@ class WholeLists(unittest.TestCase):
             self.check([b"check"], data, name)
 
     def test_judge(self):
-        for kind in ("judge-calm", "judge-sharp", "judge-wild"):
+        for kind in ("judge-calm", "judge-sharp", "judge-wild", "judge-limit"):
             for index in range(10):
                 words, data = generate.case(kind, 5, index)
-                data = data[: 64 * 70]
+                data = data[: 64 * (300 if kind == "judge-limit" else 70)]
                 records = [data[at : at + 64] for at in range(0, len(data), 64)]
                 read = [(number(r[:8]), number(r[8:10]), decode(r[10:])) for r in records]
                 lines = [self.judge_line(*judged) for judged in zip(definitions.judged(read), read)]

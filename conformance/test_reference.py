@@ -51,7 +51,7 @@ def trace(*entries):
 def said(data, parrots="", modules="ABC", places=64):
     """What is said to each peer of a trace, in order, by the last byte of its IPv4 address."""
     said = collections.defaultdict(list)
-    plan = reference.Plan(encode("M17-TST"), set(modules), set(parrots), places)
+    plan = reference.Plan(encode("M17-TST"), set(modules), set(parrots), places, reference.LIMIT_MS)
     reference.reflect(plan, read_trace(data), lambda peer, datagram: said[peer.ip[3]].append(datagram))
     return dict(said)
 
@@ -434,7 +434,7 @@ class Make(unittest.TestCase):
 
 
 class Check(unittest.TestCase):
-    EMPTY = bytes.fromhex("4D3137424F4F4B3141")
+    EMPTY = bytes.fromhex("4D3137424F4F4B32 41 0000000000000000")
 
     def refused(self, data, text):
         self.assertEqual(output(["check"], data), (1, ["input refused at " + text]))
@@ -448,23 +448,24 @@ class Check(unittest.TestCase):
     def test_empty_and_refused_books(self):
         self.assertEqual(output(["check"], self.EMPTY), (0, ["legal 0 records 0 streams 0 admitted"]))
         self.refused(self.EMPTY[:8], "8: cut")
-        self.refused(self.EMPTY + b"\t", "9: kind 09")
+        self.refused(self.EMPTY[:16], "16: cut")
+        self.refused(self.EMPTY + b"\t", "17: kind 09")
         self.refused(b"M17B", "4: cut")
-        self.refused(b"M17BOOK1a\0", "8: field")
-        self.refused(b"M17BOOK2", "7: field")
-        self.refused(bytes(67108865), "67108864: large")
+        self.refused(b"M17BOOK2a\0", "8: field")
+        self.refused(b"M17BOOK1A", "7: field")
+        self.refused(bytes(67108873), "67108872: large")
 
     def test_fields(self):
         for data, text in (
-            (b"\1\4", "10: field"),
-            (self.join(0, 256, 0), "27: field"),
-            (self.join(0, 0, 0)[:-7] + b"\2", "39: field"),
-            (self.join(0, 0, 0)[:-6] + bytes(6), "40: field"),
-            (self.packet(0, 1, 9), "39: field"),
-            (self.packet(0, 1, 1, bytes(11) + b"\1"), "40: field"),
-            (self.packet(0, 1, 5, bytes(10) + b"\x80\0"), "40: field"),
-            (self.packet(0, 1, 3, b"\0\0\1\0" + bytes(8)), "40: field"),
-            (self.packet(0, 1, 1)[:-1] + b"\0", "52: field"),
+            (b"\1\4", "18: field"),
+            (self.join(0, 256, 0), "35: field"),
+            (self.join(0, 0, 0)[:-7] + b"\2", "47: field"),
+            (self.join(0, 0, 0)[:-6] + bytes(6), "48: field"),
+            (self.packet(0, 1, 10), "47: field"),
+            (self.packet(0, 1, 1, bytes(11) + b"\1"), "48: field"),
+            (self.packet(0, 1, 5, bytes(10) + b"\x80\0"), "48: field"),
+            (self.packet(0, 1, 3, b"\0\0\1\0" + bytes(8)), "48: field"),
+            (self.packet(0, 1, 1)[:-1] + b"\0", "60: field"),
         ):
             self.refused(self.EMPTY + data, text)
 

@@ -2,7 +2,7 @@
 
 import made
 from files import TRACE_MAGIC
-from draws import CALLSIGNS, CALM, SHARP, WILD, Clock, Talk, any_packet, named, spoiled, stream
+from draws import CALLSIGNS, CALM, SHARP, WILD, Clock, Talk, any_packet, named, spoiled, stream, talked_out
 
 
 def datagram(moment, peer, data):
@@ -111,6 +111,9 @@ def replay_words(draw, served=None, parrots=None, places=None):
         options["parrots"] = "".join(parrots)
     if places is not None:
         options["places"] = draw.pick(("%d", "%d", "%03d", "%06d")) % places
+    if draw.chance(50):
+        # None, some that are soon over, and the one that goes without saying.
+        options["limit"] = draw.pick(("0", "1", "1", "2", "5", "20", "180"))
     if draw.chance(15):
         options["call"] = draw.pick(("N0CALL", " A", "M17-ABC C", ".", "-"))
     words = []
@@ -294,6 +297,27 @@ def replay_parrot_full(draw):
         else:
             evening.entries.append(quiet(moment))
     return ["replay", "--summary", "--modules", "A", "--parrots", "A"], evening.trace()
+
+
+def replay_limit(draw):
+    """A stream is talked out under a limit, the one that goes without saying or none; the others stay in."""
+    peers = some_peers(draw, draw.between(2, 3))
+    limit = draw.pick((1, 1, 2, 5, 20, 180, 180))
+    start = draw.pick((0, 40, 10**9))
+    calls = {peer: draw.pick(CALLSIGNS) for peer in peers}
+    entries = [datagram(start, peer, named("CONN", calls[peer], "A")) for peer in peers]
+    for moment, peer, packet in talked_out(draw, peers, 1000 * limit, start):
+        entries.append(datagram(moment, peer, packet))
+        if draw.chance(15):
+            entries += [datagram(moment, other, named("PONG", calls[other])) for other in peers]
+        elif draw.chance(10):
+            entries.append(quiet(moment + draw.below(20)))
+    words = ["replay"] + (["--parrots", "A"] if draw.chance(30) else []) + (["--summary"] if draw.chance(30) else [])
+    if draw.chance(10):
+        words.append("--limit=0")
+    elif limit != 180 or draw.chance(30):
+        words += ["--limit", str(limit)]
+    return words, TRACE_MAGIC + b"".join(entries)
 
 
 def replay_made(draw):

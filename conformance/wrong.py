@@ -5,6 +5,8 @@ find it.
 """
 
 from wrong_checks import WRONG_CHECKS
+from wrong_limits import WRONG_LIMITS
+from wrong_rules import WRONG_RULES
 
 WRONG = {
     # packets
@@ -189,11 +191,13 @@ WRONG = {
     "repeat_renews_the_floor": (
         "reflector",
         "in (\"opened\", \"continued\"):\n"
-        "            self.last",
+        "            opened",
         "in (\"opened\", \"continued\", \"repeat\"):\n"
-        "            self.last",
+        "            opened",
         "judge",
     ),
+    **WRONG_LIMITS,
+    **WRONG_RULES,
     # a module
     "talker_hears_itself": (
         "reflector",

@@ -108,14 +108,14 @@ WRONG_CHECKS = {
     ),
     "breach_before_the_form_of_the_rest": (
         "reference",
-        "enumerate(read_book(data))",
-        "enumerate(__import__(\"files\").book_records(data))",
+        "head, kept = read_book(data)\n",
+        "head, kept = read_book(data, to_its_end=False)\n",
         "check",
     ),
     "form_is_told_by_the_number_of_the_record": (
         "files",
         "        fields.number(1, 0, 3)  # link\n",
-        "        fields.take(1, lambda field: field[0] <= 3 or fields.take(len(data)))  # link\n",
+        "        fields.take(1, lambda field: field[0] <= 3 or fields.take(len(fields.data)))  # link\n",
         "check",
     ),
     "streams_are_all_admitted": (
