@@ -9,7 +9,7 @@
 
 #include "packets.h"
 
-enum { MOST_BYTES = 67108864, HEADER = 9, JOIN = 1, LEAVE = 2, PACKET = 3 };
+enum { MOST_BYTES = 67108872, HEADER = 17, JOIN = 1, LEAVE = 2, PACKET = 3 };
 
 static const unsigned record_bytes[] = { 0, 37, 31, 97 };
 
@@ -37,17 +37,17 @@ static size_t take(uint8_t *into, size_t count)
 
 /* ---- who is in, and who has the floor */
 
-struct member { uint64_t generation, own_at; uint16_t own_sid, own_number; uint8_t is_in, listens, has_own, own_ended; };
+struct member { uint64_t generation, own_at, own_opened; uint16_t own_sid, own_number; uint8_t is_in, listens, has_own, own_ended; };
 static struct member members[256];
-static struct { uint64_t at; unsigned place; uint16_t sid; uint8_t is_held; } the_floor;
-static uint64_t moment, records, streams, admitted;
+static struct { uint64_t at, opened; unsigned place; uint16_t sid; uint8_t is_held; } the_floor;
+static uint64_t limit, moment, records, streams, admitted;
 
 /* The verdict on a packet, as a record has it: the code and 12 bytes of value. */
 static void judge(const uint8_t *r, uint8_t *verdict)
 {
     unsigned place = r[21], sid = get16(r + 47), field = get16(r + 77), number = field & 0x7FFF;
     struct member *m = &members[place];
-    int is_held = the_floor.is_held && moment - the_floor.at < FLOOR_MS;
+    int is_held = the_floor.is_held && moment - the_floor.at < FLOOR_MS && (!limit || moment - the_floor.opened < limit);
     memset(verdict, 0, 13);
     if (!m->is_in || m->generation != get64(r + 22)) {
         verdict[0] = NOT_MEMBER;
@@ -74,10 +74,17 @@ static void judge(const uint8_t *r, uint8_t *verdict)
             put16(verdict + 11, m->own_number);
             return;
         }
+        if (limit && moment - m->own_opened >= limit) {
+            verdict[0] = TIMED_OUT;
+            return;
+        }
     }
     verdict[0] = is_held ? CONTINUED : OPENED;
     m->has_own = 1;
     m->own_at = the_floor.at = moment;
+    if (!is_held)
+        the_floor.opened = moment;
+    m->own_opened = the_floor.opened;
     m->own_sid = the_floor.sid = (uint16_t)sid;
     m->own_number = (uint16_t)number;
     m->own_ended = field >> 15;
@@ -167,7 +174,7 @@ static unsigned wrong_field(const uint8_t *r, size_t got)
     case LEAVE:
         return r[30] < 1 || r[30] > 5 ? 30 : 0;
     default:
-        if (r[30] < OPENED || r[30] > LISTEN_ONLY)
+        if (r[30] < OPENED || r[30] > TIMED_OUT)
             return 30;
         if (got >= 43 && !is_value(r[30], r + 31))
             return 31;
@@ -177,7 +184,7 @@ static unsigned wrong_field(const uint8_t *r, size_t got)
 
 static void read_header(void)
 {
-    static const uint8_t magic[] = "M17BOOK1";
+    static const uint8_t magic[] = "M17BOOK2";
     uint8_t header[HEADER];
     size_t got = take(header, HEADER);
     for (size_t i = 0; i < 8 && got >= 8; i++)
@@ -187,6 +194,8 @@ static void read_header(void)
         is_wrong(&form, got, "cut");
     else if (header[8] < 'A' || header[8] > 'Z')
         is_wrong(&form, 8, "field");
+    else
+        limit = get64(header + 9);
 }
 
 /* 0 at the end of the input. */

@@ -1,4 +1,4 @@
-/* make_book [BYTES]: a legal book of so many bytes at most, 67,108,864 where none is told, on standard output; the same
+/* make_book [BYTES]: a legal book of so many bytes at most, 67,108,872 where none is told, on standard output; the same
  * bytes at each run. Twelve members talk by turns and interrupt each other, some only listen, strangers send, and members
  * leave and come again. Each verdict is known from how its packet was made: nothing here looks it up. */
 #include <stdint.h>
@@ -8,7 +8,7 @@
 
 #include "packets.h"
 
-enum { MOST_BYTES = 67108864, MEMBERS = 12, TALKERS = 10, NO_STREAM = 0xFFFF };
+enum { MOST_BYTES = 67108872, MEMBERS = 12, TALKERS = 10, NO_STREAM = 0xFFFF };
 
 static uint64_t left = MOST_BYTES, moment, record_index, state = 17;
 static uint64_t generation[MEMBERS];
@@ -134,7 +134,7 @@ int main(int count, char **words)
     if (count > 1)
         left = strtoull(words[1], NULL, 10);
     crc_init();
-    put((const uint8_t *)"M17BOOK1A", 9);
+    put((const uint8_t *)"M17BOOK2A\0\0\0\0\0\2\277 ", 17);
     for (unsigned each = 0; each < MEMBERS; each++)
         join(each);
     for (;;) {

@@ -7,7 +7,7 @@
 #include <string.h>
 
 enum { FLOOR_MS = 1600, MEMORY_MS = 10000 };
-enum { OPENED = 1, CONTINUED, BUSY, REPEAT, LATE, AFTER_END, NOT_MEMBER, LISTEN_ONLY };
+enum { OPENED = 1, CONTINUED, BUSY, REPEAT, LATE, AFTER_END, NOT_MEMBER, LISTEN_ONLY, TIMED_OUT };
 
 static inline unsigned get16(const uint8_t *p) { return (unsigned)p[0] << 8 | p[1]; }
 static inline uint32_t get32(const uint8_t *p) { return (uint32_t)get16(p) << 16 | get16(p + 2); }
