@@ -18,7 +18,7 @@ heard_by_all() {
 }
 
 # A file may have 1,024 bytes, or 2,048 where the shell counts so. The trace and the book of A would have more; that of B
-# has 9.
+# has 17.
 limited_files() {
     free_ports
     # shellcheck disable=SC3045  # shells that lack it skip the check
@@ -74,7 +74,7 @@ full_disk() {
     trap 'umount -l kept' EXIT
     timeout 60 "$program" serve --call M17-TST --book kept --modules AB --for 4 "127.0.0.1:$port" >served &
     server=$!
-    joined 0 && has_bytes kept/B.book 9 || return 1
+    joined 0 && has_bytes kept/B.book 17 || return 1
     stays listener "127.0.0.1:$port" --listen
     listener=$!
     joined 1 || return 1

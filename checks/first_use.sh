@@ -4,10 +4,10 @@
 
 help_of_each_command() {
     make_tree tree || return 1
-    for word in judge show make replay check talk serve; do
+    for word in judge show make replay check migrate talk serve; do
         without_rt tree/m17 help $word >wanted || return 1
-        head -n 1 wanted | grep -q "^usage: m17 $word" && grep -q "^$word  " wanted && has wanted docs/operating.md || return 1
-        [ "$(grep -c '^usage' wanted)" -eq 1 ] && [ "$(grep -c '^[a-z][a-z]*  ' wanted)" -eq 1 ] || return 1
+        head -n 1 wanted | grep -q "^usage: m17 $word" && grep -q "^$word [ A-Z]" wanted && has wanted docs/operating.md || return 1
+        [ "$(grep -c '^usage' wanted)" -eq 1 ] && [ "$(grep -c '^[a-z][a-z]* [ A-Z]' wanted)" -eq 1 ] || return 1
         for option in -h --help; do
             without_rt tree/m17 $word $option >got 2>err && cmp got wanted && [ ! -s err ] || return 1
         done
@@ -111,8 +111,10 @@ ended_together() {
         rm -f was
         $at_terminal prefix/bin/m17 serve </dev/null 2>err &
         launcher=$!
-        for _ in 1 2 3 4 5 6 7 8 9 10; do
-            [ -s was ] || sleep 0.2
+        tries=0
+        until [ -s was ] || [ $tries -eq 100 ]; do
+            sleep 0.2
+            tries=$((tries + 1))
         done
         kill -s "${signal#*:}" $launcher
         wait $launcher

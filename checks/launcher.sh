@@ -99,7 +99,7 @@ mistyped() {
         [ ! -e calls ] || return 1
     done
     for words in '' 'build more' 'install' 'help nonsense' 'nonsense --help' 'test 1 2' 'version 1' \
-        'judge judge' 'judge -- --help' 'check A.book' 'make' 'make 1' 'make --seed 1' 'replay x' 'replay --listen' \
+        'judge judge' 'judge -- --help' 'check A.book' 'migrate A.book' 'make' 'make 1' 'make --seed 1' 'replay x' 'replay --listen' \
         'talk --call AB1CD' 'talk x y z u v' 'serve' 'serve x' 'serve -x y z'; do
         # shellcheck disable=SC2086
         with_rt tree/m17 $words >got 2>err
@@ -112,7 +112,7 @@ mistyped() {
     with_rt tree/m17 nonsense >/dev/full 2>err
     [ $? -eq 4 ] && [ ! -e calls ] || return 1
     printf '#!/bin/sh\nexit 1\n' >tools/rt
-    for words in judge show check 'judge --' 'check --' 'make 1 2' 'make -- 1 2' replay 'replay --summary' 'replay --call=m17-tst' \
+    for words in judge show check migrate 'judge --' 'check --' 'make 1 2' 'make -- 1 2' replay 'replay --summary' 'replay --call=m17-tst' \
         'talk --call AB1CD --module A --bind x --to y' 'serve x --call M17-TST' 'serve --call=M17-TST x' test; do
         # shellcheck disable=SC2086
         with_rt tree/m17 $words </dev/null >got 2>err
@@ -259,11 +259,11 @@ installed() {
     for text in README.md docs/operating.md examples/show.hex examples/m17.service LICENSE-MIT contrib/README.md; do
         cmp "$top/$text" "a prefix/share/doc/m17/$text" || return 1
     done
-    for script in m17-log m17-book m17-crc m17-pcap; do
+    for script in m17-log m17-book m17-crc m17-pcap m17-board; do
         [ -x "a prefix/bin/$script" ] || return 1
     done
     if command -v python3 >/dev/null; then
-        for script in m17-log m17-book m17-crc m17-pcap; do
+        for script in m17-log m17-book m17-crc m17-pcap m17-board; do
             without_rt "a prefix/bin/$script" --help >helped && has helped "$script" || return 1
         done
     fi

@@ -1,16 +1,17 @@
 #!/usr/bin/env python3
 """Writes books of the modules A and B and the trace of link 0 into the folder that the argument names, for checks of m17-log
-and m17-book: records and entries as docs/protocol.md lays them out, made here from the layouts.
+and m17-book: records and entries as docs/protocol.md lays them out, made here from the layouts. With a second word, `limit`,
+it writes a book of A alone, in which one may talk for a second.
 """
 
 import os
 import sys
 
 sys.path.insert(0, os.path.join(os.path.dirname(os.path.abspath(__file__)), "..", "examples"))
-from make import END_BIT, address, datagram, quiet, stream_packet  # noqa: E402
+from make import END_BIT, address, book_header, datagram, quiet, stream_packet  # noqa: E402
 
 ASKED, SILENT = 1, 3
-OPENED, CONTINUED, BUSY, LISTENS = 1, 2, 3, 8
+OPENED, CONTINUED, BUSY, LISTENS, TIMED_OUT = 1, 2, 3, 8, 9
 MOST = 2**64 - 1
 
 
@@ -58,6 +59,29 @@ def book_b():
     yield join(34, 70000, 4, "A", link=3)
 
 
+def talk(moment, place, stream, frames, call):
+    """The packets of a stream, 40 ms apart."""
+    for number in range(frames):
+        verdict = CONTINUED if number else OPENED
+        yield packet(9, moment + 40 * number, place, verdict, stream_packet(stream, number, call))
+
+
+def book_with_limit():
+    """AB1CD is talked out four times: by another who begins first, by its own next stream, by what it goes on to send, and by
+    nothing, since it was silent for longer."""
+    yield join(0, 100, 0, "AB1CD")
+    yield join(1, 100, 1, "N0CALL")
+    yield from talk(200, 0, 1, 25, "AB1CD")
+    yield packet(9, 1200, 1, OPENED, stream_packet(2, 0 | END_BIT, "N0CALL"))
+    yield from talk(1240, 0, 3, 25, "AB1CD")
+    yield from talk(2240, 0, 4, 25, "AB1CD")
+    for moment, number in ((3240, 25), (3280, 26)):
+        yield packet(9, moment, 0, TIMED_OUT, stream_packet(4, number, "AB1CD"))
+    yield from talk(4000, 0, 5, 2, "AB1CD")
+    yield packet(9, 5640, 1, OPENED, stream_packet(6, 0 | END_BIT, "N0CALL"))
+    yield packet(9, 5640, 0, TIMED_OUT, stream_packet(5, 2 | END_BIT, "AB1CD"))
+
+
 def trace():
     """What the log has from it: addresses, datagrams that are no packets, and requests that came to nothing."""
     zeros = stream_packet(9, 0, "AB1CD")[:52] + b"\0\0"
@@ -83,9 +107,13 @@ def trace():
 
 def main():
     folder = sys.argv[1]
-    for name, head, parts in (("A.book", b"M17BOOK1A", book_a()), ("B.book", b"M17BOOK1B", book_b())):
-        with open(os.path.join(folder, name), "wb") as out:
-            out.write(head + b"".join(parts))
+    if sys.argv[2:] == ["limit"]:
+        with open(os.path.join(folder, "A.book"), "wb") as out:
+            out.write(book_header("A", 1000) + b"".join(book_with_limit()))
+        return
+    for letter, parts in (("A", book_a()), ("B", book_b())):
+        with open(os.path.join(folder, letter + ".book"), "wb") as out:
+            out.write(book_header(letter) + b"".join(parts))
     with open(os.path.join(folder, "link0.trace"), "wb") as out:
         out.write(b"M17TRACE" + b"".join(trace()))
 

@@ -33,6 +33,7 @@ too_many_words() {
         refused '' judge &&
         refused show show.hex &&
         refused check A.book &&
+        refused migrate A.book &&
         refused judge $(seq 5000)
 }
 check "a second word is refused, and five thousand are" too_many_words
@@ -56,6 +57,11 @@ a_very_long_word() {
 }
 check "a word of 100,000 letters is refused" a_very_long_word
 
+# empty_book: a book of module A without records, whose limit on talking is 180 seconds.
+empty_book() {
+    printf 'M17BOOK2A\0\0\0\0\0\002\277\040'
+}
+
 refused_input() {
     head -c 65 "$top/examples/judge.bin" >cut
     gives 1 '0 opened\ninput refused at 65: cut\n' prog judge <cut || return 1
@@ -67,7 +73,7 @@ refused_input() {
 check "refused input gives 1, and the last line says where and why" refused_input
 
 checked_books() {
-    printf M17BOOK1A >book
+    empty_book >book
     gives 0 'legal 0 records 0 streams 0 admitted\n' prog check <book || return 1
     head -c 8 book >cut
     gives 1 'input refused at 8: cut\n' prog check <cut || return 1
@@ -80,6 +86,22 @@ checked_books() {
     done
 }
 check "a book is legal, or its first record that is not is named" checked_books
+
+# A book of either version, and what is made of one of the first by migrate: no limit, and the records as they are.
+migrated_books() {
+    printf M17BOOK1A >old
+    printf 'M17BOOK2A\0\0\0\0\0\0\0\0' >none
+    gives 0 'M17BOOK2A\0\0\0\0\0\0\0\0' prog migrate <old || return 1
+    gives 0 'legal 0 records 0 streams 0 admitted\n' prog check <none || return 1
+    gives 1 'input refused at 7: field\n' prog check <old || return 1
+    gives 1 'input refused at 7: field\n' prog migrate <none || return 1
+    gives 1 'input refused at 0: cut\n' prog migrate || return 1
+    { head -c 7 "$top/examples/evening.book" && printf 1A && tail -c +18 "$top/examples/evening.book"; } >old
+    prog migrate <old >new || return 1
+    { cat none && tail -c +18 "$top/examples/evening.book"; } | cmp - new || return 1
+    gives 0 'legal 10 records 1 streams 4 admitted\n' prog check <new
+}
+check "a book of version 1 becomes one of version 2 with the same records" migrated_books
 
 empty_input() {
     gives 0 '' prog judge && gives 0 '' prog show && gives 0 'refused length 0\n' sh -c 'echo | "$1" show' sh "$program"
@@ -104,7 +126,8 @@ more_than_a_million() {
 check "record and line 1,000,000 are refused after a line for each before them" more_than_a_million
 
 failed_read() {
-    gives 3 'read failed\n' prog judge </ && gives 3 'read failed\n' prog show </ && gives 3 'read failed\n' prog check </
+    gives 3 'read failed\n' prog judge </ && gives 3 'read failed\n' prog show </ && gives 3 'read failed\n' prog check </ &&
+        gives 3 'read failed\n' prog migrate </
 }
 check "an input that cannot be read gives 3" failed_read
 
@@ -117,7 +140,7 @@ closed_streams() {
     prog show <"$top/examples/show.hex" >&-
     [ $? -eq 4 ] || return 1
     gives 3 'read failed\n' prog check <&- || return 1
-    printf M17BOOK1A | prog check >&-
+    empty_book | prog check >&-
     [ $? -eq 4 ]
 }
 check "no standard input gives 3, and no standard output 4" closed_streams
@@ -140,7 +163,7 @@ full_disk() {
         echo "there is no /dev/full here"
         exit 77
     }
-    printf M17BOOK1A >book
+    empty_book >book
     for word in judge show check nonsense; do
         case $word in
         judge) input=$top/examples/judge.bin ;;
@@ -178,7 +201,7 @@ closed_pipe() {
     done
     # check has one line, which comes behind the end of its input: by then the reader has gone
     {
-        { sleep 1 && printf M17BOOK1A; } | prog check
+        { sleep 1 && empty_book; } | prog check
         echo $? >ended
     } | true
     [ "$(cat ended)" -eq 4 ] || {
@@ -208,8 +231,8 @@ check_says() {
         gives 1 'input refused at 4: verdict\n' prog check <"$top/examples/disputed.book" &&
         gives 1 'input refused at 0: cut\n' prog check </dev/null || return 1
     { head -c 100 "$book" && sleep 0.2 && tail -c +101 "$book"; } | gives 0 'legal 10 records 1 streams 4 admitted\n' prog check &&
-        { cat "$top/examples/disputed.book" && printf 9; } | gives 1 'input refused at 471: kind 39\n' prog check || return 1
-    head -c 67108865 /dev/zero | gives 1 'input refused at 67108864: large\n' prog check || return 1
+        { cat "$top/examples/disputed.book" && printf 9; } | gives 1 'input refused at 479: kind 39\n' prog check || return 1
+    head -c 67108873 /dev/zero | gives 1 'input refused at 67108872: large\n' prog check || return 1
     gives 3 'read failed\n' prog check <"$top" && refused check check && refused check "$book" || return 1
     [ -c /dev/full ] || return 0
     prog check <"$book" >/dev/full

@@ -36,6 +36,8 @@ x
 --call M17-TST --places 257 x
 --call M17-TST --places +1 x
 --call M17-TST --places= x
+--call M17-TST --limit 86401 x
+--call M17-TST --limit +1 x
 --call M17-TST --for 0 x
 --call M17-TST --for 1000001 x
 --call M17-TST --for 1.5 x
@@ -46,6 +48,8 @@ x
 --call M17-TST --summary x
 --call M17-TST --bind x
 --call M17-TST --listen x
+--call M17-TST --rules --rules x
+--call M17-TST --rules=rules.txt x
 -h
 --help
 END
@@ -61,10 +65,13 @@ x --call=M17-TST
 --call M17-TST --places 1 x
 --call M17-TST --places 256 x
 --call M17-TST --places 00064 x
+--call M17-TST --limit 0 x
+--call M17-TST --limit 86400 x
 --call M17-TST --for 1 x
 --call M17-TST --for 1000000 x
 --call M17-TST --book= x
 --call M17-TST --book d x
+--call M17-TST --rules x
 --call M17-TST -- --x
 END
 }
@@ -123,19 +130,42 @@ words_of_talk() {
 }
 check "the words of talk are taken up to their bounds, and refused past them" words_of_talk
 
-# serves WORD..: starts a reflector with these words, and waits until it listens. Its files are in `kept`, what it prints
-# goes to `served`, and its process is $server.
+# refused_rules PLACE REASON TEXT: whether the rules are refused so, before a port is asked for.
+refused_rules() {
+    # shellcheck disable=SC2059  # the text is a format
+    printf "$3" >rules
+    gives 1 "input refused at $1: $2\\n" prog serve --call M17-TST --rules --book kept x <rules
+}
+rules_of_serve() {
+    mkdir kept || return 1
+    refused_rules 0 modules 'deny talk A N0CALL' &&
+        refused_rules 0 kind allow &&
+        refused_rules 0 pattern 'deny conn A ' &&
+        refused_rules 2 act 'allow any * *\n\nreject any * *\n' || return 1
+    head -c 65537 /dev/zero | tr '\0' '\n' >rules
+    gives 1 'input refused at 65536: large\n' prog serve --call M17-TST --rules x <rules || return 1
+    head -c 65536 rules >most
+    for text in most "$top/examples/rules.txt" /dev/null; do
+        gives 5 'port failed\n' prog serve --call M17-TST --rules x <"$text" || return 1
+    done
+    gives 3 'read failed\n' prog serve --call M17-TST --rules x </ || return 1
+    [ -z "$(ls kept)" ]
+}
+check "serve --rules reads its rules before a port is asked for, and says where and why a text is refused" rules_of_serve
+
+# serves WORD..: starts a reflector with these words, and waits until it listens. Its input is the file $rules, if it is
+# set. Its files are in `kept`, what it prints goes to `served`, and its process is $server.
 serves() {
     needs python3
     rm -rf kept && mkdir kept || return 1
-    timeout 60 "$program" serve --call M17-TST --book kept "$@" >served &
+    timeout 60 "$program" serve --call M17-TST --book kept "$@" <"${rules:-/dev/null}" >served &
     server=$!
     joined 0
 }
 
 # joined COUNT: waits until so many have joined module A. A join has 37 bytes in its book.
 joined() {
-    has_bytes kept/A.book $((9 + 37 * $1))
+    has_bytes kept/A.book $((17 + 37 * $1))
 }
 
 # has_bytes FILE COUNT: waits until the file is there and has so many.
@@ -224,6 +254,63 @@ two_links() {
     prog replay --modules A <kept/link1.trace | grep -c 'A join' >count && said count 1
 }
 check "of two links with a peer each, one hears what is said on the other" two_links
+
+# unanswered PORT: whether N0CALL gets no byte for a CONN, a LSTN, a frame and a PING of its own.
+unanswered() {
+    python3 -B -c '
+import socket
+import sys
+sys.path.insert(0, sys.argv[1])
+from make import END_BIT, address, stream_packet
+call = address("N0CALL")
+own = socket.socket(socket.AF_INET, socket.SOCK_DGRAM)
+own.connect(("127.0.0.1", int(sys.argv[2])))
+own.settimeout(1)
+for data in b"CONN" + call + b"A", b"LSTN" + call + b"A", stream_packet(1, END_BIT, "N0CALL"), b"PING" + call:
+    own.send(data)
+try:
+    sys.exit("it was sent " + own.recv(64).hex())
+except socket.timeout:
+    pass' "$top/examples" "$1"
+}
+
+# Beside a talker and a listener, as without rules. Of what N0CALL sent its PING alone was heard, of which no rule speaks.
+denied_peer() {
+    free_ports
+    frames 0 >script
+    printf 'deny any * N0*\n' >text
+    rules=text
+    serves --modules A --rules --for 6 "127.0.0.1:$port" || return 1
+    unanswered "$port" || return 1
+    stays listener "127.0.0.1:$port" --listen --book heard
+    listener=$!
+    joined 1 || return 1
+    joins script talker "127.0.0.1:$port"
+    wait $! && wait $listener || return 1
+    said talker 'closed asked kept 0' && said listener 'closed dropped kept 3' || return 1
+    ends 0 'A admitted 3 missed 0\n' || return 1
+    prog replay --modules A <kept/link0.trace >lines || return 1
+    [ "$(grep -c 'A join' lines)" -eq 2 ] && [ "$(grep -c 'not-connected' lines)" -eq 1 ]
+}
+check "who is denied by rules gets no byte, and the others are served as ever" denied_peer
+
+denied_talker() {
+    free_ports
+    frames 0 >script
+    printf 'deny talk * AB1CD\n' >text
+    rules=text
+    serves --modules A --rules --for 3 "127.0.0.1:$port" || return 1
+    joins script talker "127.0.0.1:$port"
+    wait $! || return 1
+    said talker 'closed asked kept 0' && ends 0 'A admitted 0 missed 0\n'
+}
+check "who may not speak by rules is let in, and not heard" denied_talker
+
+rule_examples() {
+    needs python3
+    python3 -B "$top/checks/rule_examples.py" "$program"
+}
+check "by each of the ten examples of rules those are heard of whom it says so, and no others" rule_examples
 
 # On a port of both families, and on a second link of IPv6 alone.
 both_families() {
@@ -322,7 +409,7 @@ stopped() {
     server=$!
     joined 0 || return 1
     joins "$top/examples/talk.script" talker "127.0.0.1:$port" --stay 400
-    whole=$((9 + 37 + 25 * 97))
+    whole=$((17 + 37 + 25 * 97))
     has_bytes kept/A.book $whole && kill "$server" || return 1
     wait $! || return 1
     said talker 'closed asked kept 0' && ends 143 '' || return 1
@@ -392,14 +479,14 @@ reads() {
 read_book() {
     needs python3
     python3 -c 'import sys; sys.stdout.buffer.write(bytes.fromhex(sys.argv[1]))' \
-        "4d3137424f4f4b3143 0101000000000000000500000000
+        "4d3137424f4f4b3243 000000000002bf20 0101000000000000000500000000
         0000000a00000002000000000000000101 0000009fdd51
         0201000000000000000500000000 0000000a000000020000000000000001 03" >book || return 1
     reads 0 '10 C join AB1CD listens\n10 C leave AB1CD silent\n' book || return 1
-    head -c 76 book >cut
-    reads 1 '10 C join AB1CD listens\n' cut && grep -q 'refused at 76: cut' why || return 1
+    head -c 84 book >cut
+    reads 1 '10 C join AB1CD listens\n' cut && grep -q 'refused at 84: cut' why || return 1
     { cat book && printf 9; } >kind
-    reads 1 '10 C join AB1CD listens\n10 C leave AB1CD silent\n' kind && grep -q 'refused at 77: kind 39' why || return 1
+    reads 1 '10 C join AB1CD listens\n10 C leave AB1CD silent\n' kind && grep -q 'refused at 85: kind 39' why || return 1
     reads 1 '' "$top/README.md" && grep -q 'refused at 0: field' why || return 1
     reads 3 '' no/such/book && reads 2 '' --other book || return 1
     [ -c /dev/full ] || return 0

@@ -2,7 +2,7 @@
 # behind reflector.sh, whose helpers it uses.
 # shellcheck shell=sh
 
-units="m17.service m17-log.service m17-crc.service m17-clean.service m17-clean.timer"
+units="m17.service m17-log.service m17-crc.service m17-bridge.service m17-clean.service m17-clean.timer"
 
 # The units name programs of a prefix; here they are ones that are there.
 verified_units() {
@@ -47,8 +47,8 @@ check "systemd-analyze security finds little that the services are exposed to" e
 # Refused words start nothing again, lines in the journal have a bound, and the relay has a file for each client.
 bounded_units() {
     needs python3
-    for unit in m17 m17-log m17-crc; do
-        grep -q '^RestartPreventExitStatus=2' "$top/examples/$unit.service" || return 1
+    for unit in m17 m17-log m17-crc m17-bridge; do
+        grep -q '^RestartPreventExitStatus=\(1 \)\{0,1\}2' "$top/examples/$unit.service" || return 1
     done
     for unit in m17-log m17-crc; do
         grep -q '^LogRateLimitIntervalSec=' "$top/examples/$unit.service" &&
@@ -77,7 +77,7 @@ starts() {
     line_of m17.service ExecStart >start
     sh -c "exec $(cat start)" >served &
     server=$!
-    has_bytes now/A.book 9
+    has_bytes now/A.book 17
 }
 
 prepared_folders() {
@@ -93,7 +93,7 @@ prepared_folders() {
     # The trace leads to /dev/null, and the books tell all the same who was in.
     [ "$(readlink now/link0.trace)" = /dev/null ] || return 1
     joins /dev/null talker "127.0.0.1:$port"
-    wait $! && has_bytes now/A.book 77 && said talker 'closed asked kept 0' || return 1
+    wait $! && has_bytes now/A.book 85 && said talker 'closed asked kept 0' || return 1
     # A second reflector is not prepared, and not started: neither by this unit nor by hand.
     sleep 1
     if prepares; then return 1; fi
@@ -102,7 +102,7 @@ prepared_folders() {
     kill "$server" && ends 143 '' || return 1
     # The next start has a folder of its own, and with a file `traces` a trace.
     : >traces
-    prepares && starts && [ "$(readlink now)" != "$first" ] && [ "$(wc -c <"$first/A.book")" -eq 77 ] || return 1
+    prepares && starts && [ "$(readlink now)" != "$first" ] && [ "$(wc -c <"$first/A.book")" -eq 85 ] || return 1
     joins /dev/null talker "127.0.0.1:$port"
     wait $! && kill "$server" && ends 143 '' && [ ! -L now/link0.trace ] &&
         prog replay <now/link0.trace | grep -q '^[0-9]* A join$' || return 1
