@@ -7,13 +7,20 @@ import os
 import re
 import sys
 import time
+from collections import namedtuple
 
-BOOK_MAGIC, TRACE_MAGIC = b"M17BOOK1", b"M17TRACE"
-BOOK_HEAD = len(BOOK_MAGIC) + 1
+TRACE_MAGIC = b"M17TRACE"
+# A version of books: how it begins, how many bytes its head and a book have, how many of the verdicts it knows, and
+# whether groups may join. The head has the letter of the module behind the magic, and in version 2 then the limit on
+# talking, in milliseconds.
+Version = namedtuple("Version", "magic head most verdicts groups")
+VERSIONS = (Version(b"M17BOOK1", 9, 1 << 26, 8, False), Version(b"M17BOOK2", 17, (1 << 26) + 8, 9, True))
+MAGIC_BYTES = 8
+HEAD_MOST = max(version.head for version in VERSIONS)
 # Of each kind the whole length of a record.
 RECORDS = {1: 37, 2: 31, 3: 97}
 WHYS = ("asked", "moved", "silent", "stopped", "replaced")
-VERDICTS = ("opened", "continued", "busy", "repeat", "late", "after-end", "not-member", "listen-only")
+VERDICTS = ("opened", "continued", "busy", "repeat", "late", "after-end", "not-member", "listen-only", "timed-out")
 LETTERS = " ABCDEFGHIJKLMNOPQRSTUVWXYZ0123456789-/."
 # Above it lie the groups, # and up to eight letters: this and the sum of the letters.
 GROUPS = 40**9
@@ -40,6 +47,16 @@ def number(data):
 def has_callsign(data):
     """Whether the address of six bytes is that of a callsign, 1 to 40^9 - 1, or of a group."""
     return 0 < number(data) < GROUPS + 40**8 and number(data) != GROUPS
+
+
+def version_of(data):
+    """The version of the book that begins with these bytes, or None."""
+    return next((version for version in VERSIONS if data[:MAGIC_BYTES] == version.magic), None)
+
+
+def limit_of(head):
+    """The limit on talking that the head of a book tells, in milliseconds; 0 is none."""
+    return number(head[MAGIC_BYTES + 1 :])
 
 
 def callsign(data):
@@ -207,9 +224,13 @@ class Book(Source):
 
     def size_of(self, data, at, place):
         if place == 0:
-            if len(data) >= BOOK_HEAD and not data.startswith(BOOK_MAGIC + (self.letter or "").encode()):
+            version = version_of(data)
+            if len(data) >= MAGIC_BYTES and not version:
+                raise Broken("no book")
+            letter = data[MAGIC_BYTES : MAGIC_BYTES + 1]
+            if self.letter and letter and letter != self.letter.encode():
                 raise Broken("no book of this module")
-            return BOOK_HEAD
+            return version.head if version else HEAD_MOST
         if data[at] not in RECORDS:
             raise Broken(f"kind {data[at]:02X}")
         return RECORDS[data[at]]
@@ -219,15 +240,15 @@ class Book(Source):
         whole record. The head counts as a record of moment 0."""
         moment = self.moment
         try:
-            for item, place in self.items():
-                moment = number(item[10:18]) if place > BOOK_HEAD else 0
+            for item, _ in self.items():
+                moment = number(item[10:18]) if len(item) > HEAD_MOST else 0
         except Broken:
             pass
         return self.changed // 1_000_000 - moment
 
     def events(self):
         for record in self.read():
-            if len(record) > BOOK_HEAD:
+            if len(record) > HEAD_MOST:
                 self.moment = number(record[10:18])
                 # Who moves leaves one module before it joins another.
                 yield self.moment, 1 if record[0] == 2 else 2, ("record", self.letter, record)

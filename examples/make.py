@@ -147,6 +147,11 @@ ASKED, SILENT = 1, 3
 OPENED, CONTINUED, REPEAT, LISTENS_ONLY = 1, 2, 4, 8
 
 
+def book_header(letter, limit=180000):
+    """What a book begins with: its version, the letter of its module, and the limit on talking in milliseconds."""
+    return b"M17BOOK2" + letter.encode() + limit.to_bytes(8, "big")
+
+
 def book_record(kind, index, moment, place, rest):
     """A record of a book: kind, link 0, the number of the entry, moment, the member of generation 0 at the place; the rest."""
     head = bytes([kind, 0]) + index.to_bytes(8, "big") + moment.to_bytes(8, "big")
@@ -171,7 +176,7 @@ def evening_book():
     def frame(number):
         return stream_packet(0x1234, number, "AB1CD")
 
-    return b"M17BOOK1A" + b"".join(
+    return book_header("A") + b"".join(
         [
             joined(0, 0, 0, "AB1CD"),
             judged(1, 40, 0, OPENED, frame(0)),
@@ -189,7 +194,7 @@ def evening_book():
 
 def disputed_book():
     """A book that isn't legal: N0CALL opens a stream while AB1CD has the floor."""
-    return b"M17BOOK1A" + b"".join(
+    return book_header("A") + b"".join(
         [
             joined(0, 0, 0, "AB1CD"),
             joined(1, 10, 1, "N0CALL"),
