@@ -4,6 +4,7 @@ use Rattle.std.proofs.Common.{◌≡◌, ℕ, Bool, true, false, cond, List, [],
 use Rattle.std.specs.List.{flat_map, items_where_true, slice_get}
 use Rattle.std.proofs.lemmas.List.Elements.{Contains-append_cases}
 use Rattle.std.proofs.lemmas.Option.{none-some, same_Some, slice_get-get_or}
+use Rattle.m17_lists.proofs.Contents.{nothing_is_in_none, first_is_in, is_first_or_in_rest, is_the_only_one, picked_was_in, mapped_is_in, is_mapped_from_one, is_given_by_one, given_by_one_is_in, filtered_was_in, what_passes_is_in}
 use Rattle.m17_values.specs.declared.heard.Heard.{Heard}
 use Rattle.m17_values.specs.declared.heard.Heard.TheVariants as heard
 use Rattle.m17_values.specs.declared.peer.Peer.{Peer}
@@ -24,7 +25,6 @@ use Rattle.m17_bridge.specs.Passing.{Kept}
 use Rattle.m17_bridge.specs.Steps.{BridgeStep, kept_in, kept_of, passes_of, passing, steps_on, taken_on}
 use Rattle.m17_bridge.specs.CrossRun.{BothLeave, CrossPlan, CrossTurn, IsCrossTurn, entries_on, steps_of}
 use Rattle.m17_bridge.specs.Laws.{IsSideOf, PassingIsKept, SidesAreClientsEnds}
-use Rattle.m17_bridge.proofs.Listed.{alone, here, map_of, mapped, none_there, of_one, one_of, tested, there_cases, was_there, was_tested}
 use Rattle.m17_bridge.proofs.OneStep.{taken_own}
 use Rattle.m17_bridge.proofs.Picked.{may_cross}
 
@@ -51,16 +51,16 @@ packet_of k = k.packet
 
 pub passing_kept : PassingIsKept
 passing_kept steps side kept h =
-    let (there, on_side) = was_tested (λ (k : Kept). is_side k.side side) (passing steps) kept h in
-    let all = was_there (passes_of steps) (kept_of steps) kept there in
-    let (step, in_steps, in_step) = one_of kept_in steps kept all in
-    let (packet, in_packets, is) = map_of (kept_as step) (flat_map client.kept_in step.own.actions) kept in_step in
+    let (there, on_side) = filtered_was_in (λ (k : Kept). is_side k.side side) (passing steps) kept h in
+    let all = picked_was_in (passes_of steps) (kept_of steps) kept there in
+    let (step, in_steps, in_step) = is_given_by_one kept_in steps kept all in
+    let (packet, in_packets, is) = is_mapped_from_one (kept_as step) (flat_map client.kept_in step.own.actions) kept in_step in
     let same : step.side ≡ side = ap side_of is ∙ one_side kept.side side on_side in
     let taken : taken_on side step ≡ step.own ∷ [] =
     ap (λ s. taken_on s step) (sym same) ∙ taken_own step in
-    of_one (λ (s : ClientStep). flat_map client.kept_in s.actions) (steps_on side steps) step.own kept.packet
-    (of_one (taken_on side) steps step step.own in_steps
-    (subst (λ l. Contains l step.own) (sym taken) (here [] step.own)))
+    given_by_one_is_in (λ (s : ClientStep). flat_map client.kept_in s.actions) (steps_on side steps) step.own kept.packet
+    (given_by_one_is_in (taken_on side) steps step step.own in_steps
+    (subst (λ l. Contains l step.own) (sym taken) (first_is_in [] step.own)))
     (subst (Contains (flat_map client.kept_in step.own.actions)) (ap packet_of is) in_packets)
 
 abbrev input_of : ClientStep → Input
@@ -73,11 +73,11 @@ of_taken : (b : Bool) (side : Side) (step : BridgeStep) (taken : ClientStep) (at
     → Contains (cond b (step.own ∷ []) step.others) taken → taken.input ≡ input.Datagram at bytes
     → (step.side ≡ side) × (step.own.input ≡ input.Datagram at bytes)
 of_taken true side step taken at bytes picked sends on there is =
-    (one_side step.side side on, ap input_of (alone step.own taken there) ∙ is)
+    (one_side step.side side on, ap input_of (is_the_only_one step.own taken there) ∙ is)
 of_taken false side step taken at bytes picked sends on there is =
-    let (k, in_picked, sent) = map_of (λ (k : Kept). input.Send k.packet) picked (input.Datagram at bytes)
+    let (k, in_picked, sent) = is_mapped_from_one (λ (k : Kept). input.Send k.packet) picked (input.Datagram at bytes)
     (subst (λ l. Contains l (input.Datagram at bytes)) sends
-    (subst (Contains (inputs_of step.others)) is (mapped input_of step.others taken there))) in
+    (subst (Contains (inputs_of step.others)) is (mapped_is_in input_of step.others taken there))) in
     absurd (cc)
 
 -- a step on a datagram is one at an entry that is it
@@ -111,23 +111,23 @@ turn_heard : (plan : CrossPlan) (side : Side) (entry : Heard) (steps : List Brid
     → (step.side ≡ side) × (entry ≡ heard.Datagram (of side plan.to) at bytes)
 turn_heard plan side (heard.Datagram from when them) steps step at bytes (one, all, on_side, as_heard) there is =
     taken_turn plan side (heard.Datagram from when them) one step at bytes
-    (alone one step (subst (λ l. Contains l step) all there)) on_side as_heard is
+    (is_the_only_one one step (subst (λ l. Contains l step) all there)) on_side as_heard is
 turn_heard plan side (heard.Quiet when) steps step at bytes (one, all, on_side, as_heard) there is =
     taken_turn plan side (heard.Quiet when) one step at bytes
-    (alone one step (subst (λ l. Contains l step) all there)) on_side as_heard is
+    (is_the_only_one one step (subst (λ l. Contains l step) all there)) on_side as_heard is
 turn_heard plan side heard.Fault steps step at bytes turn there is =
-    absurd (none_there step (subst (λ l. Contains l step) turn there))
+    absurd (nothing_is_in_none step (subst (λ l. Contains l step) turn there))
 turn_heard plan side heard.End steps step at bytes turn there is =
-    absurd (none_there step (subst (λ l. Contains l step) turn there))
+    absurd (nothing_is_in_none step (subst (λ l. Contains l step) turn there))
 
 not_left : (leaves : List BridgeStep) (step : BridgeStep) (at : ℕ) (bytes : List ℕ) → BothLeave leaves
     → Contains leaves step → step.own.input ≡ input.Datagram at bytes → ⊥
 not_left leaves step at bytes both there is =
-    elim (there_cases input.Leave (input.Leave ∷ []) (input.Datagram at bytes)
+    elim (is_first_or_in_rest input.Leave (input.Leave ∷ []) (input.Datagram at bytes)
     (subst (λ l. Contains l (input.Datagram at bytes)) both.inputs
-    (subst (Contains (map own_input leaves)) is (mapped own_input leaves step there)))) [
+    (subst (Contains (map own_input leaves)) is (mapped_is_in own_input leaves step there)))) [
       | inl e ↦ absurd (cc)
-      | inr more ↦ let e = alone input.Leave (input.Datagram at bytes) more in absurd (cc)
+      | inr more ↦ let e = is_the_only_one input.Leave (input.Datagram at bytes) more in absurd (cc)
     ]
 
 abbrev heard_of : CrossTurn → Heard
@@ -155,14 +155,14 @@ was_heard : {L : Type 0} (way : Way) (plan : CrossPlan) (turns : List CrossTurn)
     → Contains way.client_heard (heard.Datagram way.reflector at bytes)
 was_heard way plan turns leaves side h at bytes on =
     let all = steps_of turns ++ leaves in
-    let (taken, in_taken, is) = map_of input_of (steps_on side all) (input.Datagram at bytes) on in
-    let (step, in_all, in_step) = one_of (taken_on side) all taken in_taken in
+    let (taken, in_taken, is) = is_mapped_from_one input_of (steps_on side all) (input.Datagram at bytes) on in
+    let (step, in_all, in_step) = is_given_by_one (taken_on side) all taken in_taken in
     let behind = h.run.run.each in_all.0 step (at_place all step in_all) in
     let own = of_taken (is_side step.side side) side step taken at bytes
     (items_where_true step.passes (kept_in step)) behind.sends refl in_step is in
     elim (Contains-append_cases (steps_of turns) leaves step in_all) [
       | inl early ↦
-          let (turn, in_turns, in_turn) = one_of steps_in turns step early in
+          let (turn, in_turns, in_turn) = is_given_by_one steps_in turns step early in
           let entry = turn_heard plan turn.side turn.heard turn.steps step at bytes
           (h.run.each in_turns.0 turn (at_place turns turn in_turns)) in_turn own.1 in
           let on_side : turn.side ≡ side = sym entry.0 ∙ own.0 in
@@ -170,7 +170,7 @@ was_heard way plan turns leaves side h at bytes on =
           (subst (Contains (entries_on side turns))
           (entry.1 ∙ ap (λ s. heard.Datagram (of s plan.to) at bytes) on_side
           ∙ ap (λ p. heard.Datagram p at bytes) h.to)
-          (mapped heard_of _ turn (tested (is_on side) turns turn in_turns (is_same turn.side side on_side))))
+          (mapped_is_in heard_of _ turn (what_passes_is_in (is_on side) turns turn in_turns (is_same turn.side side on_side))))
       | inr late ↦ absurd (not_left leaves step at bytes h.run.leave late own.1)
     ]
 
@@ -193,8 +193,8 @@ was_said way plan turns leaves side h bytes there =
     let went = items_where_true h.has_said.went (datagrams_to to says) in
     let all : way.client_said ≡ went =
     told_all h.before.said went way.client_said h.new_mouth (sym h.has_said.told ∙ h.told) in
-    let (one, in_says, is) = map_of (λ (d : List ℕ). (to, d)) says (way.reflector, bytes)
-    (was_there h.has_said.went (datagrams_to to says) (way.reflector, bytes)
+    let (one, in_says, is) = is_mapped_from_one (λ (d : List ℕ). (to, d)) says (way.reflector, bytes)
+    (picked_was_in h.has_said.went (datagrams_to to says) (way.reflector, bytes)
     (subst (λ l. Contains l (way.reflector, bytes)) all there)) in
     subst (Contains says) (ap bytes_of is) in_says
 

@@ -4,6 +4,7 @@ use Rattle.std.specs.List.{All, last_or, prefix_len, suffix_len}
 use Rattle.std.proofs.lemmas.Bool.Decides.{leb_tells}
 use Rattle.std.proofs.lemmas.List.Elements.{All-push, Contains-push}
 use Rattle.std.proofs.lemmas.List.{append-nil, length_push, reverse-append, reverse-reverse, take_all, take-append-le}
+use Rattle.m17_lists.proofs.Lengths.{one_more_is_the_last}
 use Rattle.m17_values.specs.declared.heard.Heard.{Heard}
 use Rattle.m17_values.specs.declared.heard.Heard.TheVariants.{Datagram, Quiet, Fault, End}
 use Rattle.m17_io.specs.Faults.{HasRisen}
@@ -25,7 +26,7 @@ use Rattle.m17_bridge.specs.CrossRun.{BothLeave, CrossPlan, CrossTurn, IsCrossRu
 use Rattle.m17_bridge.specs.CrossDevices.{IsBridgeEnd}
 use Rattle.m17_bridge.specs.CrossSoFar.{GoesOn, IsAt, IsSoFar, Origin}
 use Rattle.m17_bridge.proofs.Picked.{by_sides, is_other_side, is_same_side, may_cross}
-use Rattle.m17_bridge.proofs.CrossTurns.{by_both, entries_more, last_push, side_entries_more}
+use Rattle.m17_bridge.proofs.CrossTurns.{by_both, entries_more, side_entries_more}
 
 -- a bridge that was just made has made no step
 new_stands : (ends : Both Standing) (bridge : BridgeState) → bridge ≡ new_bridge ends
@@ -97,7 +98,7 @@ pub no_end_more : (plan : CrossPlan) (turns : List CrossTurn) (turn : CrossTurn)
 no_end_more plan turns turn h now side =
     subst (All (λ e. e ≢ End)) (sym (side_entries_more side turns turn))
     (all_or_not (is_side turn.side side) (entries_on side turns) turn.heard (h side) (λ e. now (inl (
-    ap (last_or None) (entries_more turns turn) ∙ last_push None (entries_of turns) turn.heard ∙ ap (λ x. Some x) e))))
+    ap (last_or None) (entries_more turns turn) ∙ one_more_is_the_last None (entries_of turns) turn.heard ∙ ap (λ x. Some x) e))))
 
 -- one more entry was heard by the ear of its side
 pub hears_one : {E : Type 0} (law : EarsHearInTurn E) (start old new : Both (EarTold E))

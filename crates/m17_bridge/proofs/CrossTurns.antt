@@ -1,9 +1,10 @@
 -- One more step of a bridge over its devices, and one more turn of a run.
-use Rattle.std.proofs.Common.{◌≡◌, ◌↔◌, ℕ, zero, suc, Bool, true, false, cond, ◌+◌, List, [], ◌∷◌, ◌++◌, length, filter, reverse, refl, sym, ap, ◌∙◌, subst, inl, inr, arith, Option, None, Some, IsTrue}
+use Rattle.std.proofs.Common.{◌≡◌, ◌↔◌, ℕ, zero, suc, Bool, true, false, cond, ◌+◌, List, [], ◌∷◌, ◌++◌, length, filter, reverse, refl, sym, ap, ◌∙◌, subst, inl, inr, arith, None, Some, IsTrue}
 use Rattle.std.specs.List.{flat_map, last_or, prefix_len, slice_get, suffix_len}
 use Rattle.std.proofs.lemmas.List.{append-nil, length_push, map-append, reverse-append}
 use Rattle.std.proofs.lemmas.List.Elements.{filter-append}
 use Rattle.std.proofs.lemmas.Grind.{flat_map-append}
+use Rattle.m17_lists.proofs.Lengths.{one_more_is_the_last}
 use Rattle.m17_values.specs.declared.heard.Heard.{Heard}
 use Rattle.m17_values.specs.declared.heard.Heard.TheVariants.{Datagram, Quiet, Fault, End}
 use Rattle.m17_values.specs.declared.peer.Peer.{Peer}
@@ -115,10 +116,6 @@ faults_or_not : (b : Bool) (entries : List Heard) (entry : Heard)
 faults_or_not true entries entry = faults_more entries entry
 faults_or_not false entries entry = ap (suffix_len is_fault) (append-nil entries)
 
-pub last_push : {A : Type 0} (o : Option A) (xs : List A) (x : A) → last_or o (xs ++ x ∷ []) ≡ Some x
-last_push o [] x = refl
-last_push o (y ∷ ys) x = last_push (Some y) ys x
-
 -- what holds at each place still does after one more item
 place_more : {A : Type 0} (P : ℕ → A → Type 0) (xs : List A) (x : A)
     → ((n : ℕ) (y : A) → slice_get xs n ≡ Some y → P n y) → P (length xs) x
@@ -176,7 +173,7 @@ pub so_far_more : {M : Type 0} (origin : Origin M) (turns : List CrossTurn) (tur
     → IsSoFar origin (turns ++ turn ∷ []) new later
 so_far_more origin turns turn old new mouths later h at is_turn taken =
     let last : last_or None (entries_of (turns ++ turn ∷ [])) ≡ Some turn.heard =
-    ap (last_or None) (entries_more turns turn) ∙ last_push None (entries_of turns) turn.heard in
+    ap (last_or None) (entries_more turns turn) ∙ one_more_is_the_last None (entries_of turns) turn.heard in
     let long : length (turns ++ turn ∷ []) ≡ suc (length turns) = omega (arith, length_push turns turn) in record {
       at = subst (λ l. IsAt origin l new.bridge later) (sym (steps_more turns turn)) at;
       in_turn = place_more (λ n t. t.side ≡ side_at n) turns turn h.in_turn (taken.on_side ∙ h.next);

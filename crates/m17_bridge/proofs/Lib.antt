@@ -7,5 +7,4 @@ mod Table
 mod Frames
 mod CrossTurns
 mod CrossEnded
-mod Listed
 mod ClientsEnd

@@ -1,7 +1,7 @@
 -- The records of a script that are due: those from the next one on whose moment has come.
 use Rattle.std.proofs.Common.{◌≡◌, ℕ, Bool, true, false, cond, suc, zero, ◌+◌, ◌<◌, ◌≤◌, List, [], ◌∷◌, length, filter, drop, nat_le, refl, sym, ap, ◌∙◌, inl, inr, arith, Option, Some}
 use Rattle.std.specs.List.{slice_get}
-use Rattle.std.proofs.lemmas.Bool.{le-leb}
+use Rattle.std.proofs.lemmas.Bool.{le-leb, lt-leb}
 use Rattle.std.proofs.lemmas.Bool.Decides.{leb_tells}
 use Rattle.std.proofs.lemmas.List.{drop_all, drop-drop}
 use Rattle.std.proofs.lemmas.List.Sums.{length-filter, count_by-le-length}
@@ -32,17 +32,11 @@ first_least x (y ∷ ys) h (suc k) r at =
     let one : x.0 ≤ y.0 = h 0 x y refl refl in
     let rest : y.0 ≤ r.0 = first_least y ys (tail_in_order x (y ∷ ys) h) k r at in omega arith
 
-not_come : (limit moment : ℕ) → limit < moment → nat_le moment limit ≡ false
-not_come limit moment later = elim (leb_tells moment limit) [
-  | inl early ↦ absurd (omega (arith, early.1))
-  | inr late ↦ late.0
-]
-
 none_come : (limit : ℕ) (xs : List Record) → ((k : ℕ) (r : Record) → slice_get xs k ≡ Some r → limit < r.0)
     → come limit xs ≡ []
 none_come limit [] later = refl
 none_come limit (x ∷ xs) later =
-    ap (λ b. cond b (x ∷ come limit xs) (come limit xs)) (not_come limit x.0 (later 0 x refl))
+    ap (λ b. cond b (x ∷ come limit xs) (come limit xs)) (lt-leb x.0 limit (later 0 x refl))
     ∙ none_come limit xs (λ k r at. later (suc k) r at)
 
 all_later : (limit : ℕ) (x : Record) (xs : List Record) → IsInOrder (x ∷ xs) → limit < x.0 → (k : ℕ) (r : Record)

@@ -1,9 +1,11 @@
 -- A run that is over, and what is answered of it.
-use Rattle.std.proofs.Common.{◌≡◌, ◌≢◌, ◌↔◌, ◌⊎◌, ℕ, Bool, true, false, cond, ◌+◌, ◌≤◌, List, [], ◌∷◌, ◌++◌, length, take, refl, sym, ap, ◌∙◌, subst, inl, inr, arith, None, Some, IsTrue}
+use Rattle.std.proofs.Common.{◌≡◌, ◌≢◌, ◌↔◌, ◌⊎◌, ℕ, cond, ◌+◌, ◌≤◌, List, [], ◌∷◌, ◌++◌, length, take, refl, sym, ap, ◌∙◌, subst, inl, inr, arith, None, Some, IsTrue}
 use Rattle.std.specs.List.{All, last_or, slice_get, suffix_len}
 use Rattle.std.proofs.lemmas.Bool.Decides.{leb_tells}
 use Rattle.std.proofs.lemmas.List.Elements.{All-push}
 use Rattle.std.proofs.lemmas.List.{append-nil, length_push, take_all, take_at, take-append-le}
+use Rattle.std.proofs.lemmas.Bool.{false_from_ne_true}
+use Rattle.m17_lists.proofs.Lengths.{one_more_is_the_last}
 use Rattle.m17_values.specs.declared.heard.Heard.{Heard}
 use Rattle.m17_values.specs.declared.heard.Heard.TheVariants.{Datagram, Quiet, Fault, End}
 use Rattle.m17_ports.specs.Ear.{EarTold, HasHeard}
@@ -18,7 +20,6 @@ use Rattle.m17_client.specs.Steps.{ClientStep, standing_after}
 use Rattle.m17_client.specs.Talk.{IsClosed, IsEnded, IsLost, IsOver, IsTalkRun, IsTurn, TalkPlan, Turn, entries_of, is_fault, steps_of}
 use Rattle.m17_client.specs.TalkDevices.{IsTalkEnd}
 use Rattle.m17_client.specs.TalkSoFar.{GoesOn, IsSoFar, IsStepless, Origin}
-use Rattle.m17_client.proofs.OneStep.{last_push}
 use Rattle.m17_client.proofs.Turns.{entries_more, faults_more, steps_more}
 
 not_yet : (plan : TalkPlan) → plan.client.state ≡ Idle → IsOver plan [] → ⊥
@@ -52,7 +53,7 @@ pub no_end_more : (plan : TalkPlan) (turns : List Turn) (turn : Turn)
     → All (λ entry. entry ≢ End) (entries_of (turns ++ turn ∷ []))
 no_end_more plan turns turn h now = subst (λ l. All (λ entry. entry ≢ End) l) (sym (entries_more turns turn))
     (All-push (λ entry. entry ≢ End) (entries_of turns) turn.heard h (λ e. now (inl (
-    ap (last_or None) (entries_more turns turn) ∙ last_push None (entries_of turns) turn.heard ∙ ap Some e))))
+    ap (last_or None) (entries_more turns turn) ∙ one_more_is_the_last None (entries_of turns) turn.heard ∙ ap Some e))))
 
 -- one more entry was heard
 pub hears_one : {L : Type 0} (law : EarsHearInTurn L) (start old new : EarTold L) (turns : List Turn) (turn : Turn)
@@ -109,7 +110,7 @@ stepless : (turns : List Turn) (turn : Turn)
     → IsEnded (turns ++ turn ∷ []) ⊎ IsLost (turns ++ turn ∷ []) → IsStepless turn.heard
 stepless turns turn (inl ended) =
     let last : last_or None (entries_of (turns ++ turn ∷ [])) ≡ Some turn.heard =
-    ap (last_or None) (entries_more turns turn) ∙ last_push None (entries_of turns) turn.heard in
+    ap (last_or None) (entries_more turns turn) ∙ one_more_is_the_last None (entries_of turns) turn.heard in
     inr (let same : turn.heard ≡ End = cc in same)
 stepless turns turn (inr lost) = inl (lost_by_fault turns turn lost)
 
@@ -128,10 +129,6 @@ not_closed origin turns turn run m b before h by_entry closed =
       closed.0,
       sym (ap (λ l. (standing_after origin.plan.client l).state) same) ∙ closed.1,
     )))
-
-not_true : (b : Bool) → (b ≡ true → ⊥) → b ≡ false
-not_true true h = absurd (h refl)
-not_true false h = refl
 
 -- what is answered of a whole run
 pub end_is : {M B : Type 0} (origin : Origin M B) (turns : List Turn) (turn : Turn) (run : Run) (m : MouthTold M) (b : BookTold B)
@@ -155,9 +152,9 @@ end_is origin turns turn run m b answer before h over state kept ended lost =
           | inr (inr c) ↦ c
         ],
         λ closed. (
-          not_true answer.ended
+          false_from_ne_true answer.ended
               (λ e. not_closed origin turns turn run m b before h (inl (h.ended.0 (sym ended ∙ e))) closed),
-          not_true answer.lost
+          false_from_ne_true answer.lost
               (λ e. not_closed origin turns turn run m b before h (inr (fell.0 e)) closed),
         ),
       );

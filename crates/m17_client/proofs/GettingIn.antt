@@ -4,6 +4,7 @@ use Rattle.std.specs.List.{flat_map}
 use Rattle.std.proofs.lemmas.List.{append-nil}
 use Rattle.std.proofs.lemmas.Grind.{flat_map-append}
 use Rattle.std.proofs.lemmas.List.Elements.{Contains-append_left, Contains-append_right}
+use Rattle.m17_lists.proofs.Contents.{first_is_in, rest_is_in}
 use Rattle.m17_values.specs.declared.heard.Heard.TheVariants as heard
 use Rattle.m17_control.specs.Forms.{SpellsControl}
 use Rattle.m17_control.specs.declared.packet.Control.{Control}
@@ -16,7 +17,6 @@ use Rattle.m17_client.specs.Client.{join_packet}
 use Rattle.m17_client.specs.Steps.{ClientStep, IsClientRun, inputs_of, is_connected, standing_after}
 use Rattle.m17_client.specs.TalkDevices.{said_by, says_of}
 use Rattle.m17_client.specs.Way.{GotIn, Way}
-use Rattle.m17_client.proofs.Listed.{here, later}
 use Rattle.m17_client.proofs.WholeSteps.{Asks, StepMoves, step_does}
 
 -- the client has said its join packet
@@ -116,9 +116,9 @@ walk way first steps old [] same known run said = rw (append-nil steps) known
 walk way first steps old (step ∷ more) same known run said =
     let did = step_does old step.input step.actions step.after run.0 in
     let first_said : OnSaid way step.input = λ at bytes is.
-    said at bytes (subst (λ (i : Input). Contains (inputs_of (step ∷ more)) i) is (here (inputs_of more) step.input)) in
+    said at bytes (subst (λ (i : Input). Contains (inputs_of (step ∷ more)) i) is (first_is_in (inputs_of more) step.input)) in
     let rest_said : AllOnSaid way more = λ at bytes there.
-    said at bytes (later step.input (inputs_of more) (input.Datagram at bytes) there) in
+    said at bytes (rest_is_in step.input (inputs_of more) (input.Datagram at bytes) there) in
     subst (λ l. KnownIn way first l (standing_after step.after more).state)
     (append_assoc steps (step ∷ []) more)
     (walk way first (steps ++ step ∷ []) step.after more (did.joins ∙ same)

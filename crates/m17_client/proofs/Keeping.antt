@@ -2,6 +2,7 @@
 use Rattle.std.proofs.Common.{◌≡◌, ◌⊎◌, ℕ, List, [], ◌∷◌, ◌++◌, sym, subst, inl, inr, Option, Some, Contains}
 use Rattle.std.specs.List.{flat_map}
 use Rattle.std.proofs.lemmas.List.Elements.{Contains-append_cases}
+use Rattle.m17_lists.proofs.Contents.{nothing_is_in_none, first_is_in, rest_is_in, is_the_only_one}
 use Rattle.m17_stream.specs.Stream.{SpellsStream, IsAhead}
 use Rattle.m17_stream.specs.declared.packet.StreamPacket.{StreamPacket}
 use Rattle.m17_control.specs.Forms.{SpellsControl}
@@ -14,7 +15,6 @@ use Rattle.m17_client.specs.Client.{MayKeep, join_packet}
 use Rattle.m17_client.specs.Steps.{ClientStep, IsClientRun, inputs_of}
 use Rattle.m17_client.specs.TalkDevices.{said_by, says_of}
 use Rattle.m17_client.specs.Way.{kept_in, keeps_of}
-use Rattle.m17_client.proofs.Listed.{alone, here, later, none_there}
 use Rattle.m17_client.proofs.Moves.{NoRequest}
 use Rattle.m17_client.proofs.WholeSteps.{StepKeeps, step_does}
 
@@ -60,28 +60,28 @@ WasStepped steps packet = (at : ℕ) × (bytes : List ℕ) × SpellsStream packe
 kept_here : (last new : Option LastKept) (step : ClientStep) (steps : List ClientStep) (packet : StreamPacket)
     → StepKeeps last step.input (kept_by_step step) new → Contains (kept_by_step step) packet
     → WasStepped (step ∷ steps) packet
-kept_here last new step steps packet (inl (none, same)) h = absurd (none_there packet (rw none at h))
+kept_here last new step steps packet (inl (none, same)) h = absurd (nothing_is_in_none packet (rw none at h))
 kept_here last new step steps packet (inr (kept, at, bytes, was, spelled, may, one, becomes)) h = (
   at,
   bytes,
-  subst (λ (p : StreamPacket). SpellsStream p bytes) (alone kept packet (rw one at h)) spelled,
-  subst (λ (i : Input). Contains (inputs_of (step ∷ steps)) i) was (here (inputs_of steps) step.input),
+  subst (λ (p : StreamPacket). SpellsStream p bytes) (is_the_only_one kept packet (rw one at h)) spelled,
+  subst (λ (i : Input). Contains (inputs_of (step ∷ steps)) i) was (first_is_in (inputs_of steps) step.input),
 )
 
 pub was_stepped : (c : Standing) (steps : List ClientStep) (packet : StreamPacket) → IsClientRun c steps
     → Contains (keeps_of steps) packet → WasStepped steps packet
-was_stepped c [] packet run h = absurd (none_there packet h)
+was_stepped c [] packet run h = absurd (nothing_is_in_none packet h)
 was_stepped c (step ∷ steps) packet run h = elim (Contains-append_cases (kept_by_step step) (keeps_of steps) packet h) [
   | inl now ↦ kept_here c.kept step.after.kept step steps packet
       (step_does c step.input step.actions step.after run.0).keeps now
   | inr then' ↦ let (at, bytes, spelled, there) = was_stepped step.after steps packet run.1 then' in
-      (at, bytes, spelled, later step.input (inputs_of steps) (input.Datagram at bytes) there)
+      (at, bytes, spelled, rest_is_in step.input (inputs_of steps) (input.Datagram at bytes) there)
 ]
 
 -- what is said is a join packet, or no request
 pub says_own : (c : Standing) (steps : List ClientStep) (bytes : List ℕ) → IsClientRun c steps
     → Contains (says_of steps) bytes → SpellsControl (join_packet c) bytes ⊎ NoRequest bytes
-says_own c [] bytes run h = absurd (none_there bytes h)
+says_own c [] bytes run h = absurd (nothing_is_in_none bytes h)
 says_own c (step ∷ steps) bytes run h =
     elim (Contains-append_cases (flat_map said_by step.actions) (says_of steps) bytes h) [
       | inl now ↦ (step_does c step.input step.actions step.after run.0).says bytes now

@@ -3,6 +3,7 @@ use Rattle.std.proofs.Common.{◌≡◌, ℕ, List, [], ◌∷◌, ◌++◌, map
 use Rattle.std.specs.List.{AllZip, flat_map, items_where_true, slice_get}
 use Rattle.std.proofs.lemmas.List.Elements.{Contains-append_left, Contains-append_cases}
 use Rattle.std.proofs.lemmas.Option.{none-some, same_Some, slice_get-get_or}
+use Rattle.m17_lists.proofs.Contents.{nothing_is_in_none, is_first_or_in_rest, is_the_only_one, picked_was_in, mapped_is_in, is_mapped_from_one, is_given_by_one}
 use Rattle.m17_values.specs.declared.heard.Heard.{Heard}
 use Rattle.m17_values.specs.declared.heard.Heard.TheVariants as heard
 use Rattle.m17_values.specs.declared.peer.Peer.{Peer}
@@ -19,7 +20,6 @@ use Rattle.m17_client.specs.Talk.{IsHeardAs, IsTurn, LeavesInTime, TakesTurn, Ta
 use Rattle.m17_client.specs.TalkDevices.{datagrams_to, kept_by, records_of, says_of}
 use Rattle.m17_client.specs.Way.{Way, kept_in, keeps_of}
 use Rattle.m17_client.specs.Laws.{ClientKeepsWhatWasSaid, IsRecordOf, IsTalkOver, RecordsAreOfKeptPackets, TalkIsAClientsEnd}
-use Rattle.m17_client.proofs.Listed.{alone, map_of, mapped, none_there, one_of, there_cases, was_there}
 use Rattle.m17_client.proofs.Keeping.{FollowOn, all_follow, neighbours, says_own, was_stepped}
 use Rattle.m17_client.proofs.GettingIn.{got_in}
 
@@ -34,9 +34,9 @@ input_of step = step.input
 inputs_front : (front rest : List ClientStep) (i : Input) → Contains (inputs_of front) i
     → Contains (inputs_of (front ++ rest)) i
 inputs_front front rest i h =
-    let (step, there, is) = map_of input_of front i h in
+    let (step, there, is) = is_mapped_from_one input_of front i h in
     subst (Contains (inputs_of (front ++ rest))) is
-    (mapped input_of (front ++ rest) step (Contains-append_left front rest step there))
+    (mapped_is_in input_of (front ++ rest) step (Contains-append_left front rest step there))
 
 pub keeps_what_was_said : ClientKeepsWhatWasSaid
 keeps_what_was_said way first steps net end' = record {
@@ -75,28 +75,28 @@ heard_as to heard.End at bytes h = absurd h
 
 not_sent : (dues : List (ℕ × StreamPacket)) (at : ℕ) (bytes : List ℕ)
     → Contains (map (λ due. input.Send due.1) dues) (input.Datagram at bytes) → ⊥
-not_sent dues at bytes h = let (due, there, is) = map_of (λ due. input.Send due.1) dues (input.Datagram at bytes) h in cc
+not_sent dues at bytes h = let (due, there, is) = is_mapped_from_one (λ due. input.Send due.1) dues (input.Datagram at bytes) h in cc
 
 not_left : (plan : TalkPlan) (steps : List ClientStep) (inputs : List Input) (at : ℕ) (bytes : List ℕ)
     → LeavesInTime plan steps inputs → Contains inputs (input.Datagram at bytes) → ⊥
 not_left plan steps inputs at bytes (inl (time, is)) h =
-    let e = alone input.Leave (input.Datagram at bytes) (rw is at h) in cc
-not_left plan steps inputs at bytes (inr (time, is)) h = none_there (input.Datagram at bytes) (rw is at h)
+    let e = is_the_only_one input.Leave (input.Datagram at bytes) (rw is at h) in cc
+not_left plan steps inputs at bytes (inr (time, is)) h = nothing_is_in_none (input.Datagram at bytes) (rw is at h)
 
 taken : (plan : TalkPlan) (earlier : List ClientStep) (entry : Heard) (steps : List ClientStep) (step : ClientStep)
     (at : ℕ) (bytes : List ℕ) → TakesTurn plan earlier entry steps → Contains steps step
     → step.input ≡ input.Datagram at bytes → entry ≡ heard.Datagram plan.to at bytes
 taken plan earlier entry steps step at bytes turn there is =
     elim (Contains-append_cases (turn.first ∷ turn.sends) turn.leave step (rw turn.in_order at there)) [
-      | inl early ↦ elim (there_cases turn.first turn.sends step early) [
+      | inl early ↦ elim (is_first_or_in_rest turn.first turn.sends step early) [
         | inl same ↦ heard_as plan.to entry at bytes
             (subst (IsHeardAs plan.to entry) (ap input_of same ∙ is) turn.on_entry)
         | inr sent ↦ absurd (not_sent (due_records plan (earlier ++ turn.first ∷ [])) at bytes
             (subst (λ l. Contains l (input.Datagram at bytes)) turn.on_due
-            (subst (Contains (inputs_of turn.sends)) is (mapped input_of turn.sends step sent))))
+            (subst (Contains (inputs_of turn.sends)) is (mapped_is_in input_of turn.sends step sent))))
       ]
       | inr late ↦ absurd (not_left plan (earlier ++ turn.first ∷ turn.sends) (inputs_of turn.leave) at bytes turn.on_leave
-          (subst (Contains (inputs_of turn.leave)) is (mapped input_of turn.leave step late)))
+          (subst (Contains (inputs_of turn.leave)) is (mapped_is_in input_of turn.leave step late)))
     ]
 
 turn_heard : (plan : TalkPlan) (earlier : List ClientStep) (entry : Heard) (steps : List ClientStep)
@@ -106,8 +106,8 @@ turn_heard plan earlier (heard.Datagram from when them) steps step at bytes turn
     taken plan earlier (heard.Datagram from when them) steps step at bytes turn there is
 turn_heard plan earlier (heard.Quiet when) steps step at bytes turn there is =
     taken plan earlier (heard.Quiet when) steps step at bytes turn there is
-turn_heard plan earlier heard.Fault steps step at bytes turn there is = absurd (none_there step (rw turn at there))
-turn_heard plan earlier heard.End steps step at bytes turn there is = absurd (none_there step (rw turn at there))
+turn_heard plan earlier heard.Fault steps step at bytes turn there is = absurd (nothing_is_in_none step (rw turn at there))
+turn_heard plan earlier heard.End steps step at bytes turn there is = absurd (nothing_is_in_none step (rw turn at there))
 
 abbrev heard_of : Turn → Heard
 heard_of turn = turn.heard
@@ -119,15 +119,15 @@ was_heard : {L : Type 0} (way : Way) (plan : TalkPlan) (turns : List Turn) → I
     → Contains (inputs_of (steps_of turns)) (input.Datagram at bytes)
     → Contains way.client_heard (heard.Datagram way.reflector at bytes)
 was_heard way plan turns h at bytes on =
-    let (step, there, is) = map_of input_of (steps_of turns) (input.Datagram at bytes) on in
-    let (turn, in_turns, in_turn) = one_of steps_in turns step there in
+    let (step, there, is) = is_mapped_from_one input_of (steps_of turns) (input.Datagram at bytes) on in
+    let (turn, in_turns, in_turn) = is_given_by_one steps_in turns step there in
     let at_place : slice_get turns in_turns.0 ≡ Some turn =
     slice_get-get_or turns in_turns.0 turn in_turns.1 ∙ ap Some in_turns.2 in
     let entry : turn.heard ≡ heard.Datagram plan.to at bytes =
     turn_heard plan (steps_of (take in_turns.0 turns)) turn.heard turn.steps step at bytes
     (h.run.each in_turns.0 turn at_place) in_turn is in
     rw h.heard (subst (Contains (entries_of turns)) (entry ∙ ap (λ p. heard.Datagram p at bytes) h.to)
-    (mapped heard_of turns turn in_turns))
+    (mapped_is_in heard_of turns turn in_turns))
 
 abbrev bytes_of : Datagram → List ℕ
 bytes_of d = d.1
@@ -140,8 +140,8 @@ was_said way plan turns h bytes there =
     let went = items_where_true h.has_said.went (datagrams_to plan.to says) in
     let all : way.client_said ≡ went =
     told_all h.before.said went way.client_said h.new_mouth (sym h.has_said.told ∙ h.told) in
-    let (one, in_says, is) = map_of (λ (d : List ℕ). (plan.to, d)) says (way.reflector, bytes)
-    (was_there h.has_said.went (datagrams_to plan.to says) (way.reflector, bytes) (rw all at there)) in
+    let (one, in_says, is) = is_mapped_from_one (λ (d : List ℕ). (plan.to, d)) says (way.reflector, bytes)
+    (picked_was_in h.has_said.went (datagrams_to plan.to says) (way.reflector, bytes) (rw all at there)) in
     subst (Contains says) (ap bytes_of is) in_says
 
 pub talk_is_an_end : {L : Type 0} → TalkIsAClientsEnd L

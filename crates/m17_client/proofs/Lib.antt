@@ -5,7 +5,6 @@ mod Due
 mod OneTurn
 mod Turns
 mod Ended
-mod Listed
 mod Moves
 mod WholeSteps
 mod Keeping

@@ -2,6 +2,7 @@
 use Rattle.std.proofs.Common.{◌≡◌, ◌⊎◌, ℕ, ◌+◌, List, [], ◌∷◌, get_or, refl, sym, ap, ◌∙◌, subst, inl, inr, arith, Option, None, Some, Contains}
 use Rattle.std.specs.List.{flat_map}
 use Rattle.std.specs.Option.{option_to_list}
+use Rattle.m17_lists.proofs.Contents.{nothing_is_in_none, is_the_only_one}
 use Rattle.m17_stream.specs.Stream.{SpellsStream}
 use Rattle.m17_stream.specs.declared.packet.StreamPacket.{StreamPacket}
 use Rattle.m17_control.specs.Forms.{SpellsControl, Spells}
@@ -18,7 +19,6 @@ use Rattle.m17_client.specs.Standing.{Standing}
 use Rattle.m17_client.specs.Client.{Becomes, ByBytes, ByPacket, ByTime, Joins, Keeps, MayKeep, Says, SaysFrame, Stays, join_packet}
 use Rattle.m17_client.specs.TalkDevices.{said_by}
 use Rattle.m17_client.specs.Way.{IsJoinRequest, kept_in}
-use Rattle.m17_client.proofs.Listed.{alone, none_there}
 
 abbrev pub state_of : Standing → State
 state_of c = c.state
@@ -129,17 +129,17 @@ no_request bytes letter is no_c no_l (Lstn from module_letter) request h =
 no_request bytes letter is no_c no_l packet request h = absurd request
 
 says_none : SaysOther None
-says_none bytes h = absurd (none_there bytes h)
+says_none bytes h = absurd (nothing_is_in_none bytes h)
 
 says_kept : (packet : StreamPacket) → SaysOther (Some (Keep packet))
-says_kept packet bytes h = absurd (none_there bytes h)
+says_kept packet bytes h = absurd (nothing_is_in_none bytes h)
 
 -- one packet that is no request
 says_one : (bytes : List ℕ) (answer : Option Action) → answer ≡ Some (Say (record { items = bytes }))
     → NoRequest bytes → SaysOther answer
 says_one bytes answer is no_one said h =
     subst NoRequest
-    (alone bytes said (subst (λ (a : Option Action). Contains (flat_map said_by (option_to_list a)) said) is h))
+    (is_the_only_one bytes said (subst (λ (a : Option Action). Contains (flat_map said_by (option_to_list a)) said) is h))
     no_one
 
 says_pong : (from : ℕ) (answer : Option Action) → Says (Pong from) answer → SaysOther answer

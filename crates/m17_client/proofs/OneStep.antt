@@ -5,6 +5,7 @@ use Rattle.std.specs.Option.{option_or}
 use Rattle.std.proofs.lemmas.List.{append-nil, length_push}
 use Rattle.std.proofs.lemmas.List.Elements.{filter-append}
 use Rattle.std.proofs.lemmas.List.Folds.{find-append}
+use Rattle.m17_lists.proofs.Lengths.{one_more_is_the_last}
 use Rattle.m17_stream.specs.declared.packet.StreamPacket.{StreamPacket}
 use Rattle.m17_client.specs.declared.progress.Progress.{Progress}
 use Rattle.m17_client.specs.declared.state.Action.{Action}
@@ -59,10 +60,6 @@ pub sends_yes : (steps : List ClientStep) (step : ClientStep) → is_send step.i
     → sends_of (steps ++ step ∷ []) ≡ sends_of steps ++ step ∷ []
 sends_yes steps step is = filter-append (λ (s : ClientStep). is_send s.input) steps (step ∷ [])
     ∙ ap (λ b. sends_of steps ++ cond b (step ∷ []) []) is
-
-pub last_push : {A : Type 0} (o : Option A) (xs : List A) (x : A) → last_or o (xs ++ x ∷ []) ≡ Some x
-last_push o [] x = refl
-last_push o (y ∷ ys) x = last_push (Some y) ys x
 
 -- a moment is remembered where the client is connected
 since_more : (b : Bool) (was : Option ℕ) (moment : ℕ) → b ≡ true
@@ -120,6 +117,6 @@ after_send first steps step old new h is client same on connected sent sent_at =
           ∙ ap length (sym (sends_yes steps step is));
       sent_at = sent_at ∙ ap (λ (c : Standing). Some c.moment) client
           ∙ ap (option_map (λ (s : ClientStep). s.after.moment))
-          (sym (last_push None (sends_of steps) step) ∙ ap (last_or None) (sym (sends_yes steps step is)));
+          (sym (one_more_is_the_last None (sends_of steps) step) ∙ ap (last_or None) (sym (sends_yes steps step is)));
       since = λ e. rw connected (h.since on);
     }

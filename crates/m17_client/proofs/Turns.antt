@@ -3,6 +3,7 @@ use Rattle.std.proofs.Common.{◌≡◌, ◌↔◌, ◌⊎◌, ℕ, true, false,
 use Rattle.std.specs.List.{last_or, prefix_len, slice_get, suffix_len}
 use Rattle.std.proofs.lemmas.List.{append-nil, map-append, reverse-append}
 use Rattle.std.proofs.lemmas.Grind.{flat_map-append}
+use Rattle.m17_lists.proofs.Lengths.{one_more_is_the_last}
 use Rattle.m17_values.specs.declared.heard.Heard.{Heard}
 use Rattle.m17_values.specs.declared.heard.Heard.TheVariants.{Datagram, Quiet, Fault, End}
 use Rattle.m17_values.specs.declared.peer.Peer.{Peer}
@@ -16,7 +17,6 @@ use Rattle.m17_client.specs.Standing.{Standing}
 use Rattle.m17_client.specs.Steps.{ClientStep}
 use Rattle.m17_client.specs.Talk.{IsHeardAs, IsOver, IsTurn, TakesTurn, TalkPlan, Turn, entries_of, is_fault, steps_of}
 use Rattle.m17_client.specs.TalkSoFar.{IsAt, IsFresh, IsSoFar, IsStepless, Origin}
-use Rattle.m17_client.proofs.OneStep.{last_push}
 
 -- what was heard, and the steps, after one more turn
 pub entries_more : (turns : List Turn) (turn : Turn)
@@ -76,7 +76,7 @@ pub so_far_more : {M B : Type 0} (origin : Origin M B) (turns : List Turn) (turn
     → (IsTrue new.ended ↔ (turn.heard ≡ End)) → IsSoFar origin (turns ++ turn ∷ []) new later written
 so_far_more origin turns turn old new m later b written h at is_turn faults ended =
     let last : last_or None (entries_of (turns ++ turn ∷ [])) ≡ Some turn.heard =
-    ap (last_or None) (entries_more turns turn) ∙ last_push None (entries_of turns) turn.heard in record {
+    ap (last_or None) (entries_more turns turn) ∙ one_more_is_the_last None (entries_of turns) turn.heard in record {
       at = subst (λ l. IsAt origin l new.session later written) (sym (steps_more turns turn)) at;
       each = each_more (λ l t. IsTurn origin.plan (steps_of l) t.heard t.steps) turns turn h.each is_turn;
       faults = faults ∙ ap (λ n. cond (is_fault turn.heard) (n + 1) 0) h.faults

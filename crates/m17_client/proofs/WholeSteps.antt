@@ -5,6 +5,7 @@ use Rattle.std.specs.Option.{option_to_list}
 use Rattle.std.proofs.lemmas.Grind.{flat_map-append}
 use Rattle.std.proofs.lemmas.List.Elements.{Contains-append_left, Contains-append_cases}
 use Rattle.std.proofs.lemmas.List.{append-nil}
+use Rattle.m17_lists.proofs.Contents.{nothing_is_in_none, first_is_in, is_the_only_one}
 use Rattle.m17_stream.specs.Stream.{SpellsStream}
 use Rattle.m17_stream.specs.declared.packet.StreamPacket.{StreamPacket}
 use Rattle.m17_control.specs.Forms.{SpellsControl}
@@ -20,7 +21,6 @@ use Rattle.m17_client.specs.Standing.{Standing, at_moment}
 use Rattle.m17_client.specs.Client.{ByDatagram, ByLeave, BySend, IsClientStep, MayKeep, Says, Stays, join_packet}
 use Rattle.m17_client.specs.TalkDevices.{said_by}
 use Rattle.m17_client.specs.Way.{kept_in}
-use Rattle.m17_client.proofs.Listed.{alone, here, none_there}
 use Rattle.m17_client.proofs.Moves.{BytesDo, BytesMove, KeepsOf, NoRequest, SaysOther, TimeDoes, TimeMoves, bytes_do, bytes_stay, says_disc, says_frame, says_stays, state_of, time_does}
 
 -- among what the actions say is a join packet
@@ -59,7 +59,7 @@ asks_first join tick answer (bytes, spelled, is) = (
   spelled,
   rw (flat_map-append said_by (option_to_list tick) (option_to_list answer))
       (Contains-append_left (flat_map said_by (option_to_list tick)) (flat_map said_by (option_to_list answer)) bytes
-      (subst (λ (t : Option Action). Contains (flat_map said_by (option_to_list t)) bytes) (sym is) (here [] bytes))),
+      (subst (λ (t : Option Action). Contains (flat_map said_by (option_to_list t)) bytes) (sym is) (first_is_in [] bytes))),
 )
 
 stays_put : (join : Control) (in' : Input) (actions : List Action) (state : State)
@@ -107,10 +107,10 @@ by_bytes c old at bytes actions tick mid (Closed why) awake h move = tt
 time_says : (join : Control) (tick : Option Action) (bytes : List ℕ) → (tick ≡ None) ⊎ Says join tick
     → Contains (flat_map said_by (option_to_list tick)) bytes → SpellsControl join bytes
 time_says join tick bytes (inl none) h =
-    absurd (none_there bytes (subst (λ (t : Option Action). Contains (flat_map said_by (option_to_list t)) bytes) none h))
+    absurd (nothing_is_in_none bytes (subst (λ (t : Option Action). Contains (flat_map said_by (option_to_list t)) bytes) none h))
 time_says join tick bytes (inr (asking, spelled, is)) h =
     subst (SpellsControl join)
-    (alone asking bytes (subst (λ (t : Option Action). Contains (flat_map said_by (option_to_list t)) bytes) is h)) spelled
+    (is_the_only_one asking bytes (subst (λ (t : Option Action). Contains (flat_map said_by (option_to_list t)) bytes) is h)) spelled
 
 time_keeps : (join : Control) (tick : Option Action) → (tick ≡ None) ⊎ Says join tick
     → flat_map kept_in (option_to_list tick) ≡ []

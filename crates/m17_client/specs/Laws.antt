@@ -12,7 +12,7 @@ use Rattle.m17_client.specs.TalkDevices.{datagrams_to, kept_record, records_of, 
 use Rattle.m17_client.specs.Way.{IsClientsEnd, KeepsWhatWasSaid, NothingInvented, Way, keeps_of}
 
 -- Whatever is lost, repeated or reordered on the way: what a client keeps was said to it, in order
--- of its numbers, and it got in by an answer to its own request.
+-- of its numbers, and it got in by an ACKN that it stepped on after its request.
 abbrev pub ClientKeepsWhatWasSaid : Type 0
 ClientKeepsWhatWasSaid =
     (way : Way) (first : Standing) (steps : List ClientStep) → NothingInvented way

@@ -3,6 +3,9 @@ use Rattle.std.proofs.Common.{◌≡◌, ℕ, suc, Bool, List, refl, sym, ap, �
 use Rattle.std.specs.Prelude.{◌==◌, slice_get}
 use Rattle.std.specs.List.{flat_map}
 use Rattle.std.proofs.lemmas.Bool.{eqb-true}
+use Rattle.m17_lists.proofs.Tests.{both_are_true}
+use Rattle.m17_lists.proofs.Contents.{what_has_a_place_is_in}
+use Rattle.m17_lists.proofs.Places.{mapped_is_of_its_place}
 use Rattle.m17_values.specs.declared.heard.Heard.{Heard}
 use Rattle.m17_values.specs.declared.heard.Heard.TheVariants as heard
 use Rattle.m17_values.specs.declared.peer.Peer.{Peer}
@@ -34,9 +37,9 @@ use Rattle.m17_client.specs.Steps.{ClientStep}
 use Rattle.m17_client.specs.Way.{GotIn, KeepsWhatWasSaid, Way}
 use Rattle.m17_client_and_link.specs.BothEnds.{BothLetIn, IsAnswered, IsInATrail, IsLinksEnd}
 use Rattle.m17_client_and_link.specs.Laws.{BothEndsAgree, TalksAgree}
-use Rattle.m17_client_and_link.proofs.Listed.{all_at, beside, from_place, map_at}
+use Rattle.m17_client_and_link.proofs.Listed.{all_at, beside}
 use Rattle.m17_client_and_link.proofs.Given.{speaks}
-use Rattle.m17_client_and_link.proofs.Answered.{both_true, from_front, given_at, passes_too, routed_by, same_place}
+use Rattle.m17_client_and_link.proofs.Answered.{from_front, given_at, passes_too, routed_by, same_place}
 use Rattle.m17_client_and_link.proofs.Carried.{given_in, in_a_trail}
 use Rattle.m17_client_and_link.proofs.Heads.{is_ackn, is_frame}
 use Rattle.m17_client_and_link.proofs.Told.{Telling, never_ackn, said_to_peer, told_all}
@@ -85,7 +88,7 @@ module _ {E M B : Type 0} where
       let has = headline.ears.each i entries is.ear_before is.ear_after at_heard is.ear_was is.ear_is in
       let heard_all : way.link_heard ≡ entries =
       told_all is.ear_before.heard entries way.link_heard is.new_ear (sym has.told ∙ is.heard) in
-      let (link, at_link, same) = map_at (λ (link : Link). link.heard) out.links i entries
+      let (link, at_link, same) = mapped_is_of_its_place (λ (link : Link). link.heard) out.links i entries
       (subst (λ l. slice_get l i ≡ Some entries) (sym out.of_heard) at_heard) in
       record {
         link = link;
@@ -118,7 +121,7 @@ module _ {E M B : Type 0} where
       let goes = passes_too (goes_to i (is_peer way.client)) (all_carried run.handed.queues)
       (flat_map (items_of (carried run.handed.queues)) (memberships (link_setup run.plan i) there.link.entries way.client))
       item (out.mouths.shares i there.link way.client there.at_link) among in
-      let (by_link, to_peer) = both_true (i == item.link) (is_peer way.client item.peer) goes in
+      let (by_link, to_peer) = both_are_true (i == item.link) (is_peer way.client item.peer) goes in
       let link_is : item.link ≡ i = sym (eqb-true i item.link by_link) in
       let peer_is : item.peer ≡ way.client = sym (laws.apart.same way.client item.peer to_peer) in
       let route = routed_by run.plan out.links (letter_of run.plan j.m) i there.link given.trail at.join.event
@@ -156,7 +159,7 @@ module _ {E M B : Type 0} where
       let ackn = ackn_asked laws run heard_all out i way there q (is_ackn q got.answer got.is_ackn spelled) telling in
       let asked = ackn.request in
       let own : SpellsControl (join_packet first) asked.bytes =
-      keeps.asks asked.at asked.bytes asked.packet (from_place way.link_heard ackn.asked _ asked.there)
+      keeps.asks asked.at asked.bytes asked.packet (what_has_a_place_is_in way.link_heard ackn.asked _ asked.there)
       asked.asks asked.spelled in
       let same : asked.bytes ≡ got.asking =
       laws.exact.one_spelling (packets.Control (join_packet first)) asked.bytes got.asking own got.asks in

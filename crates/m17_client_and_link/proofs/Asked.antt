@@ -4,6 +4,7 @@ use Rattle.std.specs.Prelude.{◌==◌, slice_get}
 use Rattle.std.specs.List.{flat_map, range_with_len}
 use Rattle.std.proofs.lemmas.List.{length-append}
 use Rattle.std.proofs.lemmas.Option.{none-some}
+use Rattle.m17_lists.proofs.Contents.{nothing_is_in_none, is_the_only_one, is_given_by_one, what_passes_is_in}
 use Rattle.m17_values.specs.declared.heard.Heard.{Heard}
 use Rattle.m17_values.specs.declared.heard.Heard.TheVariants as heard
 use Rattle.m17_values.specs.declared.member.Member.{Member}
@@ -23,7 +24,6 @@ use Rattle.m17_directory.specs.Laws.{JoinsAreTheClaims, is_join, join_event, joi
 use Rattle.m17_directory.specs.Outcome.{Here}
 use Rattle.m17_directory.specs.Routed.{asked_before, asks_at, here_of, past_at, routed}
 use Rattle.m17_client.specs.Way.{IsJoinRequest}
-use Rattle.m17_client_and_link.proofs.Listed.{alone, none_there, one_of, passes}
 
 -- The link heard the peer ask to join, at this entry.
 pub record HeardAsk (entries : List Heard) (x : Peer) (n : ℕ) : Type 0 where
@@ -101,14 +101,14 @@ record CameBy (n : ℕ) (notice : Notice) (event : Event) : Type 0 where
 
 where_true : {A : Type 0} → (b : Bool) (xs : List A) (x : A) → Contains (cond b xs []) x → Contains xs x
 where_true true xs x h = h
-where_true false xs x h = absurd (none_there x h)
+where_true false xs x h = absurd (nothing_is_in_none x h)
 
 by_notice : (here : Here) (letter : ℕ) (notice : Notice) (request : Option Request) (claim : Option Claim)
     (event : Event) → request ≡ request_in notice → Contains (joins_by here letter notice request claim) event
     → CameBy here.index notice event
 by_notice here letter (Notice.Sent from at p) (Some request) (Some claim) event is h =
     let same : join_event here from request claim ≡ event =
-    alone (join_event here from request claim) event
+    is_the_only_one (join_event here from request claim) event
     (where_true (request.letter == letter) (join_event here from request claim ∷ []) event h) in
     record {
       from = from;
@@ -120,12 +120,12 @@ by_notice here letter (Notice.Sent from at p) (Some request) (Some claim) event 
       brings =
           (claim.member, request.callsign, request.listen, claim.after, sym (ap (λ (e : Event). e.body) same));
     }
-by_notice here letter (Notice.Sent from at p) (Some request) None event is h = absurd (none_there event h)
-by_notice here letter (Notice.Sent from at p) None claim event is h = absurd (none_there event h)
-by_notice here letter (Notice.Garbled from at refusal) request claim event is h = absurd (none_there event h)
-by_notice here letter (Notice.Quiet at) request claim event is h = absurd (none_there event h)
-by_notice here letter Notice.Fault request claim event is h = absurd (none_there event h)
-by_notice here letter Notice.End request claim event is h = absurd (none_there event h)
+by_notice here letter (Notice.Sent from at p) (Some request) None event is h = absurd (nothing_is_in_none event h)
+by_notice here letter (Notice.Sent from at p) None claim event is h = absurd (nothing_is_in_none event h)
+by_notice here letter (Notice.Garbled from at refusal) request claim event is h = absurd (nothing_is_in_none event h)
+by_notice here letter (Notice.Quiet at) request claim event is h = absurd (nothing_is_in_none event h)
+by_notice here letter Notice.Fault request claim event is h = absurd (nothing_is_in_none event h)
+by_notice here letter Notice.End request claim event is h = absurd (nothing_is_in_none event h)
 
 -- what is looked back on at a position has as many entries as that
 asked_length : (setup : Setup) (entries : List Entry) (n : ℕ) → length (asked_before setup entries n) ≡ n
@@ -168,8 +168,8 @@ pub heard_ask : (setup : Setup) (hs : List Heard) (entries : List Entry) (letter
 heard_ask setup hs entries letter x event claims says h joins =
     let among : Contains (flat_map (joins_at setup entries letter) (range_with_len 0 (length entries))) event =
     subst (λ l. Contains l event) (claims setup entries letter)
-    (passes (λ (e : Event). is_join e.body) (routed setup entries letter) event h
+    (what_passes_is_in (λ (e : Event). is_join e.body) (routed setup entries letter) event h
     (is_a_join x event.body joins)) in
-    let (n, in_range, at_n) = one_of (joins_at setup entries letter) (range_with_len 0 (length entries)) event among in
+    let (n, in_range, at_n) = is_given_by_one (joins_at setup entries letter) (range_with_len 0 (length entries)) event among in
     let came = at_entry setup entries letter n event at_n in
     subst (λ (at : ℕ). HeardAsk hs x at) (sym came.index) (heard_at hs entries n x event says joins came)

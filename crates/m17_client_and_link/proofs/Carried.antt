@@ -3,6 +3,7 @@ use Rattle.std.proofs.Common.{◌≡◌, ℕ, List, [], map, refl, sym, ◌∙�
 use Rattle.std.specs.Prelude.{◌==◌, ◌&&◌, filter, slice_get}
 use Rattle.std.specs.Option.{option_map_or}
 use Rattle.std.proofs.lemmas.Option.{none-some}
+use Rattle.m17_lists.proofs.Contents.{mapped_is_in, is_mapped_from_one, filtered_was_in}
 use Rattle.m17_stream.specs.declared.packet.StreamPacket.{StreamPacket}
 use Rattle.m17_control.specs.declared.event.Event.{Event}
 use Rattle.m17_control.specs.declared.item.Item.{Item}
@@ -15,7 +16,7 @@ use Rattle.m17_reflect.specs.Run.{Run}
 use Rattle.m17_reflect.specs.Trails.{AreTrails, events_of}
 use Rattle.m17_reflect.specs.Queues.{Carriers, Carry, QueuesCarry, carried, row_at}
 use Rattle.m17_client_and_link.specs.BothEnds.{IsInATrail}
-use Rattle.m17_client_and_link.proofs.Listed.{beside, map_of, mapped, of_option, passed}
+use Rattle.m17_client_and_link.proofs.Listed.{beside, of_option}
 use Rattle.m17_client_and_link.proofs.Given.{Speaks, gives_out}
 
 abbrev item_in : Try → Item
@@ -25,12 +26,12 @@ item_in t = t.item
 was_given : (events : List Event) (c : Carriers) (carry : Carry events c) (q : ℕ) (queue : TrailEnd Item) (item : Item)
     → At c.queues q queue → Contains (items_of queue.order) item → Contains (items_given c.setup events) item
 was_given events c carry q queue item at h =
-    let (one, there, is) = map_of item_in
+    let (one, there, is) = is_mapped_from_one item_in
     (filter (λ t. t.queued && (q == t.item.member.place)) carry.tries) item
     (subst (λ l. Contains l item) (carry.each q queue at).order h) in
-    let was = (passed (λ t. t.queued && (q == t.item.member.place)) carry.tries one there).0 in
+    let was = (filtered_was_in (λ t. t.queued && (q == t.item.member.place)) carry.tries one there).0 in
     subst (λ l. Contains l item) carry.all_items
-    (subst (Contains (map item_in carry.tries)) is (mapped item_in carry.tries one was))
+    (subst (Contains (map item_in carry.tries)) is (mapped_is_in item_in carry.tries one was))
 
 -- which row a queue that carried something is in
 row_cases : (o : Option (List (TrailEnd Item))) (q : ℕ) (queue : TrailEnd Item)

@@ -5,6 +5,7 @@ use Rattle.std.specs.List.{range_with_len}
 use Rattle.std.specs.Option.{option_map}
 use Rattle.std.proofs.lemmas.List.Elements.{Contains-append_cases}
 use Rattle.std.proofs.lemmas.Option.{slice_get-map}
+use Rattle.m17_lists.proofs.Contents.{nothing_is_in_none, is_the_only_one, is_mapped_from_one, is_given_by_one}
 use Rattle.m17_values.specs.declared.member.Member.{Member}
 use Rattle.m17_stream.specs.declared.packet.StreamPacket.{StreamPacket}
 use Rattle.m17_control.specs.declared.event.Body.{Body}
@@ -24,7 +25,6 @@ use Rattle.m17_module.specs.Seats.{members_of, others_than, seat_in, seat_of, se
 use Rattle.m17_module.specs.Echoes.{echo_at}
 use Rattle.m17_module.specs.Items.{Setting, Setup, floor_setup, echo_items, echoes_at, item_to, items_at, items_given, pings_at, said_at, said_by, says, setting_at, to_one}
 use Rattle.m17_client_and_link.specs.BothEnds.{GivesOut}
-use Rattle.m17_client_and_link.proofs.Listed.{alone, map_of, none_there, one_of}
 
 -- what is said is this voice packet, as a frame or as an echo
 abbrev pub Speaks : StreamPacket → Said → Type 0
@@ -51,24 +51,24 @@ body_of item = item.body
 
 -- one who may be there is told this, or nobody
 to_one_is : (what : Said) (seat : Option Seat) (item : Item) → Contains (to_one what seat) item → what ≡ item.body
-to_one_is what None item h = absurd (none_there item h)
-to_one_is what (Some seat) item h = ap body_of (alone (item_to what seat) item h)
+to_one_is what None item h = absurd (nothing_is_in_none item h)
+to_one_is what (Some seat) item h = ap body_of (is_the_only_one (item_to what seat) item h)
 
 all_told : (what : Said) (seats : List Seat) (item : Item) → Contains (map (item_to what) seats) item
     → what ≡ item.body
-all_told what seats item h = let (seat, there, is) = map_of (item_to what) seats item h in ap body_of is
+all_told what seats item h = let (seat, there, is) = is_mapped_from_one (item_to what) seats item h in ap body_of is
 
 -- no ping speaks
 ping_is_silent : (b : Bool) (seats : List Seat) (item : Item) (q : StreamPacket)
     → Contains (cond b (map (item_to said.Ping) seats) []) item → Speaks q item.body → ⊥
 ping_is_silent true seats item q h speak = subst (Speaks q) (sym (all_told said.Ping seats item h)) speak
-ping_is_silent false seats item q h speak = none_there item h
+ping_is_silent false seats item q h speak = nothing_is_in_none item h
 
 -- an echo speaks what is echoed
 echo_speaks : (n : ℕ) (seats : List (Option Seat)) (echo : Option (Member × StreamPacket)) (item : Item)
     (q : StreamPacket) → Contains (echo_items n seats echo) item → Speaks q item.body
     → (k : Member) × (echo ≡ Some (k, q))
-echo_speaks n seats None item q h speak = absurd (none_there item h)
+echo_speaks n seats None item q h speak = absurd (nothing_is_in_none item h)
 echo_speaks n seats (Some e) item q h speak =
     let same : e.1 ≡ q =
     subst (Speaks q) (sym (to_one_is (said.Echo n e.1) (seat_of seats e.0) item h)) speak in
@@ -78,7 +78,7 @@ echoes_speak : (b : Bool) (n : ℕ) (seats : List (Option Seat)) (echo : Option 
     (q : StreamPacket) → Contains (cond b (echo_items n seats echo) []) item → Speaks q item.body
     → (k : Member) × (b ≡ true) × (echo ≡ Some (k, q))
 echoes_speak true n seats echo item q h speak = let (k, e) = echo_speaks n seats echo item q h speak in (k, refl, e)
-echoes_speak false n seats echo item q h speak = absurd (none_there item h)
+echoes_speak false n seats echo item q h speak = absurd (nothing_is_in_none item h)
 
 greets_no_voice : (b : Bool) (old : Option Seat) (seat : Seat) (after : ℕ) (item : Item) (q : StreamPacket)
     → Contains (cond b (to_one (said.Bye Replaced) old ++ item_to (said.Hello after) seat ∷ []) []) item
@@ -86,16 +86,16 @@ greets_no_voice : (b : Bool) (old : Option Seat) (seat : Seat) (after : ℕ) (it
 greets_no_voice true old seat after item q h speak =
     elim (Contains-append_cases (to_one (said.Bye Replaced) old) (item_to (said.Hello after) seat ∷ []) item h) [
       | inl bye ↦ subst (Speaks q) (sym (to_one_is (said.Bye Replaced) old item bye)) speak
-      | inr hello ↦ subst (Speaks q) (sym (ap body_of (alone (item_to (said.Hello after) seat) item hello))) speak
+      | inr hello ↦ subst (Speaks q) (sym (ap body_of (is_the_only_one (item_to (said.Hello after) seat) item hello))) speak
     ]
-greets_no_voice false old seat after item q h speak = none_there item h
+greets_no_voice false old seat after item q h speak = nothing_is_in_none item h
 
 frames_speak : (b : Bool) (n : ℕ) (p : StreamPacket) (seats : List Seat) (item : Item) (q : StreamPacket)
     → Contains (cond b (map (item_to (said.Frame n p)) seats) []) item → Speaks q item.body
     → (p ≡ q) × (b ≡ true)
 frames_speak true n p seats item q h speak =
     (subst (Speaks q) (sym (all_told (said.Frame n p) seats item h)) speak, refl)
-frames_speak false n p seats item q h speak = absurd (none_there item h)
+frames_speak false n p seats item q h speak = absurd (nothing_is_in_none item h)
 
 -- what an event says is a voice packet only where it is one that is admitted
 event_speaks : (now : Setting) (body : Body) (item : Item) (q : StreamPacket) → Contains (says now body) item
@@ -110,8 +110,8 @@ event_speaks now (Packet k p) item q h speak =
     (k, ap (Packet k) same, admitted)
 event_speaks now (Reply k control) item q h speak =
     absurd (subst (Speaks q) (sym (to_one_is (said.Reply control) (seat_of now.seats k) item h)) speak)
-event_speaks now Tick item q h speak = absurd (none_there item h)
-event_speaks now Stop item q h speak = absurd (none_there item h)
+event_speaks now Tick item q h speak = absurd (nothing_is_in_none item h)
+event_speaks now Stop item q h speak = absurd (nothing_is_in_none item h)
 
 kind_there : (events : List Event) (n : ℕ) (event : Event) → slice_get events n ≡ Some event
     → kind_at (acts_of events) n ≡ kind_of event.body
@@ -121,7 +121,7 @@ kind_there events n event e =
 position_speaks : (setup : Setup) (events : List Event) (n : ℕ) (o : Option Event) (item : Item) (q : StreamPacket)
     → slice_get events n ≡ o → Contains (said_by setup events n o) item → Speaks q item.body
     → (k : Member) × IsAdmittedPacket (floor_setup setup) (acts_of events) n k q
-position_speaks setup events n None item q e h speak = absurd (none_there item h)
+position_speaks setup events n None item q e h speak = absurd (nothing_is_in_none item h)
 position_speaks setup events n (Some event) item q e h speak =
     let (k, is, admitted) = event_speaks (setting_at setup events n event.tag.link) event.body item q h speak in
     (k, record { packet_is = kind_there events n event e ∙ ap kind_of is; admitted = admitted })
@@ -150,5 +150,5 @@ pub gives_out : (setup : Setup) (events : List Event) (item : Item) (q : StreamP
     → (n : ℕ) × GivesOut setup events n q
 unfolding items_given
 gives_out setup events item q h speak =
-    let (n, there, at_n) = one_of (items_at setup events) (range_with_len 0 (length events)) item h in
+    let (n, there, at_n) = is_given_by_one (items_at setup events) (range_with_len 0 (length events)) item h in
     (n, at_position setup events n item q at_n speak)

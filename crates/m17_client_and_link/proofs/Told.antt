@@ -4,6 +4,7 @@ use Rattle.std.specs.Prelude.{filter, not}
 use Rattle.std.specs.List.{AllByRecursion, flat_map, items_where_true}
 use Rattle.std.proofs.lemmas.List.Elements.{All-contains, All-from_recursion}
 use Rattle.std.proofs.lemmas.Option.{none-some, same_Some}
+use Rattle.m17_lists.proofs.Contents.{picked_was_in, mapped_is_in, is_mapped_from_one, is_given_by_one, filtered_was_in, what_passes_is_in}
 use Rattle.m17_values.specs.declared.peer.Peer.{Peer}
 use Rattle.m17_control.specs.Forms.{Spells}
 use Rattle.m17_control.specs.Spelled.{packet_said}
@@ -22,7 +23,7 @@ use Rattle.m17_send_order.specs.Joined.{Joined, Queues, is_to, items_of, packets
 use Rattle.m17_send_order.specs.Laws.{bytes_to}
 use Rattle.m17_send_order.specs.Orders.{IsShuffle}
 use Rattle.m17_reflect.specs.Sendings.{IsToldAs, Sends, memberships}
-use Rattle.m17_client_and_link.proofs.Listed.{map_of, mapped, one_of, passed, passes, some_of, was_there, zip_right}
+use Rattle.m17_client_and_link.proofs.Listed.{some_of, zip_right}
 
 -- what a new device tells is what came
 pub told_all : {A : Type 0} → (before : Option (List A)) (more all : List A) → StartsEmpty before
@@ -35,15 +36,15 @@ by_mark : {T : Type 0} → (first second : List T) (marked : List (Bool × T)) (
     → first ≡ map (λ m. m.1) (filter (λ m. m.0) marked) → second ≡ map (λ m. m.1) (filter (λ m. not m.0) marked)
     → Contains marked m → Contains first m.1 ⊎ Contains second m.1
 by_mark first second marked m true e first_is second_is there =
-    inl (rw first_is (mapped (λ m. m.1) (filter (λ m. m.0) marked) m (passes (λ m. m.0) marked m there e)))
+    inl (rw first_is (mapped_is_in (λ m. m.1) (filter (λ m. m.0) marked) m (what_passes_is_in (λ m. m.0) marked m there e)))
 by_mark first second marked m false e first_is second_is there =
-    inr (rw second_is (mapped (λ m. m.1) (filter (λ m. not m.0) marked) m
-    (passes (λ m. not m.0) marked m there (ap not e))))
+    inr (rw second_is (mapped_is_in (λ m. m.1) (filter (λ m. not m.0) marked) m
+    (what_passes_is_in (λ m. not m.0) marked m there (ap not e))))
 
 in_either : {T : Type 0} → (first second whole : List T) (x : T) → IsShuffle first second whole
     → Contains whole x → Contains first x ⊎ Contains second x
 in_either first second whole x order h =
-    let (m, there, is) = map_of (λ m. m.1) order.marked x (subst (λ l. Contains l x) order.whole_is h) in
+    let (m, there, is) = is_mapped_from_one (λ m. m.1) order.marked x (subst (λ l. Contains l x) order.whole_is h) in
     subst (λ y. Contains first y ⊎ Contains second y) is
     (by_mark first second order.marked m m.0 refl order.first_is order.second_is there)
 
@@ -63,8 +64,8 @@ from_items : (setup : Setup) (entries : List Entry) (queues : Queues) (x : Peer)
 from_items setup entries queues x q h =
     let (item, there, said) = some_of (λ (item : Item). packet_said item.body setup.name)
     (flat_map (items_of queues) (memberships setup entries x)) q h in
-    let (j, joined, for_it) = one_of (items_of queues) (memberships setup entries x) item there in
-    let (held, to_it) = passed (is_to j.member) (queues j.m j.member.place) item for_it in
+    let (j, joined, for_it) = is_given_by_one (items_of queues) (memberships setup entries x) item there in
+    let (held, to_it) = filtered_was_in (is_to j.member) (queues j.m j.member.place) item for_it in
     Telling.Carried j item to_it there held said
 
 told_to_peer : (setup : Setup) (entries : List Entry) (queues : Queues) (x : Peer) (attempts : List Datagram)
@@ -72,15 +73,15 @@ told_to_peer : (setup : Setup) (entries : List Entry) (queues : Queues) (x : Pee
     → (q : Packet) × Spells q bytes × Telling setup entries queues x q
 told_to_peer setup entries queues x attempts bytes apart is h =
     let to_x : Contains (bytes_to (is_peer x) attempts) bytes =
-    mapped (λ d. d.1) (filter (λ d. is_peer x d.0) attempts) (x, bytes)
-    (passes (λ d. is_peer x d.0) attempts (x, bytes) h (apart.itself x)) in
+    mapped_is_in (λ d. d.1) (filter (λ d. is_peer x d.0) attempts) (x, bytes)
+    (what_passes_is_in (λ d. is_peer x d.0) attempts (x, bytes) h (apart.itself x)) in
     let (q, told, spelled) = zip_right Spells is.told (bytes_to (is_peer x) attempts) bytes is.spelled to_x in (
       q,
       spelled,
       elim (in_either (map packets.Control (direct_replies setup entries x))
           (packets_of setup.name (flat_map (items_of queues) (memberships setup entries x))) is.told q is.order told) [
             | inl reply ↦
-                let (c, there, same) = map_of packets.Control (direct_replies setup entries x) q reply in
+                let (c, there, same) = is_mapped_from_one packets.Control (direct_replies setup entries x) q reply in
                 Telling.Replied c (sym same) there
             | inr item ↦ from_items setup entries queues x q item
           ],
@@ -95,7 +96,7 @@ said_to_peer setup entries queues before after said x bytes apart sends new is h
     let all : said ≡ items_where_true sends.said.went sends.attempts =
     told_all before.said (items_where_true sends.said.went sends.attempts) said new (sym sends.said.told ∙ is) in
     told_to_peer setup entries queues x sends.attempts bytes apart (sends.to_each x)
-    (was_there sends.said.went sends.attempts (x, bytes) (subst (λ l. Contains l (x, bytes)) all h))
+    (picked_was_in sends.said.went sends.attempts (x, bytes) (subst (λ l. Contains l (x, bytes)) all h))
 
 -- no direct reply is an ACKN
 kind_of_reply : (P : Direct → Type 0) (directs : List Direct) (d : Direct) → AllByRecursion P directs

@@ -7,6 +7,7 @@ use Rattle.std.proofs.lemmas.Nat.Bits.{bit_at_xor, bit_at-suc, bit_at-lt, bit_at
 use Rattle.std.proofs.lemmas.List.Concat.{flat_map-append}
 use Rattle.std.proofs.lemmas.List.Sums.{fold-append}
 use Rattle.std.proofs.lemmas.List.{length-append}
+use Rattle.m17_lists.proofs.Lengths.{same_cons}
 use Rattle.m17_crc.specs.Crc.{byte_bits, bits_of, less_front, remainder, number_of, dividend, crc_of}
 use Rattle.m17_crc.specs.Register.{after_bit}
 
@@ -20,9 +21,6 @@ unfoldable pub low_bits : ℕ → ℕ → List ℕ
 low_bits zero n = []
 low_bits (suc k) n = bit_at n k ∷ low_bits k n
 
-cons_same : (x y : ℕ) (xs ys : List ℕ) → x ≡ y → xs ≡ ys → x ∷ xs ≡ y ∷ ys
-cons_same x y xs ys e f = cc
-
 carry_free : (l c d : ℕ) → ((l + c) % 2 + d) % 2 ≡ (l + (c + d) % 2) % 2
 carry_free l c d = omega arith
 
@@ -30,16 +28,16 @@ pub less_front-twice : (d c l : List ℕ) → length d ≤ length c → less_fro
 less_front-twice [] c l h = refl
 less_front-twice (x ∷ d) [] l h = absurd (omega arith)
 less_front-twice (x ∷ d) (y ∷ c) [] h = refl
-less_front-twice (x ∷ d) (y ∷ c) (z ∷ l) h = cons_same _ _ _ _ (carry_free z y x) (less_front-twice d c l (omega arith))
+less_front-twice (x ∷ d) (y ∷ c) (z ∷ l) h = same_cons (carry_free z y x) (less_front-twice d c l (omega arith))
 
 less_zero : (b : ℕ) → b < 2 → (b + 0) % 2 ≡ b
 less_zero b h = omega arith
 
 pub less_front-zero_end : (c l : List ℕ) → AreBits l → less_front (c ++ 0 ∷ []) l ≡ less_front c l
 less_front-zero_end [] [] h = refl
-less_front-zero_end [] (z ∷ l) h = cons_same _ _ _ _ (less_zero z h.0) refl
+less_front-zero_end [] (z ∷ l) h = same_cons (less_zero z h.0) refl
 less_front-zero_end (y ∷ c) [] h = refl
-less_front-zero_end (y ∷ c) (z ∷ l) h = cons_same _ _ _ _ refl (less_front-zero_end c l h.1)
+less_front-zero_end (y ∷ c) (z ∷ l) h = same_cons refl (less_front-zero_end c l h.1)
 
 pub length-low_bits : (k n : ℕ) → length (low_bits k n) ≡ k
 unfolding low_bits
@@ -49,7 +47,7 @@ length-low_bits (suc k) n = ap suc (length-low_bits k n)
 pub less_front-low_bits : (k a c : ℕ) → less_front (low_bits k a) (low_bits k c) ≡ low_bits k (bit_xor c a)
 unfolding low_bits
 less_front-low_bits zero a c = refl
-less_front-low_bits (suc k) a c = cons_same _ _ _ _ (sym (bit_at_xor c a k)) (less_front-low_bits k a c)
+less_front-low_bits (suc k) a c = same_cons (sym (bit_at_xor c a k)) (less_front-low_bits k a c)
 
 zero_plus : (b : ℕ) → b < 2 → (0 + b) % 2 ≡ b
 zero_plus b h = omega arith
@@ -57,7 +55,7 @@ zero_plus b h = omega arith
 pub less_front-zeros : (k n : ℕ) → less_front (low_bits k n) (replicate k 0) ≡ low_bits k n
 unfolding low_bits
 less_front-zeros zero n = refl
-less_front-zeros (suc k) n = cons_same _ _ _ _ (zero_plus (bit_at n k) (bit_at-lt n k)) (less_front-zeros k n)
+less_front-zeros (suc k) n = same_cons (zero_plus (bit_at n k) (bit_at-lt n k)) (less_front-zeros k n)
 
 bit_at-low : (n k : ℕ) → k < 15 → bit_at (n % 2 ^ 15) k ≡ bit_at n k
 bit_at-low n k h = sym (bit_at_cat_low (n / 2 ^ 15) 15 (n % 2 ^ 15) k h) ∙ ap (λ m. bit_at m k) (shr_split n 15)
@@ -70,8 +68,8 @@ double_even n = omega arith
 
 pub low_bits-double : (k n : ℕ) → k ≤ 15 → low_bits k n ++ 0 ∷ [] ≡ low_bits (suc k) (2 * n % 2 ^ 16)
 unfolding low_bits
-low_bits-double zero n h = cons_same _ _ _ _ (sym (bit_at_lowest (2 * n % 2 ^ 16) ∙ double_even n)) refl
-low_bits-double (suc k) n h = cons_same _ _ _ _ (sym (bit_at-suc (2 * n % 2 ^ 16) k ∙ ap (λ m. bit_at m k) (half_of_double n) ∙ bit_at-low n k (omega arith))) (low_bits-double k n (omega arith))
+low_bits-double zero n h = same_cons (sym (bit_at_lowest (2 * n % 2 ^ 16) ∙ double_even n)) refl
+low_bits-double (suc k) n h = same_cons (sym (bit_at-suc (2 * n % 2 ^ 16) k ∙ ap (λ m. bit_at m k) (half_of_double n) ∙ bit_at-low n k (omega arith))) (low_bits-double k n (omega arith))
 
 -- ---- one bit
 
@@ -103,7 +101,7 @@ digit zero k n m tail small h bits = digit_zero k n m tail h bits ∙ ap (λ c. 
 digit (suc zero) k n m tail small h bits = digit_one k n m tail h bits ∙ ap (λ c. less_front (low_bits (suc k) (bit_xor (2 * n % 2 ^ 16) c)) tail) (let e : m ≡ m * 1 = omega arith in e)
 digit (suc (suc p)) k n m tail small h bits = absurd (omega arith)
 
-bit_below : (b n : ℕ) → (b + n) % 2 < 2
+pub bit_below : (b n : ℕ) → (b + n) % 2 < 2
 bit_below b n = omega arith
 
 pub remainder-bit : (digits n b : ℕ) (tail : List ℕ) → AreBits tail

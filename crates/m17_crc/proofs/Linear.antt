@@ -9,7 +9,7 @@ use Rattle.std.proofs.lemmas.Nat.Bits.{bit_at_xor, bit_at-lt, shr_and_one}
 use Rattle.std.proofs.lemmas.List.FromFn.{get_or-map-range_with_len}
 use Rattle.m17_crc.specs.Crc.{byte_bits, crc_of}
 use Rattle.m17_crc.specs.Register.{after_bit, after_byte}
-use Rattle.m17_crc.proofs.Division.{crc_of-append}
+use Rattle.m17_crc.proofs.Division.{bit_below, crc_of-append}
 
 pub xor_swap : (a b c d : ℕ) → bit_xor (bit_xor a b) (bit_xor c d) ≡ bit_xor (bit_xor a c) (bit_xor b d)
 xor_swap a b c d =
@@ -38,9 +38,6 @@ polynomial-xor (suc zero) (suc (suc q)) h k = absurd (omega arith)
 
 digit-sum : (a b m n : ℕ) → ((a + b) % 2 + (m + n) % 2) % 2 ≡ ((a + m) % 2 + (b + n) % 2) % 2
 digit-sum a b m n = omega arith
-
-bit_below : (b n : ℕ) → (b + n) % 2 < 2
-bit_below b n = omega arith
 
 after_bit-xor : (m n a b : ℕ) → after_bit (bit_xor m n) ((a + b) % 2) ≡ bit_xor (after_bit m a) (after_bit n b)
 unfolding after_bit

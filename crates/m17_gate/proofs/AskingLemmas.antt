@@ -1,12 +1,13 @@
 -- What bytes ask is what the packet asks that they spell.
-use Rattle.std.proofs.Common.{◌≡◌, ◌≢◌, ◌⊎◌, ◌==◌, ◌&&◌, ℕ, Bool, true, false, ◌+◌, ◌/◌, ◌%◌, ◌^◌, ◌<◌, ◌≤◌, List, [], ◌∷◌, ◌++◌, length, take, drop, codes, None, Some, refl, sym, ap, subst, ◌∙◌, inl, inr, arith, eqb-true, length-append}
-use Rattle.std.proofs.lemmas.Bool.{cases_Bool, false≢true, leb-true, le-leb}
+use Rattle.std.proofs.Common.{◌≡◌, ◌≢◌, ◌⊎◌, ◌==◌, ◌&&◌, ℕ, true, false, ◌+◌, ◌/◌, ◌%◌, ◌^◌, ◌<◌, List, [], ◌∷◌, ◌++◌, length, take, drop, codes, None, Some, refl, sym, ap, subst, ◌∙◌, inl, inr, arith, eqb-true, length-append}
+use Rattle.std.proofs.lemmas.Bool.{cases_Bool, leb-true, le-leb, false_from_ne_true}
 use Rattle.std.proofs.lemmas.Nat.{from_be_bytes-to_be_bytes_8}
 use Rattle.std.proofs.lemmas.Slice.Eq.{bytes_eq-Decides}
 use Rattle.std.proofs.lemmas.List.{take_at, drop_at}
 use Rattle.std.specs.Prelude.{is_some, nat_le, slice_index}
 use Rattle.std.specs.Int.{w64, to_be_bytes, from_be_bytes}
 use Rattle.std.specs.Str.{bytes_eq}
+use Rattle.m17_lists.proofs.Tests.{both_are_true, true_where_both_are}
 use Rattle.m17_fields.specs.Fields.{be_16, be_48, field_at, Fields16AreExact}
 use Rattle.m17_crc.specs.Crc.{crc_of}
 use Rattle.m17_callsign.specs.Letters.{callsign_of}
@@ -29,19 +30,6 @@ pub record LowerLaws : Type 0 where
   pub fields : Fields16AreExact
   pub remainders : (bytes : List ℕ) → crc_of bytes < 2 ^ 16
   pub callsigns : EachAddressHasOneCallsign
-
-both : (a b : Bool) → a && b ≡ true → (a ≡ true) × (b ≡ true)
-both true b h = (refl, h)
-both false b h = absurd (false≢true h)
-
-and_true : (a b : Bool) → a ≡ true → b ≡ true → a && b ≡ true
-and_true a b p q = rw (p, q) refl
-
-le_true : (a b : ℕ) → a ≤ b → nat_le a b ≡ true
-le_true a b h = le-leb a b h
-
-le_of : (a b : ℕ) → nat_le a b ≡ true → a ≤ b
-le_of a b h = leb-true a b h
 
 -- the number of the six bytes of an address
 pub number_of_48 : (a : ℕ) → a < 2 ^ 48 → from_be_bytes w64 (0 ∷ 0 ∷ be_48 a) ≡ a
@@ -66,26 +54,26 @@ record IsJoining (magic bytes : List ℕ) : Type 0 where
 
 joining : (magic bytes : List ℕ) → is_joining magic bytes ≡ true → IsJoining magic bytes
 joining magic bytes h =
-    let all = both (length bytes == 11 && bytes_eq (take 4 bytes) magic && is_some
+    let all = both_are_true (length bytes == 11 && bytes_eq (take 4 bytes) magic && is_some
     (callsign_of (address_at 4 bytes)))
     (nat_le 65 (slice_index bytes 10) && nat_le (slice_index bytes 10) 90) h in
-    let front = both (length bytes == 11 && bytes_eq (take 4 bytes) magic)
+    let front = both_are_true (length bytes == 11 && bytes_eq (take 4 bytes) magic)
     (is_some (callsign_of (address_at 4 bytes))) all.0 in
-    let first = both (length bytes == 11) (bytes_eq (take 4 bytes) magic) front.0 in
-    let bounds = both (nat_le 65 (slice_index bytes 10)) (nat_le (slice_index bytes 10) 90) all.1 in
+    let first = both_are_true (length bytes == 11) (bytes_eq (take 4 bytes) magic) front.0 in
+    let bounds = both_are_true (nat_le 65 (slice_index bytes 10)) (nat_le (slice_index bytes 10) 90) all.1 in
     record {
       long = eqb-true _ _ first.0;
       begins = (bytes_eq-Decides (take 4 bytes) magic).0 first.1;
       from = front.1;
-      letter = (le_of 65 (slice_index bytes 10) bounds.0, le_of (slice_index bytes 10) 90 bounds.1);
+      letter = (leb-true 65 (slice_index bytes 10) bounds.0, leb-true (slice_index bytes 10) 90 bounds.1);
     }
 
 is_join : (magic bytes : List ℕ) → IsJoining magic bytes → is_joining magic bytes ≡ true
 is_join magic bytes h =
-    and_true _ _ (and_true _ _
-    (and_true _ _ (rw h.long refl) ((bytes_eq-Decides (take 4 bytes) magic).1 h.begins)) h.from)
-    (and_true _ _ (le_true 65 (slice_index bytes 10) h.letter.0)
-    (le_true (slice_index bytes 10) 90 h.letter.1))
+    true_where_both_are _ _ (true_where_both_are _ _
+    (true_where_both_are _ _ (rw h.long refl) ((bytes_eq-Decides (take 4 bytes) magic).1 h.begins)) h.from)
+    (true_where_both_are _ _ (le-leb 65 (slice_index bytes 10) h.letter.0)
+    (le-leb (slice_index bytes 10) 90 h.letter.1))
 
 -- the parts of a stream packet
 record IsTalking (bytes : List ℕ) : Type 0 where
@@ -95,9 +83,9 @@ record IsTalking (bytes : List ℕ) : Type 0 where
 
 talking : (bytes : List ℕ) → is_talking bytes ≡ true → IsTalking bytes
 talking bytes h =
-    let all = both (length bytes == 54 && bytes_eq (take 4 bytes) (codes "M17 "))
+    let all = both_are_true (length bytes == 54 && bytes_eq (take 4 bytes) (codes "M17 "))
     (bytes_eq (drop 52 bytes) (be_16 (crc_of (take 52 bytes)))) h in
-    let first = both (length bytes == 54) (bytes_eq (take 4 bytes) (codes "M17 ")) all.0 in
+    let first = both_are_true (length bytes == 54) (bytes_eq (take 4 bytes) (codes "M17 ")) all.0 in
     record {
       long = eqb-true _ _ first.0;
       begins = (bytes_eq-Decides (take 4 bytes) (codes "M17 ")).0 first.1;
@@ -106,7 +94,7 @@ talking bytes h =
 
 is_talk : (bytes : List ℕ) → IsTalking bytes → is_talking bytes ≡ true
 is_talk bytes h =
-    and_true _ _ (and_true _ _ (rw h.long refl)
+    true_where_both_are _ _ (true_where_both_are _ _ (rw h.long refl)
     ((bytes_eq-Decides (take 4 bytes) (codes "M17 ")).1 h.begins))
     ((bytes_eq-Decides (drop 52 bytes) (be_16 (crc_of (take 52 bytes)))).1 h.crc)
 
@@ -134,18 +122,14 @@ asked_none : (bytes : List ℕ) → is_joining (codes "CONN") bytes ≡ false
 unfolding asked_in
 asked_none bytes fails neither nor = rw (fails, neither, nor) refl
 
-not_true : (b : Bool) → (b ≡ true → ⊥) → b ≡ false
-not_true true h = absurd (h refl)
-not_true false h = refl
-
 -- bytes of another length are no CONN and no LSTN, and no stream packet
 no_join : (magic bytes : List ℕ) (n : ℕ) → length bytes ≡ n → n ≢ 11
     → is_joining magic bytes ≡ false
-no_join magic bytes n long other = not_true (is_joining magic bytes) (λ holds. other (sym long
+no_join magic bytes n long other = false_from_ne_true (is_joining magic bytes) (λ holds. other (sym long
     ∙ (joining magic bytes holds).long))
 
 no_talk : (bytes : List ℕ) (n : ℕ) → length bytes ≡ n → n ≢ 54 → is_talking bytes ≡ false
-no_talk bytes n long other = not_true (is_talking bytes) (λ holds. other (sym long
+no_talk bytes n long other = false_from_ne_true (is_talking bytes) (λ holds. other (sym long
     ∙ (talking bytes holds).long))
 
 nothing : (bytes : List ℕ) (n : ℕ) → length bytes ≡ n → n ≢ 11 → n ≢ 54 → asked_in bytes ≡ None
@@ -277,11 +261,11 @@ pub refused : LowerLaws → (refusal : Refusal) (bytes : List ℕ) → Refuses b
     → asked_in bytes ≡ None
 refused laws refusal bytes r =
     asked_none bytes
-    (not_true (is_joining (codes "CONN") bytes) (λ holds. not_refused_join laws (codes "CONN") bytes
+    (false_from_ne_true (is_joining (codes "CONN") bytes) (λ holds. not_refused_join laws (codes "CONN") bytes
     (inl refl) (joining (codes "CONN") bytes holds) refusal r))
-    (not_true (is_joining (codes "LSTN") bytes) (λ holds. not_refused_join laws (codes "LSTN") bytes
+    (false_from_ne_true (is_joining (codes "LSTN") bytes) (λ holds. not_refused_join laws (codes "LSTN") bytes
     (inr refl) (joining (codes "LSTN") bytes holds) refusal r))
-    (not_true (is_talking bytes) (λ holds. not_refused_talk laws bytes (talking bytes holds) refusal
+    (false_from_ne_true (is_talking bytes) (λ holds. not_refused_talk laws bytes (talking bytes holds) refusal
     r))
 
 -- 54 bytes that ask anything ask to speak

@@ -1,6 +1,6 @@
 -- What a gate makes of what is heard.
 use Rattle.std.proofs.Common.{◌≡◌, ◌≢◌, ℕ, zero, suc, Bool, true, false, cond, List, [], ◌∷◌, ◌++◌, Option, None, Some, refl, sym, ap, ◌∙◌, inl, inr, arith}
-use Rattle.std.proofs.lemmas.Bool.{cases_Bool, false≢true}
+use Rattle.std.proofs.lemmas.Bool.{cases_Bool, not-false}
 use Rattle.std.proofs.lemmas.List.{map-append}
 use Rattle.std.proofs.lemmas.List.Elements.{All-contains}
 use Rattle.std.specs.Prelude.{not, replicate, option_map, if◌then◌else◌}
@@ -46,10 +46,6 @@ abbrev IsAllowedEntry : List Rule → Heard → Type 0
 IsAllowedEntry rules entry = (from : Peer) (at : ℕ) (bytes : List ℕ) (packet : Packet)
     → entry ≡ Datagram from at bytes → Spells packet bytes → allows rules packet ≡ true
 
-not_denied : (b : Bool) → not b ≡ false → b ≡ true
-not_denied true e = refl
-not_denied false e = absurd (false≢true (sym e))
-
 datagram_bytes : (from other : Peer) (at moment : ℕ) (bytes those : List ℕ)
     → Datagram from at bytes ≡ Datagram other moment those → bytes ≡ those
 datagram_bytes from other at moment bytes those e = cc
@@ -69,7 +65,7 @@ allowed_entry law rules (Datagram other moment those) from at bytes packet e h =
           (sym (ap (λ (b : Bool). cond b (Quiet moment) (Datagram other moment those)) fails)
           ∙ e) in
           ap (allows_any rules) (sym (law.spelled packet bytes h) ∙ ap asked_in (sym same))
-          ∙ not_denied (allows_any rules (asked_in those)) fails
+          ∙ not-false (allows_any rules (asked_in those)) fails
     ]
 allowed_entry law rules (Quiet moment) from at bytes packet e h = absurd
     (quiet_is_none moment at from bytes e)

@@ -1,6 +1,6 @@
 -- The lines of a rule text, one after another.
 use Rattle.std.proofs.Common.{◌≡◌, ◌≢◌, ℕ, zero, suc, true, false, cond, ◌+◌, ◌-◌, ◌<◌, ◌≤◌, List, [], ◌∷◌, ◌++◌, length, take, drop, map, Option, None, Some, refl, sym, ap, subst, ◌∙◌, inl, inr, arith, append_assoc}
-use Rattle.std.proofs.lemmas.Bool.{cases_lt, cases_Bool, false≢true, le-leb, leb-true}
+use Rattle.std.proofs.lemmas.Bool.{cases_lt, false≢true, le-leb, lt-leb}
 use Rattle.std.proofs.lemmas.List.{append-nil, length_push, take_all, length-drop, drop-drop}
 use Rattle.std.proofs.lemmas.List.Elements.{filter-append, All-append}
 use Rattle.std.proofs.lemmas.List.Sums.{fails_before_first}
@@ -26,21 +26,12 @@ abbrev pub lines_at : List ℕ → ℕ → List (List ℕ)
 lines_at text place =
     cond (nat_le place (length text)) (map content_of (slice_split is_feed (drop place text))) []
 
-within_true : (a b : ℕ) → a ≤ b → nat_le a b ≡ true
-within_true a b h = le-leb a b h
-
-past_false : (a b : ℕ) → b < a → nat_le a b ≡ false
-past_false a b h = elim (cases_Bool (nat_le a b)) [
-  | inl holds ↦ let within : a ≤ b = leb-true a b holds in absurd (omega arith)
-  | inr fails ↦ fails
-]
-
 lines_within : (text : List ℕ) (place : ℕ) → place ≤ length text
     → lines_at text place ≡ map content_of (slice_split is_feed (drop place text))
-lines_within text place h = rw (within_true place (length text) h) refl
+lines_within text place h = rw (le-leb place (length text) h) refl
 
 lines_past : (text : List ℕ) (place : ℕ) → length text < place → lines_at text place ≡ []
-lines_past text place h = rw (past_false place (length text) h) refl
+lines_past text place h = rw (lt-leb place (length text) h) refl
 
 -- the first line ends at the first line feed, or at the end
 pub first_line : (text : List ℕ) (place end : ℕ) → place ≤ length text

@@ -15,6 +15,8 @@ use Rattle.m17_module.specs.Items as module_items
 use Rattle.m17_module.specs.Events.{act_of, acts_of}
 use Rattle.m17_lookup.specs.Lookup.{last_below}
 use Rattle.m17_lookup.proofs.LastBelow.{last_below_same, last_below_is, last_below_lt, and_then_same}
+use Rattle.m17_lists.proofs.Places.{places_behind_follow, places_before_stay, first_of_rest_stands_behind}
+use Rattle.m17_lists.proofs.Lengths.{one_more_is_one_longer}
 use Rattle.m17_directory.specs.declared.dispatch.Dispatch.{Dispatch}
 use Rattle.m17_directory.specs.declared.dispatch.Dispatch.TheVariants.{ToModule, ToDoor}
 use Rattle.m17_directory.specs.declared.verdict.LinkVerdict.{LinkVerdict}
@@ -28,7 +30,6 @@ use Rattle.m17_house.specs.Replay.{is_packet_body, is_packet_from, verdict_among
 use Rattle.m17_plan.specs.Planned.{setup_of, module_setup}
 use Rattle.m17_house.specs.Carried.{events_of}
 use Rattle.m17_house.specs.SoFar.{found_from}
-use Rattle.m17_house.proofs.Lists.{slice_get_before, slice_get_end, length_more}
 use Rattle.m17_house.proofs.Found.{IsFound, found_none, found_one}
 
 -- positions at the end that don't pass
@@ -42,11 +43,6 @@ last_past test n (suc m) le h =
           let e : test m ≡ false = h m (omega arith) (omega arith) in
           cond-false (test m) (Some m) (last_below test m) e ∙ last_past test n m (omega arith) (λ k a b. h k a (omega arith))
     ]
-
-slice_get_after : {A : Type 0} (xs ys : List A) (m j : ℕ) → m ≡ length xs + j → slice_get (xs ++ ys) m ≡ slice_get ys j
-slice_get_after [] ys m j e = ap (slice_get ys) (let same : m ≡ j = omega arith in same)
-slice_get_after (x ∷ xs) ys zero j e = absurd (omega arith)
-slice_get_after (x ∷ xs) ys (suc m) j e = slice_get_after xs ys m j (omega arith)
 
 -- the acts of events that go on
 acts_append : (a b : List Event) → acts_of (a ++ b) ≡ acts_of a ++ acts_of b
@@ -81,15 +77,15 @@ among_is law made n a event b index one none =
     let events : List Event = a ++ event ∷ b in
     let test : ℕ → Bool = λ i. is_packet_from n (slice_get events i) in
     let len : length events ≡ length a + suc (length b) = length-append a (event ∷ b) in
-    let here : test (length a) ≡ true = ap (is_packet_from n) (slice_get_end a event b) ∙ and_from (event.tag.index == n) (is_packet_body event.body) (eq-eqb event.tag.index n index) one in
+    let here : test (length a) ≡ true = ap (is_packet_from n) (first_of_rest_stands_behind a event b) ∙ and_from (event.tag.index == n) (is_packet_body event.body) (eq-eqb event.tag.index n index) one in
     let after : (m : ℕ) → length a < m → m < length events → test m ≡ false = λ m above below.
     let at : m ≡ length a + suc (m - suc (length a)) = omega arith in
-    ap (is_packet_from n) (slice_get_after a (event ∷ b) m (suc (m - suc (length a))) at) ∙ none_there n b (m - suc (length a)) none in
+    ap (is_packet_from n) (places_behind_follow a (event ∷ b) (suc (m - suc (length a))) m at) ∙ none_there n b (m - suc (length a)) none in
     let found : last_below test (length events) ≡ Some (length a) = last_below_is test (length events) (length a) (omega (arith, len)) here after in
     let split : events ≡ (a ++ event ∷ []) ++ b = sym (append_assoc a (event ∷ []) b) in
     ap (option_and_then (verdict_at (floor_setup made) (acts_of events))) found
     ∙ ap (λ xs. verdict_at (floor_setup made) (acts_of xs) (length a)) split
-    ∙ later_verdict law made (a ++ event ∷ []) b (length a) (omega (arith, length_more a event))
+    ∙ later_verdict law made (a ++ event ∷ []) b (length a) (omega (arith, one_more_is_one_longer a event))
 
 -- Later events of another entry change nothing of it.
 among_before : LaterActsChangeNoVerdict → (made : module_items.Setup) (i n : ℕ) (a b : List Event) → (i ≡ n → ⊥) → HaveIndex n b → verdict_among made i (a ++ b) ≡ verdict_among made i a
@@ -99,9 +95,9 @@ among_before law made i n a b apart all =
     let past : last_below test (length (a ++ b)) ≡ last_below test (length a) =
     last_past test (length a) (length (a ++ b)) (omega (arith, length-append a b)) (λ k above below.
     let at : k ≡ length a + (k - length a) = omega arith in
-    ap (is_packet_from i) (slice_get_after a b k (k - length a) at) ∙ other_there n i b (k - length a) apart all) in
+    ap (is_packet_from i) (places_behind_follow a b (k - length a) k at) ∙ other_there n i b (k - length a) apart all) in
     let same : last_below test (length a) ≡ last_below old (length a) =
-    last_below_same test old (length a) (λ m below. ap (is_packet_from i) (slice_get_before a b m below)) in
+    last_below_same test old (length a) (λ m below. ap (is_packet_from i) (places_before_stay a b m below)) in
     ap (option_and_then (verdict_at (floor_setup made) (acts_of (a ++ b)))) (past ∙ same)
     ∙ and_then_same (last_below old (length a)) (verdict_at (floor_setup made) (acts_of (a ++ b))) (verdict_at (floor_setup made) (acts_of a))
     (λ p e. later_verdict law made a b p (last_below_lt old (length a) p e))

@@ -5,6 +5,7 @@ use Rattle.std.specs.Option.{option_to_list}
 use Rattle.std.proofs.lemmas.List.{map-append}
 use Rattle.std.proofs.lemmas.List.Elements.{filter_map-append}
 use Rattle.std.proofs.lemmas.Bool.{cases_eq, false≢true, eq-eqb, ne_eqb}
+use Rattle.m17_lists.proofs.Sums.{count_of_both}
 use Rattle.m17_values.specs.declared.peer.Peer.{Peer}
 use Rattle.m17_control.specs.declared.event.Event.{Event}
 use Rattle.m17_control.specs.declared.item.Item.{Item}
@@ -25,7 +26,7 @@ use Rattle.m17_house.specs.Replay.{packet_to}
 use Rattle.m17_plan.specs.Planned.{module_setup}
 use Rattle.m17_house.specs.Tallied.{AreTalliesOf, HasSaidMore}
 use Rattle.m17_house.specs.Carried.{events_of, said_by_events, said_past_modules, said_after, RoomStands, IsRoomStep, HasCarried, answer_to}
-use Rattle.m17_house.proofs.Lists.{count_append, filter_map_nothing, filter_map_one}
+use Rattle.m17_house.proofs.Lists.{filter_map_nothing, filter_map_one}
 use Rattle.m17_house.proofs.Tallies.{same_count_tallies}
 use Rattle.m17_house.proofs.Cells.{served_letter}
 
@@ -63,14 +64,14 @@ module _ (kind : Packet → Bool) (test : ℕ → Bool) (f g : ℕ → List Pack
   here_by a r true t e h =
       ap (λ xs. count_by kind (xs ++ flat_map g r)) e
       ∙ ap (λ xs. count_by kind ((f a ++ more) ++ xs)) h
-      ∙ (omega (arith, count_append kind (f a ++ more) (flat_map f r), count_append kind (f a) more, count_append kind (f a) (flat_map f r)))
+      ∙ (omega (arith, count_of_both kind (f a ++ more) (flat_map f r), count_of_both kind (f a) more, count_of_both kind (f a) (flat_map f r)))
   here_by a r false t e h = absurd (false≢true t)
 
   beside_by : (a : ℕ) (r : List ℕ) (b : Bool) → g a ≡ f a → counted g r ≡ counted f r + count_by kind more → counted g (cond b (a ∷ r) r) ≡ counted f (cond b (a ∷ r) r) + count_by kind more
   unfolding counted
   beside_by a r true e h =
       ap (λ xs. count_by kind (xs ++ flat_map g r)) e
-      ∙ (omega (arith, h, count_append kind (f a) (flat_map g r), count_append kind (f a) (flat_map f r)))
+      ∙ (omega (arith, h, count_of_both kind (f a) (flat_map g r), count_of_both kind (f a) (flat_map f r)))
   beside_by a r false e h = h
 
   from : (a n : ℕ) → a ≤ letter → letter < a + n → test letter ≡ true → counted g (filter test (range_with_len a n)) ≡ counted f (filter test (range_with_len a n)) + count_by kind more
@@ -110,10 +111,10 @@ event_counts law plan done letter event x items served items_are kind =
     from kind (serves plan.modules) f g letter more (λ l other. ap (said_by_events plan x l) (events_other l letter event done other)) its 65 26 in_range.0 (omega (arith, in_range.1)) served in
     let past : said_past_modules x longer ≡ said_past_modules x done = ap (map packets.Control) (filter_map_nothing (reply_for x) done (ToModule letter event) refl) in
     let p : List Packet = said_past_modules x done in
-    count_append kind (p ++ flat_map f (letters_of plan.modules)) more
-    ∙ ap (λ n. n + count_by kind more) (count_append kind p (flat_map f (letters_of plan.modules)))
+    count_of_both kind (p ++ flat_map f (letters_of plan.modules)) more
+    ∙ ap (λ n. n + count_by kind more) (count_of_both kind p (flat_map f (letters_of plan.modules)))
     ∙ (let e : (count_by kind p + count_by kind (flat_map f (letters_of plan.modules))) + count_by kind more ≡ count_by kind p + count_by kind (flat_map g (letters_of plan.modules)) = omega (arith, modules) in e)
-    ∙ sym (count_append kind p (flat_map g (letters_of plan.modules)))
+    ∙ sym (count_of_both kind p (flat_map g (letters_of plan.modules)))
     ∙ ap (λ xs. count_by kind (xs ++ flat_map g (letters_of plan.modules))) (sym past)
 
 -- The same after one reply more.
@@ -132,7 +133,7 @@ reply_counts plan done direct x kind =
     let p : List Packet = said_past_modules x done in
     let m : List Packet = flat_map f (letters_of plan.modules) in
     let counts : count_by kind ((p ++ m) ++ more) ≡ count_by kind ((p ++ more) ++ m) =
-    omega (arith, count_append kind (p ++ m) more, count_append kind p m, count_append kind (p ++ more) m, count_append kind p more) in
+    omega (arith, count_of_both kind (p ++ m) more, count_of_both kind p m, count_of_both kind (p ++ more) m, count_of_both kind p more) in
     counts ∙ ap (λ xs. count_by kind (xs ++ m)) (sym past) ∙ ap (λ xs. count_by kind (said_past_modules x longer ++ xs)) (sym modules)
 
 -- where each module stands after one event more

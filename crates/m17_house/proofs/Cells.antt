@@ -4,12 +4,13 @@ use Rattle.std.specs.Int.{bit_at}
 use Rattle.std.specs.Prelude.{◌==◌}
 use Rattle.std.proofs.lemmas.Option.{same_Some, slice_get_within, slice_get-get_or}
 use Rattle.std.proofs.lemmas.Bool.{cases_lt, and_parts, leb-true, false≢true}
+use Rattle.m17_lists.proofs.Places.{places_before_stay, first_of_rest_stands_behind}
+use Rattle.m17_lists.proofs.Lengths.{one_more_is_one_longer}
 use Rattle.m17_control.specs.declared.modules.Modules.{Modules}
 use Rattle.m17_control.specs.Modules.{serves}
 use Rattle.m17_module.specs.StandsFor.{ModuleKept}
 use Rattle.m17_plan.specs.declared.plan.Plan.{Plan}
 use Rattle.m17_house.specs.Carried.{IsNewRoom, RoomStands}
-use Rattle.m17_house.proofs.Lists.{slice_get_before, slice_get_end, length_more}
 
 -- the letters that are served are A to Z
 pub served_letter : (m : Modules) (letter : ℕ) → serves m letter ≡ true → (65 ≤ letter) × (letter ≤ 90)
@@ -24,11 +25,11 @@ pub new_more : (plan : Plan) (cells : List (Option ModuleKept)) (room : Option M
     (k : ℕ) (cell : Option ModuleKept) → slice_get (cells ++ room ∷ []) k ≡ Some cell → IsNewRoom plan (k + 65) cell
 new_more plan cells room letter at each new k cell is =
     elim (cases_lt k (length cells)) [
-      | inl below ↦ each k cell (sym (slice_get_before cells (room ∷ []) k below) ∙ is)
+      | inl below ↦ each k cell (sym (places_before_stay cells (room ∷ []) k below) ∙ is)
       | inr above ↦
           let within : k < length (cells ++ room ∷ []) = slice_get_within (cells ++ room ∷ []) k cell is in
-          let here : k ≡ length cells = omega (arith, within, length_more cells room) in
-          let it : room ≡ cell = same_Some room cell (sym (slice_get_end cells room []) ∙ ap (slice_get (cells ++ room ∷ [])) (sym here) ∙ is) in
+          let here : k ≡ length cells = omega (arith, within, one_more_is_one_longer cells room) in
+          let it : room ≡ cell = same_Some room cell (sym (first_of_rest_stands_behind cells room []) ∙ ap (slice_get (cells ++ room ∷ [])) (sym here) ∙ is) in
           subst (λ (n : ℕ). IsNewRoom plan n cell) (sym at ∙ ap (λ n. n + 65) (sym here))
           (subst (λ (r : Option ModuleKept). IsNewRoom plan letter r) it new)
     ]

@@ -4,6 +4,10 @@ use Rattle.std.specs.List.{range_with_len}
 use Rattle.std.specs.Option.{option_and_then}
 use Rattle.std.proofs.lemmas.List.{take-append-le}
 use Rattle.std.proofs.lemmas.Bool.{cases_lt, cases_eq, and_left, eq-eqb, ne_eqb}
+use Rattle.m17_lists.proofs.Places.{places_before_stay}
+use Rattle.m17_lists.proofs.Lengths.{one_more_is_one_longer}
+use Rattle.m17_lists.proofs.Sums.{count_of_both, count_of_one}
+use Rattle.m17_lists.proofs.Ranges.{range_ends_in_its_last}
 use Rattle.m17_values.specs.declared.member.Member.{Member}
 use Rattle.m17_directory.specs.declared.known.Known.{Known}
 use Rattle.m17_directory.specs.Entries.{Claim, Entry, Setup, notice_of, notice_at, claim_at}
@@ -14,30 +18,25 @@ use Rattle.m17_plan.specs.declared.plan.Plan.{Plan}
 use Rattle.m17_house.specs.Replay.{given_before, IsFreeClaim, IsLeastFree, IsChosenAt}
 use Rattle.m17_plan.specs.Planned.{setup_of}
 use Rattle.m17_house.specs.SoFar.{IsFreeMember, IsChoice, AreCounts, AreChosen, claim_of}
-use Rattle.m17_house.proofs.Lists.{slice_get_before, length_more, count_append, count_one}
 use Rattle.m17_house.proofs.Posts.{claim_end}
 
 -- one for a test that passes
 abbrev one_if : Bool → ℕ
 one_if b = cond b 1 0
 
-pub range_more : (a n : ℕ) → range_with_len a (suc n) ≡ range_with_len a n ++ (a + n) ∷ []
-range_more a zero = ap (λ m. m ∷ []) (let e : a ≡ a + 0 = omega arith in e)
-range_more a (suc n) = ap (λ xs. a ∷ xs) (range_more (a + 1) n ∙ ap (λ m. range_with_len (a + 1) n ++ m ∷ []) (let e : (a + 1) + n ≡ a + suc n = omega arith in e))
-
 pub count_range : (p q : ℕ → Bool) (a n : ℕ) → ((j : ℕ) → j < a + n → p j ≡ q j) → count_by p (range_with_len a n) ≡ count_by q (range_with_len a n)
 count_range p q a zero same = refl
 count_range p q a (suc n) same =
-    count_append p (a ∷ []) (range_with_len (a + 1) n)
-    ∙ ap (λ m. m + count_by p (range_with_len (a + 1) n)) (count_one p a ∙ ap one_if (same a (omega arith)) ∙ sym (count_one q a))
+    count_of_both p (a ∷ []) (range_with_len (a + 1) n)
+    ∙ ap (λ m. m + count_by p (range_with_len (a + 1) n)) (count_of_one p a ∙ ap one_if (same a (omega arith)) ∙ sym (count_of_one q a))
     ∙ ap (λ m. count_by q (a ∷ []) + m) (count_range p q (a + 1) n (λ j below. same j (omega arith)))
-    ∙ sym (count_append q (a ∷ []) (range_with_len (a + 1) n))
+    ∙ sym (count_of_both q (a ∷ []) (range_with_len (a + 1) n))
 
 claim_before : (entries : List Entry) (e : Entry) (i : ℕ) → i < length entries → claim_at (entries ++ e ∷ []) i ≡ claim_at entries i
-claim_before entries e i below = ap (option_and_then (λ (entry : Entry). entry.claim)) (slice_get_before entries (e ∷ []) i below)
+claim_before entries e i below = ap (option_and_then (λ (entry : Entry). entry.claim)) (places_before_stay entries (e ∷ []) i below)
 
 pub notice_before : (entries : List Entry) (e : Entry) (i : ℕ) → i < length entries → notice_at (entries ++ e ∷ []) i ≡ notice_at entries i
-notice_before entries e i below = ap notice_of (slice_get_before entries (e ∷ []) i below)
+notice_before entries e i below = ap notice_of (places_before_stay entries (e ∷ []) i below)
 
 pub given_same : (entries : List Entry) (e : Entry) (place i : ℕ) → i ≤ length entries → given_before (entries ++ e ∷ []) place i ≡ given_before entries place i
 given_same entries e place i le =
@@ -49,11 +48,11 @@ given_more entries e place =
     let n : ℕ = length entries in
     let test : ℕ → Bool = λ j. is_of_place place (claim_at (entries ++ e ∷ []) j) in
     let last : test (0 + n) ≡ is_of_place place e.claim = ap test (let z : 0 + n ≡ n = omega arith in z) ∙ ap (is_of_place place) (claim_end entries e) in
-    ap (λ m. count_by test (range_with_len 0 m)) (length_more entries e)
-    ∙ ap (count_by test) (range_more 0 n)
-    ∙ count_append test (range_with_len 0 n) ((0 + n) ∷ [])
+    ap (λ m. count_by test (range_with_len 0 m)) (one_more_is_one_longer entries e)
+    ∙ ap (count_by test) (range_ends_in_its_last 0 n)
+    ∙ count_of_both test (range_with_len 0 n) ((0 + n) ∷ [])
     ∙ ap (λ m. m + count_by test ((0 + n) ∷ [])) (given_same entries e place n (omega arith))
-    ∙ ap (λ m. given_before entries place n + m) (count_one test (0 + n) ∙ ap one_if last)
+    ∙ ap (λ m. given_before entries place n + m) (count_of_one test (0 + n) ∙ ap one_if last)
 
 -- The counts where the entry has no claim, ..
 pub counts_unclaimed : (given : List ℕ) (entries : List Entry) (e : Entry) → e.claim ≡ None → AreCounts given entries → AreCounts given (entries ++ e ∷ [])
@@ -136,7 +135,7 @@ chosen_more law plan entries e before last n below =
     elim (cases_lt n (length entries)) [
       | inl earlier ↦ chosen_before law (setup_of plan) entries e n earlier (before n earlier)
       | inr not_earlier ↦
-          let here : length entries ≡ n = omega (arith, length_more entries e) in
+          let here : length entries ≡ n = omega (arith, one_more_is_one_longer entries e) in
           subst (λ (i : ℕ). IsChosenAt (setup_of plan) (entries ++ e ∷ []) i) here last
     ]
 

@@ -5,6 +5,7 @@ use Rattle.std.specs.Option.{option_or, option_map}
 use Rattle.std.proofs.lemmas.List.{append-nil}
 use Rattle.std.proofs.lemmas.Option.{slice_get-map}
 use Rattle.std.proofs.lemmas.Bool.{true≢false}
+use Rattle.m17_lists.proofs.Places.{first_of_rest_stands_behind}
 use Rattle.m17_control.specs.declared.event.Body.{Body}
 use Rattle.m17_control.specs.declared.event.Body.TheVariants as body
 use Rattle.m17_control.specs.declared.event.Event.{Event}
@@ -22,14 +23,13 @@ use Rattle.m17_plan.specs.declared.plan.Plan.{Plan}
 use Rattle.m17_plan.specs.Planned.{module_setup}
 use Rattle.m17_house.specs.Carried.{events_of, answer_to}
 use Rattle.m17_house.specs.SoFar.{found_from}
-use Rattle.m17_house.proofs.Lists.{slice_get_end}
 
 -- what the floor sees of the last event
 kind_of_get : (o : Option Event) (event : Event) → o ≡ Some event → kind_or_other (option_map act_of o) ≡ kind_of event.body
 kind_of_get o event e = ap (λ x. kind_or_other (option_map act_of x)) e
 
 kind_end : (events : List Event) (event : Event) → kind_at (acts_of (events ++ event ∷ [])) (length events) ≡ kind_of event.body
-kind_end events event = ap kind_or_other (slice_get-map act_of (events ++ event ∷ []) (length events)) ∙ kind_of_get (slice_get (events ++ event ∷ []) (length events)) event (slice_get_end events event [])
+kind_end events event = ap kind_or_other (slice_get-map act_of (events ++ event ∷ []) (length events)) ∙ kind_of_get (slice_get (events ++ event ∷ []) (length events)) event (first_of_rest_stands_behind events event [])
 
 no_packet_kind : (what : Body) → is_packet what ≡ false → acts.is_packet (kind_of what) ≡ false
 no_packet_kind (body.Join k peer callsign listens after) e = refl

@@ -20,6 +20,7 @@ use Rattle.m17_module.specs.Events.{acts_of}
 use Rattle.m17_module.specs.Laws as module_law
 use Rattle.m17_lookup.specs.Lookup.{last_below}
 use Rattle.m17_lookup.proofs.LastBelow.{last_below_same}
+use Rattle.m17_lists.proofs.Tests.{true_for_each_other_is_same}
 use Rattle.m17_directory.specs.declared.verdict.LinkVerdict.{LinkVerdict}
 use Rattle.m17_directory.specs.declared.verdict.LinkVerdict.TheVariants as link
 use Rattle.m17_directory.specs.declared.verdict.Act.TheVariants as act
@@ -88,17 +89,12 @@ same_claim entries i j k m e g h =
 same_index : (plan : Plan) (entries : List Entry) (i j : ℕ) (k m : Member) → AreGivenFreely (setup_of plan) entries → k ≡ m → Gives (claim_at entries i) k → Gives (claim_at entries j) m → i ≡ j
 same_index plan entries i j k m given e g h = given.once i j g.claim h.claim g.is h.is (g.member ∙ e ∙ sym h.member)
 
-bools : (b c : Bool) → (b ≡ true → c ≡ true) → (c ≡ true → b ≡ true) → b ≡ c
-bools true c f g = sym (f refl)
-bools false true f g = g refl
-bools false false f g = refl
-
 one_to_one : (plan : Plan) (one other : List Entry) → AreGivenFreely (setup_of plan) one → AreGivenFreely (setup_of plan) other → IsOneToOne (stands_for one other)
 one_to_one plan one other r s = record {
   same = λ k m k' m' h g.
       let x : Stands one other k k' = stands_from one other k k' h in
       let y : Stands one other m m' = stands_from one other m m' g in
-      bools (is_same k m) (is_same k' m')
+      true_for_each_other_is_same (is_same k m) (is_same k' m')
       (λ e. member_same k' m' (same_claim other x.at y.at k' m' (same_index plan one x.at y.at k m r (same_member k m e) x.first y.first) x.second y.second))
       (λ e. member_same k m (same_claim one x.at y.at k m (same_index plan other x.at y.at k' m' s (same_member k' m' e) x.second y.second) x.first y.first));
 }

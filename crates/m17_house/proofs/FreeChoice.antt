@@ -3,6 +3,8 @@ use Rattle.std.proofs.Common.{◌≡◌, ℕ, zero, suc, ◌+◌, ◌<◌, ◌�
 use Rattle.std.specs.List.{range_with_len}
 use Rattle.std.proofs.lemmas.Bool.{cases_lt, ltb-true, eq-eqb}
 use Rattle.std.proofs.lemmas.Option.{same_Some, slice_get_within}
+use Rattle.m17_lists.proofs.Sums.{count_of_both, count_of_one}
+use Rattle.m17_lists.proofs.Ranges.{range_ends_in_its_last}
 use Rattle.m17_values.specs.declared.member.Member.{Member}
 use Rattle.m17_directory.specs.declared.known.Known.{Known}
 use Rattle.m17_directory.specs.Entries.{Claim, Entry, Setup, claim_at}
@@ -13,8 +15,6 @@ use Rattle.m17_plan.specs.declared.plan.Plan.{Plan}
 use Rattle.m17_house.specs.Replay.{IsLeastFree, IsFreeClaim, IsChosenAt, given_before}
 use Rattle.m17_plan.specs.Planned.{setup_of}
 use Rattle.m17_house.specs.Laws.{ReplaysGiveFreely}
-use Rattle.m17_house.proofs.Chosen.{range_more}
-use Rattle.m17_house.proofs.Lists.{count_append, count_one}
 use Rattle.m17_house.proofs.Places.{places_had}
 
 -- the least free place is below the places where the others are fewer
@@ -62,9 +62,9 @@ given_suc : (entries : List Entry) (place n : ℕ) → given_before entries plac
 given_suc entries place n =
     let test : ℕ → Bool = λ i. is_of_place place (claim_at entries i) in
     let at : 0 + n ≡ n = omega arith in
-    ap (count_by test) (range_more 0 n)
-    ∙ count_append test (range_with_len 0 n) ((0 + n) ∷ [])
-    ∙ ap (λ m. count_by test (range_with_len 0 n) + m) (count_one test (0 + n))
+    ap (count_by test) (range_ends_in_its_last 0 n)
+    ∙ count_of_both test (range_with_len 0 n) ((0 + n) ∷ [])
+    ∙ ap (λ m. count_by test (range_with_len 0 n) + m) (count_of_one test (0 + n))
     ∙ ap (λ m. count_by test (range_with_len 0 n) + cond (test m) 1 0) at
 
 bit_le : (b : Bool) (n : ℕ) → n ≤ n + cond b 1 0

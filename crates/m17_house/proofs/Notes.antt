@@ -1,7 +1,7 @@
 -- Who has left is noted, and then nobody is departing.
 use Rattle.std.proofs.Common.{◌≡◌, ◌||◌, ◌==◌, Bool, true, false, not, cond, List, [], ◌∷◌, ◌++◌, map, refl, ap}
 use Rattle.std.specs.List.{list_any, AllByRecursion}
-use Rattle.std.proofs.lemmas.Bool.{false≢true, and_from, eq-eqb}
+use Rattle.std.proofs.lemmas.Bool.{false≢true, and_from, eq-eqb, or_left, or_right}
 use Rattle.m17_values.specs.declared.member.Member.{Member}
 use Rattle.m17_directory.specs.declared.known.Departed.{Departed}
 use Rattle.m17_directory.specs.declared.known.Known.{Known}
@@ -47,18 +47,10 @@ all_gone (m ∷ members) departing all = all_gone members (without_member m depa
 is_member_self : (k : Known) → is_member k.member (departed_of k) ≡ true
 is_member_self k = and_from (k.member.place == k.member.place) (k.member.generation == k.member.generation) (eq-eqb k.member.place k.member.place refl) (eq-eqb k.member.generation k.member.generation refl)
 
-or_right : (a b : Bool) → b ≡ true → (a || b) ≡ true
-or_right true b e = refl
-or_right false b e = e
-
 more_noted : (m : Member) (members : List Member) (departing : List Departed) → AllNoted members departing → AllNoted (m ∷ members) departing
 unfolding AllNoted
 more_noted m members [] all = tt
 more_noted m members (d ∷ departing) all = (or_right (is_member m d) (list_any (λ k. is_member k d) members) all.0, more_noted m members departing all.1)
-
-or_left : (a b : Bool) → a ≡ true → (a || b) ≡ true
-or_left true b e = refl
-or_left false b e = absurd (false≢true e)
 
 each_left : (left : List Known) → AllNoted (map (λ (k : Known). k.member) left) (map departed_of left)
 unfolding AllNoted

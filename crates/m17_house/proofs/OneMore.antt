@@ -2,6 +2,7 @@
 use Rattle.std.proofs.Common.{◌≡◌, ℕ, ◌<◌, true, false, List, [], ◌∷◌, ◌++◌, length, slice_index, Option, None, Some, refl, ap, sym, subst, ◌∙◌, arith, append_assoc}
 use Rattle.std.specs.List.{filter_map}
 use Rattle.std.proofs.lemmas.List.{length-append}
+use Rattle.m17_lists.proofs.Lengths.{one_more_is_one_longer}
 use Rattle.m17_values.specs.declared.heard.Heard.{Heard}
 use Rattle.m17_floor.specs.declared.verdict.Verdict.{Verdict}
 use Rattle.m17_floor.specs.Laws.{LaterActsChangeNoVerdict, OnlyPacketsHaveVerdicts}
@@ -20,7 +21,6 @@ use Rattle.m17_house.specs.declared.run.Run.{Run}
 use Rattle.m17_plan.specs.Planned.{IsPlan, setup_of}
 use Rattle.m17_house.specs.Carried.{HasCarried}
 use Rattle.m17_house.specs.SoFar.{change, scene, IsGiven, IsOneMore, IsSoFar, IsTakenIn, claim_of, past_with}
-use Rattle.m17_house.proofs.Lists.{length_more}
 use Rattle.m17_house.proofs.Posts.{heard_same, others_same, claim_end, unasked_posts, unasked_verdict, asked_verdict}
 use Rattle.m17_house.proofs.Found.{found_none}
 use Rattle.m17_house.proofs.Among.{found_is}
@@ -47,7 +47,7 @@ more_unasked law more routes carry later only plan entries notice h run mouth ve
         asked = asked;
         stands = taken.stands;
         carried = subst (λ (ds : List Dispatch). HasCarried plan ds run.stage.rooms mouth) (sym all) taken.carried.carried;
-        few = omega (arith, taken.few, ap length all, length-append (posted (setup_of plan) entries) (unclaimed_at past).posts, length_more entries entry);
+        few = omega (arith, taken.few, ap length all, length-append (posted (setup_of plan) entries) (unclaimed_at past).posts, one_more_is_one_longer entries entry);
         given = counts_unclaimed run.given entries entry refl taken.given;
         chosen = chosen_more law plan entries entry taken.chosen (chosen_unasked (setup_of plan) entries entry silent refl);
       };
@@ -96,7 +96,7 @@ more_asked law ends more routes carry later only plan entries notice h old run m
         asked = given.asked;
         stands = given.stands;
         carried = subst (λ (ds : List Dispatch). HasCarried plan ds run.stage.rooms mouth') (sym apart) given.carried;
-        few = omega (arith, given.few, ap length apart, length-append (posted (setup_of plan) entries ++ first) second, length-append (posted (setup_of plan) entries) first, length_more entries entry);
+        few = omega (arith, given.few, ap length apart, length-append (posted (setup_of plan) entries ++ first) second, length-append (posted (setup_of plan) entries) first, one_more_is_one_longer entries entry);
         given = counts_claimed entries entry old.directory.known plan.places old.given run.given given.member refl taken.given given.choice;
         chosen = chosen_more law plan entries entry taken.chosen
             (chosen_asked (setup_of plan) entries entry old.directory.known old.given run.given given.member asks places (omega (arith, given.idle.is_plan.at_most)) refl taken.given given.choice);

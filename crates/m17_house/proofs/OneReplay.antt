@@ -5,6 +5,7 @@ use Rattle.std.specs.Option.{option_and_then}
 use Rattle.std.proofs.lemmas.List.{take_all}
 use Rattle.std.proofs.lemmas.Bool.{cases_lt, false≢true}
 use Rattle.std.proofs.lemmas.Option.{same_Some}
+use Rattle.m17_lists.proofs.Places.{same_fronts_same_places}
 use Rattle.m17_values.specs.declared.heard.Heard.{Heard}
 use Rattle.m17_directory.specs.declared.known.Known.{Known}
 use Rattle.m17_directory.specs.Entries.{Claim, Entry, Notice, Says, SaysEach, notice_of, notice_at, claim_at, ends_at}
@@ -35,17 +36,6 @@ pub bytes_there : (all : List Heard) (n : ℕ) (h : Heard) → AllByRecursion Ha
 bytes_there [] n h are is = cc
 bytes_there (g ∷ all) zero h are is = subst HasBytes (same_Some g h is) are.0
 bytes_there (g ∷ all) (suc n) h are is = bytes_there all n h are.1 is
-
--- lists with the same front have the same elements there
-get_take : {A : Type 0} (xs : List A) (n i : ℕ) → i < n → slice_get (take n xs) i ≡ slice_get xs i
-get_take [] zero i below = refl
-get_take [] (suc n) i below = refl
-get_take (x ∷ xs) zero i below = absurd (omega arith)
-get_take (x ∷ xs) (suc n) zero below = refl
-get_take (x ∷ xs) (suc n) (suc i) below = get_take xs n i (omega arith)
-
-get_same : {A : Type 0} (a b : List A) (n i : ℕ) → take n a ≡ take n b → i < n → slice_get a i ≡ slice_get b i
-get_same a b n i same below = sym (get_take a n i below) ∙ ap (λ xs. slice_get xs i) same ∙ get_take b n i below
 
 -- one element more of both fronts
 take_next : {A : Type 0} (xs : List A) (n : ℕ) (x : A) → slice_get xs n ≡ Some x → take (suc n) xs ≡ take n xs ++ x ∷ []
@@ -86,7 +76,7 @@ same_entry a b notice claim =
 given_one : (one other : List Entry) (place n : ℕ) → take n one ≡ take n other → given_before one place n ≡ given_before other place n
 given_one one other place n same =
     count_range (λ i. is_of_place place (claim_at one i)) (λ i. is_of_place place (claim_at other i)) 0 n
-    (λ i below. ap (λ o. is_of_place place (option_and_then (λ (entry : Entry). entry.claim) o)) (get_same one other n i same (omega arith)))
+    (λ i below. ap (λ o. is_of_place place (option_and_then (λ (entry : Entry). entry.claim) o)) (same_fronts_same_places one other n same i (omega arith)))
 
 free_one : (rows : List Known) (one other : List Entry) (n : ℕ) (a b : Option Claim) → take n one ≡ take n other → IsFreeClaim rows one n a → IsFreeClaim rows other n b → a ≡ b
 free_one rows one other n a b same fa fb =

@@ -5,6 +5,8 @@ use Rattle.std.proofs.lemmas.List.{map-append, take_more, take_all, take-append-
 use Rattle.std.proofs.lemmas.List.Sums.{count_by-le-length}
 use Rattle.std.proofs.lemmas.List.FromFn.{length-range_with_len}
 use Rattle.std.proofs.lemmas.Bool.{cases_lt, false≢true}
+use Rattle.m17_lists.proofs.Lengths.{one_more_is_one_longer}
+use Rattle.m17_lists.proofs.Ranges.{range_ends_in_its_last}
 use Rattle.m17_values.specs.declared.heard.Heard.{Heard}
 use Rattle.m17_floor.specs.declared.verdict.Verdict.{Verdict}
 use Rattle.m17_floor.specs.Laws.{LaterActsChangeNoVerdict}
@@ -21,9 +23,8 @@ use Rattle.m17_plan.specs.Planned.{setup_of}
 use Rattle.m17_house.specs.Tallied.{AreTalliesOf}
 use Rattle.m17_house.specs.Carried.{said_after}
 use Rattle.m17_house.specs.SoFar.{scene, AreCounts, IsOneMore, IsSoFar}
-use Rattle.m17_house.proofs.Lists.{length_more}
 use Rattle.m17_house.proofs.Among.{link_before, packet_before}
-use Rattle.m17_house.proofs.Chosen.{notice_before, range_more}
+use Rattle.m17_house.proofs.Chosen.{notice_before}
 
 -- no place was given more often than entries were heard
 pub room_of : (given : List ℕ) (entries : List Entry) → AreCounts given entries → length entries < 2 ^ 58 → (place : ℕ) → slice_index given place < 2 ^ 64 - 1
@@ -41,7 +42,7 @@ map_same f g a (suc n) same = ap (λ x. x ∷ map f (range_with_len (a + 1) n)) 
 listed_more : {A : Type 0} (f g : ℕ → A) (n m : ℕ) → m ≡ suc n → ((i : ℕ) → i < n → f i ≡ g i) → map f (range_with_len 0 m) ≡ map g (range_with_len 0 n) ++ f n ∷ []
 listed_more f g n m is same =
     ap (λ k. map f (range_with_len 0 k)) is
-    ∙ ap (map f) (range_more 0 n)
+    ∙ ap (map f) (range_ends_in_its_last 0 n)
     ∙ map-append f (range_with_len 0 n) ((0 + n) ∷ [])
     ∙ ap (λ xs. xs ++ f (0 + n) ∷ []) (map_same f g 0 n (λ i below. same i (omega arith)))
     ∙ ap (λ k. map g (range_with_len 0 n) ++ f k ∷ []) (let e : 0 + n ≡ n = omega arith in e)
@@ -88,10 +89,10 @@ module _ (law : EntriesBeforeDecide) (ends : EndedWhereItEnds) (nothing : LaterE
       subst (λ (hs : List Heard). SaysEach hs (entries ++ e ∷ [])) (sym front) (says_more (take index heard) entries h e each says)
 
   each_next : (plan : Plan) (entries : List Entry) (e : Entry) → verdicts_of plan (entries ++ e ∷ []) ≡ verdicts_of plan entries ++ link_verdict (setup_of plan) (entries ++ e ∷ []) (length entries) ∷ []
-  each_next plan entries e = listed_more (link_verdict (setup_of plan) (entries ++ e ∷ [])) (link_verdict (setup_of plan) entries) (length entries) (length (entries ++ e ∷ [])) (length_more entries e) (λ i below. link_before nothing plan entries e i below)
+  each_next plan entries e = listed_more (link_verdict (setup_of plan) (entries ++ e ∷ [])) (link_verdict (setup_of plan) entries) (length entries) (length (entries ++ e ∷ [])) (one_more_is_one_longer entries e) (λ i below. link_before nothing plan entries e i below)
 
   packets_next : (plan : Plan) (entries : List Entry) (e : Entry) → packet_verdicts_of plan (entries ++ e ∷ []) ≡ packet_verdicts_of plan entries ++ packet_verdict plan (entries ++ e ∷ []) (length entries) ∷ []
-  packets_next plan entries e = listed_more (packet_verdict plan (entries ++ e ∷ [])) (packet_verdict plan entries) (length entries) (length (entries ++ e ∷ [])) (length_more entries e) (λ i below. packet_before later nothing more carry plan entries e i below)
+  packets_next plan entries e = listed_more (packet_verdict plan (entries ++ e ∷ [])) (packet_verdict plan entries) (length entries) (length (entries ++ e ∷ [])) (one_more_is_one_longer entries e) (λ i below. packet_before later nothing more carry plan entries e i below)
 
   -- One more was heard, which does not end the link.
   pub played_more : (plan : Plan) (heard : List Heard) (index : ℕ) (h : Heard) (old run : Run) (mouth mouth' : TalliesKept) (verdicts verdicts' : List LinkVerdict) (packets packets' : List (Option Verdict)) (verdict : LinkVerdict) (packet : Option Verdict) →
@@ -103,14 +104,14 @@ module _ (law : EntriesBeforeDecide) (ends : EndedWhereItEnds) (nothing : LaterE
       let at : suc index ≡ index + 1 = omega arith in
       record {
         entries = entries ++ e ∷ [];
-        count = length_more entries e ∙ ap suc played.count ∙ at;
+        count = one_more_is_one_longer entries e ∙ ap suc played.count ∙ at;
         says = subst (λ (k : ℕ). SaysEach (take k heard) (entries ++ e ∷ [])) at (says_next plan heard index h entries e below item played.says one.says);
         so_far = one.so_far;
         open_still = λ n within.
             elim (cases_lt n (length entries)) [
               | inl earlier ↦ ends_before law ends plan entries e n earlier ∙ played.open_still n earlier
               | inr last ↦
-                  let here : length entries ≡ n = omega (arith, length_more entries e) in
+                  let here : length entries ≡ n = omega (arith, one_more_is_one_longer entries e) in
                   ap (ends_at (entries ++ e ∷ [])) (sym here) ∙ sym one.ends ∙ going
             ];
         each = vs ∙ ap (λ xs. xs ++ verdict ∷ []) played.each ∙ ap (λ v. verdicts_of plan entries ++ v ∷ []) one.is_verdict ∙ sym (each_next plan entries e);
@@ -138,7 +139,7 @@ module _ (law : EntriesBeforeDecide) (ends : EndedWhereItEnds) (nothing : LaterE
           says = says_next plan heard index h entries e below item played.says one.says;
           ends = record {
             last = length entries;
-            is_last = sym (length_more entries e);
+            is_last = sym (one_more_is_one_longer entries e);
             ends = sym one.ends ∙ over;
             not_before = λ n earlier. ends_before law ends plan entries e n earlier ∙ played.open_still n earlier;
           };

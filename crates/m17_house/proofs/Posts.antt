@@ -5,6 +5,8 @@ use Rattle.std.specs.Option.{option_and_then}
 use Rattle.std.proofs.lemmas.List.{append-nil, take-append-le}
 use Rattle.std.proofs.lemmas.List.Elements.{filter_map-append}
 use Rattle.std.proofs.lemmas.Bool.{eq-eqb}
+use Rattle.m17_lists.proofs.Places.{first_of_rest_stands_behind}
+use Rattle.m17_lists.proofs.Lengths.{one_more_is_one_longer, none_stands_behind}
 use Rattle.m17_control.specs.declared.event.Event.{Event}
 use Rattle.m17_control.specs.Modules.{serves}
 use Rattle.m17_directory.specs.declared.dispatch.Dispatch.{Dispatch}
@@ -17,16 +19,15 @@ use Rattle.m17_directory.specs.Laws.{OnlyServedAreRouted, EntriesBeforeDecide}
 use Rattle.m17_plan.specs.declared.plan.Plan.{Plan}
 use Rattle.m17_plan.specs.Planned.{setup_of}
 use Rattle.m17_house.specs.Carried.{IsServed}
-use Rattle.m17_house.proofs.Lists.{slice_get_end, length_more}
 
 pub take_before : (entries more : List Entry) → take (length entries) (entries ++ more) ≡ take (length entries) entries
 take_before entries more = take-append-le (length entries) entries more (omega arith)
 
 pub notice_end : (entries : List Entry) (a : Entry) → notice_at (entries ++ a ∷ []) (length entries) ≡ a.notice
-notice_end entries a = ap notice_of (slice_get_end entries a [])
+notice_end entries a = ap notice_of (first_of_rest_stands_behind entries a [])
 
 pub claim_end : (entries : List Entry) (a : Entry) → claim_at (entries ++ a ∷ []) (length entries) ≡ a.claim
-claim_end entries a = ap (option_and_then (λ (entry : Entry). entry.claim)) (slice_get_end entries a [])
+claim_end entries a = ap (option_and_then (λ (entry : Entry). entry.claim)) (first_of_rest_stands_behind entries a [])
 
 pub heard_same : EntriesBeforeDecide → (setup : Setup) (entries : List Entry) (a b : Entry) → a.notice ≡ b.notice →
     unclaimed_at (past_at setup (entries ++ a ∷ []) (length entries)) ≡ unclaimed_at (past_at setup (entries ++ b ∷ []) (length entries))
@@ -42,7 +43,7 @@ others_same law setup entries a b same =
 pub asked_length : (setup : Setup) (entries : List Entry) (n : ℕ) → length (asked_before setup entries n) ≡ n
 unfolding asked_before
 asked_length setup entries zero = refl
-asked_length setup entries (suc n) = length_more (asked_before setup entries n) (asks_at (past_at setup entries n)) ∙ ap suc (asked_length setup entries n)
+asked_length setup entries (suc n) = one_more_is_one_longer (asked_before setup entries n) (asks_at (past_at setup entries n)) ∙ ap suc (asked_length setup entries n)
 
 outcome_by : (setup : Setup) (entries : List Entry) (n : ℕ) → Bool → ℕ → Outcome
 outcome_by setup entries n b m = cond b (both (unclaimed_at (past_at setup entries n)) (settled_at (past_at setup entries n) (claim_at entries m))) (unclaimed_at (past_at setup entries n))
@@ -85,10 +86,6 @@ pub nil_left : {A : Type 0} (xs ys : List A) → xs ++ ys ≡ [] → xs ≡ []
 nil_left [] ys e = refl
 nil_left (x ∷ xs) ys e = cc
 
-pub nil_right : {A : Type 0} (xs ys : List A) → xs ++ ys ≡ [] → ys ≡ []
-nil_right [] ys e = e
-nil_right (x ∷ xs) ys e = cc
-
 cons_nil : {A : Type 0} (o : Option A) (ys : List A) → cons_option o ys ≡ [] → ys ≡ []
 cons_nil None ys e = e
 cons_nil (Some x) ys e = cc
@@ -113,4 +110,4 @@ unfolding routed
 served_part law plan entries front posts back is = all_served plan posts (λ letter e.
     let whole : filter_map (event_for letter) ((front ++ posts) ++ back) ≡ [] = ap (filter_map (event_for letter)) (sym is) ∙ law (setup_of plan) entries letter e in
     let parts : filter_map (event_for letter) (front ++ posts) ≡ [] = nil_left (filter_map (event_for letter) (front ++ posts)) (filter_map (event_for letter) back) (sym (filter_map-append (event_for letter) (front ++ posts) back) ∙ whole) in
-    nil_right (filter_map (event_for letter) front) (filter_map (event_for letter) posts) (sym (filter_map-append (event_for letter) front posts) ∙ parts))
+    none_stands_behind (filter_map (event_for letter) front) (filter_map (event_for letter) posts) (sym (filter_map-append (event_for letter) front posts) ∙ parts))

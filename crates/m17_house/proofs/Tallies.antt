@@ -1,10 +1,11 @@
 -- Tallies after one packet more, and of packets in another order.
 use Rattle.std.proofs.Common.{◌≡◌, ℕ, ◌+◌, ◌-◌, ◌^◌, Bool, true, false, cond, List, [], ◌∷◌, ◌++◌, codes, map, min, nat_eq, is_some, IfSome, Option, None, Some, refl, ap, sym, ◌∙◌, arith, count_by, append_assoc}
-use Rattle.std.specs.Option.{option_map, option_to_list}
+use Rattle.std.specs.Option.{option_to_list}
 use Rattle.std.specs.List.{starts_with}
 use Rattle.std.proofs.lemmas.List.{append-nil}
-use Rattle.std.proofs.lemmas.Option.{same_Some}
 use Rattle.std.proofs.lemmas.Bool.{true≢false}
+use Rattle.m17_lists.proofs.Sums.{count_of_both, count_of_one}
+use Rattle.m17_lists.proofs.Tests.{mapped_option_is_of_one}
 use Rattle.m17_values.specs.declared.peer.Peer.{Peer}
 use Rattle.m17_control.specs.declared.packet.Packet.{Packet}
 use Rattle.m17_control.specs.Forms.{Spells, SpellsControl}
@@ -22,7 +23,6 @@ use Rattle.m17_port_memory.specs.Peers.{tally_at}
 use Rattle.m17_directory.specs.Entries.{is_peer}
 use Rattle.m17_house.specs.Replay.{is_ackn, is_nack, is_ping, is_pong, is_disc, is_stream, count_of, tally_of, packet_to}
 use Rattle.m17_house.specs.Tallied.{AreTalliesOf, IsSameMouth, HasSaidMore}
-use Rattle.m17_house.proofs.Lists.{count_append, count_one}
 use Rattle.m17_house.proofs.Magics.{BeginsAs, begins_as}
 use Rattle.m17_house.proofs.Peers.{from_is_peer, not_is_peer}
 
@@ -34,7 +34,7 @@ counted_more : (kind : Packet → Bool) (magic : List ℕ) (said : List Packet) 
 counted_more kind magic said p bytes e =
     ap (λ b. cond b (min (min (count_by kind said) (2 ^ 64 - 1) + 1) (2 ^ 64 - 1)) (min (count_by kind said) (2 ^ 64 - 1))) e
     ∙ counted_by (kind p) (count_by kind said) (2 ^ 64 - 1)
-    ∙ ap (λ n. min n (2 ^ 64 - 1)) (ap (λ n. count_by kind said + n) (sym (count_one kind p)) ∙ sym (count_append kind said (p ∷ [])))
+    ∙ ap (λ n. min n (2 ^ 64 - 1)) (ap (λ n. count_by kind said + n) (sym (count_of_one kind p)) ∙ sym (count_of_both kind said (p ∷ [])))
 
 -- a tally by its numbers
 made : ℕ → ℕ → ℕ → ℕ → ℕ → ℕ → Tally
@@ -70,17 +70,13 @@ same_count_tallies said more mouth same are x tally is = are x tally is ∙ tall
 pub none_said : (mouth : TalliesKept) → ((x : Peer) (tally : Tally) → tally_at mouth.entries x ≡ Some tally → tally ≡ no_tally) → AreTalliesOf (λ x. []) mouth
 none_said mouth empty x tally is = empty x tally is ∙ same_tally no_tally (tally_of []) refl refl refl refl refl refl
 
-pub some_of_map : {A B : Type 0} (f : A → B) (o : Option A) (b : B) → option_map f o ≡ Some b → (a : A) × (o ≡ Some a) × (f a ≡ b)
-some_of_map f None b e = cc
-some_of_map f (Some a) b e = (a, refl, same_Some (f a) b e)
-
 -- The packet p was said to the peer to: x hears it where it is that peer.
 said_to_peer : (said : Peer → List Packet) (to : Peer) (p : Packet) (bytes : List ℕ) (old new : TalliesKept) → Spells p bytes → IsTallied (tally_at old.entries) to bytes (tally_at new.entries) → AreTalliesOf said old →
     (x : Peer) (tally : Tally) (b : Bool) → is_peer x to ≡ b → tally_at new.entries x ≡ Some tally → tally ≡ tally_of (said x ++ option_to_list (cond b (Some p) None))
 said_to_peer said to p bytes old new s t are x tally true e is =
     let same : x ≡ to = from_is_peer x to e in
     let before : (a : Tally) × (tally_at old.entries to ≡ Some a) × (tally_then a bytes ≡ tally) =
-    some_of_map (λ a. tally_then a bytes) (tally_at old.entries to) tally (sym t.its_peer ∙ ap (tally_at new.entries) (sym same) ∙ is) in
+    mapped_option_is_of_one (λ a. tally_then a bytes) (tally_at old.entries to) tally (sym t.its_peer ∙ ap (tally_at new.entries) (sym same) ∙ is) in
     sym before.2 ∙ ap (λ a. tally_then a bytes) (are to before.0 before.1) ∙ tally_more (said to) p bytes s
     ∙ ap (λ y. tally_of (said y ++ p ∷ [])) (sym same)
 said_to_peer said to p bytes old new s t are x tally false e is =

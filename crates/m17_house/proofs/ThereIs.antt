@@ -3,6 +3,7 @@ use Rattle.std.proofs.Common.{◌≡◌, ◌&&◌, ℕ, zero, suc, ◌+◌, ◌<
 use Rattle.std.specs.List.{list_any, AllByRecursion}
 use Rattle.std.proofs.lemmas.List.{append-nil}
 use Rattle.std.proofs.lemmas.Bool.{cases_lt, cases_Bool, false≢true}
+use Rattle.m17_lists.proofs.Lengths.{one_more_is_one_longer}
 use Rattle.m17_values.specs.declared.heard.Heard.{Heard}
 use Rattle.m17_directory.specs.declared.known.Known.{Known}
 use Rattle.m17_directory.specs.Entries.{Claim, Entry, Notice, Says, SaysEach, claim_at, ends_at}
@@ -17,7 +18,6 @@ use Rattle.m17_house.specs.Replay.{EndsSomewhere, IsLeastFree, IsFreeClaim, IsCh
 use Rattle.m17_plan.specs.Planned.{setup_of}
 use Rattle.m17_house.specs.SoFar.{AreChosen}
 use Rattle.m17_house.proofs.Chosen.{chosen_more, given_same}
-use Rattle.m17_house.proofs.Lists.{length_more}
 use Rattle.m17_house.proofs.Places.{places_had}
 use Rattle.m17_house.proofs.Played.{says_more, ends_before}
 use Rattle.m17_house.proofs.Posts.{claim_end, heard_same, others_same}
@@ -98,7 +98,7 @@ module _ (reading : EachEntrySaysOneThing) (law : EntriesBeforeDecide) (ends : E
   open_more entries e before last n below = elim (cases_lt n (length entries)) [
     | inl earlier ↦ ends_before law ends plan entries e n earlier ∙ before n earlier
     | inr not_earlier ↦
-        let here : length entries ≡ n = omega (arith, length_more entries e) in
+        let here : length entries ≡ n = omega (arith, one_more_is_one_longer entries e) in
         subst (λ (i : ℕ). ends_at (entries ++ e ∷ []) i ≡ false) here last
   ]
 
@@ -125,7 +125,7 @@ module _ (reading : EachEntrySaysOneThing) (law : EntriesBeforeDecide) (ends : E
             says = more;
             ends = record {
               last = length entries;
-              is_last = sym (length_more entries e);
+              is_last = sym (one_more_is_one_longer entries e);
               ends = over;
               not_before = λ n earlier. ends_before law ends plan entries e n earlier ∙ begun.open_still n earlier;
             };

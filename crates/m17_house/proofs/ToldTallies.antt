@@ -2,6 +2,7 @@
 use Rattle.std.proofs.Common.{◌≡◌, ℕ, Bool, true, false, cond, List, [], ◌∷◌, ◌++◌, map, filter, Option, Some, refl, ap, sym, subst, ◌∙◌, append_assoc}
 use Rattle.std.specs.List.{AllZip}
 use Rattle.std.proofs.lemmas.List.{append-nil}
+use Rattle.m17_lists.proofs.Tests.{mapped_option_is_of_one}
 use Rattle.m17_values.specs.declared.peer.Peer.{Peer}
 use Rattle.m17_control.specs.declared.packet.Packet.{Packet}
 use Rattle.m17_control.specs.Forms.{Spells}
@@ -12,7 +13,7 @@ use Rattle.m17_directory.specs.Entries.{is_peer}
 use Rattle.m17_house.specs.Laws.{TalliesTellPackets}
 use Rattle.m17_house.specs.Replay.{tally_of}
 use Rattle.m17_house.proofs.Peers.{from_is_peer, not_is_peer}
-use Rattle.m17_house.proofs.Tallies.{tally_more, same_tally, some_of_map, tally_of_same}
+use Rattle.m17_house.proofs.Tallies.{tally_more, same_tally, tally_of_same}
 
 abbrev Tells : Type 0
 Tells = Peer → Option Tally
@@ -32,7 +33,7 @@ none_told (p ∷ told) zip = absurd zip
 -- one more, to the peer, and to another
 one_to_it : (x : Peer) (d : Datagram) (said : List Packet) (p : Packet) (before between : Tells) → x ≡ d.0 → Spells p d.1 → IsTallied before d.0 d.1 between → HasTold x said before → HasTold x (said ++ p ∷ []) between
 one_to_it x d said p before between same s it has t is =
-    let was = some_of_map (λ a. tally_then a d.1) (before d.0) t (sym it.its_peer ∙ ap between (sym same) ∙ is) in
+    let was = mapped_option_is_of_one (λ a. tally_then a d.1) (before d.0) t (sym it.its_peer ∙ ap between (sym same) ∙ is) in
     sym was.2 ∙ ap (λ a. tally_then a d.1) (has was.0 (ap before same ∙ was.1)) ∙ tally_more said p d.1 s
 
 one_to_other : (x : Peer) (d : Datagram) (said : List Packet) (before between : Tells) → is_peer x d.0 ≡ false → IsTallied before d.0 d.1 between → HasTold x said before → HasTold x said between

@@ -1,6 +1,6 @@
 //! The start and the end of the reflector's threads: three groups of jobs, those that hear, those that decide and those that
 //! send (`Group`, `launch`).
-//! It promises that either all jobs were started, told to go and came back done, each in its place, and those that send were
+//! It promises that either all jobs were told to go and came back done, each in its place, and those that send were
 //! told to stop too; or that the crew refused one, and all that ran were told to quit and came back too. Inside the crate
 //! no job is joined before all were told (`Group::join`), and those that send are told to stop only where the others are
 //! joined (`stop_last`); no clause that a caller sees says when.

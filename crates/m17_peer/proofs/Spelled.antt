@@ -8,6 +8,7 @@ use Rattle.std.proofs.lemmas.Str.Parse.{digit_at}
 use Rattle.std.proofs.lemmas.List.{append-nil, get_or_append_left}
 use Rattle.std.proofs.lemmas.List.Elements.{All-get_or}
 use Rattle.std.proofs.lemmas.Bool.Decides.{nat_tests}
+use Rattle.m17_lists.proofs.Lengths.{same_cons}
 use Rattle.m17_values.specs.declared.peer.Peer.{Peer}
 use Rattle.m17_peer.specs.Reading.{EndsNumber, nibble_value, pair_value}
 use Rattle.m17_peer.specs.Text.{hex_digit, four_text, six_text, text_of, IsPeer, IsTextOf}
@@ -77,13 +78,10 @@ end_ends digit = omega arith
 pub low : (r n x : ℕ) → r ≡ n % 2 ^ 8 → n ≡ x → x < 2 ^ 8 → r ≡ x
 low r n x e f h = omega arith
 
-cons : {x y : ℕ} {xs ys : List ℕ} → x ≡ y → xs ≡ ys → x ∷ xs ≡ y ∷ ys
-cons {x} {y} {xs} {ys} e f = ap (λ z. z ∷ xs) e ∙ ap (λ z. y ∷ z) f
-
 pub four_ip : (p : Peer) (a b d e : ℕ) → IsPeer p → p.six ≡ false → a ≡ slice_index p.ip 0 → b ≡ slice_index p.ip 1 → d ≡ slice_index p.ip 2 → e ≡ slice_index p.ip 3 →
     a ∷ b ∷ d ∷ e ∷ replicate 12 0 ≡ p.ip
 four_ip p a b d e h six ea eb ed ee =
-    cons ea (cons eb (cons ed (cons ee (sym (h.zeros six))))) ∙ sym (front_four p.ip h.bytes)
+    same_cons ea (same_cons eb (same_cons ed (same_cons ee (sym (h.zeros six))))) ∙ sym (front_four p.ip h.bytes)
 
 -- the text of an IPv6 peer, piece by piece
 abbrev pub six_pieces : Peer → List ℕ
@@ -97,10 +95,10 @@ pub sixteen : (p : Peer) → IsPeer p →
 sixteen p h =
     let b : (k : ℕ) → k < 16 → 16 * nibble_value (hex_digit (slice_index p.ip k / 16)) + nibble_value (hex_digit (slice_index p.ip k % 16)) ≡ slice_index p.ip k =
     λ k less. pair_back (slice_index p.ip k) (byte_fits p k h less) in
-    cons (b 0 (omega arith)) (cons (b 1 (omega arith)) (cons (b 2 (omega arith)) (cons (b 3 (omega arith))
-    (cons (b 4 (omega arith)) (cons (b 5 (omega arith)) (cons (b 6 (omega arith)) (cons (b 7 (omega arith))
-    (cons (b 8 (omega arith)) (cons (b 9 (omega arith)) (cons (b 10 (omega arith)) (cons (b 11 (omega arith))
-    (cons (b 12 (omega arith)) (cons (b 13 (omega arith)) (cons (b 14 (omega arith)) (cons (b 15 (omega arith)) refl)))))))))))))))
+    same_cons (b 0 (omega arith)) (same_cons (b 1 (omega arith)) (same_cons (b 2 (omega arith)) (same_cons (b 3 (omega arith))
+    (same_cons (b 4 (omega arith)) (same_cons (b 5 (omega arith)) (same_cons (b 6 (omega arith)) (same_cons (b 7 (omega arith))
+    (same_cons (b 8 (omega arith)) (same_cons (b 9 (omega arith)) (same_cons (b 10 (omega arith)) (same_cons (b 11 (omega arith))
+    (same_cons (b 12 (omega arith)) (same_cons (b 13 (omega arith)) (same_cons (b 14 (omega arith)) (same_cons (b 15 (omega arith)) refl)))))))))))))))
     ∙ sym (whole p.ip h.bytes)
 
 pub at_of : (r : List ℕ) (a b d e : ℕ) → r ≡ a ∷ b ∷ d ∷ e ∷ [] → (get_or r 0 0 ≡ a) × (get_or r 1 0 ≡ b) × (get_or r 2 0 ≡ d) × (get_or r 3 0 ≡ e)

@@ -5,6 +5,7 @@ use Rattle.std.specs.Option.{option_map, option_to_list}
 use Rattle.std.proofs.lemmas.Bool.{cases_lt}
 use Rattle.std.proofs.lemmas.List.Elements.{filter_map-append}
 use Rattle.std.proofs.lemmas.Option.{none-some}
+use Rattle.m17_lists.proofs.Lengths.{one_more_is_one_longer}
 use Rattle.m17_roll.specs.Seat.{RollView}
 use Rattle.m17_directory.specs.Entries.{Claim, Entry, Setup, claim_at}
 use Rattle.m17_directory.specs.Outcome.{has_place}
@@ -12,7 +13,7 @@ use Rattle.m17_directory.specs.Routed.{past_at, asks_at, others_at, link_verdict
 use Rattle.m17_directory.specs.Laws.{ClaimsAreAsked, claimed_members, is_full}
 use Rattle.m17_receiver.specs.Claims.{HasClaimed, IsPatientAt, HasFreePlaceAt, turned_away}
 use Rattle.m17_receiver.specs.SoFar.{Laws, past_with}
-use Rattle.m17_receiver.proofs.Lists.{length_more, filter_more, filter_same}
+use Rattle.m17_receiver.proofs.Lists.{filter_more, filter_same}
 use Rattle.m17_receiver.proofs.Positions.{claim_before, claim_end, claim_within_more, asks_before, others_before, verdict_before}
 
 -- a position of a list with one more is one of the list, or the last
@@ -20,7 +21,7 @@ pub position_cases : (n m : ℕ) → n < suc m → (n < m) ⊎ (n ≡ m)
 position_cases n m l = elim (cases_lt n m) [ inl below ↦ inl below | inr past ↦ inr (omega arith) ]
 
 pub at_end_or_before : {A : Type 0} (xs : List A) (y : A) (n : ℕ) → n < length (xs ++ y ∷ []) → (n < length xs) ⊎ (n ≡ length xs)
-at_end_or_before xs y n l = position_cases n (length xs) (omega (arith, l, length_more xs y))
+at_end_or_before xs y n l = position_cases n (length xs) (omega (arith, l, one_more_is_one_longer xs y))
 
 -- What one entry more claims.
 pub record ClaimsOne (patient : Bool) (setup : Setup) (entries : List Entry) (e : Entry) (old new : RollView) : Type 0 where
@@ -45,7 +46,7 @@ unfolding turned_away
 turned_more law setup entries e =
     let longer : List Entry = entries ++ e ∷ [] in
     let n : ℕ = length entries in
-    ap (λ m. filter (λ i. is_full (link_verdict setup longer i)) (range_with_len 0 m)) (length_more entries e)
+    ap (λ m. filter (λ i. is_full (link_verdict setup longer i)) (range_with_len 0 m)) (one_more_is_one_longer entries e)
     ∙ filter_more (λ i. is_full (link_verdict setup longer i)) n
     ∙ ap (λ xs. xs ++ cond (is_full (link_verdict setup longer n)) (n ∷ []) [])
     (filter_same (λ i. is_full (link_verdict setup longer i)) (λ i. is_full (link_verdict setup entries i)) 0 n

@@ -4,6 +4,8 @@ use Rattle.std.specs.List.{list_all, range_with_len}
 use Rattle.std.proofs.lemmas.Bool.{and_parts, or_cases, cases_lt, false≢true, leb-true}
 use Rattle.std.proofs.lemmas.List.{length-replicate, take-append-drop}
 use Rattle.std.proofs.lemmas.Option.{none-some, same_Some, slice_get-get_or}
+use Rattle.m17_lists.proofs.Places.{one_more_stands_at_the_end, places_behind_follow, dropped_moves_places, all_alike_are_copies, each_copy_is_it}
+use Rattle.m17_lists.proofs.Lengths.{one_more_is_one_longer}
 use Rattle.m17_values.specs.declared.heard.Heard.{Heard}
 use Rattle.m17_values.specs.declared.heard.Heard.TheVariants as heard
 use Rattle.m17_directory.specs.Entries.{Entry, Notice, Setup, Says, SaysEach, notice_at, ends_at, is_end, is_fault, most_faults}
@@ -11,34 +13,7 @@ use Rattle.m17_directory.specs.Outcome.{Outcome}
 use Rattle.m17_directory.specs.Laws.{EndsOnce, is_ended}
 use Rattle.m17_receiver.specs.Devices.{EndsInFaults}
 use Rattle.m17_receiver.specs.SoFar.{Laws}
-use Rattle.m17_receiver.proofs.Lists.{get_end, length_more}
 use Rattle.m17_receiver.proofs.Positions.{notice_end, heard_before}
-
--- lists by their positions
-get_drop : {A : Type 0} (xs : List A) (k i j : ℕ) → j ≡ k + i → slice_get (drop k xs) i ≡ slice_get xs j
-get_drop xs zero i j is = ap (slice_get xs) (let e : i ≡ j = omega arith in e)
-get_drop [] (suc k) i j is = refl
-get_drop (x ∷ xs) (suc k) i zero is = absurd (omega arith)
-get_drop (x ∷ xs) (suc k) i (suc j) is = get_drop xs k i j (omega arith)
-
-get_behind : {A : Type 0} (xs ys : List A) (i j : ℕ) → j ≡ length xs + i → slice_get (xs ++ ys) j ≡ slice_get ys i
-get_behind [] ys i j is = ap (slice_get ys) (let e : j ≡ i = omega arith in e)
-get_behind (x ∷ xs) ys i zero is = absurd (omega arith)
-get_behind (x ∷ xs) ys i (suc j) is = get_behind xs ys i j (omega arith)
-
-all_faults : (xs : List Heard) (m : ℕ) → length xs ≡ m → ((i : ℕ) → i < m → slice_get xs i ≡ Some heard.Fault) → xs ≡ replicate m heard.Fault
-all_faults [] zero size each = refl
-all_faults [] (suc m) size each = absurd (omega arith)
-all_faults (x ∷ xs) zero size each = absurd (omega arith)
-all_faults (x ∷ xs) (suc m) size each =
-    let first : x ≡ heard.Fault = same_Some x heard.Fault (each zero (omega arith)) in
-    let more : xs ≡ replicate m heard.Fault = all_faults xs m (omega arith) (λ i below. each (suc i) (omega arith)) in
-    ap (λ (h : Heard). h ∷ xs) first ∙ ap (λ (hs : List Heard). heard.Fault ∷ hs) more
-
-in_faults : (m i : ℕ) → i < m → slice_get (replicate m heard.Fault) i ≡ Some heard.Fault
-in_faults zero i below = absurd (omega arith)
-in_faults (suc m) zero below = refl
-in_faults (suc m) (suc i) below = in_faults m i (omega arith)
 
 -- what was heard, by what it says
 says_fault : (h : Heard) (notice : Notice) → Says h notice → is_fault notice ≡ true → h ≡ heard.Fault
@@ -98,27 +73,27 @@ in_a_row heards entries n says size ends fault =
     let same : length heards ≡ suc n = length_says heards entries says ∙ size in
     let long : length (drop k heards) ≡ most_faults = omega (arith, length-drop k heards, same, row.0) in
     let faults : drop k heards ≡ replicate most_faults heard.Fault =
-    all_faults (drop k heards) most_faults long
+    all_alike_are_copies heard.Fault (drop k heards) most_faults long
     (λ i below.
     let within : k + i < length heards = omega (arith, same, row.0, below) in
     let h : Heard = get_or heards (k + i) heard.Fault in
     let at : slice_get heards (k + i) ≡ Some h = slice_get-get_or heards (k + i) heard.Fault within in
     let is : h ≡ heard.Fault = says_fault h (notice_at entries (k + i)) (says_at heards entries (k + i) h says at) (row_at entries k most_faults (k + i) row.1 (omega arith) (omega (arith, below))) in
-    get_drop heards k i (k + i) refl ∙ at ∙ ap (λ (x : Heard). Some x) is) in
+    dropped_moves_places heards k i (k + i) refl ∙ at ∙ ap (λ (x : Heard). Some x) is) in
     (take k heards, sym (take-append-drop k heards) ∙ ap (λ (hs : List Heard). take k heards ++ hs) faults)
 
 last_of_faults : (heards : List Heard) (h : Heard) → EndsInFaults (heards ++ h ∷ []) → h ≡ heard.Fault
 last_of_faults heards h has =
     let size : length heards + 1 ≡ length has.0 + 16 = omega (arith, ap length has.1, length-append heards (h ∷ []), length-append has.0 (replicate 16 heard.Fault), length-replicate 16 heard.Fault) in
     let there : slice_get (heards ++ h ∷ []) (length heards) ≡ Some heard.Fault =
-    ap (λ (hs : List Heard). slice_get hs (length heards)) has.1 ∙ get_behind has.0 (replicate 16 heard.Fault) 15 (length heards) (omega (arith, size)) ∙ in_faults 16 15 (omega arith) in
-    same_Some h heard.Fault (sym (get_end heards h) ∙ there)
+    ap (λ (hs : List Heard). slice_get hs (length heards)) has.1 ∙ places_behind_follow has.0 (replicate 16 heard.Fault) 15 (length heards) (omega (arith, size)) ∙ each_copy_is_it heard.Fault 16 15 (omega arith) in
+    same_Some h heard.Fault (sym (one_more_stands_at_the_end heards h) ∙ there)
 
 -- The last 16 entries are faults exactly where the one that ended the link is one.
 pub lost_is : (heards : List Heard) (h : Heard) (entries : List Entry) (e : Entry) → SaysEach heards entries → Says h e.notice → ends_at (entries ++ e ∷ []) (length entries) ≡ true →
     (h ≡ heard.Fault) ↔ EndsInFaults (heards ++ h ∷ [])
 lost_is heards h entries e each says ends = (
-  λ is. in_a_row (heards ++ h ∷ []) (entries ++ e ∷ []) (length entries) (says_more heards entries h e each says) (length_more entries e) ends (notice_end entries e ∙ fault_says h e.notice says is),
+  λ is. in_a_row (heards ++ h ∷ []) (entries ++ e ∷ []) (length entries) (says_more heards entries h e each says) (one_more_is_one_longer entries e) ends (notice_end entries e ∙ fault_says h e.notice says is),
   λ has. last_of_faults heards h has,
 )
 
@@ -130,7 +105,7 @@ ends_before law setup entries e n l =
 pub ends_once : Laws → (setup : Setup) (entries : List Entry) (e : Entry) → ((n : ℕ) → n < length entries → ends_at entries n ≡ false) → ends_at (entries ++ e ∷ []) (length entries) ≡ true → EndsOnce (entries ++ e ∷ [])
 ends_once law setup entries e goes_on ends = record {
   last = length entries;
-  is_last = sym (length_more entries e);
+  is_last = sym (one_more_is_one_longer entries e);
   ends = ends;
   not_before = λ n l. ends_before law setup entries e n l ∙ goes_on n l;
 }

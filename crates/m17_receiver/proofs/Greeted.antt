@@ -1,11 +1,13 @@
 -- Whom a claim waits for: each member that its peer was before has left, and its leaving was noted.
-use Rattle.std.proofs.Common.{◌≡◌, ◌==◌, ◌&&◌, ◌||◌, ◌⊎◌, ℕ, zero, suc, ◌+◌, ◌<◌, ◌≤◌, Bool, true, false, cond, List, [], ◌∷◌, ◌++◌, length, map, take, count_by, slice_get, Contains, refl, ap, sym, subst, ◌∙◌, inl, inr, arith, Some}
+use Rattle.std.proofs.Common.{◌≡◌, ◌==◌, ◌&&◌, ◌⊎◌, ℕ, zero, suc, ◌+◌, ◌<◌, ◌≤◌, Bool, true, false, cond, List, [], ◌∷◌, ◌++◌, length, map, take, count_by, slice_get, Contains, refl, ap, sym, subst, ◌∙◌, inl, inr, arith, Some}
 use Rattle.std.specs.List.{flat_map, list_any, range_with_len}
-use Rattle.std.proofs.lemmas.Bool.{and_parts, and_from, cases_lt, eq-eqb, eqb-true, false≢true}
+use Rattle.std.proofs.lemmas.Bool.{and_parts, and_from, cases_lt, eq-eqb, eqb-true, false≢true, or_parts}
 use Rattle.std.proofs.lemmas.List.{length-append, take-append-le}
 use Rattle.std.proofs.lemmas.Option.{none-some, same_Some, slice_get-get_or}
 use Rattle.std.proofs.lemmas.List.Elements.{Contains-append_left, Contains-append_right, Contains-append_cases}
 use Rattle.std.proofs.lemmas.List.Sums.{sum_by-append}
+use Rattle.m17_lists.proofs.Lengths.{one_more_is_one_longer}
+use Rattle.m17_lists.proofs.Ranges.{one_number_more, same_at_each_number}
 use Rattle.m17_values.specs.declared.member.Member.{Member}
 use Rattle.m17_values.specs.declared.peer.Peer.{Peer}
 use Rattle.m17_directory.specs.declared.known.Departed.{Departed}
@@ -16,7 +18,6 @@ use Rattle.m17_directory.specs.Laws.{ClaimsAreAsked, joined_by, joined_before, l
 use Rattle.m17_receiver.specs.Devices.{IsCounted}
 use Rattle.m17_receiver.specs.Claims.{IsGreetedAfter, AreOfOnePeer}
 use Rattle.m17_receiver.specs.SoFar.{Laws, AreGone, past_with}
-use Rattle.m17_receiver.proofs.Lists.{length_more, flat_more, flat_map_same}
 use Rattle.m17_receiver.proofs.Positions.{notice_before, notice_end, claim_before, claim_end, claim_within_more}
 
 -- more notes
@@ -48,7 +49,7 @@ gone_left gone left departing notes was d in_it = elim (Contains-append_cases go
 left_same : Laws → (setup : Setup) (entries : List Entry) (e : Entry) → left_before setup (entries ++ e ∷ []) (length entries) ≡ left_before setup entries (length entries)
 unfolding left_before
 left_same law setup entries e =
-    flat_map_same (λ i. map departed_of (outcome_at setup (entries ++ e ∷ []) i).left) (λ i. map departed_of (outcome_at setup entries i).left) 0 (length entries)
+    same_at_each_number (λ i. map departed_of (outcome_at setup (entries ++ e ∷ []) i).left) (λ i. map departed_of (outcome_at setup entries i).left) 0 (length entries)
     (λ i l. ap (λ o. map departed_of o.left) (law.later setup entries (e ∷ []) i (omega arith)))
 
 -- who has left by one entry more
@@ -57,8 +58,8 @@ pub left_more : Laws → (setup : Setup) (entries : List Entry) (e : Entry) →
 unfolding left_before
 left_more law setup entries e =
     let f : ℕ → List Departed = λ i. map departed_of (outcome_at setup (entries ++ e ∷ []) i).left in
-    ap (λ m. flat_map f (range_with_len 0 m)) (length_more entries e)
-    ∙ flat_more f (length entries)
+    ap (λ m. flat_map f (range_with_len 0 m)) (one_more_is_one_longer entries e)
+    ∙ one_number_more f (length entries)
     ∙ ap (λ ds. ds ++ f (length entries)) (left_same law setup entries e)
 
 pub left_none : (setup : Setup) → left_before setup [] 0 ≡ []
@@ -82,15 +83,11 @@ pub found : (p : Departed → Bool) (xs : List Departed) → 1 ≤ count_by p xs
 found p [] some = absurd (omega arith)
 found p (y ∷ ys) some = found_by p y ys (p y) refl some (found p ys)
 
-right_of : (a b : Bool) → (a || b) ≡ false → (a ≡ false) × (b ≡ false)
-right_of true b e = absurd (false≢true (sym e))
-right_of false b e = (refl, e)
-
 -- what fails at each of a list fails at one that is in it
 fails_at : (p : Departed → Bool) (xs : List Departed) → list_any p xs ≡ false → (k : ℕ) (d : Departed) → k < length xs → slice_get xs k ≡ Some d → p d ≡ true → ⊥
 fails_at p [] none k d l is fits = absurd (omega arith)
-fails_at p (x ∷ xs) none zero d l is fits = false≢true (sym (right_of (p x) (list_any p xs) none).0 ∙ ap p (same_Some x d is) ∙ fits)
-fails_at p (x ∷ xs) none (suc k) d l is fits = fails_at p xs (right_of (p x) (list_any p xs) none).1 k d (omega arith) is fits
+fails_at p (x ∷ xs) none zero d l is fits = false≢true (sym (or_parts (p x) (list_any p xs) none).0 ∙ ap p (same_Some x d is) ∙ fits)
+fails_at p (x ∷ xs) none (suc k) d l is fits = fails_at p xs (or_parts (p x) (list_any p xs) none).1 k d (omega arith) is fits
 
 not_in : (p : Departed → Bool) (xs : List Departed) → list_any p xs ≡ false → (d : Departed) → Contains xs d → p d ≡ true → ⊥
 not_in p xs none d in_it fits = fails_at p xs none in_it.0 d in_it.1 (slice_get-get_or xs in_it.0 d in_it.1 ∙ ap (λ x. Some x) in_it.2) fits
@@ -98,7 +95,7 @@ not_in p xs none d in_it fits = fails_at p xs none in_it.0 d in_it.1 (slice_get-
 -- who joined
 joined_more : (setup : Setup) (entries : List Entry) (n : ℕ) → joined_before setup entries (suc n) ≡ joined_before setup entries n ++ cond (asks_at (past_at setup entries n)) (joined_by (notice_at entries n) (claim_at entries n)) []
 unfolding joined_before
-joined_more setup entries n = flat_more (λ i. cond (asks_at (past_at setup entries i)) (joined_by (notice_at entries i) (claim_at entries i)) []) n
+joined_more setup entries n = one_number_more (λ i. cond (asks_at (past_at setup entries i)) (joined_by (notice_at entries i) (claim_at entries i)) []) n
 
 joined_here : (setup : Setup) (entries : List Entry) (n : ℕ) (p : Departed → Bool) (d : Departed) → asks_at (past_at setup entries n) ≡ true → joined_by (notice_at entries n) (claim_at entries n) ≡ d ∷ [] → p d ≡ true → 1 ≤ count_by p (joined_before setup entries (suc n))
 joined_here setup entries n p d asks joins fits =
@@ -153,7 +150,7 @@ pub each_noted : Laws → (setup : Setup) (entries : List Entry) (e : Entry) (de
 each_noted law setup entries e departing notes x asked asks none gone i first l has from from' =
     let longer : List Entry = entries ++ e ∷ [] in
     let n : ℕ = length entries in
-    let size : length longer ≡ suc n = length_more entries e in
+    let size : length longer ≡ suc n = one_more_is_one_longer entries e in
     let has_it : claim_at longer i ≡ Some first = claim_before entries e i l ∙ has in
     let from_it : is_from x (notice_at longer i) ≡ true = ap (is_from x) (notice_before entries e i l) ∙ from in
     let from_last : is_from x (notice_at longer n) ≡ true = ap (is_from x) (notice_end entries e) ∙ from' in

@@ -5,6 +5,7 @@ use Rattle.std.proofs.lemmas.Bool.{and_parts, eqb-true, false≢true}
 use Rattle.std.proofs.lemmas.List.{append-nil, append_assoc, length-append}
 use Rattle.std.proofs.lemmas.List.Elements.{Contains-append_right}
 use Rattle.std.proofs.lemmas.List.Folds.{list_any-append}
+use Rattle.m17_lists.proofs.Tests.{or_false_is_itself}
 use Rattle.m17_values.specs.declared.member.Member.{Member}
 use Rattle.m17_lane.specs.Ends.{PopEnd}
 use Rattle.m17_rows.specs.Rows.{pops}
@@ -74,10 +75,6 @@ filter_twice : (p q : Departed → Bool) (ds : List Departed) → filter q (filt
 filter_twice p q [] = refl
 filter_twice p q (d ∷ ds) = filter_first q d (filter p ds) (p d) ∙ ap (λ l. cond (p d && q d) (d ∷ l) l) (filter_twice p q ds)
 
-or_false : (b : Bool) → (b || false) ≡ b
-or_false true = refl
-or_false false = refl
-
 not_either : (a b : Bool) → not (a || b) ≡ (not a && not b)
 not_either true b = refl
 not_either false b = refl
@@ -88,7 +85,7 @@ without_none (d ∷ ds) = ap (λ l. d ∷ l) (without_none ds)
 
 without_one : (m : Member) (ds : List Departed) → without_noted (m ∷ []) ds ≡ without_member m ds
 without_one m ds =
-    same_filter (λ d. not (list_any (λ k. is_member k d) (m ∷ []))) (λ d. not (is_member m d)) (λ d. ap not (or_false (is_member m d))) ds
+    same_filter (λ d. not (list_any (λ k. is_member k d) (m ∷ []))) (λ d. not (is_member m d)) (λ d. ap not (or_false_is_itself (is_member m d))) ds
 
 without_both : (a b : List Member) (ds : List Departed) → without_noted (a ++ b) ds ≡ without_noted b (without_noted a ds)
 without_both a b ds =

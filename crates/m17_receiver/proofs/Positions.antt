@@ -3,23 +3,24 @@ use Rattle.std.proofs.Common.{◌≡◌, ℕ, suc, ◌<◌, ◌≤◌, true, fal
 use Rattle.std.specs.Option.{option_and_then}
 use Rattle.std.proofs.lemmas.List.{take-append-le}
 use Rattle.std.proofs.lemmas.Option.{none-some, slice_get_within}
+use Rattle.m17_lists.proofs.Places.{places_before_stay, one_more_stands_at_the_end}
+use Rattle.m17_lists.proofs.Lengths.{one_more_is_one_longer}
 use Rattle.m17_directory.specs.Entries.{Claim, Entry, Setup, notice_of, notice_at, claim_at}
 use Rattle.m17_directory.specs.Outcome.{Outcome}
 use Rattle.m17_directory.specs.Routed.{past_at, asks_at, is_asks, unclaimed_at, others_at, settled_at, both, outcome_at, link_verdict}
 use Rattle.m17_receiver.specs.SoFar.{Laws, past_with}
-use Rattle.m17_receiver.proofs.Lists.{get_before, get_end, length_more}
 
 pub notice_before : (entries : List Entry) (e : Entry) (n : ℕ) → n < length entries → notice_at (entries ++ e ∷ []) n ≡ notice_at entries n
-notice_before entries e n l = ap notice_of (get_before entries (e ∷ []) n l)
+notice_before entries e n l = ap notice_of (places_before_stay entries (e ∷ []) n l)
 
 pub claim_before : (entries : List Entry) (e : Entry) (n : ℕ) → n < length entries → claim_at (entries ++ e ∷ []) n ≡ claim_at entries n
-claim_before entries e n l = ap (option_and_then (λ (entry : Entry). entry.claim)) (get_before entries (e ∷ []) n l)
+claim_before entries e n l = ap (option_and_then (λ (entry : Entry). entry.claim)) (places_before_stay entries (e ∷ []) n l)
 
 pub notice_end : (entries : List Entry) (e : Entry) → notice_at (entries ++ e ∷ []) (length entries) ≡ e.notice
-notice_end entries e = ap notice_of (get_end entries e)
+notice_end entries e = ap notice_of (one_more_stands_at_the_end entries e)
 
 pub claim_end : (entries : List Entry) (e : Entry) → claim_at (entries ++ e ∷ []) (length entries) ≡ e.claim
-claim_end entries e = ap (option_and_then (λ (entry : Entry). entry.claim)) (get_end entries e)
+claim_end entries e = ap (option_and_then (λ (entry : Entry). entry.claim)) (one_more_stands_at_the_end entries e)
 
 -- a position with a claim is one of the list
 claim_within : (entries : List Entry) (n : ℕ) (claim : Claim) (o : Option Entry) → slice_get entries n ≡ o → option_and_then (λ (entry : Entry). entry.claim) o ≡ Some claim → n < length entries
@@ -29,7 +30,7 @@ claim_within entries n claim (Some e) is has = slice_get_within entries n e is
 pub claim_within_more : (entries : List Entry) (e : Entry) (n : ℕ) (claim : Claim) → claim_at (entries ++ e ∷ []) n ≡ Some claim → n < suc (length entries)
 claim_within_more entries e n claim has =
     let l : n < length (entries ++ e ∷ []) = claim_within (entries ++ e ∷ []) n claim (slice_get (entries ++ e ∷ []) n) refl has in
-    omega (arith, l, length_more entries e)
+    omega (arith, l, one_more_is_one_longer entries e)
 
 take_before : (entries : List Entry) (e : Entry) (n : ℕ) → n ≤ length entries → take n (entries ++ e ∷ []) ≡ take n entries
 take_before entries e n l = take-append-le n entries (e ∷ []) l

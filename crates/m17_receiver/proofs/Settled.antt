@@ -2,9 +2,10 @@
 use Rattle.std.proofs.Common.{◌≡◌, ◌↔◌, ◌==◌, ◌&&◌, ◌||◌, ℕ, ◌+◌, ◌-◌, ◌^◌, min, Bool, true, false, cond, not, List, [], ◌∷◌, ◌++◌, length, map, take, Contains, refl, ap, sym, subst, ◌∙◌, arith, Option, None, Some, IsSome, IfSome}
 use Rattle.std.specs.List.{list_any}
 use Rattle.std.specs.Option.{option_map, option_map_or, option_to_list, is_some}
-use Rattle.std.proofs.lemmas.Bool.{false≢true}
-use Rattle.std.proofs.lemmas.List.{append_assoc, take_all}
+use Rattle.std.proofs.lemmas.Bool.{false≢true, or_parts}
+use Rattle.std.proofs.lemmas.List.{append_assoc, take_all, map-append}
 use Rattle.std.proofs.lemmas.Option.{none-some, same_Some}
+use Rattle.m17_lists.proofs.Lengths.{one_more_is_one_longer}
 use Rattle.m17_values.specs.declared.member.Member.{Member}
 use Rattle.m17_values.specs.declared.peer.Peer.{Peer}
 use Rattle.m17_roll.specs.Seat.{RollView}
@@ -22,7 +23,6 @@ use Rattle.m17_directory.specs.Laws.{left_before, is_ended, is_full}
 use Rattle.m17_receiver.specs.Devices.{IsCounted}
 use Rattle.m17_receiver.specs.Posting.{Outlets, posted_to}
 use Rattle.m17_receiver.specs.SoFar.{Laws, Plan, Parts, HasTaken, AreGone, IsAsking, IsThrough, past_with, posting, refused_by}
-use Rattle.m17_receiver.proofs.Lists.{length_more}
 use Rattle.m17_receiver.proofs.Positions.{claim_end, notice_end, heard_same, others_same, asked_is}
 use Rattle.m17_receiver.proofs.Posted.{posting_more, posted_more}
 use Rattle.m17_receiver.proofs.Claimed.{asked_more, claimed_more}
@@ -75,15 +75,11 @@ refused_full n after None = refl
 refused_full n after (Some m) = refl
 
 -- whose request needs to wait no more has no member departing
-left_of : (a b : Bool) → (a || b) ≡ false → a ≡ false
-left_of true b e = e
-left_of false b e = refl
-
 nobody_departs : (k : DirectoryKept) (asked : Asked) → k.asked ≡ Some asked → must_wait k ≡ false → has_departing asked.peer k.departing ≡ false
 nobody_departs k asked is free =
     let waits : Option Asked → Bool = λ o. option_map_or (λ (a : Asked). has_departing a.peer k.departing || (length k.known + length k.departing) == most_members) o false in
     let now : waits (Some asked) ≡ false = sym (ap waits is) ∙ free in
-    left_of (has_departing asked.peer k.departing) ((length k.known + length k.departing) == most_members) now
+    (or_parts (has_departing asked.peer k.departing) ((length k.known + length k.departing) == most_members) now).0
 
 who_asks : (o : Option Asked) → IsSome o → (asked : Asked) × (o ≡ Some asked)
 who_asks None some = absurd (false≢true some)
@@ -92,7 +88,7 @@ who_asks (Some asked) some = (asked, refl)
 -- the entry is from who asks
 asker_is : (entries : List Entry) (notice : Notice) (setup : Setup) (asked : Asked) → IsAsked setup (entries ++ unclaimed notice ∷ []) asked → (x : Peer) → is_from x notice ≡ true → is_peer x asked.peer ≡ true
 asker_is entries notice setup asked is x from =
-    let at : asked.index ≡ length entries = omega (arith, is.last, length_more entries (unclaimed notice)) in
+    let at : asked.index ≡ length entries = omega (arith, is.last, one_more_is_one_longer entries (unclaimed notice)) in
     let says : notice ≡ Notice.Sent asked.peer is.at is.packet =
     sym (notice_end entries (unclaimed notice)) ∙ ap (notice_at (entries ++ unclaimed notice ∷ [])) (sym at) ∙ is.says in
     sym (ap (is_from x) says) ∙ from
@@ -100,17 +96,13 @@ asker_is entries notice setup asked is x from =
 counted_all : (noted : ℕ) (notes : List Member) → IsCounted notes → noted ≡ min (length notes) (2 ^ 64 - 1) → take noted notes ≡ notes
 counted_all noted notes counted is = take_all noted notes (omega (arith, counted, is))
 
-map_both : {A B : Type 0} (f : A → B) (xs ys : List A) → map f (xs ++ ys) ≡ map f xs ++ map f ys
-map_both f [] ys = refl
-map_both f (x ∷ xs) ys = ap (λ l. f x ∷ l) (map_both f xs ys)
-
 gone_settled : Laws → (setup : Setup) (entries : List Entry) (e : Entry) (first second : List Known) (before departing : List Departed) (notes : List Member) →
     (outcome_at setup (entries ++ e ∷ []) (length entries)).left ≡ first ++ second → departing ≡ before ++ map departed_of second →
     AreGone (left_before setup entries (length entries) ++ map departed_of first) before notes → AreGone (left_before setup (entries ++ e ∷ []) (length (entries ++ e ∷ []))) departing notes
 gone_settled law setup entries e first second before departing notes left_is departing_is was =
     let old : List Departed = left_before setup entries (length entries) in
     let whole : left_before setup (entries ++ e ∷ []) (length (entries ++ e ∷ [])) ≡ (old ++ map departed_of first) ++ map departed_of second =
-    left_more law setup entries e ∙ ap (λ (ks : List Known). old ++ map departed_of ks) left_is ∙ ap (λ (ds : List Departed). old ++ ds) (map_both departed_of first second)
+    left_more law setup entries e ∙ ap (λ (ks : List Known). old ++ map departed_of ks) left_is ∙ ap (λ (ds : List Departed). old ++ ds) (map-append departed_of first second)
     ∙ sym (append_assoc old (map departed_of first) (map departed_of second)) in
     subst (λ (gone : List Departed). AreGone gone departing notes) (sym whole)
     (subst (λ (ds : List Departed). AreGone ((old ++ map departed_of first) ++ map departed_of second) ds notes) (sym departing_is)

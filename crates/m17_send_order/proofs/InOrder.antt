@@ -5,6 +5,9 @@ use Rattle.std.proofs.lemmas.Bool.{cond-true}
 use Rattle.std.proofs.lemmas.List.{append_assoc}
 use Rattle.std.proofs.lemmas.List.Concat.{flat_map-append}
 use Rattle.std.proofs.lemmas.List.Elements.{All-head, All-same, All-contains, filter_passes}
+use Rattle.m17_lists.proofs.Lengths.{none_stands_behind}
+use Rattle.m17_lists.proofs.Contents.{first_is_in, rest_is_in}
+use Rattle.m17_lists.proofs.Pairs.{each_two_of_the_rest}
 use Rattle.m17_values.specs.declared.member.Member.{Member}
 use Rattle.m17_control.specs.declared.item.Item.{Item}
 use Rattle.m17_send_order.specs.Acts.{Act, things_of, notes_of}
@@ -12,10 +15,10 @@ use Rattle.m17_send_order.specs.Turns.{HasBye, Turns}
 use Rattle.m17_send_order.specs.Joined.{Queues, Joined, is_to, items_of, IsJoined, WaitsFor, item_of, items_said, is_to_any}
 use Rattle.m17_send_order.specs.Laws.{TurnsKeepEachMemberInOrder}
 use Rattle.m17_send_order.proofs.Grown.{never}
-use Rattle.m17_send_order.proofs.Splits.{Found, found_in, contains_split, flat_map_at, filter_flat_map, flat_map_agree, filter_filter, filter_none_at, contains_here, contains_later}
-use Rattle.m17_send_order.proofs.Members.{is_same_self, one_to, SaysIt, says_it, own_items, any_one, any_from, pairs_head, pairs_tail}
+use Rattle.m17_send_order.proofs.Splits.{Found, found_in, contains_split, flat_map_at, filter_flat_map, flat_map_agree, filter_filter, filter_none_at}
+use Rattle.m17_send_order.proofs.Members.{is_same_self, one_to, SaysIt, says_it, own_items, any_one, any_from, pairs_head}
 use Rattle.m17_send_order.proofs.Waits.{hello_waits}
-use Rattle.m17_send_order.proofs.Rows.{none_in, append_none, Ordered, in_rows}
+use Rattle.m17_send_order.proofs.Rows.{none_in, Ordered, in_rows}
 
 -- what an act says to a membership
 abbrev to_one : Member → Act → List Item
@@ -57,7 +60,7 @@ nothing_behind all queues link j things joined front rest e bye =
     let told : items_of queues j ≡ flat_map (to_one j.member) s.0 ++ bye.item ∷ flat_map (to_one j.member) (s.1 ++ rest) =
     own_at all queues link j things joined s.0 (s.1 ++ rest) bye.m bye.q bye.item whole is in
     let none : flat_map (to_one j.member) (s.1 ++ rest) ≡ [] = joined.life.ends (flat_map (to_one j.member) s.0) (flat_map (to_one j.member) (s.1 ++ rest)) bye.item bye.why told bye.its_body in
-    append_none (flat_map (to_one j.member) s.1) (flat_map (to_one j.member) rest) (sym (flat_map-append (to_one j.member) s.1 rest) ∙ none)
+    none_stands_behind (flat_map (to_one j.member) s.1) (flat_map (to_one j.member) rest) (sym (flat_map-append (to_one j.member) s.1 rest) ∙ none)
 
 -- so nothing to the later one stands before an item to the earlier one
 none_at : (acts more : List Act) (queues : Queues) (link : ℕ) (j k : Joined) → Turns acts → ((m q : ℕ) → things_of m q (acts ++ more) ≡ queues m q) → Pair queues link (notes_of link acts) j k → (front rest : List Act) (m q : ℕ) (y : Item) → acts ++ more ≡ front ++ Act.Says m q y ∷ rest → is_to j.member y ≡ true → (told : List Item) → flat_map (to_one k.member) front ≡ told → told ≡ []
@@ -97,10 +100,10 @@ ordered acts more queues link [] t turns things each pairs passes = tt
 ordered acts more queues link (j ∷ js) t turns things each pairs passes =
     let waits : (k : Joined) → Contains js k → WaitsFor (notes_of link acts) j k = pairs_head (WaitsFor (notes_of link acts)) j js pairs in (
       front_of acts more queues link j js t turns things
-          (λ k here. record { earlier = each j (contains_here j js); later = each k (contains_later j js k here); waits = waits k here })
-          (λ k here. passes k (contains_later j js k here)),
+          (λ k here. record { earlier = each j (first_is_in js j); later = each k (rest_is_in j js k here); waits = waits k here })
+          (λ k here. passes k (rest_is_in j js k here)),
       (λ k here. (waits k here).0),
-      ordered acts more queues link js t turns things (λ k here. each k (contains_later j js k here)) (pairs_tail (WaitsFor (notes_of link acts)) j js pairs) (λ k here. passes k (contains_later j js k here)),
+      ordered acts more queues link js t turns things (λ k here. each k (rest_is_in j js k here)) (each_two_of_the_rest (WaitsFor (notes_of link acts)) j js pairs) (λ k here. passes k (rest_is_in j js k here)),
     )
 
 pub in_order : TurnsKeepEachMemberInOrder

@@ -104,7 +104,3 @@ pairs_head R x xs p y (k, lt, e) =
     let first : 0 < suc k = omega arith in
     let last : suc k < suc (length xs) = omega arith in
     subst (R x) e (p 0 (suc k) y first last)
-
-pub pairs_tail : {X : Type 0} (R : X → X → Type 0) (x : X) (xs : List X) → AllPairs R (x ∷ xs) → AllPairs R xs
-pairs_tail R x xs p = λ i j d below within.
-    p (suc i) (suc j) d (let first : suc i < suc j = omega arith in first) (let last : suc j < suc (length xs) = omega arith in last)

@@ -4,6 +4,7 @@ use Rattle.std.specs.List.{flat_map, filter}
 use Rattle.std.proofs.lemmas.Bool.{true≢false, or_cases, not-true, not_from_false, false_from_ne_true}
 use Rattle.std.proofs.lemmas.List.{append_assoc}
 use Rattle.std.proofs.lemmas.List.Elements.{Contains-append_right, All-contains, filter-append, filter_passes}
+use Rattle.m17_lists.proofs.Lengths.{none_stands_behind}
 use Rattle.m17_control.specs.declared.item.Item.{Item}
 use Rattle.m17_send_order.specs.Joined.{Joined, is_to, is_to_any}
 use Rattle.m17_send_order.proofs.Grown.{never}
@@ -76,15 +77,11 @@ Ordered items (j ∷ js) =
     × ((k : Joined) → Contains js k → j.member ≢ k.member)
     × Ordered items js
 
-pub append_none : {X : Type 0} (xs ys : List X) → xs ++ ys ≡ [] → ys ≡ []
-append_none [] ys e = e
-append_none (x ∷ xs) ys e = absurd (never [] (xs ++ ys) x (sym e))
-
 ordered_behind : (front items all : List Item) (js : List Joined) → all ≡ front ++ items → Ordered all js → Ordered items js
 ordered_behind front items all [] e h = tt
 ordered_behind front items all (j ∷ js) e h = (
   (λ f rest y at is.
-      append_none (filter (is_to_any js) front) (filter (is_to_any js) f)
+      none_stands_behind (filter (is_to_any js) front) (filter (is_to_any js) f)
       (sym (filter-append (is_to_any js) front f)
       ∙ h.0 (front ++ f) rest y (e ∙ ap (λ ws. front ++ ws) at ∙ sym (append_assoc front f (y ∷ rest))) is)),
   h.1,

@@ -4,6 +4,7 @@ use Rattle.std.specs.List.{flat_map, filter}
 use Rattle.std.proofs.lemmas.List.{set_split, set-get_or}
 use Rattle.std.proofs.lemmas.List.Concat.{flat_map-append}
 use Rattle.std.proofs.lemmas.List.Elements.{Contains-append_right, filter-append}
+use Rattle.m17_lists.proofs.Contents.{first_is_in, rest_is_in}
 use Rattle.m17_send_order.proofs.Grown.{never}
 
 -- a place in one list and then another: in the first, or in the second
@@ -91,23 +92,17 @@ filter_flat_map t f (x ∷ xs) =
     filter-append t (f x) (flat_map f xs) ∙ ap (λ ws. filter t (f x) ++ ws) (filter_flat_map t f xs)
 
 -- functions that agree on the items of a list
-pub contains_here : {T : Type 0} (x : T) (xs : List T) → Contains (x ∷ xs) x
-contains_here x xs = contains_at [] xs x
-
-pub contains_later : {T : Type 0} (x : T) (xs : List T) (y : T) → Contains xs y → Contains (x ∷ xs) y
-contains_later x xs y h = Contains-append_right (x ∷ []) xs y h
-
 pub flat_map_agree : {X A : Type 0} (f g : X → List A) (xs : List X) → ((x : X) → Contains xs x → f x ≡ g x) → flat_map f xs ≡ flat_map g xs
 flat_map_agree f g [] h = refl
 flat_map_agree f g (x ∷ xs) h =
-    ap (λ ws. ws ++ flat_map f xs) (h x (contains_here x xs))
-    ∙ ap (λ ws. g x ++ ws) (flat_map_agree f g xs (λ y i. h y (contains_later x xs y i)))
+    ap (λ ws. ws ++ flat_map f xs) (h x (first_is_in xs x))
+    ∙ ap (λ ws. g x ++ ws) (flat_map_agree f g xs (λ y i. h y (rest_is_in x xs y i)))
 
 pub filter_agree_on : {X : Type 0} (p q : X → Bool) (xs : List X) → ((x : X) → Contains xs x → p x ≡ q x) → filter p xs ≡ filter q xs
 filter_agree_on p q [] h = refl
 filter_agree_on p q (x ∷ xs) h =
-    ap (λ b. cond b (x ∷ filter p xs) (filter p xs)) (h x (contains_here x xs))
-    ∙ ap (λ ws. cond (q x) (x ∷ ws) ws) (filter_agree_on p q xs (λ y i. h y (contains_later x xs y i)))
+    ap (λ b. cond b (x ∷ filter p xs) (filter p xs)) (h x (first_is_in xs x))
+    ∙ ap (λ ws. cond (q x) (x ∷ ws) ws) (filter_agree_on p q xs (λ y i. h y (rest_is_in x xs y i)))
 
 -- a filter within a filter that keeps more
 filter_dropped : {X : Type 0} (p q : X → Bool) (x : X) (xs : List X) (c : Bool) → q x ≡ false → filter q (filter p xs) ≡ filter q xs → filter q (cond c (x ∷ filter p xs) (filter p xs)) ≡ filter q xs

@@ -1,32 +1,33 @@
 -- One cell more is filled, or one is emptied.
 use Rattle.std.proofs.Common.{◌≡◌, ◌≢◌, ◌⊎◌, inl, inr, ℕ, zero, suc, ◌<◌, List, [], ◌∷◌, ◌++◌, map, length, set, get_or, Option, None, Some, sym, ap, subst, ◌∙◌, arith}
 use Rattle.std.specs.List.{slice_get}
-use Rattle.std.proofs.lemmas.List.{append-nil}
+use Rattle.std.proofs.lemmas.List.{append-nil, length-set, map-set, length-map}
 use Rattle.std.proofs.lemmas.Bool.Decides.{eqb_tells}
+use Rattle.m17_lists.proofs.Places.{written_stands_there, other_places_stay, read_stands_there, mapped_stands_there}
 use Rattle.m17_control.specs.declared.item.Item.{Item}
 use Rattle.m17_rows.specs.Grids.{only_in}
 use Rattle.m17_sender.specs.Cells.{HasPlace, HoldsMore}
 use Rattle.m17_sender.specs.Places.{at_place, held_at, held_in, in_row}
-use Rattle.m17_sender.proofs.Lists.{set_here, set_else, set_count, read_is, map_put, map_get, map_count, map_same, here, at_or_else}
+use Rattle.m17_sender.proofs.Lists.{map_same, here, at_or_else}
 
 module _ {A : Type 0} where
   pub put_here : (rows : List (List A)) (m q : ℕ) (row : List A) (c : A)
       → slice_get rows m ≡ Some row → m < length rows → q < length row
       → at_place (set rows m (set row q c)) m q ≡ Some c
   put_here rows m q row c e lt within =
-      ap (λ (r : Option (List A)). in_row r q) (set_here rows m (set row q c) lt) ∙ set_here row q c within
+      ap (λ (r : Option (List A)). in_row r q) (written_stands_there rows m (set row q c) lt) ∙ written_stands_there row q c within
 
   pub put_else : (rows : List (List A)) (m q : ℕ) (row : List A) (c : A) (a b : ℕ)
       → slice_get rows m ≡ Some row → m < length rows → (a ≢ m) ⊎ (b ≢ q)
       → at_place (set rows m (set row q c)) a b ≡ at_place rows a b
-  put_else rows m q row c a b e lt (inl ne) = ap (λ (r : Option (List A)). in_row r b) (set_else rows m a (set row q c) ne)
+  put_else rows m q row c a b e lt (inl ne) = ap (λ (r : Option (List A)). in_row r b) (other_places_stay rows m a (set row q c) ne)
   put_else rows m q row c a b e lt (inr ne) = elim (eqb_tells a m) [
     | inl is ↦ ap (λ (n : ℕ). at_place (set rows m (set row q c)) n b) is.1
-        ∙ ap (λ (r : Option (List A)). in_row r b) (set_here rows m (set row q c) lt)
-        ∙ set_else row q b c ne
+        ∙ ap (λ (r : Option (List A)). in_row r b) (written_stands_there rows m (set row q c) lt)
+        ∙ other_places_stay row q b c ne
         ∙ sym (ap (λ (r : Option (List A)). in_row r b) e)
         ∙ sym (ap (λ (n : ℕ). at_place rows n b) is.1)
-    | inr isnt ↦ ap (λ (r : Option (List A)). in_row r b) (set_else rows m a (set row q c) isnt.1)
+    | inr isnt ↦ ap (λ (r : Option (List A)). in_row r b) (other_places_stay rows m a (set row q c) isnt.1)
   ]
 
   pub in_lists : (rows : List (List A)) (m q : ℕ) → HasPlace rows m q → m < length rows
@@ -55,7 +56,7 @@ fills rows m q row x e lt within free = record {
         ∙ sym (ap (λ (l : List Item). items rows a b ++ l) isnt.1 ∙ append-nil (items rows a b))
   ];
   free = free;
-  shape = map_same length rows m row (set row q (Some x)) e (set_count row q (Some x));
+  shape = map_same length rows m row (set row q (Some x)) e (length-set row q (Some x));
 }
 
 -- a cell with an item is emptied
@@ -74,7 +75,7 @@ empties rows m q row x e lt within held = record {
         ∙ append-nil (items (set rows m (set row q None)) a b))
   ];
   free = ap held_in (put_here rows m q row None e lt within);
-  shape = sym (map_same length rows m row (set row q None) e (set_count row q None));
+  shape = sym (map_same length rows m row (set row q None) e (length-set row q None));
 }
 
 -- the same for a grid of rows that have more than their items
@@ -83,11 +84,11 @@ module _ {V : Type 0} (its : V → List (Option Item)) where
       → was ≡ get_or cells m was → (m < length cells) × (slice_get cells m ≡ Some was)
       × (slice_get (map its cells) m ≡ Some (its was)) × (m < length (map its cells)) × (q < length (its was))
   row_of cells m q was place at =
-      let long : length (map its cells) ≡ length cells = map_count its cells in
+      let long : length (map its cells) ≡ length cells = length-map cells its in
       let lt : m < length (map its cells) = in_lists (map its cells) m q place in
       let less : m < length cells = omega arith in
-      let is = read_is cells m was less at in
-      let row = map_get its cells m was is in
+      let is = read_stands_there cells m was less at in
+      let row = mapped_stands_there its cells m was is in
       let same : place.row ≡ its was = let e = place.is_row in cc in
       (less, is, row, lt, subst (λ (r : List (Option Item)). q < length r) same place.within)
 
@@ -97,7 +98,7 @@ module _ {V : Type 0} (its : V → List (Option Item)) where
   fills_row cells m q was now x place at is free =
       let p = row_of cells m q was place at in
       subst (λ (l : List (List (Option Item))). HoldsMore (map its cells) l m q x)
-      (sym (map_put its cells m now ∙ ap (λ (r : List (Option Item)). set (map its cells) m r) is))
+      (sym (map-set its cells m now ∙ ap (λ (r : List (Option Item)). set (map its cells) m r) is))
       (fills (map its cells) m q (its was) x p.2 p.3 p.4 free)
 
   pub empties_row : (cells : List V) (m q : ℕ) (was now : V) (x : Item) → HasPlace (map its cells) m q
@@ -106,5 +107,5 @@ module _ {V : Type 0} (its : V → List (Option Item)) where
   empties_row cells m q was now x place at is held =
       let p = row_of cells m q was place at in
       subst (λ (l : List (List (Option Item))). HoldsMore l (map its cells) m q x)
-      (sym (map_put its cells m now ∙ ap (λ (r : List (Option Item)). set (map its cells) m r) is))
+      (sym (map-set its cells m now ∙ ap (λ (r : List (Option Item)). set (map its cells) m r) is))
       (empties (map its cells) m q (its was) x p.2 p.3 p.4 held)

@@ -2,6 +2,7 @@
 use Rattle.std.proofs.Common.{◌≡◌, inl, inr, ℕ, suc, List, [], ◌∷◌, ◌++◌, map, length, Option, None, Some, refl, sym, ap, ◌∙◌}
 use Rattle.std.specs.List.{slice_get}
 use Rattle.std.specs.Option.{option_map}
+use Rattle.m17_lists.proofs.Places.{each_place_has_one}
 use Rattle.m17_lane.specs.Ends.{PopEnd}
 use Rattle.m17_control.specs.declared.item.Item.{Item}
 use Rattle.m17_rows.specs.Rows.{pops, pop_each}
@@ -9,7 +10,7 @@ use Rattle.m17_rows.specs.Grids.{only_in, pop_grid}
 use Rattle.m17_rows.specs.Laws.{GridsPop, RowsPop}
 use Rattle.m17_sender.specs.Cells.{HasPlace}
 use Rattle.m17_sender.specs.Places.{at_place, in_row, popped_at, popped_by}
-use Rattle.m17_sender.proofs.Lists.{at_or_else, found}
+use Rattle.m17_sender.proofs.Lists.{at_or_else}
 
 popped_row : (r : Option (PopEnd Item)) (xs : List Item) → (r ≡ None → xs ≡ [])
     → popped_by (option_map (λ p. pops p xs) r) ≡ popped_by r ++ xs
@@ -25,7 +26,7 @@ popped_rows law (Some row) f b none =
 
 is_there : (rows : List (List (PopEnd Item))) (m q : ℕ) → HasPlace rows m q → at_place rows m q ≡ None → ⊥
 is_there rows m q p e =
-    let x = found p.row q p.within in
+    let x = each_place_has_one p.row q p.within in
     let is : at_place rows m q ≡ Some x.0 = ap (λ (r : Option (List (PopEnd Item))). in_row r q) p.is_row ∙ x.1 in
     let bad : ⊥ = cc in bad
 

@@ -1,6 +1,6 @@
 -- What a sender has done so far, when an item is taken out of a queue, passed over or held back.
 use Rattle.std.proofs.Common.{◌≡◌, inl, inr, ℕ, Bool, true, false, cond, nat_lt, ◌&&◌, List, [], ◌∷◌, ◌++◌, length, map, filter, Option, None, Some, MatchOption, refl, sym, ap, subst, ◌∙◌}
-use Rattle.std.proofs.lemmas.List.{append-nil, append_assoc}
+use Rattle.std.proofs.lemmas.List.{append-nil, append_assoc, length-map}
 use Rattle.std.proofs.lemmas.List.Elements.{filter-append}
 use Rattle.std.specs.List.{All}
 use Rattle.m17_values.specs.declared.member.Member.{Member}
@@ -17,7 +17,7 @@ use Rattle.m17_sender.specs.Places.{cells_of, held_at, is_answered, is_said, pop
 use Rattle.m17_sender.specs.Ready.{IsShaped}
 use Rattle.m17_sender.specs.Sent.{EachMouth, SaidByLink}
 use Rattle.m17_sender.specs.SoFar.{at_rest, GoesOn, Grows, SoFar, State, with_item}
-use Rattle.m17_sender.proofs.Lists.{at_or_else, here, map_count}
+use Rattle.m17_sender.proofs.Lists.{at_or_else, here}
 use Rattle.m17_sender.proofs.Grids.{grid_count, popped_more}
 use Rattle.m17_sender.proofs.Shapes.{same_count, same_long}
 
@@ -232,14 +232,14 @@ module _ {M L : Type 0} (tells : M → MouthTold L) where
   pub queue_count : (s t : Sender M) → map length (queues_of t) ≡ map length (queues_of s)
       → length t.queues.items ≡ length s.queues.items
   queue_count s t e =
-      sym (map_count (λ row. row.items) t.queues.items) ∙ same_count (queues_of s) (queues_of t) e
-      ∙ map_count (λ row. row.items) s.queues.items
+      sym (length-map t.queues.items (λ row. row.items)) ∙ same_count (queues_of s) (queues_of t) e
+      ∙ length-map s.queues.items (λ row. row.items)
 
   pub held_count : (s t : Sender M) → map length (cells_of t) ≡ map length (cells_of s)
       → length t.held.items ≡ length s.held.items
   held_count s t e =
-      sym (map_count (λ row. row.items) t.held.items) ∙ same_count (cells_of s) (cells_of t) e
-      ∙ map_count (λ row. row.items) s.held.items
+      sym (length-map t.held.items (λ row. row.items)) ∙ same_count (cells_of s) (cells_of t) e
+      ∙ length-map s.held.items (λ row. row.items)
 
   -- the queues and the cells are as many, and each row as long
   pub shape_kept : (s t : Sender M) → SameRest s t → map length (queues_of t) ≡ map length (queues_of s)

@@ -3,13 +3,13 @@ use Rattle.std.proofs.Common.{◌≡◌, ◌⊎◌, inl, inr, ℕ, suc, ◌<◌,
 use Rattle.std.specs.List.{slice_get}
 use Rattle.std.proofs.lemmas.Bool.Decides.{leb_tells}
 use Rattle.std.proofs.lemmas.Option.{get_or_from_slice_get, slice_get_within}
+use Rattle.std.proofs.lemmas.List.{length-map}
 use Rattle.m17_control.specs.declared.item.Item.{Item}
 use Rattle.m17_sender.specs.declared.sender.Sender.{Sender}
 use Rattle.m17_sender.specs.declared.queue.Tried.{Tried}
 use Rattle.m17_sender.specs.declared.queue.Tried.TheVariants.{Did, Empty, Waiting}
 use Rattle.m17_sender.specs.Places.{cells_of, held_at, held_in, in_row}
 use Rattle.m17_sender.specs.Ready.{IsShaped}
-use Rattle.m17_sender.proofs.Lists.{map_count}
 use Rattle.m17_sender.specs.SoFar.{is_did, IsHeldBack, IsIdle, OnVain, RestsAt}
 
 pub in_vain : (t : Tried) (P : Type 0) → is_did t ≡ false → OnVain t P → P
@@ -72,7 +72,7 @@ module _ {M : Type 0} where
   held_within s m q x h e =
       let row = held_row (cells_of s) m q x (slice_get (cells_of s) m) refl e in
       let lt : m < length (cells_of s) = slice_get_within (cells_of s) m row.0 row.1 in
-      let many : length (cells_of s) ≡ length s.held.items = map_count (λ row. row.items) s.held.items in
+      let many : length (cells_of s) ≡ length s.held.items = length-map s.held.items (λ row. row.items) in
       let same : get_or (cells_of s) m row.0 ≡ row.0 = get_or_from_slice_get (cells_of s) m row.0 row.0 row.1 in
       let long : length row.0 ≡ s.places = sym (ap (λ (l : List (Option Item)). length l) same) ∙ h.cells m row.0 lt in
       (omega (arith, lt, many, h.modules), omega (arith, long, row.2))

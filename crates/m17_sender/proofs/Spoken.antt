@@ -1,7 +1,7 @@
 -- What a sender has done so far, when the item in hand is said, and when a reply is.
 use Rattle.std.proofs.Common.{◌≡◌, ◌≢◌, inl, inr, ℕ, ◌<◌, ◌≤◌, ◌+◌, ◌-◌, ◌^◌, min, Bool, true, false, cond, ◌&&◌, ◌==◌, List, [], ◌∷◌, ◌++◌, length, map, filter, nat_lt, slice_index, Option, None, Some, refl, sym, ap, subst, ◌∙◌, eq-eqb, ne_eqb, arith}
 use Rattle.std.specs.List.{All}
-use Rattle.std.proofs.lemmas.List.{append-nil, append_assoc, length-append}
+use Rattle.std.proofs.lemmas.List.{append-nil, append_assoc, length-append, length-set}
 use Rattle.std.proofs.lemmas.List.Elements.{filter-append}
 use Rattle.std.proofs.lemmas.Grind.{flat_map-append}
 use Rattle.m17_lane.specs.Ends.{PopEnd, popped_from}
@@ -12,6 +12,7 @@ use Rattle.m17_control.specs.declared.item.Item.{Item}
 use Rattle.m17_control.specs.declared.item.Direct.{Direct}
 use Rattle.m17_control.specs.declared.item.Said.TheVariants.{Hello}
 use Rattle.std.specs.Option.{is_some}
+use Rattle.m17_lists.proofs.Places.{each_place_has_one}
 use Rattle.m17_values.specs.declared.peer.Peer.{Peer}
 use Rattle.m17_control.specs.declared.packet.Packet.{Packet}
 use Rattle.m17_control.specs.declared.packet.Packet.TheVariants as packets
@@ -27,7 +28,7 @@ use Rattle.m17_sender.specs.Ready.{IsShaped}
 use Rattle.m17_sender.specs.Saying.{SaysOn}
 use Rattle.m17_sender.specs.Sent.{EachMouth, SaidByLink, bye_of, bye_on, byes_of}
 use Rattle.m17_sender.specs.SoFar.{at_rest, IsNoted, SoFar, State, with_item, with_reply}
-use Rattle.m17_sender.proofs.Lists.{at_or_else, found, set_count, set_same}
+use Rattle.m17_sender.proofs.Lists.{at_or_else, set_same}
 use Rattle.m17_sender.proofs.Mouths.{each_set}
 use Rattle.m17_sender.proofs.Notes.{acts_of_item, answers_more, byes_more, notes_more, sayings_more, things_more, turns_item}
 use Rattle.m17_sender.proofs.Queued.{held_count, one_said, queue_count, said_same}
@@ -55,7 +56,7 @@ pub says_nothing : {M L : Type 0} (tells : M → MouthTold L) → MouthsSayInTur
     (packet : Option Packet) → link < length ms → false ≡ is_some packet
     → SaysOn tells link (to_peer peer packet) ms ms
 says_nothing tells law ms link peer packet lt none =
-    let m = found ms link lt in record {
+    let m = each_place_has_one ms link lt in record {
       mouth = m.0;
       now = m.0;
       datagrams = [];
@@ -153,7 +154,7 @@ module _ {M L : Type 0} (tells : M → MouthTold L) where
         same_name = same.name ∙ h.same_name;
         same_places = same.places ∙ h.same_places;
         same_cells = ap (map length) same.cells ∙ h.same_cells;
-        same_links = ap (λ (ms : List M). length ms) said.is ∙ set_count s.mouths.items x.link said.now ∙ h.same_links;
+        same_links = ap (λ (ms : List M). length ms) said.is ∙ length-set s.mouths.items x.link said.now ∙ h.same_links;
       }
 
   -- a reply is popped
@@ -251,7 +252,7 @@ module _ {M L : Type 0} (tells : M → MouthTold L) where
         same_name = same.name ∙ h.same_name;
         same_places = same.places ∙ h.same_places;
         same_cells = ap (map length) same.cells ∙ h.same_cells;
-        same_links = ap (λ (ms : List M). length ms) said.is ∙ set_count s.mouths.items d.link said.now ∙ h.same_links;
+        same_links = ap (λ (ms : List M). length ms) said.is ∙ length-set s.mouths.items d.link said.now ∙ h.same_links;
       }
 
   pub said_shape : (s t : Sender M) → SameQueues s t → length t.notes.items ≡ length s.notes.items

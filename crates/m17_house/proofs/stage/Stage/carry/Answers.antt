@@ -1,5 +1,6 @@
 use Rattle.std.proofs.Common.{◌≡◌, ◌<◌, ℕ, List, [], ◌∷◌, ◌++◌, length, None, true, refl, sym, subst, arith}
 use Rattle.std.specs.List.{filter_map}
+use Rattle.m17_lists.proofs.Lengths.{filter_map_is_no_longer}
 use Rattle.m17_control.specs.declared.event.Event.{Event}
 use Rattle.m17_control.specs.declared.item.Item.{Item}
 use Rattle.m17_control.specs.Modules.{serves}
@@ -8,7 +9,6 @@ use Rattle.m17_directory.specs.Routed.{event_for}
 use Rattle.m17_house.specs.Replay.{packet_to}
 use Rattle.m17_house.specs.Tallied.{HasSaidMore}
 use Rattle.m17_house.specs.Carried.{HasCarried, IsServed, events_of, answer_to}
-use Rattle.m17_house.proofs.Lists.{length_filter_map}
 use Rattle.m17_house.proofs.Carries.{carried_event, carried_reply}
 use Rattle.m17_house.proofs.stage.Stage.carry.Goals as goal
 
@@ -17,7 +17,7 @@ returns-in-ToModule-clause-carried c = λ plan done named served few before.
     let letter : ℕ = c.in-ToModule.module in
     let event : Event = c.in-ToModule.event in
     let here : serves plan.modules letter ≡ true = subst (λ (d : Dispatch). IsServed plan d) c.in-ToModule.is served in
-    let fits : length (events_of letter done) < 18446744073709551615 = omega (arith, length_filter_map (event_for letter) done) in
+    let fits : length (events_of letter done) < 18446744073709551615 = omega (arith, filter_map_is_no_longer (event_for letter) done) in
     let step = c.step-verdict.ensures.by_rule plan (events_of letter done) (before.rooms_stand letter here) fits in
     let items : List Item = c.step-verdict.new.out in
     let said : HasSaidMore (λ x. filter_map (packet_to x plan.name) items) c.args.mouth.now c.say_all.new.mouth =

@@ -1,7 +1,8 @@
 use Rattle.std.proofs.Common.{◌∷◌, [], refl, ap, length, ◌∙◌, arith}
+use Rattle.std.proofs.lemmas.List.{length-set}
+use Rattle.std.proofs.lemmas.Bool.{lt-ltb, le-ltb}
 use Rattle.m17_send_order.specs.Acts.{Act}
 use Rattle.m17_sender.specs.SoFar.{at_rest, with_reply}
-use Rattle.m17_sender.proofs.Lists.{ge_tests, lt_tests, set_count}
 use Rattle.m17_sender.proofs.Queued.{goes_same, goes_with}
 use Rattle.m17_sender.proofs.Spoken.{passes_reply, said_shape, says_reply}
 use Rattle.m17_sender.proofs.sender.Sender.answer.Goals as goal
@@ -16,13 +17,13 @@ returns-then-reply-len g c = record {
       c.turns_grow.ensures c.rows_push.ensures c.mouths_say_in_turn.ensures c.spelled_part_by_part.ensures j c.args.self.now
       (record c.args.self.now { mouths = c.say_reply.new.mouths }) acts noted c.args.reply.now
       (record { name = refl; places = refl; queues = refl; cells = refl }) refl refl c.say_reply.ensures
-      (lt_tests c.args.reply.now.link (length c.args.self.now.mouths.items)
+      (lt-ltb c.args.reply.now.link (length c.args.self.now.mouths.items)
       (omega (arith, c.if-reply-len.true, c.len.ensures, c.args.self.now.mouths.ok.0))) h)
       (said_shape g.M.Mouth.told c.args.self.now
       (record c.args.self.now { mouths = c.say_reply.new.mouths })
       (record { name = refl; places = refl; queues = refl; cells = refl }) refl
       (ap (λ l. length l) c.say_reply.ensures.is
-      ∙ set_count c.args.self.now.mouths.items c.args.reply.now.link c.say_reply.ensures.now))
+      ∙ length-set c.args.self.now.mouths.items c.args.reply.now.link c.say_reply.ensures.now))
       refl refl refl;
 }
 
@@ -32,7 +33,7 @@ returns-else-reply-len g c = record {
       goes_same g.M.Mouth.told
       (with_reply c.args.self.now noted c.args.reply.now) (at_rest c.args.self.now noted)
       (λ j acts h. passes_reply g.M.Mouth.told j c.args.self.now acts noted c.args.reply.now
-      (ge_tests c.args.reply.now.link (length c.args.self.now.mouths.items)
+      (le-ltb c.args.reply.now.link (length c.args.self.now.mouths.items)
       (omega (arith, c.if-reply-len.false, c.len.ensures, c.args.self.now.mouths.ok.0))) h)
       (λ h. h) refl refl refl;
 }

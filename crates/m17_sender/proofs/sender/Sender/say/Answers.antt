@@ -1,7 +1,7 @@
 use Rattle.std.proofs.Common.{Some, refl, ap, length, ◌∙◌}
+use Rattle.std.proofs.lemmas.List.{length-set}
 use Rattle.m17_sender.specs.Sent.{bye_on}
 use Rattle.m17_sender.specs.SoFar.{at_rest, with_item}
-use Rattle.m17_sender.proofs.Lists.{set_count}
 use Rattle.m17_sender.proofs.Notes.{acts_of_item}
 use Rattle.m17_sender.proofs.Queued.{goes_with}
 use Rattle.m17_sender.proofs.Spoken.{says_item, said_shape}
@@ -23,6 +23,6 @@ returns g c = record {
       (record c.args.self.now { mouths = c.say_kept.new.mouths; notes = c.note.new.notes })
       (record { name = refl; places = refl; queues = refl; cells = refl })
       (ap (λ l. length l) c.note.ensures.notes ∙ c.rows_push.ensures.count (λ i. bye_on i c.args.item.now) 0 c.args.self.now.notes.items)
-      (ap (λ l. length l) c.say_kept.ensures.is ∙ set_count c.args.self.now.mouths.items c.args.item.now.link c.say_kept.ensures.now))
+      (ap (λ l. length l) c.say_kept.ensures.is ∙ length-set c.args.self.now.mouths.items c.args.item.now.link c.say_kept.ensures.now))
       refl refl refl;
 }

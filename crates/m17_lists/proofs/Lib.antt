@@ -1,0 +1,9 @@
+pub mod Contents
+pub mod Held
+pub mod Lengths
+pub mod Pairs
+pub mod Parts
+pub mod Places
+pub mod Ranges
+pub mod Sums
+pub mod Tests
