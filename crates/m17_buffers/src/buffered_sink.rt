@@ -35,10 +35,8 @@ impl<O: Outlet + Drop> BufferedSink<O> {
     pub fn make(alloc: Global, outlet: O) -> Result<BufferedSink<O>, NoMemory>
         ensures { IfOk result (λ made. made ≡ record { held = []; device = outlet }) }
     {
-        match Vec::with_capacity(alloc, BUFFER_BYTES) {
-            Ok(buffer) => Ok(BufferedSink { outlet, buffer }),
-            Err(_) => Err(NoMemory),
-        }
+        let buffer = Vec::with_capacity(alloc, BUFFER_BYTES)?;
+        Ok(BufferedSink { outlet, buffer })
     }
 
     /// The outlet below.

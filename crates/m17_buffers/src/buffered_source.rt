@@ -41,15 +41,13 @@ impl<S: Source + Drop> BufferedSource<S> {
     pub fn make(alloc: Global, source: S) -> Result<BufferedSource<S>, NoMemory>
         ensures { IfOk result (λ made. made ≡ record { held = []; device = source }) }
     {
-        match vec![in alloc; 0u8; BUFFER_BYTES] {
-            Ok(buffer) => Ok(BufferedSource {
-                source,
-                buffer,
-                start: 0,
-                end: 0,
-            }),
-            Err(_) => Err(NoMemory),
-        }
+        let buffer = vec![in alloc; 0u8; BUFFER_BYTES]?;
+        Ok(BufferedSource {
+            source,
+            buffer,
+            start: 0,
+            end: 0,
+        })
     }
 
     // Reads once from below into the buffer, which is empty.

@@ -2,9 +2,8 @@
 use Rattle.std.specs.Prelude.{◌≡◌, ◌⊎◌, ◌&&◌, ◌||◌, ℕ, zero, suc, ◌-◌, Bool, true, false, List, [], ◌∷◌, map, take, fold, max, slice_get, nat_le, Option, None, Some, option_and_then, option_map}
 use Rattle.std.specs.List.{list_all, range_with_len}
 use Rattle.std.specs.Option.{option_map_or}
-use Rattle.std.specs.declared.cmp.Ordering.{Ordering}
-use Rattle.std.specs.Ordering.{nat_cmp, bool_cmp, ordering_then, match_ordering, is_eq}
-use Rattle.std.specs.Cmp.Lexicographic.{slice_cmp}
+use Rattle.std.specs.Ordering.{match_ordering, is_eq}
+pub use Rattle.m17_values.specs.Peers.{peer_cmp}
 use Rattle.m17_values.specs.declared.heard.Heard.{Heard}
 use Rattle.m17_values.specs.declared.heard.Heard.TheVariants as heard
 use Rattle.m17_values.specs.declared.member.Member.{Member}
@@ -62,9 +61,9 @@ pub record Setup : Type 0 where
   pub places : ℕ
   pub modules : Modules
 
--- what the entry at a position says; past the end a fault
+-- what the entry at a position says; past the end that all is quiet at moment 0, of which nothing comes
 abbrev pub notice_of : Option Entry → Notice
-notice_of None = Notice.Fault
+notice_of None = Notice.Quiet 0
 notice_of (Some entry) = entry.notice
 
 abbrev pub notice_at : List Entry → ℕ → Notice
@@ -97,12 +96,7 @@ passes_time Notice.Fault = false
 passes_time Notice.End = false
 passes_time _ = true
 
--- The order of peers: by family, IPv4 first, then by address, then by port.
-abbrev pub peer_cmp : Peer → Peer → Ordering
-peer_cmp a b =
-    ordering_then (bool_cmp a.six b.six)
-    (ordering_then (slice_cmp nat_cmp a.ip b.ip) (nat_cmp a.port b.port))
-
+-- the two are one peer
 abbrev pub is_peer : Peer → Peer → Bool
 is_peer a b = is_eq (peer_cmp a b)
 

@@ -32,10 +32,8 @@ impl Departing {
     pub(crate) fn make(alloc: Global) -> Result<Departing, NoMemory>
         ensures { IfOk result (λ departing. departing ≡ []) }
     {
-        match Vec::with_capacity(alloc, MOST_MEMBERS) {
-            Ok(members) => Ok(Departing { members }),
-            Err(_) => Err(NoMemory),
-        }
+        let members = Vec::with_capacity(alloc, MOST_MEMBERS)?;
+        Ok(Departing { members })
     }
 
     // One more: the member that the known peer was.

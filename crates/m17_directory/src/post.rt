@@ -35,10 +35,8 @@ impl Post {
     pub fn make(alloc: Global) -> Result<Post, NoMemory>
         ensures { IfOk result (λ post. post ≡ []) }
     {
-        match VecDeque::with_capacity(alloc, POST_ROOM) {
-            Ok(items) => Ok(Post { items }),
-            Err(_) => Err(NoMemory),
-        }
+        let items = VecDeque::with_capacity(alloc, POST_ROOM)?;
+        Ok(Post { items })
     }
 
     /// Whether nothing is left in it.

@@ -38,13 +38,11 @@ impl Table {
     pub(crate) fn make(alloc: Global) -> Result<Table, NoMemory>
         ensures { IfOk result (λ table. table ≡ []) }
     {
-        match Vec::with_capacity(alloc, MOST_KNOWN) {
-            Ok(rows) => Ok(Table {
-                rows,
-                earliest: u64::MAX,
-            }),
-            Err(_) => Err(NoMemory),
-        }
+        let rows = Vec::with_capacity(alloc, MOST_KNOWN)?;
+        Ok(Table {
+            rows,
+            earliest: u64::MAX,
+        })
     }
 
     // How many are known.

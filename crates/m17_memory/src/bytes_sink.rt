@@ -50,16 +50,14 @@ impl BytesSink {
         }) }
         ensures no_room { room ≡ 0 → IsOk result }
     {
-        match Vec::with_capacity(alloc, room) {
-            Ok(bytes) => Ok(BytesSink {
-                bytes,
-                room,
-                fails,
-                next_call: 0,
-                faults: 0,
-            }),
-            Err(_) => Err(NoMemory),
-        }
+        let bytes = Vec::with_capacity(alloc, room)?;
+        Ok(BytesSink {
+            bytes,
+            room,
+            fails,
+            next_call: 0,
+            faults: 0,
+        })
     }
 
     /// The bytes written.

@@ -1,5 +1,5 @@
 -- An echo is one item, to its member.
-use Rattle.std.proofs.Common.{◌≡◌, ℕ, Bool, true, false, cond, [], get_or, is_none, option_map, Option, None, Some, refl, ap, sym, ◌∙◌}
+use Rattle.std.proofs.Common.{◌≡◌, ℕ, Bool, true, false, cond, [], get_or, option_map, Option, None, Some, refl, ap, sym, ◌∙◌}
 use Rattle.std.specs.Option.{option_and_then}
 use Rattle.std.proofs.lemmas.Option.{same_Some}
 use Rattle.m17_values.specs.declared.member.Member.{Member}
@@ -9,7 +9,7 @@ use Rattle.m17_floor.specs.Acts.{moment_at}
 use Rattle.m17_parrot.specs.Recording.{Recording, is_due, next_frame, due_of}
 use Rattle.m17_module.specs.Events.{acts_of}
 use Rattle.m17_module.specs.Seats.{seats_at, seat_of}
-use Rattle.m17_module.specs.Echoes.{holder_at, recording_with, closed_if, echoed_before, echo_at}
+use Rattle.m17_module.specs.Echoes.{recording_with, echoed_before, echo_at}
 use Rattle.m17_module.specs.Items.{to_one, echo_items, echoes_at}
 use Rattle.m17_module.specs.Laws.{EachEchoIsSentOnce}
 use Rattle.m17_module.proofs.FramesMine.{seat_of_some}
@@ -28,24 +28,20 @@ due_cases k true (Some p) e is = ap (λ (x : Member × StreamPacket). x.0) (sym 
 due_is : (at : ℕ) (r : Recording) (e : Member × StreamPacket) → due_of at r ≡ Some e → e.0 ≡ r.member
 due_is at r e is = due_cases r.member (is_due at r) (next_frame r) e is
 
-member_closed : (s : Bool) (at : ℕ) (r : Recording) → (closed_if s at r).member ≡ r.member
-member_closed true at r = refl
-member_closed false at r = refl
-
 record IsFor (recording : Option Recording) (e : Member × StreamPacket) : Type 0 where
   of : Recording
   is : recording ≡ Some of
   member : e.0 ≡ of.member
 
-echo_for : (at : ℕ) (s : Bool) (recording : Option Recording) (e : Member × StreamPacket) → option_and_then (due_of at) (option_map (closed_if s at) recording) ≡ Some e → IsFor recording e
-echo_for at s None e is = cc
-echo_for at s (Some r) e is = record { of = r; is = refl; member = due_is at (closed_if s at r) e is ∙ member_closed s at r }
+echo_for : (at : ℕ) (recording : Option Recording) (e : Member × StreamPacket) → option_and_then (due_of at) recording ≡ Some e → IsFor recording e
+echo_for at None e is = cc
+echo_for at (Some r) e is = record { of = r; is = refl; member = due_is at r e is }
 
 pub echo_once : EachEchoIsSentOnce
 unfolding echoes_at echo_at
 echo_once setup events n echo parrot is =
     let found_for : IsFor (recording_with setup (acts_of events) n (echoed_before setup (acts_of events) n)) echo =
-    echo_for (moment_at (acts_of events) n) (is_none (holder_at setup (acts_of events) n)) _ echo is in
+    echo_for (moment_at (acts_of events) n) _ echo is in
     let at : IsFound setup.places (acts_of events) n found_for.of = found setup (acts_of events) n (echoed_before setup (acts_of events) n) found_for.of found_for.is in
     let has = joined_has_seat setup.places events n found_for.of.member at.join at.joined in
     let here : seat_of (seats_at setup.places events n) echo.0 ≡ Some has.seat =

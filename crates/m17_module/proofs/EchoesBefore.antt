@@ -12,12 +12,12 @@ use Rattle.m17_floor.specs.declared.act.ActKind.TheVariants.{Join, Leave, Packet
 use Rattle.m17_floor.specs.declared.verdict.Verdict.{Verdict}
 use Rattle.m17_floor.specs.Setup.{FloorSetup}
 use Rattle.m17_floor.specs.Acts.{kind_at, moment_at}
-use Rattle.m17_floor.specs.Rule.{Frame, only_if, has_floor}
+use Rattle.m17_floor.specs.Rule.{only_if, has_floor}
 use Rattle.m17_floor.specs.Floor.{Past, floor_frame, opens, admits, past_with, verdicts_before, past_at, verdict_at}
 use Rattle.m17_floor.specs.Laws.{LaterActsChangeNoVerdict, LaterActsChangeNoMembership, LaterActsChangeNoMoment, LaterActsChangeNoKind}
 use Rattle.m17_parrot.specs.Recording.{Recording, most_frames, due_of}
 use Rattle.m17_module.specs.Setup.{Setup, floor_setup}
-use Rattle.m17_module.specs.Echoes.{is_admitted_at, is_opened_at, holder_at, packet_in, admitted_packet, held_before, has_end_bit, closes, close_before, is_in_since, opening, recording_of, last_opened, recording_with, closed_if, echo_with, echoed_before, echo_at, recording_at}
+use Rattle.m17_module.specs.Echoes.{is_admitted_at, is_opened_at, holder_at, packet_in, admitted_packet, held_before, has_end_bit, closes, close_before, is_in_since, opening, recording_of, last_opened, recording_with, echo_with, echoed_before, echo_at, recording_at}
 use Rattle.m17_lookup.proofs.LastBelow.{last_below_same, last_below_lt, and_then_same}
 use Rattle.m17_module.proofs.Below.{length_more}
 use Rattle.m17_module.proofs.ItemsMore.{flat_map_same}
@@ -127,10 +127,8 @@ recording_with_same later setup acts more n echoed h =
 
 echo_with_same : Later → (setup : Setup) (acts more : List Act) (n : ℕ) (echoed : List Bool) → n < length acts → echo_with setup (acts ++ more) n echoed ≡ echo_with setup acts n echoed
 echo_with_same later setup acts more n echoed h =
-    let give : ℕ → Option Frame → Option Recording → Option (Member × StreamPacket) = λ at holder r. option_and_then (due_of at) (option_map (closed_if (is_none holder) at) r) in
-    ap (λ at. give at (holder_at setup (acts ++ more) n) (recording_with setup (acts ++ more) n echoed)) (later.moments acts more n h)
-    ∙ ap (λ holder. give (moment_at acts n) holder (recording_with setup (acts ++ more) n echoed)) (holder_same later setup acts more n h)
-    ∙ ap (give (moment_at acts n) (holder_at setup acts n)) (recording_with_same later setup acts more n echoed (omega arith))
+    ap (λ at. option_and_then (due_of at) (recording_with setup (acts ++ more) n echoed)) (later.moments acts more n h)
+    ∙ ap (option_and_then (due_of (moment_at acts n))) (recording_with_same later setup acts more n echoed (omega arith))
 
 pub echoed_same : Later → (setup : Setup) (acts more : List Act) (n : ℕ) → n ≤ length acts → echoed_before setup (acts ++ more) n ≡ echoed_before setup acts n
 unfolding echoed_before

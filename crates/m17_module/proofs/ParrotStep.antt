@@ -23,9 +23,9 @@ use Rattle.m17_module.specs.Setup.{Setup, floor_setup}
 use Rattle.m17_module.specs.declared.seat.Seat.{Seat}
 use Rattle.m17_module.specs.Events.{kind_of, acts_of}
 use Rattle.m17_module.specs.Seats.{seats_at, seat_in, if_of, seat_of}
-use Rattle.m17_module.specs.Echoes.{packet_in, admitted_packet, has_end_bit, holder_at, is_in_since, closed_if, recording_with, echoed_before, echo_at, recording_at}
+use Rattle.m17_module.specs.Echoes.{packet_in, admitted_packet, has_end_bit, holder_at, is_in_since, recording_with, echoed_before, echo_at, recording_at}
 use Rattle.m17_module.specs.StandsFor.{People, PeopleStandFor}
-use Rattle.m17_module.specs.Following.{seat_member, leaver, unless_any, holder_then, FloorFollows, turned, extended, recording_heard, recording_then}
+use Rattle.m17_module.specs.Following.{seat_member, leaver, unless_any, holder_then, FloorFollows, closed_if, turned, extended, recording_heard, recording_then}
 use Rattle.m17_module.proofs.Acts.{acts_append, length_acts}
 use Rattle.m17_module.proofs.Below.{length_more}
 use Rattle.m17_module.proofs.SeatsMore.{joined_has_seat, seats_at_is, joined_below, is_same_self, same_from_is_same}
@@ -35,7 +35,7 @@ use Rattle.m17_module.proofs.Mine.{ArePlaced, other_place}
 use Rattle.m17_module.proofs.StepMore.{at_end}
 use Rattle.m17_module.proofs.EchoesBefore.{Later, past_from, past_at_same, recording_same, echoed_suc, length_echoed}
 use Rattle.m17_module.proofs.EchoesMore.{moved, unless_settled, recording_goes_on, recording_opens, IsFound, found}
-use Rattle.m17_module.proofs.RecordingStep.{moved_silent, moved_on, opened_is}
+use Rattle.m17_module.proofs.RecordingStep.{due_turned, moved_silent, moved_on, opened_is}
 
 -- the acts with the new event
 abbrev longer : List Event → Event → List Act
@@ -74,12 +74,11 @@ before_end_is later setup events event =
 echo_end : (setup : Setup) (events : List Event) (event : Event) (at : ℕ) (answer : Option Verdict) (holder : Option Frame) (recording : Option Recording) → Scene setup events event at answer holder recording → echo_at setup (longer events event) (length events) ≡ option_and_then (due_of at) (option_map (closed_if (is_none holder) at) recording)
 unfolding echo_at recording_at
 echo_end setup events event at answer holder recording s =
-    let give : ℕ → Option Frame → Option Recording → Option (Member × StreamPacket) = λ m h r. option_and_then (due_of m) (option_map (closed_if (is_none h) m) r) in
     let n : ℕ = length events in
     let acts : List Act = longer events event in
-    ap (λ m. give m (holder_at setup acts n) (recording_with setup acts n (echoed_before setup acts n))) s.moment
-    ∙ ap (λ h. give at h (recording_with setup acts n (echoed_before setup acts n))) s.holder_is
-    ∙ ap (give at holder) s.before
+    ap (λ m. option_and_then (due_of m) (recording_with setup acts n (echoed_before setup acts n))) s.moment
+    ∙ ap (option_and_then (due_of at)) s.before
+    ∙ sym (due_turned at (is_none holder) recording)
 
 -- the recording with what the event adds
 abbrev onward : Body → ℕ → Bool → List StreamPacket → Bool → Option Recording → Option Recording

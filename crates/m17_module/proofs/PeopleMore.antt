@@ -323,7 +323,7 @@ pub judged_by_rule : (setup : Setup) (seats : List (Option Seat)) (lasts : List 
     → length lasts ≡ length seats → own ≡ get_or lasts seat.member.place own → get_or seats seat.member.place None ≡ Some seat → seat.listens ≡ false
     → kind_of event.body ≡ act.Packet seat.member p → at ≡ max (moment_before (acts_of events) (length events)) event.at
     → PeopleStandFor setup (record { seats = seats; lasts = lasts; floor = before }) events
-    → PeopleStandFor setup (record { seats = seats; lasts = slice_set lasts seat.member.place own'; floor = floor }) (events ++ event ∷ []) × (verdict_at (floor_setup setup) (acts_of (events ++ event ∷ [])) (length events) ≡ Some verdict)
+    → PeopleStandFor setup (record { seats = seats; lasts = slice_set lasts seat.member.place own'; floor = floor }) (events ++ event ∷ []) × (Some verdict ≡ verdict_at (floor_setup setup) (acts_of (events ++ event ∷ [])) (length events))
 judged_by_rule setup seats lasts before floor own own' events event seat p verdict at rule each read mine speaks is moment stands =
     let people : People = record { seats = seats; lasts = lasts; floor = before } in
     let q : ℕ = seat.member.place in
@@ -339,9 +339,9 @@ judged_by_rule setup seats lasts before floor own own' events event seat p verdi
     let judged' : IsJudged (floor_setup setup) (acts_of events) (act_of event) seat.member verdict floor own' =
     subst (λ x. IsJudged (floor_setup setup) (acts_of events) x seat.member verdict floor own') (sym same) judged in (
       judged_people setup seats lasts before floor own' events event seat verdict within mine (λ r h. nobody_at_packet event seat.member p is r) judged' stands,
-      ap (λ acts. verdict_at (floor_setup setup) acts (length events)) (acts_more events event)
+      sym (ap (λ acts. verdict_at (floor_setup setup) acts (length events)) (acts_more events event)
           ∙ ap (verdict_at (floor_setup setup) (with_act (acts_of events) (act_of event))) (sym (length_acts events))
-          ∙ judged'.verdict_is,
+          ∙ judged'.verdict_is),
     )
 
 pub kind_end : (events : List Event) (event : Event) → kind_at (acts_of (events ++ event ∷ [])) (length events) ≡ kind_of event.body
@@ -356,16 +356,16 @@ unheard law setup people events event k p silent is stands =
     (subst (λ x. KeepsStanding (floor_setup setup) (acts_of events) (with_act (acts_of events) x)) (sym (act_kind event (act.Packet k p) is)) (law (floor_setup setup) (acts_of events) event.at k p silent)) stands
 
 -- A packet of one that is no member, ..
-pub stranger_people : UnheardPacketsChangeNothing → StrangersGetNotMember → LaterActsChangeNoMembership → (setup : Setup) (people : People) (events : List Event) (event : Event) (k : Member) (p : StreamPacket) → seat_of people.seats k ≡ None → kind_of event.body ≡ act.Packet k p → PeopleStandFor setup people events → PeopleStandFor setup people (events ++ event ∷ []) × (verdict_at (floor_setup setup) (acts_of (events ++ event ∷ [])) (length events) ≡ Some NotMember)
+pub stranger_people : UnheardPacketsChangeNothing → StrangersGetNotMember → LaterActsChangeNoMembership → (setup : Setup) (people : People) (events : List Event) (event : Event) (k : Member) (p : StreamPacket) → seat_of people.seats k ≡ None → kind_of event.body ≡ act.Packet k p → PeopleStandFor setup people events → PeopleStandFor setup people (events ++ event ∷ []) × (Some NotMember ≡ verdict_at (floor_setup setup) (acts_of (events ++ event ∷ [])) (length events))
 stranger_people law verdict later setup people events event k p stranger is stands =
     let out : joined_at setup.places (acts_of events) k (length (acts_of events)) ≡ None = not_in setup people events k stands stranger in (
       unheard law setup people events event k p (λ speaks. let never : None ≡ Some speaks.0 = sym out ∙ speaks.1 in cc) is stands,
-      verdict (floor_setup setup) (acts_of (events ++ event ∷ [])) (length events) k p (kind_end events event ∙ is)
-          (joined_at_before later setup.places events (event ∷ []) k (length events) (omega arith) ∙ ap (joined_at setup.places (acts_of events) k) (sym (length_acts events)) ∙ out),
+      sym (verdict (floor_setup setup) (acts_of (events ++ event ∷ [])) (length events) k p (kind_end events event ∙ is)
+          (joined_at_before later setup.places events (event ∷ []) k (length events) (omega arith) ∙ ap (joined_at setup.places (acts_of events) k) (sym (length_acts events)) ∙ out)),
     )
 
 -- .. and of one that joined to listen only.
-pub listener_people : UnheardPacketsChangeNothing → ListenersGetListenOnly → LaterActsChangeNoMembership → (setup : Setup) (people : People) (events : List Event) (event : Event) (k : Member) (p : StreamPacket) (seat : Seat) → seat_of people.seats k ≡ Some seat → seat.listens ≡ true → kind_of event.body ≡ act.Packet k p → PeopleStandFor setup people events → PeopleStandFor setup people (events ++ event ∷ []) × (verdict_at (floor_setup setup) (acts_of (events ++ event ∷ [])) (length events) ≡ Some ListenOnly)
+pub listener_people : UnheardPacketsChangeNothing → ListenersGetListenOnly → LaterActsChangeNoMembership → (setup : Setup) (people : People) (events : List Event) (event : Event) (k : Member) (p : StreamPacket) (seat : Seat) → seat_of people.seats k ≡ Some seat → seat.listens ≡ true → kind_of event.body ≡ act.Packet k p → PeopleStandFor setup people events → PeopleStandFor setup people (events ++ event ∷ []) × (Some ListenOnly ≡ verdict_at (floor_setup setup) (acts_of (events ++ event ∷ [])) (length events))
 listener_people law verdict later setup people events event k p seat mine only is stands =
     let parts = seat_of_is people.seats k seat mine in
     let at : IsIn setup.places events (length events) k.place seat = in_by_seat setup people events k.place seat stands parts.0 in
@@ -377,9 +377,9 @@ listener_people law verdict later setup people events event k p seat mine only i
           let same : at.position ≡ speaks.0 = same_Some _ _ (sym end ∙ speaks.1) in
           let not_silent : listens (kind_at (acts_of events) at.position) ≡ false = ap (λ j. listens (kind_at (acts_of events) j)) same ∙ speaks.2 in
           true≢false (sym (at.listening ∙ only) ∙ not_silent)) is stands,
-      verdict (floor_setup setup) (acts_of (events ++ event ∷ [])) (length events) k p at.position (kind_end events event ∙ is)
+      sym (verdict (floor_setup setup) (acts_of (events ++ event ∷ [])) (length events) k p at.position (kind_end events event ∙ is)
           (joined_at_before later setup.places events (event ∷ []) k (length events) (omega arith) ∙ joined)
-          (ap listens (kind_at_is (events ++ event ∷ []) at.position ∙ ap kind_from (slice_get_before events (event ∷ []) at.position l) ∙ sym (kind_at_is events at.position)) ∙ at.listening ∙ only),
+          (ap listens (kind_at_is (events ++ event ∷ []) at.position ∙ ap kind_from (slice_get_before events (event ∷ []) at.position l) ∙ sym (kind_at_is events at.position)) ∙ at.listening ∙ only)),
     )
 
 -- A Leave of one that is not in.

@@ -1,14 +1,13 @@
 -- What the code records is what is recorded one event further on.
-use Rattle.std.proofs.Common.{◌≡◌, ℕ, ◌+◌, ◌-◌, ◌≤◌, ◌||◌, Bool, true, false, cond, List, [], ◌∷◌, ◌++◌, length, take, nat_lt, is_some, Option, None, Some, refl, ap, sym, ◌∙◌, arith, inl, inr}
-use Rattle.std.specs.Option.{option_or}
+use Rattle.std.proofs.Common.{◌≡◌, ℕ, ◌+◌, ◌-◌, ◌≤◌, ◌||◌, Bool, true, false, cond, List, [], ◌∷◌, ◌++◌, length, take, nat_lt, nat_le, is_some, option_map, Option, None, Some, refl, ap, sym, ◌∙◌, arith, inl, inr}
+use Rattle.std.specs.Option.{option_or, option_and_then}
 use Rattle.std.proofs.lemmas.Bool.{cond-true, cond-false, cases_lt, lt-ltb}
 use Rattle.std.proofs.lemmas.Bool.Decides.{nat_tests}
 use Rattle.std.proofs.lemmas.List.{append-nil, take_all, take-append-le}
 use Rattle.m17_values.specs.declared.member.Member.{Member}
 use Rattle.m17_stream.specs.declared.packet.StreamPacket.{StreamPacket}
-use Rattle.m17_parrot.specs.Recording.{Recording, most_frames, begun, closed, due_of, with_given}
-use Rattle.m17_module.specs.Echoes.{closed_if}
-use Rattle.m17_module.specs.Following.{ended, extended}
+use Rattle.m17_parrot.specs.Recording.{Recording, most_frames, begun, closed, due_after, next_frame, due_of, with_given}
+use Rattle.m17_module.specs.Following.{closed_if, ended, extended}
 use Rattle.m17_module.proofs.Below.{length_more}
 use Rattle.m17_module.proofs.EchoesMore.{moved}
 
@@ -35,6 +34,22 @@ close_if at false r = ap (λ close. made r.member r.frames close r.given) (unclo
 given_if : (b : Bool) (r : Recording) → cond b (record r { given = r.given + 1 }) r ≡ made r.member r.frames r.close (r.given + cond b 1 0)
 given_if true r = refl
 given_if false r = let e : r.given ≡ r.given + 0 = omega arith in ap (made r.member r.frames r.close) e
+
+-- What is closed at a moment has no frame due yet.
+not_yet : (close given : ℕ) → nat_le (due_after given) (close - close) ≡ false
+not_yet close given = grind (arith, nat_tests)
+
+due_closed : (at : ℕ) (close : Option ℕ) (k : Member) (frames : List StreamPacket) (given : ℕ) → due_of at (made k frames (option_or close (Some at)) given) ≡ due_of at (made k frames close given)
+due_closed at None k frames given = ap (λ b. cond b (option_map (λ p. (k, p)) (next_frame (made k frames None given))) None) (not_yet at given)
+due_closed at (Some c) k frames given = refl
+
+due_if : (at : ℕ) (s : Bool) (r : Recording) → due_of at (closed_if s at r) ≡ due_of at r
+due_if at true r = due_closed at r.close r.member r.frames r.given
+due_if at false r = refl
+
+pub due_turned : (at : ℕ) (s : Bool) (recording : Option Recording) → option_and_then (due_of at) (option_map (closed_if s at) recording) ≡ option_and_then (due_of at) recording
+due_turned at s None = refl
+due_turned at s (Some r) = due_if at s r
 
 -- the recording when a frame was given, if one was due
 given_is : (at : ℕ) (s : Bool) (r : Recording) → with_given at (closed_if s at r) ≡ made r.member r.frames (option_or r.close (cond s (Some at) None)) (r.given + cond (is_some (due_of at (closed_if s at r))) 1 0)

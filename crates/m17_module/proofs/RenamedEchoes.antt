@@ -17,7 +17,7 @@ use Rattle.m17_floor.specs.Floor.{floor_frame, past_at, opens, admits, verdict_a
 use Rattle.m17_floor.specs.Renamed.{IsRenamedKind, AreFreelyRenamed, unnamed_verdict}
 use Rattle.m17_parrot.specs.Recording.{Recording, most_frames, is_due, next_frame, due_of}
 use Rattle.m17_module.specs.Setup.{Setup, floor_setup}
-use Rattle.m17_module.specs.Echoes.{is_admitted_at, is_opened_at, holder_at, packet_in, admitted_packet, held_before, has_end_bit, closes, close_before, is_in_since, opening, recording_of, last_opened, recording_with, closed_if, echo_with, echoed_before, echo_at}
+use Rattle.m17_module.specs.Echoes.{is_admitted_at, is_opened_at, holder_at, packet_in, admitted_packet, held_before, has_end_bit, closes, close_before, is_in_since, opening, recording_of, last_opened, recording_with, echo_with, echoed_before, echo_at}
 use Rattle.m17_lookup.proofs.LastBelow.{last_below_same, last_below_lt}
 use Rattle.m17_module.proofs.ItemsMore.{flat_map_same}
 use Rattle.m17_module.proofs.EchoesBefore.{find_same}
@@ -178,22 +178,16 @@ due_if stands k k' true (Some p) h = (h, refl)
 due_like : (stands : Member → Member → Bool) (at : ℕ) (r s : Recording) → IsLikeRecording stands r s → AreLikeEchoes stands (due_of at r) (due_of at s)
 due_like stands at r s h = subst (λ (x : Recording). AreLikeEchoes stands (due_of at r) (due_of at x)) h.rest (due_if stands r.member s.member (is_due at r) (next_frame r) h.member)
 
-closed_like : (stands : Member → Member → Bool) (b c : Bool) (at : ℕ) (r s : Recording) → b ≡ c → IsLikeRecording stands r s → IsLikeRecording stands (closed_if b at r) (closed_if c at s)
-closed_like stands true true at r s e h = record { member = h.member; rest = ap (λ x. closed_if true at x) h.rest }
-closed_like stands false false at r s e h = h
-closed_like stands true false at r s e h = absurd (cc)
-closed_like stands false true at r s e h = absurd (cc)
-
-echo_like : (stands : Member → Member → Bool) (b c : Bool) (at : ℕ) (r s : Option Recording) → b ≡ c → AreLikeRecordings stands r s → AreLikeEchoes stands (option_and_then (due_of at) (option_map (closed_if b at) r)) (option_and_then (due_of at) (option_map (closed_if c at) s))
-echo_like stands b c at None None e h = tt
-echo_like stands b c at (Some r) (Some s) e h = due_like stands at (closed_if b at r) (closed_if c at s) (closed_like stands b c at r s e h)
-echo_like stands b c at None (Some s) e h = absurd h
-echo_like stands b c at (Some r) None e h = absurd h
+echo_like : (stands : Member → Member → Bool) (at : ℕ) (r s : Option Recording) → AreLikeRecordings stands r s → AreLikeEchoes stands (option_and_then (due_of at) r) (option_and_then (due_of at) s)
+echo_like stands at None None h = tt
+echo_like stands at (Some r) (Some s) h = due_like stands at r s h
+echo_like stands at None (Some s) h = absurd h
+echo_like stands at (Some r) None h = absurd h
 
 echo_with_renamed : FloorRenamed → (stands : Member → Member → Bool) (setup : Setup) (acts others : List Act) (n : ℕ) (echoed : List Bool) → AreFreelyRenamed stands setup.places acts others → n ≤ length acts → AreLikeEchoes stands (echo_with setup acts n echoed) (echo_with setup others n echoed)
 echo_with_renamed law stands setup acts others n echoed r h =
-    subst (λ (at : ℕ). AreLikeEchoes stands (echo_with setup acts n echoed) (option_and_then (due_of at) (option_map (closed_if (is_none (holder_at setup others n)) at) (recording_with setup others n echoed)))) (moment_renamed stands setup.places acts others n r)
-    (echo_like stands (is_none (holder_at setup acts n)) (is_none (holder_at setup others n)) (moment_at acts n) (recording_with setup acts n echoed) (recording_with setup others n echoed) (holder_renamed law stands setup acts others n r h) (recording_renamed law stands setup acts others n echoed r h))
+    subst (λ (at : ℕ). AreLikeEchoes stands (echo_with setup acts n echoed) (option_and_then (due_of at) (recording_with setup others n echoed))) (moment_renamed stands setup.places acts others n r)
+    (echo_like stands (moment_at acts n) (recording_with setup acts n echoed) (recording_with setup others n echoed) (recording_renamed law stands setup acts others n echoed r h))
 
 some_like : (stands : Member → Member → Bool) (e f : Option (Member × StreamPacket)) → AreLikeEchoes stands e f → is_some e ≡ is_some f
 some_like stands None None h = refl

@@ -12,7 +12,7 @@ use Rattle.m17_floor.specs.Acts.{kind_at, moment_at, joined_at}
 use Rattle.m17_floor.specs.Rule.{Frame, only_if, has_floor}
 use Rattle.m17_floor.specs.Floor.{floor_frame, opens, admits, past_at, verdict_at}
 use Rattle.m17_module.specs.Setup.{Setup, floor_setup}
-use Rattle.m17_parrot.specs.Recording.{Recording, most_frames, closed, due_of}
+use Rattle.m17_parrot.specs.Recording.{Recording, most_frames, due_of}
 
 -- The packet at position n is admitted; it opens the floor.
 abbrev pub is_admitted_at : Setup → List Act → ℕ → Bool
@@ -98,17 +98,10 @@ recording_with setup acts n echoed =
     option_and_then (λ o. recording_of (opening setup acts o n) echoed (kind_at acts o))
     (last_opened setup acts n)
 
--- A recording that goes on is closed at this moment, if nobody has the floor.
-abbrev pub closed_if : Bool → ℕ → Recording → Recording
-closed_if silent at r = if silent then closed at r else r
-
--- The echo at position n: the frame of the recording that is due, once nobody has the floor or the end bit has
--- come.
+-- The echo at position n: the frame that is due there of what was recorded before it.
 abbrev pub echo_with : Setup → List Act → ℕ → List Bool → Option (Member × StreamPacket)
 echo_with setup acts n echoed =
-    option_and_then (due_of (moment_at acts n))
-    (option_map (closed_if (is_none (holder_at setup acts n)) (moment_at acts n))
-    (recording_with setup acts n echoed))
+    option_and_then (due_of (moment_at acts n)) (recording_with setup acts n echoed)
 
 -- Of each position below n, whether it has an echo.
 unfoldable pub echoed_before : Setup → List Act → ℕ → List Bool

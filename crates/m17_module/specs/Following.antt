@@ -1,5 +1,5 @@
 -- How the code's recorder follows the room: who leaves by an event, what the floor is then, and what is recorded.
-use Rattle.std.specs.Prelude.{◌≡◌, ℕ, List, Option, None, Some, is_none, option_and_then, option_map, if◌then◌else◌}
+use Rattle.std.specs.Prelude.{◌≡◌, ℕ, Bool, List, Option, None, Some, is_none, option_and_then, option_map, if◌then◌else◌}
 use Rattle.m17_values.specs.declared.member.Member.{Member}
 use Rattle.m17_stream.specs.declared.packet.StreamPacket.{StreamPacket}
 use Rattle.m17_control.specs.declared.event.Body.{Body}
@@ -12,7 +12,6 @@ use Rattle.m17_floor.specs.StandsFor.{without}
 use Rattle.m17_parrot.specs.Recording.{Recording, begun, goes_on, with_frame, closed, unless_of}
 use Rattle.m17_module.specs.declared.seat.Seat.{Seat}
 use Rattle.m17_module.specs.Seats.{seat_in, seat_of}
-use Rattle.m17_module.specs.Echoes.{closed_if}
 
 -- who leaves by the event: who was in at the place of a Join, or the member of a Leave
 abbrev pub seat_member : Option Seat → Option Member
@@ -68,7 +67,10 @@ abbrev pub RecordsHolder : ℕ → FloorState → Option Recording → Type 0
 RecordsHolder at floor recording =
     (k : Member) → held_by at floor ≡ Some k → recorded_by recording ≡ Some k
 
--- a recording is closed where nobody has the floor any more
+-- a recording that goes on is closed at this moment where nobody has the floor any more
+abbrev pub closed_if : Bool → ℕ → Recording → Recording
+closed_if silent at r = if silent then closed at r else r
+
 abbrev pub turned : ℕ → FloorState → Option Recording → Option Recording
 turned at floor recording = option_map (closed_if (is_none (holder_then at floor)) at) recording
 

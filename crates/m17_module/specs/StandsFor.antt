@@ -1,5 +1,5 @@
 -- What the small state of a module stands for, out of the whole list of its events.
-use Rattle.std.specs.Prelude.{◌≡◌, ℕ, List, [], ◌∷◌, ◌++◌, length, slice_get, Option, None, Some, if◌then◌else◌}
+use Rattle.std.specs.Prelude.{◌≡◌, ℕ, List, [], ◌∷◌, ◌++◌, length, max, slice_get, Option, None, Some, if◌then◌else◌}
 use Rattle.m17_control.specs.declared.event.Event.{Event}
 use Rattle.m17_control.specs.declared.item.Item.{Item}
 use Rattle.m17_floor.specs.declared.verdict.Verdict.{Verdict}
@@ -32,6 +32,21 @@ pub record PeopleStandFor (setup : Setup) (people : People) (events : List Event
   -- the floor's frame is the last admitted one, unless its sender has left, with the moment of the last opening; and
   -- its limit is that of the module
   pub floor : FloorStandsFor (floor_setup setup) (acts_of events) people.floor
+
+-- The event leads from the one people to the other: whatever events the one may have come from, the other may have
+-- come from these and the event.
+abbrev pub PeopleFollow : Event → People → People → Type 0
+PeopleFollow event old new =
+    (setup : Setup) (events : List Event) → PeopleStandFor setup old events →
+    PeopleStandFor setup new (events ++ event ∷ [])
+
+-- So does an event that comes at this moment of the module, and the answer is the verdict on it.
+abbrev pub PeopleAnswer : Event → ℕ → Option Verdict → People → People → Type 0
+PeopleAnswer event at answer old new =
+    (setup : Setup) (events : List Event) →
+    at ≡ max (moment_before (acts_of events) (length events)) event.at →
+    PeopleStandFor setup old events → PeopleStandFor setup new (events ++ event ∷ [])
+    × (answer ≡ verdict_at (floor_setup setup) (acts_of (events ++ event ∷ [])) (length events))
 
 -- What a module keeps: how it was made, its moment, its people, how many events it has had and packets it has
 -- admitted, and, as a parrot, what it has recorded.

@@ -31,10 +31,8 @@ impl Tray {
     fn make(alloc: Global) -> Result<Tray, NoMemory>
         ensures { IfOk result (λ t. t ≡ []) }
     {
-        match Vec::with_capacity(alloc, BASKET_ROOM) {
-            Ok(items) => Ok(Tray { items }),
-            Err(_) => Err(NoMemory),
-        }
+        let items = Vec::with_capacity(alloc, BASKET_ROOM)?;
+        Ok(Tray { items })
     }
 
     #[inline]
@@ -93,10 +91,8 @@ impl Basket {
     pub fn make(alloc: Global) -> Result<Basket, NoMemory>
         ensures { IfOk result (λ b. b ≡ []) }
     {
-        match Tray::make(alloc) {
-            Ok(tray) => Ok(Basket { tray, next: 0 }),
-            Err(no_memory) => Err(no_memory),
-        }
+        let tray = Tray::make(alloc)?;
+        Ok(Basket { tray, next: 0 })
     }
 
     /// Whether nothing is left in it.

@@ -1,14 +1,12 @@
-ghost use Rattle.std.specs.Prelude.{◌≡◌, ◌≤◌, ◌++◌, List, [], ◌∷◌, length, max, is_some, option_and_then, option_map, None, Some, IfOk, IsTrue, if◌then◌else◌};
+ghost use Rattle.std.specs.Prelude.{◌≡◌, ◌≤◌, ◌++◌, length, is_some, option_and_then, option_map, None, Some, IfOk, IsTrue, if◌then◌else◌};
 ghost use Rattle.std.specs.Option.{ForSome};
 ghost use Rattle.m17_floor.specs.declared.verdict.Verdict.TheVariants.{Continued};
-ghost use Rattle.m17_control.specs.declared.event.Event.{Event};
-ghost use Rattle.m17_floor.specs.Acts.{is_packet, moment_before};
-ghost use Rattle.m17_floor.specs.Floor.{verdict_at, admits};
+ghost use Rattle.m17_floor.specs.Acts.{is_packet};
+ghost use Rattle.m17_floor.specs.Floor.{admits};
 ghost use Rattle.m17_parrot.specs.Recording.{is_going_on, due_of, with_given};
-ghost use Rattle.m17_module.specs.Setup.{Setup, floor_setup};
-ghost use Rattle.m17_module.specs.Events.{kind_of, acts_of};
+ghost use Rattle.m17_module.specs.Events.{kind_of};
 ghost use Rattle.m17_module.specs.Items.{echo_items, says};
-ghost use Rattle.m17_module.specs.StandsFor.{PeopleStandFor};
+ghost use Rattle.m17_module.specs.StandsFor.{PeopleAnswer};
 ghost use Rattle.m17_module.specs.Following.{leaver, FloorFollows, RecordsHolder, turned, recording_heard, recording_then, unless_any};
 
 use crate::basket::Tray;
@@ -30,10 +28,8 @@ impl Recorder {
     pub(crate) fn make(alloc: Global) -> Result<Recorder, NoMemory>
         ensures { IfOk result (λ r. r.parrot ≡ None) }
     {
-        match Parrot::make(alloc) {
-            Ok(parrot) => Ok(Recorder { parrot }),
-            Err(no_memory) => Err(no_memory),
-        }
+        let parrot = Parrot::make(alloc)?;
+        Ok(Recorder { parrot })
     }
 
     // Closes a recording if nobody has the floor any more, and gives a frame that is due.
@@ -122,12 +118,7 @@ impl Recorder {
         ensures floor { FloorFollows room.old.seats at event.now.body result room.old.floor
             room.new.floor }
         ensures answer { is_some result ≡ is_packet (kind_of event.now.body) }
-        ensures stands { (setup : Setup) (events : List Event) →
-            at ≡ max (moment_before (acts_of events) (length events)) event.now.at →
-            PeopleStandFor setup room.old events →
-            PeopleStandFor setup room.new (events ++ event.now ∷ [])
-            × (result
-            ≡ verdict_at (floor_setup setup) (acts_of (events ++ event.now ∷ [])) (length events)) }
+        ensures stands { PeopleAnswer event.now at result room.old room.new }
     {
         if let Some((k, packet)) = self.turn(room, at) {
             room.play(k, position, &packet, out);
@@ -168,12 +159,7 @@ pub(crate) fn happen(
     ensures floor { FloorFollows room.old.seats at event.now.body result room.old.floor
         room.new.floor }
     ensures answer { is_some result ≡ is_packet (kind_of event.now.body) }
-    ensures stands { (setup : Setup) (events : List Event) →
-        at ≡ max (moment_before (acts_of events) (length events)) event.now.at →
-        PeopleStandFor setup room.old events →
-        PeopleStandFor setup room.new (events ++ event.now ∷ [])
-        × (result
-        ≡ verdict_at (floor_setup setup) (acts_of (events ++ event.now ∷ [])) (length events)) }
+    ensures stands { PeopleAnswer event.now at result room.old room.new }
 {
     match recorder {
         None => room.happen(event, at, position, out),

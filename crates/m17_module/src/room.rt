@@ -1,18 +1,17 @@
-ghost use Rattle.std.specs.Prelude.{◌≡◌, ◌+◌, ◌<◌, ◌≤◌, Bool, false, List, [], ◌∷◌, ◌++◌, length, map, max, nat_lt, count_by, insert, remove, slice_set, Some, None, IfOk, is_none, is_some, if◌then◌else◌};
+ghost use Rattle.std.specs.Prelude.{◌≡◌, ◌+◌, ◌<◌, ◌≤◌, Bool, false, [], ◌++◌, length, map, nat_lt, count_by, insert, remove, slice_set, Some, None, IfOk, is_none, is_some, if◌then◌else◌};
 ghost use Rattle.m17_control.specs.declared.event.Event.{Event};
 ghost use Rattle.m17_control.specs.declared.item.Said.TheVariants as said;
-ghost use Rattle.m17_floor.specs.Acts.{is_packet, moment_before};
-ghost use Rattle.m17_floor.specs.Floor.{verdict_at, admits};
+ghost use Rattle.m17_floor.specs.Acts.{is_packet};
+ghost use Rattle.m17_floor.specs.Floor.{admits};
 ghost use Rattle.m17_floor.specs.declared.act.ActKind.TheVariants as act;
-ghost use Rattle.m17_module.specs.Setup.{Setup, floor_setup};
-ghost use Rattle.m17_module.specs.Events.{kind_of, acts_of};
+ghost use Rattle.m17_module.specs.Events.{kind_of};
 ghost use Rattle.m17_module.specs.Seats.{seat_from, members_of, seat_in, seat_of, others_than};
 ghost use Rattle.m17_module.specs.Items.{item_to, to_one, greets, says};
 ghost use Rattle.m17_module.specs.Held.{with_place, without_place};
 ghost use Rattle.arrayvec.specs.ArrayVec.{array_vec_len};
 ghost use Rattle.m17_floor.specs.Rule.{incoming};
 ghost use Rattle.m17_floor.specs.StandsFor.{without};
-ghost use Rattle.m17_module.specs.StandsFor.{PeopleStandFor};
+ghost use Rattle.m17_module.specs.StandsFor.{PeopleStandFor, PeopleFollow, PeopleAnswer};
 ghost use Rattle.m17_module.specs.Following.{seat_member, leaver, without_any, holder_then, FloorHears, FloorFollows};
 
 use crate::Seat;
@@ -84,12 +83,8 @@ impl Room {
             (record { places = places; parrot = parrot; limit = limit }) room []) }
         ensures free { IfOk result (λ room. room.floor ≡ record { frame = None; limit = limit }) }
     {
-        let (Ok(mut seats), Ok(mut lasts)) = (
-            Vec::with_capacity(alloc, places as usize),
-            Vec::with_capacity(alloc, places as usize),
-        ) else {
-            return Err(NoMemory);
-        };
+        let mut seats = Vec::with_capacity(alloc, places as usize)?;
+        let mut lasts = Vec::with_capacity(alloc, places as usize)?;
         for _place in 0..places {
             seats.push_reserved(None);
             lasts.push_reserved(Last::new());
@@ -154,9 +149,8 @@ impl Room {
         ensures length { length self.new.seats ≡ length self.old.seats }
         ensures limit { self.new.floor.limit ≡ self.old.floor.limit }
         ensures floor { self.new.floor ≡ self.old.floor }
-        ensures stands { (setup : Setup) (events : List Event) (event : Event) →
-            seat_from (Some event) ≡ Some seat.now → PeopleStandFor setup self.old events →
-            PeopleStandFor setup self.new (events ++ event ∷ []) }
+        ensures stands { (event : Event) → seat_from (Some event) ≡ Some seat.now →
+            PeopleFollow event self.old self.new }
     {
         floor_laws::one_member_at_a_place();
         floor_laws::comings_and_goings_leave_others();
@@ -173,9 +167,8 @@ impl Room {
         ensures length { length self.new.seats ≡ length self.old.seats }
         ensures limit { self.new.floor.limit ≡ self.old.floor.limit }
         ensures floor { self.new.floor ≡ without old.now.member self.old.floor }
-        ensures stands { (setup : Setup) (events : List Event) (event : Event) →
-            seat_from (Some event) ≡ Some seat.now → PeopleStandFor setup self.old events →
-            PeopleStandFor setup self.new (events ++ event ∷ []) }
+        ensures stands { (event : Event) → seat_from (Some event) ≡ Some seat.now →
+            PeopleFollow event self.old self.new }
     {
         floor_laws::one_member_at_a_place();
         floor_laws::comings_and_goings_leave_others();
@@ -191,9 +184,8 @@ impl Room {
         ensures length { length self.new.seats ≡ length self.old.seats }
         ensures limit { self.new.floor.limit ≡ self.old.floor.limit }
         ensures floor { self.new.floor ≡ without seat.now.member self.old.floor }
-        ensures stands { (setup : Setup) (events : List Event) (event : Event) →
-            kind_of event.body ≡ act.Leave seat.now.member → PeopleStandFor setup self.old events →
-            PeopleStandFor setup self.new (events ++ event ∷ []) }
+        ensures stands { (event : Event) → kind_of event.body ≡ act.Leave seat.now.member →
+            PeopleFollow event self.old self.new }
     {
         floor_laws::one_member_at_a_place();
         floor_laws::comings_and_goings_leave_others();
@@ -211,13 +203,8 @@ impl Room {
         ensures limit { self.new.floor.limit ≡ self.old.floor.limit }
         ensures floor { FloorHears (incoming seat.now.member at p.now) result self.old.floor
             self.new.floor }
-        ensures stands { (setup : Setup) (events : List Event) (event : Event) →
-            kind_of event.body ≡ act.Packet seat.now.member p.now →
-            at ≡ max (moment_before (acts_of events) (length events)) event.at →
-            PeopleStandFor setup self.old events →
-            PeopleStandFor setup self.new (events ++ event ∷ [])
-            × (verdict_at (floor_setup setup) (acts_of (events ++ event ∷ [])) (length events)
-            ≡ Some result) }
+        ensures stands { (event : Event) → kind_of event.body ≡ act.Packet seat.now.member p.now →
+            PeopleAnswer event at (Some result) self.old self.new }
     {
         let own = &mut self.lasts[seat.member.place as usize];
         self.floor.judge(seat.member, at, p, own)
@@ -228,13 +215,8 @@ impl Room {
         ensures seats { self.new.seats ≡ self.old.seats }
         ensures limit { self.new.floor.limit ≡ self.old.floor.limit }
         ensures floor { FloorHears (incoming k at p.now) result self.old.floor self.new.floor }
-        ensures stands { (setup : Setup) (events : List Event) (event : Event) →
-            kind_of event.body ≡ act.Packet k p.now →
-            at ≡ max (moment_before (acts_of events) (length events)) event.at →
-            PeopleStandFor setup self.old events →
-            PeopleStandFor setup self.new (events ++ event ∷ [])
-            × (verdict_at (floor_setup setup) (acts_of (events ++ event ∷ [])) (length events)
-            ≡ Some result) }
+        ensures stands { (event : Event) → kind_of event.body ≡ act.Packet k p.now →
+            PeopleAnswer event at (Some result) self.old self.new }
     {
         floor_laws::strangers_change_nothing();
         floor_laws::only_speakers_are_heard();
@@ -255,9 +237,8 @@ impl Room {
         ensures length { length self.new.seats ≡ length self.old.seats }
         ensures limit { self.new.floor.limit ≡ self.old.floor.limit }
         ensures floor { self.new.floor ≡ without_any (seat_member result) self.old.floor }
-        ensures stands { (setup : Setup) (events : List Event) (event : Event) →
-            seat_from (Some event) ≡ Some seat.now → PeopleStandFor setup self.old events →
-            PeopleStandFor setup self.new (events ++ event ∷ []) }
+        ensures stands { (event : Event) → seat_from (Some event) ≡ Some seat.now →
+            PeopleFollow event self.old self.new }
     {
         let Some(old) = self.seat_in(seat.member.place) else {
             self.take_free(seat);
@@ -273,9 +254,8 @@ impl Room {
         ensures length { length self.new.seats ≡ length self.old.seats }
         ensures limit { self.new.floor.limit ≡ self.old.floor.limit }
         ensures floor { self.new.floor ≡ without_any (seat_member result) self.old.floor }
-        ensures stands { (setup : Setup) (events : List Event) (event : Event) →
-            kind_of event.body ≡ act.Leave k → PeopleStandFor setup self.old events →
-            PeopleStandFor setup self.new (events ++ event ∷ []) }
+        ensures stands { (event : Event) → kind_of event.body ≡ act.Leave k →
+            PeopleFollow event self.old self.new }
     {
         floor_laws::strangers_change_nothing();
         let Some(seat) = self.seat_of(k) else {
@@ -293,9 +273,8 @@ impl Room {
         ensures limit { self.new.floor.limit ≡ self.old.floor.limit }
         ensures floor { self.new.floor ≡ without_any
             (seat_member (seat_in self.old.seats seat.now.member.place)) self.old.floor }
-        ensures stands { (setup : Setup) (events : List Event) (event : Event) →
-            seat_from (Some event) ≡ Some seat.now → PeopleStandFor setup self.old events →
-            PeopleStandFor setup self.new (events ++ event ∷ []) }
+        ensures stands { (event : Event) → seat_from (Some event) ≡ Some seat.now →
+            PeopleFollow event self.old self.new }
     {
         floor_laws::strangers_change_nothing();
         if seat.member.place as usize >= self.places() {
@@ -314,9 +293,8 @@ impl Room {
         ensures limit { self.new.floor.limit ≡ self.old.floor.limit }
         ensures floor { self.new.floor
             ≡ without_any (seat_member (seat_of self.old.seats k)) self.old.floor }
-        ensures stands { (setup : Setup) (events : List Event) (event : Event) →
-            kind_of event.body ≡ act.Leave k → PeopleStandFor setup self.old events →
-            PeopleStandFor setup self.new (events ++ event ∷ []) }
+        ensures stands { (event : Event) → kind_of event.body ≡ act.Leave k →
+            PeopleFollow event self.old self.new }
     {
         let was = self.leave(k);
         tell(&was, &Said::Bye { why }, out);
@@ -337,13 +315,8 @@ impl Room {
         ensures seats { self.new.seats ≡ self.old.seats }
         ensures limit { self.new.floor.limit ≡ self.old.floor.limit }
         ensures floor { FloorHears (incoming k at p.now) result self.old.floor self.new.floor }
-        ensures stands { (setup : Setup) (events : List Event) (event : Event) →
-            kind_of event.body ≡ act.Packet k p.now →
-            at ≡ max (moment_before (acts_of events) (length events)) event.at →
-            PeopleStandFor setup self.old events →
-            PeopleStandFor setup self.new (events ++ event ∷ [])
-            × (verdict_at (floor_setup setup) (acts_of (events ++ event ∷ [])) (length events)
-            ≡ Some result) }
+        ensures stands { (event : Event) → kind_of event.body ≡ act.Packet k p.now →
+            PeopleAnswer event at (Some result) self.old self.new }
     {
         let verdict = self.packet(k, at, p);
         if !verdict.is_admitted() {
@@ -419,12 +392,7 @@ impl Room {
         ensures floor { FloorFollows self.old.seats at event.now.body result self.old.floor
             self.new.floor }
         ensures answer { is_some result ≡ is_packet (kind_of event.now.body) }
-        ensures stands { (setup : Setup) (events : List Event) →
-            at ≡ max (moment_before (acts_of events) (length events)) event.now.at →
-            PeopleStandFor setup self.old events →
-            PeopleStandFor setup self.new (events ++ event.now ∷ [])
-            × (result
-            ≡ verdict_at (floor_setup setup) (acts_of (events ++ event.now ∷ [])) (length events)) }
+        ensures stands { PeopleAnswer event.now at result self.old self.new }
     {
         floor_laws::other_acts_change_nothing();
         floor_laws::only_speakers_are_heard();

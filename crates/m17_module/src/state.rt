@@ -92,10 +92,8 @@ fn recorder_if(alloc: Global, parrot: bool) -> Result<Option<Recorder>, NoMemory
     if !parrot {
         return Ok(None);
     }
-    match Recorder::make(alloc) {
-        Ok(recorder) => Ok(Some(recorder)),
-        Err(no_memory) => Err(no_memory),
-    }
+    let recorder = Recorder::make(alloc)?;
+    Ok(Some(recorder))
 }
 
 impl Module {
@@ -112,14 +110,8 @@ impl Module {
         ensures stands { IfOk result (λ m. StandsFor m []) }
     {
         floor_laws::admitted_positions_are_counted();
-        let room = match Room::make(alloc, places, limit) {
-            Ok(room) => room,
-            Err(no_memory) => return Err(no_memory),
-        };
-        let recorder = match recorder_if(alloc, parrot) {
-            Ok(recorder) => recorder,
-            Err(no_memory) => return Err(no_memory),
-        };
+        let room = Room::make(alloc, places, limit)?;
+        let recorder = recorder_if(alloc, parrot)?;
         Ok(Module {
             room,
             moment: 0,

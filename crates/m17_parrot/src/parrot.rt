@@ -71,15 +71,13 @@ impl Parrot {
     pub fn make(alloc: Global) -> Result<Parrot, NoMemory>
         ensures { IfOk result (λ parrot. parrot ≡ None) }
     {
-        match Vec::with_capacity(alloc, MOST_FRAMES) {
-            Ok(frames) => Ok(Parrot {
-                member: None,
-                frames,
-                close: None,
-                given: 0,
-            }),
-            Err(_) => Err(NoMemory),
-        }
+        let frames = Vec::with_capacity(alloc, MOST_FRAMES)?;
+        Ok(Parrot {
+            member: None,
+            frames,
+            close: None,
+            given: 0,
+        })
     }
 
     /// Forgets all, and records for this member from now on.

@@ -9,9 +9,10 @@ use Rattle.std.proofs.Common.{ap, subst}
 use Rattle.std.proofs.lemmas.Cmp.{then_total, on_total, nat_list_cmp_total, nat_cmp_total, eq_by_cmp_equiv}
 use Rattle.std.proofs.lemmas.Map.Lookups.{exact_pairs, exact_bytes, exact_unsigned}
 use Rattle.std.proofs.lemmas.Map.Views.{Contains-keys_from_lookup, IsSome-lookup_from_Contains}
+use Rattle.m17_values.specs.Peers.{peer_cmp}
 use Rattle.m17_values.specs.declared.peer.Peer.{Peer}
 use Rattle.m17_ports.specs.declared.tally.Tally.{Tally}
-use Rattle.m17_port_memory.specs.Peers.{peer_order, tally_at, named_in}
+use Rattle.m17_port_memory.specs.Peers.{tally_at, named_in}
 
 -- an order's answers that are not Equal
 not_less : Less ≡ Equal → ⊥
@@ -34,7 +35,7 @@ exact_bool false true e = absurd (not_less e)
 exact_bool true false e = absurd (not_greater e)
 
 -- Peers that are equal in their order are one.
-pub exact_peers : (a b : Peer) → peer_order a b ≡ Equal → a ≡ b
+pub exact_peers : (a b : Peer) → peer_cmp a b ≡ Equal → a ≡ b
 exact_peers a b e =
     let fields : (a.six, (a.ip, a.port)) ≡ (b.six, (b.ip, b.port)) =
     exact_pairs bool_cmp (λ x y. ordering_then (slice_cmp nat_cmp x.0 y.0) (nat_cmp x.1 y.1))
@@ -43,17 +44,17 @@ exact_peers a b e =
     ap (λ (p : Bool × (List ℕ × ℕ)). record { six = p.0; ip = p.1.0; port = p.1.1 }) fields
 
 -- The order of peers is an order.
-pub peer_order-total : IsTotalOrder peer_order
-peer_order-total = then_total (on_total (λ (p : Peer). p.six) bool_cmp_total)
+pub peer_cmp-total : IsTotalOrder peer_cmp
+peer_cmp-total = then_total (on_total (λ (p : Peer). p.six) bool_cmp_total)
     (then_total (on_total (λ (p : Peer). p.ip) nat_list_cmp_total) (on_total (λ (p : Peer). p.port) nat_cmp_total))
 
 -- A peer has a tally exactly where it is named.
 pub tally_at-named : (entries : List (Peer × Tally)) (peer : Peer)
     → IsSome (tally_at entries peer) ↔ Contains (named_in entries) peer
 tally_at-named entries peer = (
-  Contains-keys_from_lookup {eq = eq_by_cmp peer_order}
-      (λ a b e. exact_peers a b (from_is_eq (peer_order a b) e)) peer entries,
-  IsSome-lookup_from_Contains (eq_by_cmp_equiv peer_order-total) peer entries,
+  Contains-keys_from_lookup {eq = eq_by_cmp peer_cmp}
+      (λ a b e. exact_peers a b (from_is_eq (peer_cmp a b) e)) peer entries,
+  IsSome-lookup_from_Contains (eq_by_cmp_equiv peer_cmp-total) peer entries,
 )
 
 -- The same of peers that are told to be those that are named.

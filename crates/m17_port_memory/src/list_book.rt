@@ -46,17 +46,15 @@ impl ListBook {
         ensures made { IfOk result (λ book. book ≡ new_book room fails.items 0) }
         ensures no_room { room ≡ 0 → IsOk result }
     {
-        match Vec::with_capacity(alloc, room) {
-            Ok(bytes) => Ok(ListBook {
-                bytes,
-                room,
-                fails,
-                next_call: 0,
-                faults: 0,
-                number: 0,
-            }),
-            Err(_) => Err(NoMemory),
-        }
+        let bytes = Vec::with_capacity(alloc, room)?;
+        Ok(ListBook {
+            bytes,
+            room,
+            fails,
+            next_call: 0,
+            faults: 0,
+            number: 0,
+        })
     }
 
     /// The bytes written.

@@ -52,17 +52,15 @@ impl ListMouth {
         ensures made { IfOk result (λ mouth. mouth ≡ new_mouth room fails.items 0) }
         ensures no_room { room ≡ 0 → IsOk result }
     {
-        match Vec::with_capacity(alloc, room) {
-            Ok(list) => Ok(ListMouth {
-                list,
-                room,
-                fails,
-                next_call: 0,
-                faults: 0,
-                number: 0,
-            }),
-            Err(_) => Err(NoMemory),
-        }
+        let list = Vec::with_capacity(alloc, room)?;
+        Ok(ListMouth {
+            list,
+            room,
+            fails,
+            next_call: 0,
+            faults: 0,
+            number: 0,
+        })
     }
 
     /// The datagrams said, oldest first.

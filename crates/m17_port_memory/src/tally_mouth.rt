@@ -52,10 +52,7 @@ impl TallyMouth {
     {
         let mut tallies = BTreeMap::new(alloc);
         for peer in peers {
-            match tallies.insert(*peer, NO_TALLY) {
-                Ok(_) => {}
-                Err(_) => return Err(NoMemory),
-            }
+            tallies.insert(*peer, NO_TALLY)?;
         }
         Ok(TallyMouth { tallies, number: 0 })
     }

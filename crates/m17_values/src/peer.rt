@@ -4,7 +4,8 @@ ghost use Rattle.std.proofs.Common.{rules};
 ghost use Rattle.std.specs.Cmp.{partial_order_from_own_ties};
 ghost use Rattle.std.specs.Cmp.Lexicographic.{slice_cmp};
 ghost use Rattle.std.specs.Cmp.Rules.{comparing};
-ghost use Rattle.std.specs.Ordering.{nat_cmp, bool_cmp, on, then_cmp, as_partial_cmp};
+ghost use Rattle.std.specs.Ordering.{nat_cmp, as_partial_cmp};
+ghost use Rattle.m17_values.specs.Peers.{peer_cmp};
 
 use std::cmp::Ordering;
 
@@ -20,8 +21,7 @@ pub struct Peer {
 }
 
 impl PartialOrd for Peer {
-    ghost partial_cmp = { as_partial_cmp (then_cmp (on (λ p. p.six) bool_cmp)
-        (then_cmp (on (λ p. p.ip) (slice_cmp nat_cmp)) (on (λ p. p.port) nat_cmp))) };
+    ghost partial_cmp = { as_partial_cmp peer_cmp };
 
     ghost laws = { partial_order_from_own_ties (Prim.search (comparing, rules))
         (Prim.search (comparing, rules)) };
@@ -32,8 +32,7 @@ impl PartialOrd for Peer {
 }
 
 impl Ord for Peer {
-    ghost cmp = { then_cmp (on (λ p. p.six) bool_cmp)
-        (then_cmp (on (λ p. p.ip) (slice_cmp nat_cmp)) (on (λ p. p.port) nat_cmp)) };
+    ghost cmp = { peer_cmp };
 
     ghost total = { Prim.search (comparing, rules) };
 

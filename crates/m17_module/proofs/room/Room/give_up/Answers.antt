@@ -29,7 +29,7 @@ invariant_of-self c =
     }
 
 pub returns-clause-stands : goal.returns-clause-stands
-returns-clause-stands c = λ setup events event is stands.
+returns-clause-stands c = λ event is setup events stands.
     let q : ℕ = c.args.seat.now.member.place in
     let mine : get_or c.self.inside.seats.items q None ≡ Some c.args.seat.now = ap (λ (p : People). get_or p.seats q None) c.self.view_is ∙ c.requires in
     let inside = subst (λ (p : People). PeopleStandFor setup p events) (sym c.self.view_is) stands in

@@ -5,7 +5,7 @@ use Rattle.m17_module.proofs.PeopleMore.{judged_by_rule}
 use Rattle.m17_module.proofs.room.Room.judge.Goals as goal
 
 pub returns-clause-stands : goal.returns-clause-stands
-returns-clause-stands c = λ setup events event is moment stands.
+returns-clause-stands c = λ event is setup events moment stands.
     let q : ℕ = c.args.seat.now.member.place in
     let mine : get_or c.self.inside.seats.items q None ≡ Some c.args.seat.now = ap (λ (p : People). get_or p.seats q None) c.self.view_is ∙ c.requires.is_in in
     let inside = subst (λ (p : People). PeopleStandFor setup p events) (sym c.self.view_is) stands in

@@ -19,7 +19,7 @@ invariant_of-self c =
     }
 
 pub returns-clause-stands : goal.returns-clause-stands
-returns-clause-stands c = λ setup events event is stands.
+returns-clause-stands c = λ event is setup events stands.
     let q : ℕ = c.args.seat.now.member.place in
     let within : q < length c.self.inside.seats.items = omega (arith, c.requires.place, ap (λ (p : People). length p.seats) c.self.view_is) in
     let inside = subst (λ (p : People). PeopleStandFor setup p events) (sym c.self.view_is) stands in

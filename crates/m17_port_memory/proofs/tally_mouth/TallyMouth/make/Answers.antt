@@ -12,7 +12,7 @@ loop-peer-preserved c =
     let key : Peer = get_or c.args.peers.now c.loop-peer.peer-index none in
     let old = tally_at c.loop-peer.tallies.entries in
     let new = tally_at c.insert.new.self.entries in
-    let put = c.in-Ok.ensures.updates.0 in (
+    let put = c.in_ok-insert.ensures.updates.0 in (
       λ peer. rw (take_more c.args.peers.now c.loop-peer.peer-index none c.loop-peer-test.true)
           (named-put old key no_tally new (take c.loop-peer.peer-index c.args.peers.now) put
           c.loop-peer.invariant.0 peer),

@@ -4,7 +4,8 @@ use Rattle.std.specs.BTreeMap.{is_at}
 use Rattle.m17_values.specs.declared.peer.Peer.{Peer}
 use Rattle.m17_ports.specs.Tallies.{IsTallied, tally_then}
 use Rattle.m17_port_memory.specs.Kept.{TalliesKept}
-use Rattle.m17_port_memory.specs.Peers.{peer_order, tally_at}
+use Rattle.m17_values.specs.Peers.{peer_cmp}
+use Rattle.m17_port_memory.specs.Peers.{tally_at}
 use Rattle.m17_port_memory.proofs.TallyLemmas.{tallied-written, tallied-kept}
 use Rattle.m17_port_memory.proofs.tally_mouth.TallyMouthMouth.say.Goals as goal
 use Rattle.m17_port_memory.proofs.tally_mouth.TallyMouthMouth.say.Goals.{in-Some, in_default}
@@ -25,7 +26,7 @@ returns-clause-tallied c =
           let had : old to ≡ Some tally = sym found ∙ ap option_copied_mut w.in-Some.is in
           let some = (c.get_mut.follows.holds w.count.new.tally).3 (rw had (search rules)) in
           let put : (q : Peer) → new q
-          ≡ cond (is_at (peer_order to) q) (Some (tally_then tally bytes)) (old q) =
+          ≡ cond (is_at (peer_cmp to) q) (Some (tally_then tally bytes)) (old q) =
           rw (sym w.count.ensures) some.0 in
           from_old (rw w.self-inside-is (tallied-written old new to bytes tally had put))
       | in_default w ↦
