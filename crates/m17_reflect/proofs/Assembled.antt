@@ -39,7 +39,7 @@ use Rattle.m17_reflect.proofs.Came.{Came, HasHeardAll, ear_tells, trace_tells, t
 use Rattle.m17_reflect.proofs.Worked.{Rows, book_tells}
 use Rattle.m17_reflect.proofs.Joining.{claims_in}
 use Rattle.m17_reflect.proofs.Seats.{IsRollOf, roll_claims, claims_placed}
-use Rattle.m17_reflect.proofs.Modules.{HaveWorked, AreBack, inbox_of, all_trails, all_served, all_admitted, all_tapes, all_books}
+use Rattle.m17_reflect.proofs.Modules.{HaveWorked, AreBack, inbox_of, all_trails, all_served, all_admitted, all_tapes, all_books, all_spelled}
 use Rattle.m17_reflect.proofs.AllQueues.{QueuesBack, all_queues, at_any, lost_of, lost_where, lost_only_where, or_later}
 use Rattle.m17_reflect.proofs.Failed.{trace_failed_of, book_failed_of}
 use Rattle.m17_reflect.proofs.Gave.{worker_seat}
@@ -193,6 +193,7 @@ module _ {E M B EL ML BL : Type 0} where
           book_count = length-map c.after.workers (book_tells c.writes) ∙ f.came_back ∙ f.worked.count;
           books = all_books c.writes c.plan n c.before.workers c.after.workers c.made.trails (has_failed c.after) f.worked o.served
               (λ m k at_k e. or_later (list_any trace_failed_of c.after.receivers) (list_any book_failed_of c.after.workers) (at_any book_failed_of c.after.workers m k at_k e));
+          spelled = all_spelled c.writes c.plan n c.before.workers c.after.workers c.made.trails f.worked o.served;
         };
       }
 

@@ -19,7 +19,7 @@ use Rattle.m17_directory.specs.Laws.{RouteIsOfClaimed, claimed_members}
 use Rattle.m17_worker.specs.declared.worker.Worker.{Worker}
 use Rattle.m17_worker.specs.Taken.{is_there, EndsWithStops}
 use Rattle.m17_worker.specs.WorkerDid.{HasServed, HasWorked}
-use Rattle.m17_worker.specs.Records.{book_text, records_of}
+use Rattle.m17_worker.specs.Records.{book_text, records_of, IsBookText}
 use Rattle.m17_plan.specs.declared.plan.Plan.{Plan}
 use Rattle.m17_reflect.specs.Links.{Link, IsLink, At, letter_of, setup_at}
 use Rattle.m17_reflect.specs.Run.{module_count}
@@ -30,7 +30,7 @@ use Rattle.m17_reflect.proofs.Routes.{at_below, below_at}
 use Rattle.m17_reflect.proofs.There.{is_at, trail_is_there}
 use Rattle.m17_reflect.proofs.Together.{zip_at, unmapped, mapped_at}
 use Rattle.m17_run_setup.specs.Jobs.{IsWorkerOf}
-use Rattle.m17_reflect.proofs.Worked.{book_tells, served, admitted_of, tape_is, book_is}
+use Rattle.m17_reflect.proofs.Worked.{book_tells, served, admitted_of, tape_is, book_is, spelled_is}
 
 module _ {A B C : Type 0} where
   -- two lists that come to the same, place by place
@@ -125,3 +125,13 @@ module _ {B : Type 0} where
       subst (λ b. IsWritten failed b text after) is_j
       (subst (λ a. IsWritten failed (book_tells writes j) text a) is_k
       (book_is writes plan links m j k (events_of t) failed (h.are m j at_j) (did m j k t at_j at_k e) (flags m k at_k)))
+
+  -- each is a book of the records of its trail, where it tells its bytes
+  pub all_spelled : {BL : Type 0} (writes : B → BookTold BL) (plan : Plan) (links : ℕ) (js ks : List (Worker B)) (trails : List (TrailEnd Event)) → HaveWorked writes plan links js ks → ((m : ℕ) (j k : Worker B) (t : TrailEnd Event) → slice_get js m ≡ Some j → slice_get ks m ≡ Some k → At trails m t → HasServed writes (events_of t) j k) → (m : ℕ) (t : TrailEnd Event) (after : BookTold BL) (bytes : List ℕ) → At trails m t → At (map (book_tells writes) ks) m after → after.written ≡ Some bytes → IsBookText (head_at plan m) (records_of (setup_at plan m) (events_of t))
+  all_spelled writes plan links js ks trails h did m t after bytes e ea told =
+      let (k, at_k, is_k) = unmapped (book_tells writes) ks m after ea in
+      let inside = below_at ks m k at_k in
+      let many = worker_count writes plan links js ks h in
+      let (j, at_j) = at_below js m (omega (arith, h.count)) in
+      spelled_is writes plan links m j k (events_of t) bytes (h.are m j at_j) (did m j k t at_j at_k e)
+      (ap (λ b. b.written) is_k ∙ told)

@@ -18,7 +18,7 @@ use Rattle.m17_rows.specs.Laws.{RowsGrow}
 use Rattle.m17_grid.specs.Trails.{IsTrailOfOne, AreTrailsOfOnes}
 use Rattle.m17_worker.specs.declared.worker.Worker.{Worker}
 use Rattle.m17_worker.specs.Offers.{Try, queued_for, missed_for, count_missed, counted_on}
-use Rattle.m17_worker.specs.Records.{book_text, records_of}
+use Rattle.m17_worker.specs.Records.{book_text, records_of, IsBookText}
 use Rattle.m17_worker.specs.Taken.{taken, is_there}
 use Rattle.m17_worker.specs.Tape.{verdict_on}
 use Rattle.m17_worker.specs.WorkerDid.{head_of, HasServed, HasWorked}
@@ -72,6 +72,11 @@ module _ {B : Type 0} where
       subst (λ (head : Head). IsWritten failed (book_tells writes j) (book_text head (records_of (setup_at plan m) events)) (book_tells writes k)) (head_is plan links m j is)
       (subst (λ (s : module_items.Setup). IsWritten failed (book_tells writes j) (book_text (head_of j) (records_of s events)) (book_tells writes k)) is.setup
       (k.book_failed, h.booked, flag))
+
+  pub spelled_is : {BL : Type 0} (writes : B → BookTold BL) (plan : Plan) (links m : ℕ) (j k : Worker B) (events : List Event) (bytes : List ℕ) → IsWorkerOf plan links m j → HasServed writes events j k → (book_tells writes k).written ≡ Some bytes → IsBookText (head_at plan m) (records_of (setup_at plan m) events)
+  spelled_is writes plan links m j k events bytes is h told =
+      subst (λ (head : Head). IsBookText head (records_of (setup_at plan m) events)) (head_is plan links m j is)
+      (subst (λ (s : module_items.Setup). IsBookText (head_of j) (records_of s events)) is.setup (h.spelled bytes told))
 
 -- a count from 0
 counted_from_none : (n : ℕ) → counted_on 0 n ≡ min n (2 ^ 64 - 1)

@@ -14,7 +14,7 @@ use Rattle.m17_directory.specs.declared.verdict.LinkVerdict.{LinkVerdict}
 use Rattle.m17_receiver.specs.Devices.{trace_text}
 use Rattle.m17_book.specs.declared.head.Head.{Head}
 use Rattle.m17_plan.specs.declared.plan.Plan.{Plan}
-use Rattle.m17_worker.specs.Records.{book_text, records_of}
+use Rattle.m17_worker.specs.Records.{book_text, records_of, IsBookText}
 use Rattle.m17_worker.specs.Tape as worker_tape
 use Rattle.m17_reflect.specs.Links.{Link, At, link_setup, letter_of, setup_at}
 use Rattle.m17_reflect.specs.Run.{Run, module_count}
@@ -50,7 +50,8 @@ floors_of plan = record { places = plan.places; limit = plan.limit }
 abbrev pub head_at : Plan → ℕ → Head
 head_at plan m = record { «module» = letter_of plan m; limit = plan.limit }
 
--- Each trace has the text of what its link heard, and each book that of its module's trail.
+-- Each trace has the text of what its link heard, and each book that of its module's trail: where it tells its bytes, this
+-- text is a book of just these records.
 pub record AreWritten {E M B : Type 0} (run : Run E M B) (links : List Link) : Type 0 where
   pub trace_count : length run.after.traces ≡ length links
   pub traces : (i : ℕ) (link : Link) (before after : BookTold B) → At links i link →
@@ -62,6 +63,9 @@ pub record AreWritten {E M B : Type 0} (run : Run E M B) (links : List Link) : T
       At run.before.books m before → At run.after.books m after →
       IsWritten run.handed.book_failed before
       (book_text (head_at run.plan m) (records_of (setup_at run.plan m) (events_of trail))) after
+  pub spelled : (m : ℕ) (trail : TrailEnd Event) (after : BookTold B) (bytes : List ℕ) →
+      At run.handed.trails m trail → At run.after.books m after → after.written ≡ Some bytes →
+      IsBookText (head_at run.plan m) (records_of (setup_at run.plan m) (events_of trail))
 
 -- A packet is admitted exactly where the floor rule of its module's trail says so: the number of packets that each
 -- module admitted is the number by that rule, and the tapes show each verdict. Traces and books are written from what

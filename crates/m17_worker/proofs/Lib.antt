@@ -8,6 +8,7 @@ pub mod Gathered
 pub mod Tapes
 pub mod Flags
 pub mod Noting
+pub mod Spelled
 pub mod Served
 pub mod Turning
 pub mod Working

@@ -8,14 +8,15 @@ use Rattle.m17_control.specs.declared.event.Tag.{Tag}
 use Rattle.m17_control.specs.declared.event.Body.{Body}
 use Rattle.m17_control.specs.declared.event.Body.TheVariants as body
 use Rattle.m17_floor.specs.declared.verdict.Verdict.{Verdict}
-use Rattle.m17_book.specs.Records.{IsWritable, IsLowVerdict, record_bytes}
+use Rattle.m17_book.specs.Records.{FitsRecord, IsWritable, IsLowVerdict, record_bytes}
 use Rattle.m17_book.specs.declared.record.Record.{Record}
 use Rattle.m17_book.specs.declared.record.Record.TheVariants.{Join, Packet}
+use Rattle.m17_book.specs.declared.version.Version.TheVariants.{Two}
 use Rattle.m17_worker.specs.Taken.{place_of}
 use Rattle.m17_worker.specs.Records.{leave_record, Noted, own_record}
 use Rattle.m17_ports.specs.Book.{BookTold, HasText}
 use Rattle.m17_ports.specs.Laws.{BooksAreWrittenInTurn}
-use Rattle.m17_worker.specs.Underway.{Note, noted_text}
+use Rattle.m17_worker.specs.Underway.{Note, NoteFits, noted_leave, noted_own, noted_text}
 use Rattle.m17_worker.proofs.Texts.{text_untold}
 
 -- a place below so many
@@ -69,3 +70,10 @@ noted_untold law start book text moment note failed none h =
     let leave : List ℕ = flat_map record_bytes (option_to_list (option_and_then (leave_record note.event.tag moment) note.bye)) in
     let own : List ℕ = flat_map record_bytes (option_to_list (own_record now note.event.body)) in
     text_untold law start (text ++ leave) own book failed none (text_untold law start text leave book failed none h)
+
+-- each record of the event fits its fields, where the two that were written do
+pub note_fits : (moment told : ℕ) (note : Note) (leave own : Option Record) → told ≡ moment → leave ≡ noted_leave told note → own ≡ noted_own told note
+    → ForSome leave (FitsRecord Two) → ForSome own (FitsRecord Two) → NoteFits moment note
+note_fits moment told note leave own same is_leave is_own first second =
+    let F : Option Record → Type 0 = λ o. ForSome o (FitsRecord Two) in
+    subst (λ (m : ℕ). NoteFits m note) same (record { leave = subst F is_leave first; own = subst F is_own second })

@@ -1,8 +1,8 @@
 -- One event more is served.
-use Rattle.std.proofs.Common.{◌≡◌, ℕ, ◌≤◌, true, not, List, [], ◌∷◌, ◌++◌, length, take, nat_lt, Option, ap, sym, subst, ◌∙◌, arith}
+use Rattle.std.proofs.Common.{◌≡◌, ℕ, ◌≤◌, true, not, List, [], ◌∷◌, ◌++◌, length, take, nat_lt, Option, Some, ap, sym, subst, ◌∙◌, arith}
 use Rattle.std.specs.Prelude.{is_some, filter, option_and_then, slice_index_or}
 use Rattle.std.specs.Option.{ForSome, option_map_or, option_to_list}
-use Rattle.std.specs.List.{All, flat_map, filter_map}
+use Rattle.std.specs.List.{All, filter_map}
 use Rattle.std.proofs.lemmas.Bool.{and_parts}
 use Rattle.m17_values.specs.declared.member.Member.{Member}
 use Rattle.m17_control.specs.declared.event.Event.{Event}
@@ -19,16 +19,16 @@ use Rattle.m17_module.specs.StandsFor.{ModuleKept, IsStep, stepped}
 use Rattle.m17_module.specs.Laws.{LaterEventsChangeNoItems, OneEventMoreGives, VerdictsFit, FitsIn, IsNumbered}
 use Rattle.m17_ports.specs.Book.{BookTold, HasText}
 use Rattle.m17_book.specs.declared.head.Head.{Head}
-use Rattle.m17_book.specs.Records.{record_bytes, IsLowVerdict}
+use Rattle.m17_book.specs.Records.{IsLowVerdict}
 use Rattle.m17_rows.specs.Laws.{RowsGrow}
 use Rattle.m17_worker.specs.declared.worker.Worker.{Worker}
 use Rattle.m17_worker.specs.Taken.{is_there, place_of}
 use Rattle.m17_worker.specs.Offers.{AreOffered}
 use Rattle.m17_worker.specs.Gifts.{is_bye, gifts_by, leaves_replaced, gifts, GaveBack}
-use Rattle.m17_worker.specs.Records.{Noted, noted_at, leave_record, own_record, records_of, book_text}
+use Rattle.m17_worker.specs.Records.{Noted, noted_at, leave_record, own_record, records_of, book_text, IsBookText}
 use Rattle.m17_worker.specs.Tape.{IsTaped}
 use Rattle.m17_worker.specs.WorkerDid.{head_of, HasServed}
-use Rattle.m17_worker.specs.Underway.{noted_text, filled, HasRoom}
+use Rattle.m17_worker.specs.Underway.{Note, NoteFits, noted_leave, noted_own, noted_text, filled, HasRoom}
 use Rattle.m17_worker.specs.declared.offers.LaneOffers.{LaneOffers}
 use Rattle.m17_roll.specs.Seat.{RollView}
 use Rattle.m17_worker.proofs.Lists.{length_more}
@@ -37,6 +37,7 @@ use Rattle.m17_worker.proofs.Giving.{gave_then, IsTheBye}
 use Rattle.m17_worker.proofs.Byes.{few_byes, leaves_are}
 use Rattle.m17_worker.proofs.Gathered.{gifts_more, records_more, text_goes_on}
 use Rattle.m17_worker.proofs.Tapes.{taped_more}
+use Rattle.m17_worker.proofs.Spelled.{spelled_more, told_before, told_after}
 
 -- the laws of the crates below
 pub record Laws : Type 0 where
@@ -65,14 +66,22 @@ pub record IsSeen {B L : Type 0} (told : B → BookTold L) (events : List Event)
       → HasText start text k.book_failed (told k.book)
       → HasText start (noted_text text n.module.moment (record { event = s.event; verdict = s.verdict; bye = s.bye; places = places }))
       n.book_failed (told n.book)
+  pub fits : (places : ℕ) (bytes : List ℕ)
+      → option_map_or (λ place. nat_lt place places) (place_of s.event.body) true ≡ true
+      → (told k.book).written ≡ Some bytes
+      → NoteFits n.module.moment (record { event = s.event; verdict = s.verdict; bye = s.bye; places = places })
   pub tape : n.tape.items ≡ filled k.tape.items s.event s.verdict
 
+-- what is noted of it, at so many places
+abbrev pub note_of : Seen → ℕ → Note
+note_of s places = record { event = s.event; verdict = s.verdict; bye = s.bye; places = places }
+
 -- the records of the event are those that were written
-written_is : (laws : Laws) (setup : Setup) (events : List Event) (s : Seen) (kept : ModuleKept) (head : Head)
+recorded_is : (laws : Laws) (setup : Setup) (events : List Event) (s : Seen) (kept : ModuleKept)
     → IsStep setup events s.event (stepped s.verdict kept s.items) → IsTheBye s.bye s.items
-    → noted_text (book_text head (records_of setup events)) kept.moment (record { event = s.event; verdict = s.verdict; bye = s.bye; places = setup.places })
-    ≡ book_text head (records_of setup (events ++ s.event ∷ []))
-written_is laws setup events s kept head step the_bye =
+    → records_of setup (events ++ s.event ∷ [])
+    ≡ records_of setup events ++ (option_to_list (noted_leave kept.moment (note_of s setup.places)) ++ option_to_list (noted_own kept.moment (note_of s setup.places)))
+recorded_is laws setup events s kept step the_bye =
     let longer : List Event = events ++ s.event ∷ [] in
     let now : Noted = noted_at setup longer (length events) s.event.tag in
     let moment : kept.moment ≡ moment_at (acts_of longer) (length events) =
@@ -87,11 +96,18 @@ written_is laws setup events s kept head step the_bye =
     let own : option_to_list (own_record (make kept.moment s.verdict) s.event.body) ≡ option_to_list (own_record now s.event.body) =
     ap (λ m. option_to_list (own_record (make m s.verdict) s.event.body)) moment
     ∙ ap (λ v. option_to_list (own_record (make now.moment v) s.event.body)) step.verdict in
-    let before : List ℕ = book_text head (records_of setup events) in
-    ap (λ rs. (before ++ flat_map record_bytes rs) ++ flat_map record_bytes (option_to_list (own_record (make kept.moment s.verdict) s.event.body))) leave
-    ∙ ap (λ rs. (before ++ flat_map record_bytes (filter_map (leave_record s.event.tag now.moment) (items_at setup longer (length events)))) ++ flat_map record_bytes rs) own
-    ∙ sym (text_goes_on head (records_of setup events) (filter_map (leave_record s.event.tag now.moment) (items_at setup longer (length events))) (option_to_list (own_record now s.event.body)))
-    ∙ ap (book_text head) (sym (records_more laws.items laws.verdicts laws.moments setup events s.event))
+    records_more laws.items laws.verdicts laws.moments setup events s.event
+    ∙ sym (ap (λ rs. records_of setup events ++ (rs ++ option_to_list (own_record (make kept.moment s.verdict) s.event.body))) leave
+    ∙ ap (λ rs. records_of setup events ++ (filter_map (leave_record s.event.tag now.moment) (items_at setup longer (length events)) ++ rs)) own)
+
+written_is : (laws : Laws) (setup : Setup) (events : List Event) (s : Seen) (kept : ModuleKept) (head : Head)
+    → IsStep setup events s.event (stepped s.verdict kept s.items) → IsTheBye s.bye s.items
+    → noted_text (book_text head (records_of setup events)) kept.moment (note_of s setup.places)
+    ≡ book_text head (records_of setup (events ++ s.event ∷ []))
+written_is laws setup events s kept head step the_bye =
+    let note : Note = note_of s setup.places in
+    sym (text_goes_on head (records_of setup events) (option_to_list (noted_leave kept.moment note)) (option_to_list (noted_own kept.moment note)))
+    ∙ ap (book_text head) (sym (recorded_is laws setup events s kept step the_bye))
 
 pub served_more : {B L : Type 0} (told : B → BookTold L) (laws : Laws) (events : List Event) (s : Seen) (j k n : Worker B)
     → k.module.setup ≡ j.module.setup → is_there k.links k.module.setup.places s.event ≡ true
@@ -108,6 +124,9 @@ served_more told laws events s j k n same there seen h =
     let G : List Member → Type 0 = λ l. GaveBack j.seat l n.seat in
     let C : List (Option Verdict) → Type 0 = λ l. IsTaped setup longer l in
     let T : List ℕ → Type 0 = λ l. HasText (told j.book) l n.book_failed (told n.book) in
+    let booked : HasText (told j.book) (book_text (head_of j) (records_of setup longer)) n.book_failed (told n.book) =
+    subst T (written_is laws setup events s n.module (head_of j) step seen.the_bye)
+    (seen.text (told j.book) (book_text (head_of j) (records_of setup events)) setup.places fits h.booked) in
     record {
       stands = step.stands;
       offered = subst O
@@ -116,8 +135,13 @@ served_more told laws events s j k n same there seen h =
       gave_back = subst G
           (ap (λ l. gifts setup events ++ gifts_by (not (leaves_replaced s.event.body)) l) step.items ∙ sym (gifts_more laws.items setup events s.event))
           (gave_then j.seat k.seat n.seat (gifts setup events) (gifts_by (not (leaves_replaced s.event.body)) s.items) h.gave_back seen.gave);
-      booked = subst T (written_is laws setup events s n.module (head_of j) step seen.the_bye)
-          (seen.text (told j.book) (book_text (head_of j) (records_of setup events)) setup.places fits h.booked);
+      booked = booked;
+      spelled = λ bytes is.
+          let start = told_before (told j.book) (told n.book) (book_text (head_of j) (records_of setup longer)) bytes n.book_failed booked is in
+          let was = told_after (told j.book) (told k.book) (book_text (head_of j) (records_of setup events)) start.0 k.book_failed h.booked start.1 in
+          subst (IsBookText (head_of j)) (sym (recorded_is laws setup events s n.module step seen.the_bye))
+          (spelled_more (head_of j) (records_of setup events) n.module.moment (note_of s setup.places)
+          (seen.fits setup.places was.0 fits was.1) (h.spelled was.0 was.1));
       taped = subst C (sym seen.tape)
           (taped_more laws.verdicts setup events s.event s.verdict k.tape.items seen.answer step.verdict h.taped);
     }
@@ -135,9 +159,13 @@ pub seen_after : {B L : Type 0} (told : B → BookTold L) (events : List Event) 
     → HasText start text k.book_failed (told k.book)
     → HasText start (noted_text text mid.module.moment (record { event = s.event; verdict = s.verdict; bye = s.bye; places = places }))
     n.book_failed (told n.book))
+    → ((places : ℕ) (bytes : List ℕ)
+    → option_map_or (λ place. nat_lt place places) (place_of s.event.body) true ≡ true
+    → (told k.book).written ≡ Some bytes
+    → NoteFits mid.module.moment (record { event = s.event; verdict = s.verdict; bye = s.bye; places = places }))
     → n.tape.items ≡ filled k.tape.items s.event s.verdict
     → IsSeen told events s k n
-seen_after {B} told events s k mid n rest step answer offered gave the_bye text tape =
+seen_after {B} told events s k mid n rest step answer offered gave the_bye text noted tape =
     let module_is : n.module ≡ mid.module = ap (λ (w : Worker B). w.module) rest in
     let S : ModuleKept → Type 0 = λ m. IsStep k.module.setup events s.event (stepped s.verdict m s.items) in
     let O : LaneOffers → Type 0 = λ o. AreOffered s.items k.offers o in
@@ -152,6 +180,9 @@ seen_after {B} told events s k mid n rest step answer offered gave the_bye text 
           let T : ℕ → Type 0 = λ m. HasText start (noted_text before m (record { event = s.event; verdict = s.verdict; bye = s.bye; places = places }))
           n.book_failed (told n.book) in
           subst T (sym (ap (λ (m : ModuleKept). m.moment) module_is)) (text start before places fits h);
+      fits = λ places bytes fits is.
+          let N : ℕ → Type 0 = λ m. NoteFits m (record { event = s.event; verdict = s.verdict; bye = s.bye; places = places }) in
+          subst N (sym (ap (λ (m : ModuleKept). m.moment) module_is)) (noted places bytes fits is);
       tape = tape;
     }
 

@@ -55,6 +55,7 @@ module _ {B L : Type 0} (told : B → BookTold L) (j k : Worker B) (event : Even
           offered = h.all.offered;
           gave_back = h.all.gave_back;
           booked = h.all.booked;
+          spelled = h.all.spelled;
           taped = h.all.taped;
         });
       }
@@ -82,6 +83,7 @@ module _ {B L : Type 0} (told : B → BookTold L) (j k : Worker B) (event : Even
     offered = h.all.offered;
     gave_back = h.all.gave_back;
     booked = h.all.booked;
+    spelled = h.all.spelled;
     taped = h.all.taped;
   }
 

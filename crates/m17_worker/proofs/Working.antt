@@ -13,7 +13,7 @@ use Rattle.m17_module.specs.Items.{Setup, items_given}
 use Rattle.m17_module.specs.StandsFor.{ModuleKept, StandsFor}
 use Rattle.m17_ports.specs.Book.{BookTold, HasText}
 use Rattle.m17_ports.specs.Laws.{BooksAreWrittenInTurn}
-use Rattle.m17_book.specs.Versions.{book_header}
+use Rattle.m17_book.specs.Versions.{book_header, FitsHeader}
 use Rattle.m17_book.specs.declared.version.Version.TheVariants.{Two}
 use Rattle.m17_rows.specs.Laws.{RowsGrow}
 use Rattle.m17_roll.specs.Seat.{RollView}
@@ -22,7 +22,7 @@ use Rattle.m17_worker.specs.declared.worker.Worker.{Worker}
 use Rattle.m17_worker.specs.Taken.{taken, HasStops, EndsWithStops, is_stop_of}
 use Rattle.m17_worker.specs.Offers.{AreOffered, IsQueue}
 use Rattle.m17_worker.specs.Gifts.{gifts, GaveBack}
-use Rattle.m17_worker.specs.Records.{records_of, book_text}
+use Rattle.m17_worker.specs.Records.{records_of, book_text, IsBookText}
 use Rattle.m17_worker.specs.Tape.{IsTaped}
 use Rattle.m17_worker.specs.Ready.{IsFit}
 use Rattle.m17_worker.specs.WorkerDid.{head_of, HasServed, HasWorked}
@@ -30,6 +30,7 @@ use Rattle.m17_worker.specs.Underway.{AreFlags, IsAt}
 use Rattle.m17_worker.proofs.Tries.{offered_none}
 use Rattle.m17_worker.proofs.Giving.{gave_none}
 use Rattle.m17_worker.proofs.Tapes.{none_taped}
+use Rattle.m17_worker.proofs.Spelled.{header_alone, told_before}
 use Rattle.m17_worker.proofs.Flags.{flags_none, stops_of_flags, flags_of_stops}
 
 -- nothing comes of no events
@@ -63,8 +64,9 @@ module _ {B L : Type 0} (told : B → BookTold L) (j n : Worker B) (rest : n ≡
 
   nothing_served : RowsGrow Item → BooksAreWrittenInTurn L
       → ((start : BookTold L) (text : List ℕ) → HasText start text j.book_failed (told j.book) → HasText start (text ++ book_header Two (head_of j)) n.book_failed (told n.book))
+      → ((bytes : List ℕ) → (told j.book).written ≡ Some bytes → FitsHeader Two (head_of j))
       → HasServed told [] j n
-  nothing_served law books text =
+  nothing_served law books text header =
       let S : ModuleKept → Type 0 = λ m. StandsFor m [] in
       let O : LaneOffers → Type 0 = λ o. AreOffered [] j.offers o in
       let P : List Item → Type 0 = λ l. AreOffered l j.offers n.offers in
@@ -76,6 +78,9 @@ module _ {B L : Type 0} (told : B → BookTold L) (j n : Worker B) (rest : n ≡
         offered = subst P (sym (none_given j.module.setup)) (subst O (sym (ap (λ (w : Worker B). w.offers) rest)) (offered_none j.offers law));
         gave_back = subst Q (sym (none_gifts j.module.setup)) (subst G (sym (ap (λ (w : Worker B). w.seat) rest)) (gave_none j.seat));
         booked = begins books text;
+        spelled = λ bytes is.
+            let start = told_before (told j.book) (told n.book) (book_text (head_of j) (records_of j.module.setup [])) bytes n.book_failed (begins books text) is in
+            subst (IsBookText (head_of j)) (sym (none_recorded j.module.setup)) (header_alone (head_of j) (header start.0 start.1));
         taped = subst T (sym (ap (λ (w : Worker B). w.tape.items) rest)) (empty_tape j.module.setup j.tape.items fit.unused.tape);
       }
 
@@ -84,8 +89,9 @@ module _ {B L : Type 0} (told : B → BookTold L) (j n : Worker B) (rest : n ≡
 
   pub starts_at : RowsGrow Item → BooksAreWrittenInTurn L
       → ((start : BookTold L) (text : List ℕ) → HasText start text j.book_failed (told j.book) → HasText start (text ++ book_header Two (head_of j)) n.book_failed (told n.book))
+      → ((bytes : List ℕ) → (told j.book).written ≡ Some bytes → FitsHeader Two (head_of j))
       → IsAt told j 0 (false ∷ false ∷ false ∷ false ∷ []) n
-  starts_at law books text =
+  starts_at law books text header =
       let e : taken j.links j.module.setup.places n.inbox.popped ≡ [] = ap (taken j.links j.module.setup.places) no_events in
       let S : List Event → Type 0 = λ l. HasServed told l j n in
       let F : List Event → Type 0 = λ l. AreFlags (false ∷ false ∷ false ∷ false ∷ []) l in
@@ -116,7 +122,7 @@ module _ {B L : Type 0} (told : B → BookTold L) (j n : Worker B) (rest : n ≡
         };
         counted = sym (ap length e);
         flagged = subst F (sym no_events) flags_none;
-        all = subst S (sym e) (nothing_served law books text);
+        all = subst S (sym e) (nothing_served law books text header);
       }
 
   -- no link has had its Stop yet

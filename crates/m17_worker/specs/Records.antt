@@ -12,6 +12,7 @@ use Rattle.m17_floor.specs.Acts.{moment_at}
 use Rattle.m17_floor.specs.Floor.{verdict_at}
 use Rattle.m17_module.specs.Events.{acts_of}
 use Rattle.m17_module.specs.Items.{Setup, floor_setup, items_at}
+use Rattle.m17_book.specs.Book.{HasBookForm}
 use Rattle.m17_book.specs.Versions.{book_header}
 use Rattle.m17_book.specs.declared.version.Version.TheVariants.{Two}
 use Rattle.m17_book.specs.Records.{record_bytes}
@@ -71,3 +72,7 @@ records_of setup events = flat_map (records_at setup events) (range_with_len 0 (
 -- The bytes of a module's book: its header, and then the records of the events.
 abbrev pub book_text : Head → List Record → List ℕ
 book_text head records = book_header Two head ++ flat_map record_bytes records
+
+-- These bytes are a book with this header and just these records: each field of them fits its place.
+abbrev pub IsBookText : Head → List Record → Type 0
+IsBookText head records = HasBookForm Two (book_text head records) head records

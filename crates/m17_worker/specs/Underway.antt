@@ -1,12 +1,14 @@
 -- How far a worker has come, for the proofs of its steps.
 use Rattle.std.specs.Prelude.{◌≡◌, ◌==◌, ◌&&◌, ℕ, ◌-◌, ◌^◌, ◌<◌, ◌≤◌, Bool, true, List, [], ◌++◌, length, slice_get, slice_set, is_some, option_and_then, Option, Some, if◌then◌else◌}
-use Rattle.std.specs.Option.{option_to_list}
+use Rattle.std.specs.Option.{ForSome, option_to_list}
 use Rattle.std.specs.List.{list_any, flat_map}
 use Rattle.m17_control.specs.declared.event.Event.{Event}
 use Rattle.m17_control.specs.declared.item.Item.{Item}
 use Rattle.m17_floor.specs.declared.verdict.Verdict.{Verdict}
 use Rattle.m17_ports.specs.Book.{BookTold}
-use Rattle.m17_book.specs.Records.{record_bytes}
+use Rattle.m17_book.specs.Records.{record_bytes, FitsRecord}
+use Rattle.m17_book.specs.declared.record.Record.{Record}
+use Rattle.m17_book.specs.declared.version.Version.TheVariants.{Two}
 use Rattle.m17_module.specs.StandsFor.{StandsFor}
 use Rattle.m17_worker.specs.declared.worker.Worker.{Worker}
 use Rattle.m17_worker.specs.Taken.{taken, is_there, is_stop_of}
@@ -68,15 +70,27 @@ pub record Note : Type 0 where
   pub bye : Option Item
   pub places : ℕ
 
--- The text, and then the records of the event, whose moment is this.
-abbrev pub noted_text : List ℕ → ℕ → Note → List ℕ
-noted_text text moment note =
+-- The records of the event, whose moment is this: of the member that leaves, and its own.
+abbrev pub noted_leave : ℕ → Note → Option Record
+noted_leave moment note = option_and_then (leave_record note.event.tag moment) note.bye
+
+abbrev pub noted_own : ℕ → Note → Option Record
+noted_own moment note =
     let now : Noted = record {
       tag = note.event.tag;
       moment = moment;
       verdict = note.verdict;
       places = note.places;
     } in
-    (text ++ flat_map record_bytes
-    (option_to_list (option_and_then (leave_record note.event.tag moment) note.bye)))
-    ++ flat_map record_bytes (option_to_list (own_record now note.event.body))
+    own_record now note.event.body
+
+-- The text, and then the records of the event.
+abbrev pub noted_text : List ℕ → ℕ → Note → List ℕ
+noted_text text moment note =
+    (text ++ flat_map record_bytes (option_to_list (noted_leave moment note)))
+    ++ flat_map record_bytes (option_to_list (noted_own moment note))
+
+-- each field of them fits its place
+pub record NoteFits (moment : ℕ) (note : Note) : Type 0 where
+  pub leave : ForSome (noted_leave moment note) (FitsRecord Two)
+  pub own : ForSome (noted_own moment note) (FitsRecord Two)

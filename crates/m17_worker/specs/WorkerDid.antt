@@ -1,5 +1,5 @@
 -- What a worker did, between the job before and after.
-use Rattle.std.specs.Prelude.{◌≡◌, Bool, true, false, List, [], length}
+use Rattle.std.specs.Prelude.{◌≡◌, ℕ, Bool, true, false, List, [], length, Some}
 use Rattle.m17_control.specs.declared.event.Event.{Event}
 use Rattle.m17_ports.specs.Book.{BookTold, HasText}
 use Rattle.m17_book.specs.declared.head.Head.{Head}
@@ -10,7 +10,7 @@ use Rattle.m17_worker.specs.declared.worker.Worker.{Worker}
 use Rattle.m17_worker.specs.Taken.{taken, EndsWithStops}
 use Rattle.m17_worker.specs.Offers.{AreOffered}
 use Rattle.m17_worker.specs.Gifts.{gifts, GaveBack}
-use Rattle.m17_worker.specs.Records.{records_of, book_text}
+use Rattle.m17_worker.specs.Records.{records_of, book_text, IsBookText}
 use Rattle.m17_worker.specs.Tape.{IsTaped}
 
 -- What the header of a worker's book says: the letter of its module, and the plan's limit.
@@ -19,7 +19,7 @@ head_of j = record { «module» = j.letter; limit = j.limit }
 
 -- What became of these events: the module stands for them; all that they give was offered, in
 -- order; the members with a Bye were given back; the book, which is the same one, has their records,
--- and the tape their verdicts.
+-- which are a book's where it tells its bytes, and the tape their verdicts.
 pub record HasServed {B L : Type 0} (told : B → BookTold L) (events : List Event)
     (j k : Worker B) : Type 0 where
   pub stands : StandsFor k.module events
@@ -27,6 +27,8 @@ pub record HasServed {B L : Type 0} (told : B → BookTold L) (events : List Eve
   pub gave_back : GaveBack j.seat (gifts j.module.setup events) k.seat
   pub booked : HasText (told j.book) (book_text (head_of j) (records_of j.module.setup events))
       k.book_failed (told k.book)
+  pub spelled : (bytes : List ℕ) → (told k.book).written ≡ Some bytes →
+      IsBookText (head_of j) (records_of j.module.setup events)
   pub taped : IsTaped j.module.setup events k.tape.items
 
 -- It is the same worker: what it was made with stays, of its inbox it popped events and nothing

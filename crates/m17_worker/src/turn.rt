@@ -1,5 +1,5 @@
 //! What a worker does for one event.
-ghost use Rattle.std.specs.Prelude.{◌≡◌, ◌<◌, ℕ, true, List, [], ◌∷◌, ◌++◌, length, nat_lt};
+ghost use Rattle.std.specs.Prelude.{◌≡◌, ◌<◌, ℕ, true, List, [], ◌∷◌, ◌++◌, length, nat_lt, Some};
 ghost use Rattle.std.specs.Option.{ForSome, option_map_or};
 ghost use Rattle.m17_control.specs.declared.event.Event.{Event};
 ghost use Rattle.m17_lane.specs.Ends.{popped_from};
@@ -8,7 +8,7 @@ ghost use Rattle.m17_worker.specs.declared.worker.Worker.{Worker};
 ghost use Rattle.m17_book.specs.Records.{IsLowVerdict};
 ghost use Rattle.m17_worker.specs.Taken.{is_there, place_of};
 ghost use Rattle.m17_worker.specs.WorkerDid.{HasServed};
-ghost use Rattle.m17_worker.specs.Underway.{CanServe, HasRoom, IsAt, IsServing, filled, noted_text};
+ghost use Rattle.m17_worker.specs.Underway.{CanServe, HasRoom, IsAt, IsServing, NoteFits, filled, noted_text};
 
 use crate::Worker;
 use crate::book::write_if;
@@ -107,6 +107,11 @@ impl<B: Book> Worker<B> {
             HasText start (noted_text text self.old.module.moment
             (record { event = event.now; verdict = verdict; bye = bye.now; places = places }))
             self.new.book_failed (B.told self.new.book) }
+        ensures fits { (places : ℕ) (bytes : List ℕ) →
+            option_map_or (λ place. nat_lt place places) (place_of event.now.body) true ≡ true →
+            (B.told self.old.book).written ≡ Some bytes →
+            NoteFits self.old.module.moment
+            (record { event = event.now; verdict = verdict; bye = bye.now; places = places }) }
         ensures tape { self.new.tape.items ≡ filled self.old.tape.items event.now verdict }
         ensures rest { self.new ≡ record self.old {
           book = self.new.book;
@@ -130,6 +135,11 @@ impl<B: Book> Worker<B> {
             HasText start (noted_text text self.old.module.moment
             (record { event = event.now; verdict = verdict; bye = bye.now; places = places }))
             self.new.book_failed (B.told self.new.book) }
+        ensures fits { (places : ℕ) (bytes : List ℕ) →
+            option_map_or (λ place. nat_lt place places) (place_of event.now.body) true ≡ true →
+            (B.told self.old.book).written ≡ Some bytes →
+            NoteFits self.old.module.moment
+            (record { event = event.now; verdict = verdict; bye = bye.now; places = places }) }
         ensures rest { self.new ≡ record self.old {
           book = self.new.book;
           book_failed = self.new.book_failed;

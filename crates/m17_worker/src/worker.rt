@@ -1,7 +1,7 @@
-ghost use Rattle.std.specs.Prelude.{◌≡◌, ℕ, List, ◌++◌};
+ghost use Rattle.std.specs.Prelude.{◌≡◌, ℕ, List, ◌++◌, Some};
 ghost use Rattle.m17_control.specs.Forms.{IsModule};
 ghost use Rattle.m17_ports.specs.Book.{BookTold, HasText};
-ghost use Rattle.m17_book.specs.Versions.{book_header};
+ghost use Rattle.m17_book.specs.Versions.{book_header, FitsHeader};
 ghost use Rattle.m17_book.specs.declared.version.Version.TheVariants.{Two};
 ghost use Rattle.m17_worker.specs.Ready.{IsFit, IsReady};
 ghost use Rattle.m17_worker.specs.WorkerDid.{head_of, HasWorked, WorkerDid};
@@ -96,6 +96,8 @@ impl<B: Book> Worker<B> {
             HasText start text self.old.book_failed (B.told self.old.book) →
             HasText start (text ++ book_header Two (head_of self.old)) self.new.book_failed
             (B.told self.new.book) }
+        ensures header { (bytes : List ℕ) → (B.told self.old.book).written ≡ Some bytes →
+            FitsHeader Two (head_of self.old) }
         ensures rest { self.new ≡ record self.old {
           book = self.new.book;
           book_failed = self.new.book_failed;

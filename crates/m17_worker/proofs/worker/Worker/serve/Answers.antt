@@ -56,4 +56,4 @@ returns-clause-served g c = λ j events can same h.
     }) c.note.new.self c.note.ensures.rest
     (c.step-verdict.ensures.by_rule events can.stands can.few) c.step-verdict.ensures.answer c.hand_out-bye.ensures.offered
     (subst G c.is_replaced_leave-gives.ensures c.hand_out-bye.ensures.gave_back)
-    c.hand_out-bye.ensures.bye c.note.ensures.text c.note.ensures.tape) h
+    c.hand_out-bye.ensures.bye c.note.ensures.text c.note.ensures.fits c.note.ensures.tape) h

@@ -11,7 +11,7 @@ pub loop-init : goal.loop-init
 loop-init g c =
     let told = g.B.Book.told in
     record {
-      at = starts_at told c.args.self.now c.begin.new.self c.begin.ensures.rest c.requires c.rows_grow.ensures c.books_are_written_in_turn.ensures c.begin.ensures.text;
+      at = starts_at told c.args.self.now c.begin.new.self c.begin.ensures.rest c.requires c.rows_grow.ensures c.books_are_written_in_turn.ensures c.begin.ensures.text c.begin.ensures.header;
       going = not_yet told c.args.self.now c.begin.new.self c.begin.ensures.rest c.requires;
       order = ap (λ (w : Worker g.row.B.Denot). w.order) c.begin.ensures.rest;
     }

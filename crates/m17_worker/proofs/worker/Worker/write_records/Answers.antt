@@ -1,9 +1,10 @@
-use Rattle.std.proofs.Common.{◌++◌}
+use Rattle.std.proofs.Common.{◌++◌, sym, ◌∙◌}
+use Rattle.std.proofs.lemmas.Option.{none-some}
 use Rattle.std.specs.Option.{option_to_list}
 use Rattle.std.specs.List.{flat_map}
 use Rattle.m17_book.specs.Records.{record_bytes}
 use Rattle.m17_worker.specs.Taken.{place_of}
-use Rattle.m17_worker.proofs.Noting.{place_fits, writes_own, noted_is, noted_untold}
+use Rattle.m17_worker.proofs.Noting.{place_fits, writes_own, noted_is, noted_untold, note_fits}
 use Rattle.m17_worker.proofs.worker.Worker.write_records.Goals as goal
 
 pub write_if-requires-2 : goal.write_if-requires-2
@@ -26,5 +27,16 @@ returns-clause-text g c = λ start text places fits h.
     (record { event = c.args.event.now; verdict = c.args.verdict; bye = c.args.bye.now; places = places })
     c.record_of_bye-leave.result c.own_record-own.result c.write_if-2.new.failed
     c.moment-moment.ensures c.record_of_bye-leave.ensures (c.own_record-own.ensures places fits)
-    (c.write_if-2.ensures start (text ++ flat_map record_bytes (option_to_list c.record_of_bye-leave.result))
-    (c.write_if.ensures start text h))
+    (c.write_if-2.ensures.text start (text ++ flat_map record_bytes (option_to_list c.record_of_bye-leave.result))
+    (c.write_if.ensures.text start text h))
+
+pub returns-then-not-is_kept-clause-fits : goal.returns-then-not-is_kept-clause-fits
+returns-then-not-is_kept-clause-fits g c = λ places bytes fits is.
+    absurd (none-some bytes (sym (c.is_kept.ensures.untold c.if-not-is_kept.true).0 ∙ is))
+
+pub returns-clause-fits : goal.returns-clause-fits
+returns-clause-fits g c = λ places bytes fits is.
+    note_fits c.args.self.now.module.moment c.moment-moment.result
+    (record { event = c.args.event.now; verdict = c.args.verdict; bye = c.args.bye.now; places = places })
+    c.record_of_bye-leave.result c.own_record-own.result c.moment-moment.ensures c.record_of_bye-leave.ensures
+    (c.own_record-own.ensures places fits) c.write_if.ensures.fits c.write_if-2.ensures.fits
