@@ -1,3 +1,5 @@
 mod Lists
 mod Books
 mod Runs
+mod Trails
+mod Refusing

@@ -31,3 +31,4 @@ module _ {E M B R L : Type 0} where
     pub mouths : back.mouths.items ≡ refused.mouths.items
     pub traces : back.traces.items ≡ map plain_of refused.traces.items
     pub books : back.books.items ≡ map plain_of refused.books.items
+    pub why : back.why ≡ refused.why

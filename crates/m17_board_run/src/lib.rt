@@ -3,7 +3,8 @@
 //! ends with a line of all that was posted for each module whose last line says less.
 //! It promises that the headline holds of that run as of any other, with books that say at which poster they post; that the
 //! devices come back without the board; and that the lines show what stands whole in the bytes of the books, module by
-//! module. What runs between the threads is left to `m17_reflect`, what a line says to `m17_board_watch`.
+//! module, which is the records of the modules' trails. What runs between the threads is left to `m17_reflect`, what a line
+//! says to `m17_board_watch`.
 #![tactic(auto)]
 
 mod board;

@@ -1,13 +1,15 @@
 //! The run itself.
-ghost use Rattle.std.specs.Prelude.{◌≡◌, ◌<◌, ◌≤◌, true, All, IfErr, IfOk, length, vec_len};
+ghost use Rattle.std.specs.Prelude.{◌≡◌, ◌<◌, ◌≤◌, Bool, true, All, None, IfErr, IfOk, MatchResult, length, vec_len};
 ghost use Rattle.std.specs.List.{AllZip};
 ghost use Rattle.m17_ports.specs.Told.{StartsEmpty};
+ghost use Rattle.m17_ports.specs.Ports.{next_number};
 ghost use Rattle.m17_control.specs.Modules.{letters_of};
 ghost use Rattle.m17_plan.specs.Planned.{IsPlan, module_count};
 ghost use Rattle.m17_board.specs.Ends.{AreOfOneBoard};
 ghost use Rattle.m17_board_watch.specs.Ending.{IsFresh};
 ghost use Rattle.m17_board_watch.specs.Shows.{WatchDid};
 ghost use Rattle.m17_board_watch.specs.Written.{ShowsBoard};
+ghost use Rattle.m17_reflect.specs.Views.{IsRefusedFor};
 ghost use Rattle.m17_board_run.specs.Board.{IsMade};
 ghost use Rattle.m17_board_run.specs.Boarded.{RanOnBoard, RefusedAsWere};
 ghost use Rattle.m17_board_run.specs.Kept.{told_of_shelf};
@@ -64,7 +66,9 @@ struct Back<B> {
 /// many links and modules.
 ///
 /// Where the crew refuses the watch, or the reflector refuses to run, all devices come back as they were. The watch is joined
-/// in any case but the first. Labels of books are types that live for ever, since the type of a book that posts has one in it.
+/// in any case but the first, and its book comes back, in which nothing was written. `Crew` comes only where the crew's count
+/// of refusals rose; with `NoMemory` it stands, but the crew has started the watch. Labels of books are types that live for
+/// ever, since the type of a book that posts has one in it.
 pub fn reflect_on_board<
     E: Ear + Drop + Send + 'static,
     M: Mouth + Drop + Send + 'static,
@@ -102,13 +106,19 @@ where
       traces = traces.items;
       books = books.items;
     }) lines r) }
-    ensures refused { IfErr result (λ r. RefusedAsWere (record {
+    ensures refused { IfErr result (λ r. RefusedAsWere B.told (record {
       ears = ears.items;
       mouths = mouths.items;
       traces = traces.items;
       books = books.items;
-    }) r) }
+    }) lines r) }
+    ensures cause { MatchResult result (λ _. C.refusals crew.new ≡ C.refusals crew.old)
+        (λ r. IsRefusedFor r.refused.why (C.refusals crew.old) (C.refusals crew.new)) }
+    // The book of the lines stays away only where the crew refused the first start, that of the watch.
+    ensures first { IfErr result (λ r. r.lines ≡ None →
+        C.starts crew.new ≡ next_number (C.starts crew.old)) }
 {
+    m17_board_book::laws::one_list_stands_whole();
     m17_reflect::laws::devices_stay::<E::Label, M::Label, KeptLabel<B::Label>>();
     m17_board_watch::laws::ends_stay::<B, R>();
     m17_board_watch::laws::numbers_of_lines_rise::<B, R>();
@@ -158,7 +168,13 @@ where
     let watch = end_watch(rt, watching, quit);
     match ran {
         Ok(house) => Ok(end_run(rt, alloc, house, watch, back)),
-        Err(refused) => Err(hand_back(refused, watch, back)),
+        Err(refused) => {
+            let (refused, lines) = hand_back(rt, alloc, refused, watch, back);
+            Err(RefusedOnBoard {
+                refused,
+                lines: Some(lines),
+            })
+        }
     }
 }
 
@@ -226,30 +242,47 @@ fn end_run<E: Drop, M: Drop, B: Book + Drop, R: Wait + Drop>(
     }
 }
 
-// Takes the books off the board where nothing was run.
-fn hand_back<E: Drop, M: Drop, B: Book + Drop, R: Drop>(
+// Takes the books off the board where nothing was run, and ends it.
+fn hand_back<E: Drop, M: Drop, B: Book + Drop, R: Wait + Drop>(
+    rt: &R,
+    alloc: Global,
     refused: Refused<E, M, Kept<B, R>>,
     watch: Watch<B, R>,
     back: Back<B>,
-) -> RefusedOnBoard<E, M, B>
+) -> (Refused<E, M, Shelf<B>>, B)
+    requires posting { All IsPosting refused.books.items }
+    requires board { AreOfOneBoard (posters_of refused.books.items) watch.eyes.items }
+    requires each { vec_len refused.books ≡ length (letters_of watch.modules) }
+    requires numbers { vec_len watch.last ≡ length (letters_of watch.modules) }
     requires room { HasRoom (vec_len refused.traces) (vec_len refused.books) back }
-    ensures { IsOffRefused refused result.refused }
+    ensures off { IsOffRefused refused result.0 }
+    // Of what the watch was before, as a job, all lines show what was posted.
+    ensures shows { (j : Watch B R) → WatchDid B.told j watch → IsFresh j → (failed : Bool)
+        × ShowsBoard watch.modules (posters_of refused.books.items) failed
+        (B.told j.book) (B.told result.1) }
 {
+    let Back {
+        traces,
+        books,
+        posters,
+        mut glances,
+    } = back;
+    let why = refused.why;
     let Refused {
+        ears,
+        mouths,
+        traces: kept,
+        books: posting,
+        ..
+    } = refused;
+    let (books, posters) = posting_back(posting, books, posters);
+    let (lines, _) = watch.end(rt, alloc, posters, &mut glances);
+    let refused = Refused {
         why,
         ears,
         mouths,
-        traces,
+        traces: plain_back(kept, traces),
         books,
-    } = refused;
-    RefusedOnBoard {
-        refused: Refused {
-            why,
-            ears,
-            mouths,
-            traces: plain_back(traces, back.traces),
-            books: plain_back(books, back.books),
-        },
-        lines: Some(watch.book),
-    }
+    };
+    (refused, lines)
 }

@@ -181,7 +181,8 @@ module _ (posters : List PostEnd) (eyes : List EyeEnd) (glances : List Glance) (
     shows last = record {
       lines = lines;
       text = w.text;
-      begin = record { of_modules = w.of_modules; rise = w.rise; tell = tell };
+      failed_line = w.failed_line;
+      begin = record { of_modules = w.of_modules; rise = w.rise; tell = tell; none = none };
       whole = λ ok. record { of_modules = w.of_modules; rise = w.rise; tell = tell; none = none; all = each (last ok) };
     }
 

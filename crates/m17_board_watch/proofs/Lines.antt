@@ -1,6 +1,7 @@
 -- The lines of a watch, look by look.
-use Rattle.std.proofs.Common.{◌≡◌, ◌⊎◌, ⊎_elim, ℕ, zero, suc, ◌<◌, ◌≤◌, Bool, true, false, cond, List, [], ◌∷◌, ◌++◌, length, All, Contains, None, Some, slice_get, slice_index, slice_set, get_or, refl, sym, ap, ◌∙◌, subst, inl, inr, arith}
+use Rattle.std.proofs.Common.{◌≡◌, ◌≢◌, ◌⊎◌, ⊎_elim, ℕ, zero, suc, ◌<◌, ◌≤◌, Bool, true, false, cond, List, [], ◌∷◌, ◌++◌, length, All, Contains, None, Some, slice_get, slice_index, slice_set, get_or, refl, sym, ap, ◌∙◌, subst, inl, inr, arith}
 use Rattle.std.specs.List.{AllZip}
+use Rattle.std.proofs.lemmas.Bool.{false≢true}
 use Rattle.std.proofs.lemmas.Option.{same_Some, none-some}
 use Rattle.std.proofs.lemmas.List.{flat_map_more, length-set, get_or-set_same}
 use Rattle.std.proofs.lemmas.List.Elements.{All-push, All-contains, Contains-push, Contains-append_left}
@@ -45,6 +46,10 @@ seen_now eyes eyes' place glance h =
     subst (λ (l : List EyeEnd). HasSeen l place glance) (sym h.eyes_are)
     (seen_more h.eye h.more, there_set eyes place h.eye (seen_more h.eye h.more) h.there, subst (Contains (h.eye.seen ++ saw ∷ [])) (sym h.saw) (Contains-push h.eye.seen saw))
 
+one_there : (lines : List BoardLine) (one : BoardLine) → lines ++ one ∷ [] ≢ []
+one_there [] one e = absurd (omega (arith, ap length e))
+one_there (l ∷ lines) one e = absurd (omega (arith, ap length e))
+
 -- a number that is replaced, and the others
 pub index_set : (xs : List ℕ) (i v p : ℕ) → i < length xs
     → ((p ≡ i) × (slice_index (slice_set xs i v) p ≡ v)) ⊎ (slice_index (slice_set xs i v) p ≡ slice_index xs p)
@@ -78,6 +83,7 @@ module _ {B L : Type 0} (told : B → BookTold L) (modules : Modules) (from : Sh
     greatest = λ ok k d lt. absurd (omega arith);
     last = λ place. inl refl;
     as_many = refl;
+    failed_line = λ failed. absurd (false≢true (sym fresh ∙ failed));
   }
 
   -- what is told of them, told by more
@@ -92,6 +98,7 @@ module _ {B L : Type 0} (told : B → BookTold L) (modules : Modules) (from : Sh
     greatest = w.greatest;
     last = w.last;
     as_many = w.as_many;
+    failed_line = w.failed_line;
   }
 
   -- where a line is written
@@ -159,6 +166,7 @@ module _ {B L : Type 0} (told : B → BookTold L) (modules : Modules) (from : Sh
       greatest = λ ok. All-push (λ (l : BoardLine). l.glance.records ≤ slice_index b.last l.place) lines one (most_on ok) (most_now ok);
       last = λ p. last_now p b.failed refl;
       as_many = many b.failed refl;
+      failed_line = λ _ none. one_there lines one none;
     }
 
   one_more : (a b : Shown B) (letter place : ℕ) → IsPlaceOf modules letter place → LookedAt told letter place a b → (lines : List BoardLine) → Wrote told modules from a lines

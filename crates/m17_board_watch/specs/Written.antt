@@ -1,5 +1,5 @@
 -- The lines that a watch writes, and what they tell.
-use Rattle.std.specs.Prelude.{◌≡◌, ◌≢◌, ◌⊎◌, ℕ, ◌<◌, ◌≤◌, Bool, false, List, [], length, All, slice_get, slice_index, Some}
+use Rattle.std.specs.Prelude.{◌≡◌, ◌≢◌, ◌⊎◌, ℕ, ◌<◌, ◌≤◌, Bool, true, false, List, [], length, All, slice_get, slice_index, Some}
 use Rattle.std.specs.List.{AllPairs, Contains, flat_map}
 use Rattle.m17_ports.specs.Book.{BookTold, HasText}
 use Rattle.m17_control.specs.declared.modules.Modules.{Modules}
@@ -37,7 +37,7 @@ IsLastOf before lines place number = (number ≡ slice_index before place)
 -- What was written between two moments of a watch whose book had not failed at the first: these lines, all of them, or
 -- where a write failed a beginning. Each is of a module of the board, and tells what `Tells` says of the module's place. The
 -- numbers of a module's lines rise, from above what its last line said before; and its last line says the greatest, unless
--- a write failed.
+-- a write failed, which was that of one of these lines.
 pub record WroteBy {B L : Type 0} (Tells : ℕ → Glance → Type 0) (told : B → BookTold L)
     (modules : Modules) (from to : Shown B) (lines : List BoardLine) : Type 0 where
   pub text : HasText (told from.book) (lines_text lines) to.failed (told to.book)
@@ -49,6 +49,7 @@ pub record WroteBy {B L : Type 0} (Tells : ℕ → Glance → Type 0) (told : B 
       → All (λ line. line.glance.records ≤ slice_index to.last line.place) lines
   pub last : (place : ℕ) → IsLastOf from.last lines place (slice_index to.last place)
   pub as_many : length to.last ≡ length from.last
+  pub failed_line : to.failed ≡ true → lines ≢ []
 
 -- The same where each line tells what the eye at its place has seen.
 abbrev pub Wrote : {B L : Type 0} → (B → BookTold L) → Modules → Shown B → Shown B → List BoardLine
@@ -78,18 +79,22 @@ pub record ShowPosts (modules : Modules) (posters : List PostEnd) (lines : List 
         → poster.posted ≢ [] → (line : BoardLine) × Contains lines line
         × (line.place ≡ place) × (line.glance ≡ glance_of poster.posted)
 
--- A beginning of them, where a write failed: none of them tells more than was posted.
+-- A beginning of them, where a write failed: none of them tells more than was posted, and a module of which nothing was
+-- posted has none.
 pub record ShowBegin (modules : Modules) (posters : List PostEnd) (lines : List BoardLine) : Type 0
   where
     pub of_modules : All (λ line. IsPlaceOf modules line.letter line.place) lines
     pub rise : AllPairs Rises lines
     pub tell : TellFirstParts posters lines
+    pub none : (place : ℕ) (poster : PostEnd) → slice_get posters place ≡ Some poster
+        → poster.posted ≡ [] → All (λ line. line.place ≢ place) lines
 
 -- What the book of an ended board holds beside what it held before: the lines that show all that was posted, or, where a
--- write failed, a beginning of lines that show first parts of it.
+-- write failed, which was that of a line, a beginning of lines that show first parts of it.
 pub record ShowsBoard {L : Type 0} (modules : Modules) (posters : List PostEnd) (failed : Bool)
     (before after : BookTold L) : Type 0 where
   pub lines : List BoardLine
   pub text : HasText before (lines_text lines) failed after
+  pub failed_line : failed ≡ true → lines ≢ []
   pub begin : ShowBegin modules posters lines
   pub whole : failed ≡ false → ShowPosts modules posters lines
