@@ -1,16 +1,19 @@
 -- The numbers of statuses, and what a run says by them.
 use Rattle.std.proofs.Common.{◌≡◌, ◌≢◌, ◌⊎◌, ℕ, Bool, true, false, List, refl, sym, ap, subst, ◌∙◌, arith, inl, inr}
+use Rattle.std.specs.Prelude.{string_bytes}
+use Rattle.std.specs.Option.{option_map}
 use Rattle.m17_words.specs.declared.command.Command.{Command}
 use Rattle.m17_words.specs.declared.order.ServeOrder.{ServeOrder}
 use Rattle.m17_words.specs.declared.command.Command.TheVariants.{Judge, Show, Replay, Make, Check, Migrate, Talk, Serve, Bridge}
 use Rattle.m17_app.specs.declared.status.Status.{Status}
 use Rattle.m17_app.specs.declared.status.Status.TheVariants.{Finished, InputRefused, WordsRefused, ReadFailed, WriteFailed, PortFailed, CrewRefused, LinkLost, BookFailed, NoMemory}
 use Rattle.m17_io.specs.Faults.{HasRisen}
-use Rattle.m17_app.specs.Status.{code_of, Streams, Tells}
+use Rattle.m17_app.specs.Status.{code_of, Count, Streams, Tells}
 use Rattle.m17_app.specs.Run.{TellsRefused}
 use Rattle.m17_app.specs.Commands.{terms_of, Runs, RunsWords, EndsRefused}
-use Rattle.m17_app.specs.Doing.{Doing}
-use Rattle.m17_app.specs.Serve.{terms_by}
+use Rattle.m17_app.specs.Doing.{Doing, crew_of}
+use Rattle.m17_app.specs.Forms.{ServeForm}
+use Rattle.m17_app.specs.Serve.{terms_by, form_of}
 
 -- the status with the number 2
 pub is_words_refused : (status : Status) → code_of status ≡ 2 → status ≡ WordsRefused
@@ -38,7 +41,7 @@ is_port_failed LinkLost e = absurd (omega arith)
 is_port_failed BookFailed e = absurd (omega arith)
 is_port_failed NoMemory e = absurd (omega arith)
 
-is_crew_refused : (status : Status) → code_of status ≡ 6 → status ≡ CrewRefused
+pub is_crew_refused : (status : Status) → code_of status ≡ 6 → status ≡ CrewRefused
 is_crew_refused Finished e = absurd (omega arith)
 is_crew_refused InputRefused e = absurd (omega arith)
 is_crew_refused WordsRefused e = absurd (omega arith)
@@ -68,11 +71,11 @@ refused_status WordsRefused before after tells = inl refl
 refused_status WriteFailed before after tells = inr refl
 refused_status _ before after tells = absurd tells
 
-module _ {E M B : Type 0} where
-  serve_not_words : (by : Bool) (order : ServeOrder) (before after : Streams) (run : Doing E M B) → (terms_by by order run).tells WordsRefused before after → ⊥
-  serve_not_words false order before after run tells = tells.1
-  serve_not_words true order before after run tells = tells
+serve_not_words : (by : Bool) (form : ServeForm) (order : ServeOrder) (crew : Count) (before after : Streams) → (terms_by by form order crew).tells WordsRefused before after → ⊥
+serve_not_words false form order crew before after tells = tells.1
+serve_not_words true form order crew before after tells = tells
 
+module _ {E M B : Type 0} where
   -- no command ends as refused words do
   not_words : (command : Command) (before after : Streams) (run : Doing E M B) → (terms_of command run).tells WordsRefused before after → ⊥
   not_words Judge before after run tells = tells
@@ -82,7 +85,7 @@ module _ {E M B : Type 0} where
   not_words Migrate before after run tells = tells
   not_words (Replay call modules parrots places summary limit) before after run tells = tells
   not_words (Talk order) before after run tells = tells
-  not_words (Serve order) before after run tells = serve_not_words order.rules order before after run tells
+  not_words (Serve order) before after run tells = serve_not_words order.rules (form_of (option_map string_bytes order.board) order run) order (crew_of run) before after tells
   not_words (Bridge order) before after run tells = tells.1
 
   pub not_two : (command : Command) (status : Status) (before after : Streams) (run : Doing E M B) → Runs command status before after run → code_of status ≢ 2

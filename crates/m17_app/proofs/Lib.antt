@@ -10,7 +10,10 @@ pub mod MakeRuns
 pub mod ReplayRuns
 pub mod TalkRuns
 pub mod ServeRuns
+pub mod ServeForms
 pub mod BridgeRuns
 mod RuledRuns
 pub mod Runnable
+pub mod Boards
 pub mod Codes
+pub mod Dropped

@@ -1,6 +1,5 @@
--- A run of `serve`, from its ending to what it promises.
-use Rattle.std.proofs.Common.{◌≡◌, ◌≢◌, ℕ, ◌≤◌, Bool, true, false, List, ◌++◌, take, Option, None, Some, refl, sym, ap, subst, ◌∙◌, arith, inl, inr}
-use Rattle.std.specs.Prelude.{IsTrue}
+-- A run of `serve` in any of its forms, from its ending to what it promises.
+use Rattle.std.proofs.Common.{◌≡◌, ◌≢◌, ◌⊎◌, ℕ, ◌≤◌, Bool, true, false, List, ◌++◌, take, Option, None, Some, refl, sym, ap, subst, ◌∙◌, arith, inl, inr}
 use Rattle.m17_io.specs.Faults.{HasRisen, HasCauses}
 use Rattle.m17_io.specs.Sink.{AppendsPrefix}
 use Rattle.m17_io.specs.Source.{SourceTold}
@@ -9,18 +8,20 @@ use Rattle.m17_io.specs.declared.fault.Fault.TheVariants.{Read, Write}
 use Rattle.m17_print.specs.declared.ending.Ending.{Ending}
 use Rattle.m17_print.specs.declared.ending.Ending.TheVariants as ways
 use Rattle.m17_print.specs.declared.ending.NoReason.{NoReason}
-use Rattle.m17_reflect.specs.Run.{Devices, Handed}
+use Rattle.m17_gate.specs.declared.rule.Rule.{Rule}
+use Rattle.m17_reflect.specs.declared.returned.HouseRefusal.TheVariants as refusals
+use Rattle.m17_reflect.specs.Run.{Handed}
 use Rattle.m17_words.specs.declared.order.ServeOrder.{ServeOrder}
 use Rattle.m17_serve.specs.declared.served.ServeEnding.{ServeEnding}
 use Rattle.m17_serve.specs.declared.served.ServeEnding.TheVariants as endings
 use Rattle.m17_serve.specs.Served as serve
 use Rattle.m17_serve.specs.Endings.{serve_ending}
-use Rattle.m17_serve.specs.Served.{ending_by, ending_of, lines_of, run_told, ComesToServe, EndsServe, IsUntroubled, RoseWhere, Serves}
+use Rattle.m17_serve.specs.Served.{lines_of, RoseWhere}
 use Rattle.m17_app.specs.declared.status.Status.{Status}
 use Rattle.m17_app.specs.declared.status.Status.TheVariants.{Finished, WriteFailed, PortFailed, CrewRefused, LinkLost, BookFailed, NoMemory}
-use Rattle.m17_app.specs.Doing.{Doing, beside_of, serve_side}
-use Rattle.m17_app.specs.Serve.{serve_last_line, serve_status, plain_terms, CutsServe, RanServe, TellsServe}
-use Rattle.m17_app.specs.Status.{HasCause, Streams, RoseBy, WritesLast}
+use Rattle.m17_app.specs.Forms.{serve_last_line, serve_status, ServeForm}
+use Rattle.m17_app.specs.Serve.{plain_terms, CutsRun, CutsServe, RanServe, TellsServe}
+use Rattle.m17_app.specs.Status.{Beside, Count, HasCause, Streams, RoseBy, WritesLast}
 use Rattle.m17_app.specs.Terms.{RunsCommand}
 use Rattle.m17_app.specs.Written.{LeavesInput}
 use Rattle.m17_app.proofs.Statuses.{Told, is_write_failed, never, own_status}
@@ -64,16 +65,24 @@ is_write endings.PortFailed e = cc
 is_write endings.CrewRefused e = cc
 is_write endings.NoMemory e = cc
 
--- what the status says of what came back
-pub was_lost : (lost failed : Bool) → LinkLost ≡ serve_status (ending_by lost failed) → IsTrue lost
-was_lost true failed e = refl
-was_lost false true e = cc
-was_lost false false e = cc
+-- the endings with the statuses 7 and 8
+link_ending : (ending : ServeEnding) → LinkLost ≡ serve_status ending → ending ≡ endings.LinkLost
+link_ending endings.Finished e = cc
+link_ending endings.LinkLost e = refl
+link_ending endings.BookFailed e = cc
+link_ending endings.WriteFailed e = cc
+link_ending endings.PortFailed e = cc
+link_ending endings.CrewRefused e = cc
+link_ending endings.NoMemory e = cc
 
-pub had_failed : (lost failed : Bool) → BookFailed ≡ serve_status (ending_by lost failed) → IsTrue failed
-had_failed true failed e = cc
-had_failed false true e = refl
-had_failed false false e = cc
+book_ending : (ending : ServeEnding) → BookFailed ≡ serve_status ending → ending ≡ endings.BookFailed
+book_ending endings.Finished e = cc
+book_ending endings.LinkLost e = cc
+book_ending endings.BookFailed e = refl
+book_ending endings.WriteFailed e = cc
+book_ending endings.PortFailed e = cc
+book_ending endings.CrewRefused e = cc
+book_ending endings.NoMemory e = cc
 
 -- there was memory, or there was none
 back_again : (ending : ServeEnding) → serve_ending ending ≡ ways.NoMemory → ending ≡ endings.NoMemory
@@ -147,121 +156,139 @@ AddsLine ending mid after = (xs : List ℕ) → mid.sink.written ≡ Some xs →
 abbrev pub AddsLinePart : ServeEnding → Streams → Streams → Type 0
 AddsLinePart ending mid after = (xs : List ℕ) → mid.sink.written ≡ Some xs → AppendsPrefix xs (serve_last_line ending) after.sink.written
 
-module _ {E M B : Type 0} where
-  ran_tells : (order : ServeOrder) (ending : ServeEnding) (before mid after : Streams) (run : Doing E M B) → AddsLine ending mid after
-      → EndsServe order ending (serve_side run) before.sink.written mid.sink.written → RanServe order (serve_status ending) before after (serve_side run)
-  ran_tells order ending before mid after run line (devices, handed, serves, is, printed) = record {
-    devices = devices;
-    handed = handed;
-    serves = serves;
-    status_is = ap serve_status is;
-    text = adds_after (lines_of order handed) (serve_last_line (ending_of handed)) before mid after printed (subst (λ (e : ServeEnding). AddsLine e mid after) is line);
-  }
+-- What the proofs need of a form: a run that nothing stood against lost no link, and no book of it failed.
+pub record Holds (form : ServeForm) : Type 0 where
+  pub loses : (rules : Option (List Rule)) (handed : Handed) → form.ran rules handed endings.LinkLost → form.untroubled rules → ⊥
+  pub fails : (rules : Option (List Rule)) (handed : Handed) → form.ran rules handed endings.BookFailed → form.untroubled rules → ⊥
 
-  -- the last line was written
-  own_tells : (order : ServeOrder) (ending : ServeEnding) (before mid after : Streams) (run : Doing E M B) → serve_status ending ≢ WriteFailed → ending ≢ endings.NoMemory
-      → (ending ≡ endings.CrewRefused → HasRisen run.crew_before run.crew_after) → AddsLine ending mid after → ComesToServe order ending (serve_side run) before.sink.written mid.sink.written → TellsServe order run (serve_status ending) before after
-  own_tells order endings.Finished before mid after run other room crew line came = ran_tells order endings.Finished before mid after run line came
-  own_tells order endings.LinkLost before mid after run other room crew line came = ran_tells order endings.LinkLost before mid after run line came
-  own_tells order endings.BookFailed before mid after run other room crew line came = ran_tells order endings.BookFailed before mid after run line came
-  own_tells order endings.WriteFailed before mid after run other room crew line came = absurd (other refl)
-  own_tells order endings.PortFailed before mid after run other room crew line came = (came.0, (λ first is. line first (came.1 ∙ is)))
-  own_tells order endings.CrewRefused before mid after run other room crew line came = ((came.0, crew refl), (λ first is. line first (came.1 ∙ is)))
-  own_tells order endings.NoMemory before mid after run other room crew line came = absurd (room refl)
+-- The reflector ran to this ending, and its lines were appended.
+abbrev pub RanTo : ServeForm → ServeOrder → Option (List Rule) → ServeEnding → Option (List ℕ) → Option (List ℕ) → Type 0
+RanTo form order rules ending first written = (handed : Handed) × form.ran rules handed ending × ((before : List ℕ) → first ≡ Some before → written ≡ Some (before ++ lines_of order handed))
 
-  -- the sink failed
-  cut_ran : (order : ServeOrder) (ending : ServeEnding) (before mid after : Streams) (run : Doing E M B) → AddsLinePart ending mid after
-      → EndsServe order ending (serve_side run) before.sink.written mid.sink.written → CutsServe order before after run
-  cut_ran order ending before mid after run part (devices, handed, serves, is, printed) = inr (inr (
-    devices,
-    handed,
-    serves,
-    adds_part_after (lines_of order handed) (serve_last_line (ending_of handed)) before mid after printed (subst (λ (e : ServeEnding). AddsLinePart e mid after) is part),
-  ))
+-- What each ending says, before the last line.
+abbrev pub Comes : ServeForm → ServeOrder → Option (List Rule) → ServeEnding → Option (List ℕ) → Option (List ℕ) → Type 0
+Comes form order rules endings.Finished first written = RanTo form order rules endings.Finished first written
+Comes form order rules endings.LinkLost first written = RanTo form order rules endings.LinkLost first written
+Comes form order rules endings.BookFailed first written = RanTo form order rules endings.BookFailed first written
+Comes form order rules endings.WriteFailed first written = (handed : Handed) × (ending : ServeEnding) × form.ran rules handed ending
+    × ((before : List ℕ) → first ≡ Some before → AppendsPrefix before (lines_of order handed) written)
+Comes form order rules endings.PortFailed first written = form.fails_at_port × (written ≡ first)
+Comes form order rules endings.CrewRefused first written = form.refuses refusals.Crew × (written ≡ first)
+Comes form order rules endings.NoMemory first written = (form.asks_nothing ⊎ form.refuses refusals.NoMemory) × (written ≡ first)
 
-  cut_tells : (order : ServeOrder) (ending : ServeEnding) (before mid after : Streams) (run : Doing E M B) → ending ≢ endings.NoMemory
-      → (ending ≡ endings.CrewRefused → HasRisen run.crew_before run.crew_after) → AddsLinePart ending mid after
-      → ComesToServe order ending (serve_side run) before.sink.written mid.sink.written → CutsServe order before after run
-  cut_tells order endings.Finished before mid after run room crew part came = cut_ran order endings.Finished before mid after run part came
-  cut_tells order endings.LinkLost before mid after run room crew part came = cut_ran order endings.LinkLost before mid after run part came
-  cut_tells order endings.BookFailed before mid after run room crew part came = cut_ran order endings.BookFailed before mid after run part came
-  cut_tells order endings.WriteFailed before mid after run room crew part (devices, handed, serves, printed) = inr (inr (
-    devices,
-    handed,
-    serves,
-    (λ first is.
-        let p = printed first is in
-        part_longer first (lines_of order handed) (serve_last_line (ending_of handed)) after.sink.written (p.0, same_written mid after part (first ++ take p.0 (lines_of order handed)) p.1)),
-  ))
-  cut_tells order endings.PortFailed before mid after run room crew part came = inl (came.0, (λ first is. part first (came.1 ∙ is)))
-  cut_tells order endings.CrewRefused before mid after run room crew part came = inr (inl ((came.0, crew refl), (λ first is. part first (came.1 ∙ is))))
-  cut_tells order endings.NoMemory before mid after run room crew part came = absurd (room refl)
+pub ran_tells : (form : ServeForm) (order : ServeOrder) (rules : Option (List Rule)) (ending : ServeEnding) (before mid after : Streams) → AddsLine ending mid after
+    → RanTo form order rules ending before.sink.written mid.sink.written → RanServe form order rules (serve_status ending) before after
+ran_tells form order rules ending before mid after line (handed, ran, printed) = record {
+  handed = handed;
+  ending = ending;
+  ran = ran;
+  status_is = refl;
+  text = adds_after (lines_of order handed) (serve_last_line ending) before mid after printed line;
+}
 
-  -- a run of the reflector that nothing stood against went to its end
-  abbrev IsSmooth : ServeOrder → Doing E M B → Type 0
-  IsSmooth order run = (devices : Devices E M (Option B)) (handed : Handed) → (serves : Serves order (serve_side run) devices handed)
-      → IsUntroubled (run_told order serves.new devices handed) serves.headline
+-- a first part of the text stands written: all lines and a part of the last line, or a part of the lines
+pub cut_ran : (form : ServeForm) (order : ServeOrder) (rules : Option (List Rule)) (ending : ServeEnding) (before mid after : Streams) → AddsLinePart ending mid after
+    → RanTo form order rules ending before.sink.written mid.sink.written → CutsRun form order rules before after
+cut_ran form order rules ending before mid after part (handed, ran, printed) =
+    (handed, ending, ran, adds_part_after (lines_of order handed) (serve_last_line ending) before mid after printed part)
 
-  loses_none : (order : ServeOrder) (before after : Streams) (run : Doing E M B) → LeavesInput before after × TellsServe order run LinkLost before after → IsSmooth order run → ⊥
-  loses_none order before after run (input, ran) smooth =
-      let lost = was_lost ran.handed.lost ran.handed.book_failed ran.status_is in
-      (smooth ran.devices ran.handed ran.serves).no_link_lost (ran.serves.headline.carried_out.lost.0 lost)
+pub cut_lines : (form : ServeForm) (order : ServeOrder) (rules : Option (List Rule)) (before mid after : Streams) → AddsLinePart endings.WriteFailed mid after
+    → Comes form order rules endings.WriteFailed before.sink.written mid.sink.written → CutsRun form order rules before after
+cut_lines form order rules before mid after part (handed, ending, ran, printed) = (
+  handed,
+  ending,
+  ran,
+  (λ first is.
+      let p = printed first is in
+      part_longer first (lines_of order handed) (serve_last_line ending) after.sink.written (p.0, same_written mid after part (first ++ take p.0 (lines_of order handed)) p.1)),
+)
 
-  fails_none : (order : ServeOrder) (before after : Streams) (run : Doing E M B) → LeavesInput before after × TellsServe order run BookFailed before after → IsSmooth order run → ⊥
-  fails_none order before after run (input, ran) smooth =
-      let failed = had_failed ran.handed.lost ran.handed.book_failed ran.status_is in
-      elim (ran.serves.headline.causes.book_failed failed) [
-        | inl trace ↦ (smooth ran.devices ran.handed ran.serves).no_trace_failed trace
-        | inr book ↦ (smooth ran.devices ran.handed ran.serves).no_book_failed book
-      ]
+-- the last line was written
+own_tells : (form : ServeForm) (order : ServeOrder) (crew : Count) (ending : ServeEnding) (before mid after : Streams) → serve_status ending ≢ WriteFailed → ending ≢ endings.NoMemory
+    → (ending ≡ endings.CrewRefused → HasRisen crew.before crew.after) → AddsLine ending mid after → Comes form order None ending before.sink.written mid.sink.written
+    → TellsServe form order crew (serve_status ending) before after
+own_tells form order crew endings.Finished before mid after other room rose line came = ran_tells form order None endings.Finished before mid after line came
+own_tells form order crew endings.LinkLost before mid after other room rose line came = ran_tells form order None endings.LinkLost before mid after line came
+own_tells form order crew endings.BookFailed before mid after other room rose line came = ran_tells form order None endings.BookFailed before mid after line came
+own_tells form order crew endings.WriteFailed before mid after other room rose line came = absurd (other refl)
+own_tells form order crew endings.PortFailed before mid after other room rose line came = (came.0, (λ first is. line first (came.1 ∙ is)))
+own_tells form order crew endings.CrewRefused before mid after other room rose line came = ((came.0, rose refl), (λ first is. line first (came.1 ∙ is)))
+own_tells form order crew endings.NoMemory before mid after other room rose line came = absurd (room refl)
 
-  -- a command that refuses no input, and whose words are not refused
-  by_terms : (order : ServeOrder) (status : Status) (before after : Streams) (run : Doing E M B) → HasCause status before after (beside_of run) → LeavesInput before after
-      → TellsServe order run status before after → RunsCommand (plain_terms order run) status before after (beside_of run)
-  by_terms order status before after run cause input tells =
-      runs_by (plain_terms order run) status before after (beside_of run) cause (input, tells) (λ t _. t.1) (λ t. t.1) (loses_none order before after run) (fails_none order before after run)
+-- the sink failed
+cut_tells : (form : ServeForm) (order : ServeOrder) (crew : Count) (ending : ServeEnding) (before mid after : Streams) → ending ≢ endings.NoMemory
+    → (ending ≡ endings.CrewRefused → HasRisen crew.before crew.after) → AddsLinePart ending mid after → Comes form order None ending before.sink.written mid.sink.written
+    → CutsServe form order crew before after
+cut_tells form order crew endings.Finished before mid after room rose part came = inr (inr (cut_ran form order None endings.Finished before mid after part came))
+cut_tells form order crew endings.LinkLost before mid after room rose part came = inr (inr (cut_ran form order None endings.LinkLost before mid after part came))
+cut_tells form order crew endings.BookFailed before mid after room rose part came = inr (inr (cut_ran form order None endings.BookFailed before mid after part came))
+cut_tells form order crew endings.WriteFailed before mid after room rose part came = inr (inr (cut_lines form order None before mid after part came))
+cut_tells form order crew endings.PortFailed before mid after room rose part came = inl (came.0, (λ first is. part first (came.1 ∙ is)))
+cut_tells form order crew endings.CrewRefused before mid after room rose part came = inr (inl ((came.0, rose refl), (λ first is. part first (came.1 ∙ is))))
+cut_tells form order crew endings.NoMemory before mid after room rose part came = absurd (room refl)
 
-  -- there was memory
-  with_memory : (order : ServeOrder) (ending : ServeEnding) (status : Status) (before mid after : Streams) (run : Doing E M B) → ending ≢ endings.NoMemory
-      → ComesToServe order ending (serve_side run) before.sink.written mid.sink.written
-      → serve.HasCauses ending (serve.counts run.before.faults run.crew_before before.sink.faults) (serve.counts run.after.faults run.crew_after mid.sink.faults)
-      → mid.source ≡ before.source → WritesLast (serve_last_line ending) (serve_status ending) status mid after
-      → RunsCommand (plain_terms order run) status before after (beside_of run)
-  with_memory order ending status before mid after run room came causes same last =
-      let own : status ≢ WriteFailed → status ≡ serve_status ending = own_status (serve_status ending) status last.answer in
-      let named : HasCause status before after (beside_of run) = cause_from (serve_status ending) (fault_of ending) (serve_last_line ending) status before mid after (beside_of run)
-      (told ending room) (causes_of ending before mid (ap (λ (told : SourceTold). told.faults) same) causes.sink_counted causes.sink) last
-      (rose_so PortFailed endings.PortFailed ending _ _ refl (port_ending ending) causes.ports) (rose_so CrewRefused endings.CrewRefused ending _ _ refl (crew_ending ending) causes.crew) in
-      let tells : TellsServe order run status before after = elim (is_write_failed status) [
-        | inl four ↦ subst (λ (s : Status). TellsServe order run s before after) (sym four) (cut_tells order ending before mid after run room causes.crew.rose last.part came)
-        | inr other ↦
-            subst (λ (s : Status). TellsServe order run s before after) (sym (own other))
-            (own_tells order ending before mid after run (λ e. other (own other ∙ e)) room causes.crew.rose (last.whole other) came)
-      ] in
-      by_terms order status before after run named (last.input_untouched ∙ same) tells
+-- a run that nothing stood against went to its end
+pub loses_none : (form : ServeForm) (holds : Holds form) (order : ServeOrder) (rules : Option (List Rule)) (before after : Streams) → RanServe form order rules LinkLost before after
+    → form.untroubled rules → ⊥
+loses_none form holds order rules before after ran smooth =
+    holds.loses rules ran.handed (subst (λ (e : ServeEnding). form.ran rules ran.handed e) (link_ending ran.ending ran.status_is) ran.ran) smooth
 
-  -- there was none
-  without_memory : (order : ServeOrder) (before after : Streams) (run : Doing E M B) (first written : Option (List ℕ)) → ComesToServe order endings.NoMemory (serve_side run) first written
-      → run.after.faults ≡ run.before.faults → run.crew_after ≡ run.crew_before → after ≡ before → RunsCommand (plain_terms order run) NoMemory before after (beside_of run)
-  without_memory order before after run first written came ports crew stays =
-      by_terms order NoMemory before after run
-      (memory_cause before after (beside_of run) (ap (λ (o : Streams). o.source.faults) stays) (ap (λ (o : Streams). o.sink.faults) stays) ports crew)
-      (ap (λ (o : Streams). o.source) stays) (came.0, stays)
+pub fails_none : (form : ServeForm) (holds : Holds form) (order : ServeOrder) (rules : Option (List Rule)) (before after : Streams) → RanServe form order rules BookFailed before after
+    → form.untroubled rules → ⊥
+fails_none form holds order rules before after ran smooth =
+    holds.fails rules ran.handed (subst (λ (e : ServeEnding). form.ran rules ran.handed e) (book_ending ran.ending ran.status_is) ran.ran) smooth
 
-  -- the whole run
-  pub served : (order : ServeOrder) (ending : ServeEnding) (status : Status) (before mid after : Streams) (run : Doing E M B)
-      → ComesToServe order ending (serve_side run) before.sink.written mid.sink.written
-      → serve.HasCauses ending (serve.counts run.before.faults run.crew_before before.sink.faults) (serve.counts run.after.faults run.crew_after mid.sink.faults)
-      → mid.source ≡ before.source
-      → (ending ≢ endings.NoMemory → WritesLast (serve_last_line ending) (serve_status ending) status mid after)
-      → (ending ≡ endings.NoMemory → (status ≡ NoMemory) × (after ≡ before)) → RunsCommand (plain_terms order run) status before after (beside_of run)
-  served order endings.Finished status before mid after run came causes same last none = with_memory order endings.Finished status before mid after run (λ e. cc) came causes same (last (λ e. cc))
-  served order endings.LinkLost status before mid after run came causes same last none = with_memory order endings.LinkLost status before mid after run (λ e. cc) came causes same (last (λ e. cc))
-  served order endings.BookFailed status before mid after run came causes same last none = with_memory order endings.BookFailed status before mid after run (λ e. cc) came causes same (last (λ e. cc))
-  served order endings.WriteFailed status before mid after run came causes same last none = with_memory order endings.WriteFailed status before mid after run (λ e. cc) came causes same (last (λ e. cc))
-  served order endings.PortFailed status before mid after run came causes same last none = with_memory order endings.PortFailed status before mid after run (λ e. cc) came causes same (last (λ e. cc))
-  served order endings.CrewRefused status before mid after run came causes same last none = with_memory order endings.CrewRefused status before mid after run (λ e. cc) came causes same (last (λ e. cc))
-  served order endings.NoMemory status before mid after run came causes same last none =
-      let all = none refl in
-      subst (λ (s : Status). RunsCommand (plain_terms order run) s before after (beside_of run)) (sym all.0)
-      (without_memory order before after run before.sink.written mid.sink.written came (causes.ports.stands (λ e. cc)) (causes.crew.stands (λ e. cc)) all.1)
+-- a command that refuses no input, and whose words are not refused
+by_terms : (form : ServeForm) (holds : Holds form) (order : ServeOrder) (status : Status) (before after : Streams) (others : Beside) → HasCause status before after others
+    → LeavesInput before after → TellsServe form order others.crew status before after → RunsCommand (plain_terms form order others.crew) status before after others
+by_terms form holds order status before after others cause input tells =
+    runs_by (plain_terms form order others.crew) status before after others cause (input, tells) (λ t _. t.1) (λ t. t.1)
+    (λ t smooth. loses_none form holds order None before after t.1 smooth) (λ t smooth. fails_none form holds order None before after t.1 smooth)
+
+-- what is counted around a run
+abbrev pub CausesOf : ServeEnding → Beside → ℕ → ℕ → Type 0
+CausesOf ending others before after =
+    serve.HasCauses ending (serve.counts others.ports.before others.crew.before before) (serve.counts others.ports.after others.crew.after after)
+
+-- there was memory
+with_memory : (form : ServeForm) (holds : Holds form) (order : ServeOrder) (ending : ServeEnding) (status : Status) (before mid after : Streams) (others : Beside) → ending ≢ endings.NoMemory
+    → Comes form order None ending before.sink.written mid.sink.written → CausesOf ending others before.sink.faults mid.sink.faults
+    → mid.source ≡ before.source → WritesLast (serve_last_line ending) (serve_status ending) status mid after
+    → RunsCommand (plain_terms form order others.crew) status before after others
+with_memory form holds order ending status before mid after others room came causes same last =
+    let own : status ≢ WriteFailed → status ≡ serve_status ending = own_status (serve_status ending) status last.answer in
+    let named : HasCause status before after others = cause_from (serve_status ending) (fault_of ending) (serve_last_line ending) status before mid after others
+    (told ending room) (causes_of ending before mid (ap (λ (told : SourceTold). told.faults) same) causes.sink_counted causes.sink) last
+    (rose_so PortFailed endings.PortFailed ending _ _ refl (port_ending ending) causes.ports) (rose_so CrewRefused endings.CrewRefused ending _ _ refl (crew_ending ending) causes.crew) in
+    let tells : TellsServe form order others.crew status before after = elim (is_write_failed status) [
+      | inl four ↦ subst (λ (s : Status). TellsServe form order others.crew s before after) (sym four) (cut_tells form order others.crew ending before mid after room causes.crew.rose last.part came)
+      | inr other ↦
+          subst (λ (s : Status). TellsServe form order others.crew s before after) (sym (own other))
+          (own_tells form order others.crew ending before mid after (λ e. other (own other ∙ e)) room causes.crew.rose (last.whole other) came)
+    ] in
+    by_terms form holds order status before after others named (last.input_untouched ∙ same) tells
+
+-- there was none
+without_memory : (form : ServeForm) (holds : Holds form) (order : ServeOrder) (before after : Streams) (others : Beside) → (form.asks_nothing ⊎ form.refuses refusals.NoMemory)
+    → others.ports.after ≡ others.ports.before → others.crew.after ≡ others.crew.before → after ≡ before → RunsCommand (plain_terms form order others.crew) NoMemory before after others
+without_memory form holds order before after others came ports crew stays =
+    by_terms form holds order NoMemory before after others
+    (memory_cause before after others (ap (λ (o : Streams). o.source.faults) stays) (ap (λ (o : Streams). o.sink.faults) stays) ports crew)
+    (ap (λ (o : Streams). o.source) stays) (came, stays)
+
+-- the whole run
+pub served : (form : ServeForm) (holds : Holds form) (order : ServeOrder) (ending : ServeEnding) (status : Status) (before mid after : Streams) (others : Beside)
+    → Comes form order None ending before.sink.written mid.sink.written → CausesOf ending others before.sink.faults mid.sink.faults
+    → mid.source ≡ before.source
+    → (ending ≢ endings.NoMemory → WritesLast (serve_last_line ending) (serve_status ending) status mid after)
+    → (ending ≡ endings.NoMemory → (status ≡ NoMemory) × (after ≡ before)) → RunsCommand (plain_terms form order others.crew) status before after others
+served form holds order endings.Finished status before mid after others came causes same last none = with_memory form holds order endings.Finished status before mid after others (λ e. cc) came causes same (last (λ e. cc))
+served form holds order endings.LinkLost status before mid after others came causes same last none = with_memory form holds order endings.LinkLost status before mid after others (λ e. cc) came causes same (last (λ e. cc))
+served form holds order endings.BookFailed status before mid after others came causes same last none = with_memory form holds order endings.BookFailed status before mid after others (λ e. cc) came causes same (last (λ e. cc))
+served form holds order endings.WriteFailed status before mid after others came causes same last none = with_memory form holds order endings.WriteFailed status before mid after others (λ e. cc) came causes same (last (λ e. cc))
+served form holds order endings.PortFailed status before mid after others came causes same last none = with_memory form holds order endings.PortFailed status before mid after others (λ e. cc) came causes same (last (λ e. cc))
+served form holds order endings.CrewRefused status before mid after others came causes same last none = with_memory form holds order endings.CrewRefused status before mid after others (λ e. cc) came causes same (last (λ e. cc))
+served form holds order endings.NoMemory status before mid after others came causes same last none =
+    let all = none refl in
+    subst (λ (s : Status). RunsCommand (plain_terms form order others.crew) s before after others) (sym all.0)
+    (without_memory form holds order before after others came.0 (causes.ports.stands (λ e. cc)) (causes.crew.stands (λ e. cc)) all.1)

@@ -12,7 +12,7 @@ use Rattle.m17_bridge_command.specs.Endings.{bridge_ending}
 use Rattle.m17_bridge_command.specs.Bridged.{bridge_line, ending_of, Bridges, FailsAtPort, Handed}
 use Rattle.m17_app.specs.declared.status.Status.{Status}
 use Rattle.m17_app.specs.declared.status.Status.TheVariants.{Finished, WriteFailed, PortFailed, LinkLost}
-use Rattle.m17_app.specs.Serve.{no_words}
+use Rattle.m17_app.specs.Forms.{no_words}
 use Rattle.m17_app.specs.Status.{Streams, status_of}
 use Rattle.m17_app.specs.Terms.{Terms}
 use Rattle.m17_app.specs.Written.{Adds, AddsPart, LeavesInput}

@@ -1,5 +1,5 @@
 -- What a run of the program promises, by its words.
-use Rattle.std.specs.Prelude.{◌≡◌, ◌⊎◌, ℕ, ◌≤◌, Bool, List, None}
+use Rattle.std.specs.Prelude.{◌≡◌, ◌⊎◌, ℕ, ◌≤◌, Bool, List, Option, None, IsSome}
 use Rattle.m17_control.specs.declared.modules.Modules.{Modules}
 use Rattle.m17_plan.specs.declared.plan.Plan.{Plan}
 use Rattle.m17_plan.specs.Planned.{IsPlan}
@@ -9,12 +9,12 @@ use Rattle.m17_words.specs.Words.{Names}
 use Rattle.m17_app.specs.declared.status.Status.{Status}
 use Rattle.m17_app.specs.declared.status.Status.TheVariants.{NoMemory}
 use Rattle.m17_app.specs.Bridge.{bridge_terms}
-use Rattle.m17_app.specs.Doing.{Doing, AsksForNothing, DoesNothing, ServesNothing, beside_of, bridge_side, talk_side}
+use Rattle.m17_app.specs.Doing.{Doing, AsksForNothing, DoesNothing, ServesNothing, beside_of, bridge_side, crew_of, talk_side}
 use Rattle.m17_app.specs.Make.{make_terms}
 use Rattle.m17_app.specs.Replayed.{replay_terms}
 use Rattle.m17_app.specs.Run.{AreRefused, refused_terms}
 use Rattle.m17_app.specs.Serve.{serve_terms}
-use Rattle.m17_app.specs.Status.{Streams, count_from}
+use Rattle.m17_app.specs.Status.{Streams}
 use Rattle.m17_app.specs.Talk.{talk_terms}
 use Rattle.m17_app.specs.Terms.{RunsCommand, Terms}
 use Rattle.m17_app.specs.Text.{check_command, judge_command, migrate_command, show_command, text_terms}
@@ -35,7 +35,8 @@ replay_plan call modules parrots places limit = record {
 
 module _ {E M B : Type 0} where
   -- The terms of each command, and what it leaves alone. Only `talk`, `serve` and `bridge` ask the ports for anything, and
-  -- hand back devices, each its own; only `replay` and `serve` have the crew start threads.
+  -- hand back devices, each its own, and the book of a board only where one is named; only `replay` and `serve` have the
+  -- crew start threads.
   abbrev pub terms_of : Command → Doing E M B → Terms
   terms_of Judge run = text_terms judge_command
   terms_of Show run = text_terms show_command
@@ -44,7 +45,7 @@ module _ {E M B : Type 0} where
   terms_of Migrate run = text_terms migrate_command
   terms_of (Replay call modules parrots places summary limit) run =
       replay_terms (replay_plan call modules parrots places limit) summary
-      (count_from run.crew_before run.crew_after)
+      (crew_of run)
   terms_of (Talk order) run = talk_terms order (talk_side run)
   terms_of (Serve order) run = serve_terms order run
   terms_of (Bridge order) run = bridge_terms order (bridge_side run)
@@ -58,6 +59,7 @@ module _ {E M B : Type 0} where
   LeavesAlone (Replay call modules parrots places summary limit) run = AsksForNothing run
   LeavesAlone (Talk order) run = ServesNothing run × (run.bridge ≡ None)
   LeavesAlone (Serve order) run = (run.talk ≡ None) × (run.bridge ≡ None)
+      × (order.board ≡ None → run.board ≡ None)
   LeavesAlone (Bridge order) run = ServesNothing run × (run.talk ≡ None)
 
   -- What the run of a command promises.
@@ -89,6 +91,17 @@ module _ {E M B : Type 0} where
   abbrev pub EndsRefused : Status → Streams → Streams → Doing E M B → Type 0
   EndsRefused status before after run =
       RefusesWords status before after run ⊎ WantsMemory status before after run
+
+-- The command is a reflector with a board; the words name one, or none.
+abbrev pub HasBoard : Command → Type 0
+HasBoard (Serve order) = IsSome order.board
+HasBoard _ = ⊥
+
+abbrev pub NameBoard : List (List ℕ) → Type 0
+NameBoard words = (command : Command) × Names words command × HasBoard command
+
+abbrev pub NameNoBoard : List (List ℕ) → Type 0
+NameNoBoard words = NameBoard words → ⊥
 
 -- The values of a command are within the bounds that its run needs, as those of a command that words name are.
 abbrev pub IsRunnable : Command → Type 0

@@ -8,6 +8,7 @@ use Rattle.m17_ports.specs.Ports.{PortsTold}
 use Rattle.m17_reflect.specs.declared.returned.HouseRefusal.{HouseRefusal}
 use Rattle.m17_reflect.specs.Run as reflect
 use Rattle.m17_serve.specs.Devices.{house_back, refused_back, told_of_shelf}
+use Rattle.m17_serve.specs.Boards.{AroundBoard}
 use Rattle.m17_serve.specs.Served.{Around}
 use Rattle.m17_talk.specs.Devices.{DevicesTold, devices_told}
 use Rattle.m17_talk.specs.Talked.{Handed, handed}
@@ -15,11 +16,11 @@ use Rattle.m17_bridge.specs.CrossDevices as bridge
 use Rattle.m17_bridge_command.specs.Bridged as bridged
 use Rattle.m17_app.specs.declared.done.Done.{Done}
 use Rattle.m17_app.specs.declared.done.Ended.{Ended}
-use Rattle.m17_app.specs.Status.{Beside, beside, code_of, count_from}
+use Rattle.m17_app.specs.Status.{Beside, Count, beside, code_of, count_from}
 
 -- What the ports told before the run and after it, how many starts the crew had refused then, and what the run hands
 -- back: the devices of a talk that ran, those of a reflector that ran with what went through its threads, those of one
--- that refused to run with the reason, or those of a bridge that ran.
+-- that refused to run with the reason, or those of a bridge that ran; and beside those of a reflector the book of its board.
 pub record Doing (E M B : Type 0) : Type 0 where
   pub before : PortsTold
   pub after : PortsTold
@@ -29,6 +30,7 @@ pub record Doing (E M B : Type 0) : Type 0 where
   pub house : Option (reflect.Devices E M (Option B) × reflect.Handed)
   pub refused : Option (reflect.Devices E M (Option B) × HouseRefusal)
   pub bridge : Option (bridge.DevicesTold E M)
+  pub board : Option (BookTold B)
 
 module _ {E M B : Type 0} where
   -- what is told of the run that came to `done`; `ear`, `mouth` and `book` say what each kind of device tells
@@ -43,6 +45,7 @@ module _ {E M B : Type 0} where
     house = house_back ear mouth book done.house;
     refused = refused_back ear mouth book done.refused;
     bridge = option_map (bridged.bridge_told ear mouth) done.bridge;
+    board = option_map book done.board;
   }
 
   -- a run that ended so, with the number of its status
@@ -53,9 +56,10 @@ module _ {E M B : Type 0} where
     house = ended.house;
     refused = ended.refused;
     bridge = ended.bridge;
+    board = ended.board;
   }
 
-  -- the part of it that the clauses of `talk` speak of, that of `bridge`, and that of `serve`
+  -- the part of it that the clauses of `talk` speak of, that of `bridge`, and that of `serve`, without a board and with one
   abbrev pub talk_side : Doing E M B → Handed E M B
   talk_side run = handed run.before run.after run.talk
 
@@ -70,10 +74,16 @@ module _ {E M B : Type 0} where
     refused = run.refused;
   }
 
+  abbrev pub board_side : Doing E M B → AroundBoard E M B
+  board_side run = record { run = serve_side run; board = run.board }
+
+  -- how many starts the crew refused
+  abbrev pub crew_of : Doing E M B → Count
+  crew_of run = count_from run.crew_before run.crew_after
+
   -- what it counts beside the streams
   abbrev pub beside_of : Doing E M B → Beside
-  beside_of run = beside (count_from run.before.faults run.after.faults)
-      (count_from run.crew_before run.crew_after)
+  beside_of run = beside (count_from run.before.faults run.after.faults) (crew_of run)
 
   -- the ports were asked for nothing, and no devices are handed back
   pub record AsksForNothing (run : Doing E M B) : Type 0 where
@@ -82,12 +92,14 @@ module _ {E M B : Type 0} where
     pub house : run.house ≡ None
     pub refused : run.refused ≡ None
     pub bridge : run.bridge ≡ None
+    pub board : run.board ≡ None
 
   -- no reflector was to run: the crew was asked for nothing, and no devices of one are handed back
   pub record ServesNothing (run : Doing E M B) : Type 0 where
     pub crew : run.crew_after ≡ run.crew_before
     pub house : run.house ≡ None
     pub refused : run.refused ≡ None
+    pub board : run.board ≡ None
 
   -- nothing was asked for, and nothing is handed back
   pub record DoesNothing (run : Doing E M B) : Type 0 where

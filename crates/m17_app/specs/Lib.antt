@@ -7,6 +7,7 @@ pub mod Make
 pub mod Replayed
 pub mod Talk
 pub mod Doing
+pub mod Forms
 pub mod Serve
 pub mod Bridge
 pub mod Commands

@@ -6,6 +6,7 @@ use Rattle.m17_disk.specs.declared.writer.Writer.{Writer}
 use Rattle.m17_net.specs.Devices.{BookKept, IsBegun, file_book_told}
 use Rattle.m17_reflect.specs.declared.returned.HouseRefusal.{HouseRefusal}
 use Rattle.m17_reflect.specs.Run as reflect
+use Rattle.m17_ports.specs.Book.{BookTold}
 use Rattle.m17_ports.specs.Ports.{PortsTold}
 use Rattle.m17_talk.specs.Devices.{DevicesTold}
 use Rattle.m17_bridge.specs.CrossDevices as bridge
@@ -25,6 +26,7 @@ pub record HasRun (E M B : Type 0) (words : List (List ℕ)) (status : Status)
   pub house : Option (reflect.Devices E M (Option B) × reflect.Handed)
   pub refused : Option (reflect.Devices E M (Option B) × HouseRefusal)
   pub bridge : Option (bridge.DevicesTold E M)
+  pub board : Option (BookTold B)
   pub ran : RunsWords words status before after (record {
     before = first;
     after = last;
@@ -34,6 +36,7 @@ pub record HasRun (E M B : Type 0) (words : List (List ℕ)) (status : Status)
     house = house;
     refused = refused;
     bridge = bridge;
+    board = board;
   })
 
 -- The same, where there was memory for the words; else nothing was run.

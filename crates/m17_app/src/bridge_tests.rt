@@ -11,6 +11,7 @@ use std::alloc::Global;
 use std::process::Abort;
 use std::sync::Wait;
 use std::thread::Threads;
+use std::time::Clock;
 
 pub(crate) const BRIDGE: &[&str] = &[
     "bridge",
@@ -155,7 +156,7 @@ type Row = (Ear, Ear, [&'static [u64]; 3], u8, &'static str, Back);
 
 // Runs `bridge` by a row: what it came to, and whether that has the status and the text of the row. The source fails
 // where it is read.
-fn bridged<R: Threads + Wait + Abort + Copy + Send + 'static>(
+fn bridged<R: Threads + Wait + Clock + Abort + Copy + Drop + Send + 'static>(
     rt: &R,
     alloc: Global,
     row: &Row,
@@ -184,7 +185,11 @@ fn bridged<R: Threads + Wait + Abort + Copy + Send + 'static>(
 fn let_go(_done: Bridge) {}
 
 // Runs `bridge` by each of these rows, and demands what comes of it.
-fn expect<R: Threads + Wait + Abort + Copy + Send + 'static>(rt: &R, alloc: Global, rows: &[Row]) {
+fn expect<R: Threads + Wait + Clock + Abort + Copy + Drop + Send + 'static>(
+    rt: &R,
+    alloc: Global,
+    rows: &[Row],
+) {
     for (i, row) in rows.iter().enumerate() {
         let (done, as_wanted) = bridged(rt, alloc, row);
         let has_back = has_back(&done, row.5);

@@ -12,7 +12,7 @@ use crate::std_out::StdOut;
 use m17_buffers::BufferedSink;
 use m17_disk::{Hand, Writer, settle};
 use m17_net::{FileBook, LateFile, UdpPorts};
-use m17_words::{Command, read_words};
+use m17_words::{Command, ServeOrder, read_words};
 use std::alloc::Global;
 use std::fs::File;
 use std::marker::Model;
@@ -92,18 +92,34 @@ fn nobody(alloc: Global) -> Staff
     }
 }
 
+// Whether the ears of the command of these words may wait long where nobody is there: those of `serve`, each of which has a
+// thread of its own. A bridge hears its sides in turn, and a client asks and has its answer by then.
+pub(crate) fn may_rest(alloc: Global, words: &Option<Vec<String>>) -> bool {
+    match words {
+        Some(words) => matches!(read_words(alloc, words), Ok(Command::Serve(_))),
+        None => false,
+    }
+}
+
 // How many books and traces the command of these words keeps.
 fn books_of(alloc: Global, words: &[String]) -> usize {
     match read_words(alloc, words) {
-        Ok(Command::Serve(order)) => match &order.book {
-            Some(_) => order
-                .binds
-                .len()
-                .saturating_add(order.modules.count() as usize),
-            None => 0,
-        },
+        Ok(Command::Serve(order)) => kept_of(&order).saturating_add(usize::from(
+            order.board.is_some(),
+        )),
         Ok(Command::Talk(order)) => usize::from(order.book.is_some()),
         _ => 0,
+    }
+}
+
+// How many traces and books of modules a reflector keeps.
+fn kept_of(order: &ServeOrder) -> usize {
+    match &order.book {
+        Some(_) => order
+            .binds
+            .len()
+            .saturating_add(order.modules.count() as usize),
+        None => 0,
     }
 }
 

@@ -18,6 +18,8 @@ pub struct Done<E, M, B> {
     pub refused: Option<Refused<E, M, Shelf<B>>>,
     /// The ear and the mouth of each side of `bridge`, near first, where it ran.
     pub bridge: Option<((E, M), (E, M))>,
+    /// The book of the lines of `serve --board`, where its watch was joined.
+    pub board: Option<B>,
 }
 
 // The same before its status is a number.
@@ -28,6 +30,7 @@ pub(crate) struct Ended<E, M, B> {
     pub(crate) house: Option<Returned<E, M, Shelf<B>>>,
     pub(crate) refused: Option<Refused<E, M, Shelf<B>>>,
     pub(crate) bridge: Option<((E, M), (E, M))>,
+    pub(crate) board: Option<B>,
 }
 
 // The run of a command that hands back no devices.
@@ -37,6 +40,7 @@ pub(crate) fn alone<E, M, B>(status: Status) -> Ended<E, M, B>
     ensures no_house { result.house ≡ None }
     ensures no_refusal { result.refused ≡ None }
     ensures no_bridge { result.bridge ≡ None }
+    ensures no_board { result.board ≡ None }
 {
     Ended {
         status,
@@ -44,6 +48,7 @@ pub(crate) fn alone<E, M, B>(status: Status) -> Ended<E, M, B>
         house: None,
         refused: None,
         bridge: None,
+        board: None,
     }
 }
 
@@ -54,6 +59,7 @@ pub(crate) fn answer_of<E, M, B>(ended: Ended<E, M, B>) -> Done<E, M, B>
     ensures house { result.house ≡ ended.house }
     ensures refused { result.refused ≡ ended.refused }
     ensures bridge { result.bridge ≡ ended.bridge }
+    ensures board { result.board ≡ ended.board }
 {
     let Ended {
         status,
@@ -61,6 +67,7 @@ pub(crate) fn answer_of<E, M, B>(ended: Ended<E, M, B>) -> Done<E, M, B>
         house,
         refused,
         bridge,
+        board,
     } = ended;
     Done {
         status: status.code(),
@@ -68,5 +75,6 @@ pub(crate) fn answer_of<E, M, B>(ended: Ended<E, M, B>) -> Done<E, M, B>
         house,
         refused,
         bridge,
+        board,
     }
 }

@@ -13,6 +13,7 @@ use std::alloc::Global;
 use std::process::Abort;
 use std::sync::Wait;
 use std::thread::Threads;
+use std::time::Clock;
 
 /// What may fail: the devices of the one link, its trace, the book of the one module, and what the program is given.
 #[derive(Clone, Copy, PartialEq, Eq)]
@@ -108,7 +109,7 @@ fn ports(rt: &impl Abort, alloc: Global, failing: &[Failing]) -> ScriptPorts {
 type Serve = Done<ScriptEar, ListMouth, ListBook>;
 
 /// Runs the evening: what it came to, and what was printed.
-fn served<R: Threads + Wait + Abort + Copy + Send + 'static>(
+fn served<R: Threads + Wait + Clock + Abort + Copy + Drop + Send + 'static>(
     rt: &R,
     alloc: Global,
     failing: &[Failing],
@@ -232,7 +233,7 @@ fn book_beside(rt: &impl Abort, alloc: Global, book: &[u8], failing: &[Failing])
 }
 
 /// Whether this comes of the evening, where the whole book of it is `book`.
-fn comes<R: Threads + Wait + Abort + Copy + Send + 'static>(
+fn comes<R: Threads + Wait + Clock + Abort + Copy + Drop + Send + 'static>(
     rt: &R,
     alloc: Global,
     failing: &[Failing],
@@ -253,7 +254,10 @@ fn comes<R: Threads + Wait + Abort + Copy + Send + 'static>(
 }
 
 /// The book of the evening.
-fn sound_book<R: Threads + Wait + Abort + Copy + Send + 'static>(rt: &R, alloc: Global) -> Vec<u8> {
+fn sound_book<R: Threads + Wait + Clock + Abort + Copy + Drop + Send + 'static>(
+    rt: &R,
+    alloc: Global,
+) -> Vec<u8> {
     let (done, _) = served(rt, alloc, &[]);
     let book = book_of(rt, alloc, &done);
     let_go(done);
@@ -371,7 +375,7 @@ fn wanted_of(device: Device, from: usize, count: usize) -> Outcome {
 
 /// Lets a device fail at each of its calls in turn, and at each two that follow each other; behind the last there is
 /// none.
-fn fail_in_turn<R: Threads + Wait + Abort + Copy + Send + 'static>(
+fn fail_in_turn<R: Threads + Wait + Clock + Abort + Copy + Drop + Send + 'static>(
     rt: &R,
     alloc: Global,
     book: &[u8],

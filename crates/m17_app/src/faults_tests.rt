@@ -12,6 +12,7 @@ use std::alloc::Global;
 use std::process::Abort;
 use std::sync::Wait;
 use std::thread::Threads;
+use std::time::Clock;
 
 /// A command, its input, and the status and the text that it comes to where nothing fails; and then how many bytes of
 /// that text stand before `read failed` where call 0, 1 and so on of the source fails, and how many are written where
@@ -50,7 +51,7 @@ fn is_text(text: &[u8], whole: &str, count: usize, then: &str) -> bool {
 
 /// Runs the command where this call of the source fails, and this one of the sink: whether it ends with this status,
 /// the first so many bytes of its text, and these.
-fn ends<R: Threads + Wait + Abort + Copy + Send + 'static>(
+fn ends<R: Threads + Wait + Clock + Abort + Copy + Drop + Send + 'static>(
     rt: &R,
     alloc: Global,
     row: &Turns,
@@ -79,7 +80,7 @@ fn ends<R: Threads + Wait + Abort + Copy + Send + 'static>(
 const NEVER: u64 = 1_000;
 
 /// Lets each device fail at each of its calls in turn.
-fn fail_in_turn<R: Threads + Wait + Abort + Copy + Send + 'static>(
+fn fail_in_turn<R: Threads + Wait + Clock + Abort + Copy + Drop + Send + 'static>(
     rt: &R,
     alloc: Global,
     row: &Turns,

@@ -11,6 +11,7 @@ mod conclude;
 mod done;
 mod interruption;
 mod run;
+mod run_board;
 mod run_bridge;
 mod run_check;
 mod run_make;
@@ -29,7 +30,7 @@ ghost use Rattle.std.specs.Process.{exit_status};
 ghost use Rattle.m17_app.specs.Started.{AreEnded, EndsAsRun, IsClosed};
 ghost use Rattle.m17_app.specs.Status.{IsStatus};
 
-use closing::{Ended, close_books, staff_books};
+use closing::{Ended, close_books, may_rest, staff_books};
 use m17_devices::StdCrew;
 use m17_net::UdpPorts;
 use std::env;
@@ -67,9 +68,9 @@ fn start<
     ensures ran { (ended : ℕ) × EndsAsRun (Unit {0}) (Unit {0}) (Unit {0}) ended
         × IsClosed result.1.items ended (exit_status result.0) }
 {
-    let mut ports = UdpPorts::new(*waits);
-    let mut crew = StdCrew::new();
     let words = words_of(rt.alloc(), env::args(&rt));
+    let mut ports = UdpPorts::new(*waits, may_rest(rt.alloc(), &words));
+    let mut crew = StdCrew::new();
     let staff = staff_books(&mut ports, rt.alloc(), &words);
     let status = run_words(
         waits,
@@ -84,6 +85,8 @@ fn start<
     (ExitCode::from(closed), ended)
 }
 
+#[cfg(test)]
+mod board_tests;
 #[cfg(test)]
 mod bridge_tests;
 #[cfg(test)]

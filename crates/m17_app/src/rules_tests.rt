@@ -6,6 +6,7 @@ use std::alloc::Global;
 use std::process::Abort;
 use std::sync::Wait;
 use std::thread::Threads;
+use std::time::Clock;
 
 const SERVE: &[&str] = &[
     "serve",
@@ -19,7 +20,7 @@ const SERVE: &[&str] = &[
 
 // Serves the evening by these rules, whose source fails at these calls: what it came to, and whether that has this status
 // and this text.
-fn served<R: Threads + Wait + Abort + Copy + Send + 'static>(
+fn served<R: Threads + Wait + Clock + Abort + Copy + Drop + Send + 'static>(
     rt: &R,
     alloc: Global,
     rules: &str,
@@ -60,7 +61,7 @@ fn were_told(done: &Serve, talker: &[&[u8]], listener: &[&[u8]]) -> bool {
 const JOINED: [&[u8]; 2] = [b"ACKN", b"DISC\x00\x13\x89\xf9\xba\xed"];
 
 // Serves the evening by these rules, and demands this line, and that the listener was told just these.
-fn demand<R: Threads + Wait + Abort + Copy + Send + 'static>(
+fn demand<R: Threads + Wait + Clock + Abort + Copy + Drop + Send + 'static>(
     rt: &R,
     alloc: Global,
     rules: &str,

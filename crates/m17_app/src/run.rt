@@ -1,9 +1,9 @@
-ghost use Rattle.std.specs.Prelude.{◌≡◌, ℕ, map, string_bytes};
-ghost use Rattle.m17_ports.specs.Ports.{FailsLast};
+ghost use Rattle.std.specs.Prelude.{◌≡◌, ◌≢◌, ℕ, None, map, string_bytes};
+ghost use Rattle.m17_ports.specs.Ports.{FailsLast, next_number};
 ghost use Rattle.m17_app.specs.Doing.{doing, done_of};
 ghost use Rattle.m17_app.specs.Status.{Tells, IsStatus, beside, count_from, streams};
 ghost use Rattle.m17_app.specs.Run.{AreRefused, refused_terms};
-ghost use Rattle.m17_app.specs.Commands.{Runs, RunsWords, EndsRefused, IsRunnable};
+ghost use Rattle.m17_app.specs.Commands.{Runs, RunsWords, EndsRefused, IsRunnable, HasBoard, NameBoard};
 ghost use Rattle.m17_app.specs.Terms.{RunsCommand};
 ghost use Rattle.m17_app.specs.Text.{judge_command, show_command, text_terms};
 
@@ -17,13 +17,15 @@ use crate::run_replay::run_replay;
 use crate::run_serve::run_serve;
 use crate::run_talk::run_talk;
 use crate::status::Status;
-use m17_devices::{Crew, Ports};
+use m17_devices::{Book, Crew, Ports};
 use m17_io::{Input, Sink};
 use m17_plan::Plan;
+use m17_words::laws::words_name_one_command;
 use m17_words::{Command, WordsRefusal, read_words};
 use std::alloc::Global;
 use std::sync::Wait;
 use std::thread::Threads;
+use std::time::Clock;
 
 // Runs `judge` to its last line.
 fn run_judge<S: Input<K>, K: Sink>(alloc: Global, input: &mut S, out: &mut K) -> Status
@@ -57,7 +59,13 @@ fn run_nothing<S: Input<K>, K: Sink>(input: &S, out: &mut K) -> Status
 }
 
 // Runs the command that the words name.
-fn run_command<R: Threads + Wait + Copy + Send + 'static, P: Ports, C: Crew, S: Input<K>, K: Sink>(
+fn run_command<
+    R: Threads + Wait + Clock + Copy + Drop + Send + 'static,
+    P: Ports,
+    C: Crew,
+    S: Input<K>,
+    K: Sink,
+>(
     rt: &R,
     alloc: Global,
     command: Command,
@@ -66,13 +74,17 @@ fn run_command<R: Threads + Wait + Copy + Send + 'static, P: Ports, C: Crew, S: 
     input: &mut S,
     out: &mut K,
 ) -> Ended<P::Ear, P::Mouth, P::Book>
+where
+    <P::Book as Book>::Label: 'static,
     requires runnable { IsRunnable command }
     ensures runs { Runs command result.status
         (streams (S.told input.old) (K.told out.old)) (streams (S.told input.new) (K.told out.new))
         (doing P.Ear.told P.Mouth.told P.Book.told (P.told ports.old) (P.told ports.new)
         (C.refusals crew.old) (C.refusals crew.new) (done_of result)) }
     ensures fails_last { FailsLast P.told ports.old ports.new }
-    ensures unasked { result.status ≡ Status.NoMemory → crew.new ≡ crew.old }
+    ensures unasked { result.status ≡ Status.NoMemory → result.board ≡ None → crew.new ≡ crew.old }
+    ensures watch { result.refused ≢ None → HasBoard command → result.board ≡ None
+        → C.starts crew.new ≡ next_number (C.starts crew.old) }
 {
     match command {
         Command::Judge => alone(run_judge(alloc, input, out)),
@@ -111,7 +123,13 @@ fn run_command<R: Threads + Wait + Copy + Send + 'static, P: Ports, C: Crew, S: 
 /// the crew refused a start, 7 where a link was lost, 8 where a book failed, and 70 where there was no memory. Only
 /// `talk`, `serve` and `bridge` ask the ports for anything; where they ran, their devices are handed back. Only `replay`
 /// and `serve` have the crew start threads. `make` and `bridge` read no input, and `make` ends with 0 or 4.
-pub fn run<R: Threads + Wait + Copy + Send + 'static, P: Ports, C: Crew, S: Input<K>, K: Sink>(
+pub fn run<
+    R: Threads + Wait + Clock + Copy + Drop + Send + 'static,
+    P: Ports,
+    C: Crew,
+    S: Input<K>,
+    K: Sink,
+>(
     rt: &R,
     alloc: Global,
     words: &[String],
@@ -120,14 +138,23 @@ pub fn run<R: Threads + Wait + Copy + Send + 'static, P: Ports, C: Crew, S: Inpu
     input: &mut S,
     out: &mut K,
 ) -> Done<P::Ear, P::Mouth, P::Book>
+where
+    <P::Book as Book>::Label: 'static,
     // No other status comes.
     ensures status { IsStatus result.status }
     // 2 comes where the words name no command, and nowhere else.
     ensures taken { result.status ≡ 2 → AreRefused (map string_bytes words.now) }
     // Where the ports fail, that was the last question: until then their count of faults stands.
     ensures fails_last { FailsLast P.told ports.old ports.new }
-    // Want of memory comes before the crew is asked for anything.
-    ensures unasked { result.status ≡ 70 → crew.new ≡ crew.old }
+    // Want of memory comes before the crew is asked for anything; but the watch of a board, whose book comes back then, may
+    // have been started.
+    ensures unasked { result.status ≡ 70 → result.board ≡ None → crew.new ≡ crew.old }
+    // It refused nothing in any case.
+    ensures unrefused { result.status ≡ 70 → C.refusals crew.new ≡ C.refusals crew.old }
+    // Where the devices of a refused run come back without the book of its board, the crew refused the first start, that of the
+    // watch.
+    ensures watch { result.refused ≢ None → NameBoard (map string_bytes words.now) → result.board ≡ None
+        → C.starts crew.new ≡ next_number (C.starts crew.old) }
     // The run is that of a command which the words name, or says that they name none.
     ensures runs { Tells result.status (λ status. RunsWords (map string_bytes words.now) status
         (streams (S.told input.old) (K.told out.old)) (streams (S.told input.new) (K.told out.new))
@@ -140,6 +167,7 @@ pub fn run<R: Threads + Wait + Copy + Send + 'static, P: Ports, C: Crew, S: Inpu
         (doing P.Ear.told P.Mouth.told P.Book.told (P.told ports.old) (P.told ports.new)
         (C.refusals crew.old) (C.refusals crew.new) result)) }
 {
+    words_name_one_command();
     match read_words(alloc, words) {
         Ok(command) => answer_of(run_command(rt, alloc, command, ports, crew, input, out)),
         Err(WordsRefusal::Refused) => answer_of(alone(run_nothing(input, out))),

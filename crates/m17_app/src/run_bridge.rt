@@ -37,5 +37,6 @@ pub(crate) fn run_bridge<R: Wait, P: Ports, K: Sink>(
         house: None,
         refused: None,
         bridge: devices,
+        board: None,
     }
 }

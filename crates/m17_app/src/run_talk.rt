@@ -41,6 +41,7 @@ pub(crate) fn run_talk<R: Wait, P: Ports, S: Input<K>, K: Sink>(
                 house: None,
                 refused: None,
                 bridge: None,
+                board: None,
             }
         }
         Err(_) => alone(Status::NoMemory),

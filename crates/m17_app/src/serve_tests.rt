@@ -13,6 +13,7 @@ use std::alloc::Global;
 use std::process::Abort;
 use std::sync::Wait;
 use std::thread::Threads;
+use std::time::Clock;
 
 pub(crate) const SERVE: &[&str] = &[
     "serve",
@@ -70,7 +71,7 @@ pub(crate) fn ports(
 pub(crate) type Serve = Done<ScriptEar, ListMouth, ListBook>;
 
 // Runs `serve` by these words: what it came to, and whether that has this status and this text.
-fn served<C: Crew, R: Threads + Wait + Abort + Copy + Send + 'static>(
+fn served<C: Crew, R: Threads + Wait + Clock + Abort + Copy + Drop + Send + 'static>(
     rt: &R,
     alloc: Global,
     given: &[&str],

@@ -14,6 +14,7 @@ use std::io::{self, Error, ErrorKind, Read};
 use std::process::Abort;
 use std::sync::Wait;
 use std::thread::Threads;
+use std::time::Clock;
 
 // What the system answers to one call.
 #[derive(Clone, Copy)]
@@ -182,7 +183,7 @@ type Run = (
 );
 
 // Whether the program comes to what a row says.
-fn is_run<R: Threads + Wait + Abort + Copy + Send + 'static>(
+fn is_run<R: Threads + Wait + Clock + Abort + Copy + Drop + Send + 'static>(
     rt: &R,
     alloc: Global,
     run: &Run,

@@ -2,6 +2,7 @@ ghost use Rattle.std.specs.Prelude.{◌≡◌, ◌⊎◌, map, string_bytes};
 ghost use Rattle.m17_io.specs.Faults.{HasRisen};
 ghost use Rattle.m17_app.specs.Status.{IsStatus, Tells, count_from};
 ghost use Rattle.m17_app.specs.Run.{AreRefused};
+ghost use Rattle.m17_app.specs.Commands.{NameNoBoard};
 ghost use Rattle.m17_app.specs.Started.{HasRun};
 
 use crate::run::run;
@@ -9,30 +10,35 @@ use crate::status::Status;
 use crate::std_in::StdIn;
 use crate::std_out::StdOut;
 use m17_buffers::{BufferedSink, BufferedSource};
-use m17_devices::{Crew, Ports};
+use m17_devices::{Book, Crew, Ports};
 use std::alloc::Global;
 use std::io::Read;
 use std::sync::Wait;
 use std::thread::Threads;
+use std::time::Clock;
 
 /// Runs the program over these ports and this crew, on a reader and on what prints, both buffered. `NoMemory` also
 /// where there is none for the buffers.
 pub fn run_on<
-    H: Threads + Wait + Copy + Send + 'static,
+    H: Threads + Wait + Clock + Copy + Drop + Send + 'static,
     Q: Ports,
     C: Crew,
     R: Read + Drop,
     P: Print,
 >(rt: &H, alloc: Global, words: &[String], ports: &mut Q, crew: &mut C, reader: R, to: &P) -> u8
+where
+    <Q::Book as Book>::Label: 'static,
     ensures status { IsStatus result }
     // The words that name no command are refused, and no others.
     ensures refused { AreRefused (map string_bytes words.now)
         → (result ≡ 2) ⊎ (result ≡ 4) ⊎ (result ≡ 70) }
     ensures taken { result ≡ 2 → AreRefused (map string_bytes words.now) }
-    // Ports that failed and a crew that refused a start were counted; want of memory comes before the crew is asked.
+    // Ports that failed and a crew that refused a start were counted.
     ensures port_failed { result ≡ 5 → HasRisen (Q.told ports.old).faults (Q.told ports.new).faults }
     ensures crew_refused { result ≡ 6 → HasRisen (C.refusals crew.old) (C.refusals crew.new) }
-    ensures unasked { result ≡ 70 → crew.new ≡ crew.old }
+    // Want of memory comes before the crew is asked, but for the watch of a board; it refused nothing in any case.
+    ensures unasked { result ≡ 70 → NameNoBoard (map string_bytes words.now) → crew.new ≡ crew.old }
+    ensures unrefused { result ≡ 70 → C.refusals crew.new ≡ C.refusals crew.old }
     // It is the status of a run of these words over these ports and this crew.
     ensures ran { Tells result (λ status.
         HasRun Q.Ear.Label Q.Mouth.Label Q.Book.Label (map string_bytes words.now) status

@@ -10,6 +10,7 @@ use std::alloc::Global;
 use std::process::Abort;
 use std::sync::Wait;
 use std::thread::Threads;
+use std::time::Clock;
 
 pub(crate) const TALK: &[&str] = &[
     "talk",
@@ -200,7 +201,7 @@ type Row = (
 );
 
 // Runs `talk` by a row: what it came to, and whether that has the status and the text of the row.
-fn talked<R: Threads + Wait + Abort + Copy + Send + 'static>(
+fn talked<R: Threads + Wait + Clock + Abort + Copy + Drop + Send + 'static>(
     rt: &R,
     alloc: Global,
     row: &Row,
@@ -226,7 +227,11 @@ fn talked<R: Threads + Wait + Abort + Copy + Send + 'static>(
 fn let_go(_done: Talk) {}
 
 // Runs `talk` by each of these rows, and demands what comes of it.
-fn expect<R: Threads + Wait + Abort + Copy + Send + 'static>(rt: &R, alloc: Global, rows: &[Row]) {
+fn expect<R: Threads + Wait + Clock + Abort + Copy + Drop + Send + 'static>(
+    rt: &R,
+    alloc: Global,
+    rows: &[Row],
+) {
     for (i, row) in rows.iter().enumerate() {
         let (done, as_wanted) = talked(rt, alloc, row);
         let has_back = has_back(&done, row.6);

@@ -9,6 +9,7 @@ use std::alloc::Global;
 use std::process::Abort;
 use std::sync::Wait;
 use std::thread::Threads;
+use std::time::Clock;
 
 /// What was made; the test ends where it was not.
 pub(crate) fn must<T, E: Drop>(rt: &impl Abort, made: Result<T, E>) -> T {
@@ -125,7 +126,11 @@ pub(crate) fn sink_that(rt: &impl Abort, alloc: Global, room: usize, fails: &[u6
 }
 
 /// Runs the program by these words over these devices and this crew.
-pub(crate) fn run_over<P: Ports, C: Crew, R: Threads + Wait + Abort + Copy + Send + 'static>(
+pub(crate) fn run_over<
+    P: Ports,
+    C: Crew,
+    R: Threads + Wait + Clock + Abort + Copy + Drop + Send + 'static,
+>(
     rt: &R,
     alloc: Global,
     given: &[&str],
@@ -139,7 +144,11 @@ pub(crate) fn run_over<P: Ports, C: Crew, R: Threads + Wait + Abort + Copy + Sen
 }
 
 /// The same where its status alone counts.
-pub(crate) fn status_over<P: Ports, C: Crew, R: Threads + Wait + Abort + Copy + Send + 'static>(
+pub(crate) fn status_over<
+    P: Ports,
+    C: Crew,
+    R: Threads + Wait + Clock + Abort + Copy + Drop + Send + 'static,
+>(
     rt: &R,
     alloc: Global,
     given: &[&str],
@@ -157,7 +166,7 @@ pub(crate) fn no_ports(alloc: Global) -> ScriptPorts {
 }
 
 /// The status and the text of the program that these words and this input come to; no device fails.
-pub(crate) fn text_of<R: Threads + Wait + Abort + Copy + Send + 'static>(
+pub(crate) fn text_of<R: Threads + Wait + Clock + Abort + Copy + Drop + Send + 'static>(
     rt: &R,
     alloc: Global,
     given: &[&str],
@@ -180,7 +189,7 @@ pub(crate) fn text_of<R: Threads + Wait + Abort + Copy + Send + 'static>(
 }
 
 // Runs the program over such devices by this crew, and demands what comes of it.
-fn expect_by<C: Crew, R: Threads + Wait + Abort + Copy + Send + 'static>(
+fn expect_by<C: Crew, R: Threads + Wait + Clock + Abort + Copy + Drop + Send + 'static>(
     rt: &R,
     alloc: Global,
     row: &Row,
@@ -199,7 +208,7 @@ fn expect_by<C: Crew, R: Threads + Wait + Abort + Copy + Send + 'static>(
 }
 
 /// Runs the program by each of these rows, and demands what comes of it.
-pub(crate) fn expect<R: Threads + Wait + Abort + Copy + Send + 'static>(
+pub(crate) fn expect<R: Threads + Wait + Clock + Abort + Copy + Drop + Send + 'static>(
     rt: &R,
     alloc: Global,
     rows: &[Row],

@@ -7,6 +7,7 @@ use std::alloc::Global;
 use std::process::Abort;
 use std::sync::Wait;
 use std::thread::Threads;
+use std::time::Clock;
 
 /// What is said of an input.
 #[derive(Clone, Copy)]
@@ -30,7 +31,7 @@ type Torn = (
 );
 
 /// Whether the command ends with this status and this text.
-fn says<R: Threads + Wait + Abort + Copy + Send + 'static>(
+fn says<R: Threads + Wait + Clock + Abort + Copy + Drop + Send + 'static>(
     rt: &R,
     alloc: Global,
     given: &[&str],
@@ -43,7 +44,7 @@ fn says<R: Threads + Wait + Abort + Copy + Send + 'static>(
 }
 
 /// Whether the command refuses the input at this place for this reason.
-fn refuses<R: Threads + Wait + Abort + Copy + Send + 'static>(
+fn refuses<R: Threads + Wait + Clock + Abort + Copy + Drop + Send + 'static>(
     rt: &R,
     alloc: Global,
     given: &[&str],
@@ -56,7 +57,7 @@ fn refuses<R: Threads + Wait + Abort + Copy + Send + 'static>(
 }
 
 /// Reads each part of the input.
-fn expect_parts<R: Threads + Wait + Abort + Copy + Send + 'static>(
+fn expect_parts<R: Threads + Wait + Clock + Abort + Copy + Drop + Send + 'static>(
     rt: &R,
     alloc: Global,
     row: &Torn,
@@ -86,7 +87,7 @@ fn said_of(rows: &[(usize, Said)], at: usize) -> Said {
 }
 
 /// Whether that is said of the input.
-fn is_said<R: Threads + Wait + Abort + Copy + Send + 'static>(
+fn is_said<R: Threads + Wait + Clock + Abort + Copy + Drop + Send + 'static>(
     rt: &R,
     alloc: Global,
     given: &[&str],
@@ -103,7 +104,7 @@ fn is_said<R: Threads + Wait + Abort + Copy + Send + 'static>(
 }
 
 /// Reads the input with each of its bytes changed in turn.
-fn expect_changed<R: Threads + Wait + Abort + Copy + Send + 'static>(
+fn expect_changed<R: Threads + Wait + Clock + Abort + Copy + Drop + Send + 'static>(
     rt: &R,
     alloc: Global,
     row: &Torn,

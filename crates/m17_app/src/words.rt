@@ -6,16 +6,17 @@ ghost use Rattle.m17_app.specs.Status.{Tells, count_from};
 
 use crate::status::Status;
 use crate::streams::run_on;
-use m17_devices::{Crew, Ports};
+use m17_devices::{Book, Crew, Ports};
 use std::alloc::Global;
 use std::env::Args;
 use std::io::{self, ErrorKind, Read};
 use std::sync::Wait;
 use std::thread::Threads;
+use std::time::Clock;
 
 /// Runs the program by these words on a reader and on what prints. `NoMemory` where there was none for the words.
 pub fn run_words<
-    H: Threads + Wait + Copy + Send + 'static,
+    H: Threads + Wait + Clock + Copy + Drop + Send + 'static,
     Q: Ports,
     C: Crew,
     R: Read + Drop,
@@ -29,6 +30,8 @@ pub fn run_words<
     reader: R,
     to: &P,
 ) -> u8
+where
+    <Q::Book as Book>::Label: 'static,
     ensures { Tells result (λ status. HasRunIfAny Q.Ear.Label Q.Mouth.Label Q.Book.Label
         (option_map (λ words. map string_bytes words.items) words) status
         (Q.told ports.old) (Q.told ports.new)

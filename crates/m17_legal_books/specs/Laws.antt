@@ -1,5 +1,5 @@
 -- The book of a run, and that it is legal.
-use Rattle.std.specs.Prelude.{◌≡◌, ℕ, ◌≤◌, List, Option, Some}
+use Rattle.std.specs.Prelude.{◌≡◌, ℕ, ◌≤◌, Bool, List, Option, Some}
 use Rattle.m17_io.specs.Faults.{HasRisen}
 use Rattle.m17_ports.specs.Book.{BookTold}
 use Rattle.m17_ports.specs.Told.{StartsEmpty}
@@ -16,6 +16,7 @@ use Rattle.m17_reflect.specs.Headline.{Headline}
 use Rattle.m17_reflect.specs.Run.{Devices, Run, Handed}
 use Rattle.m17_words.specs.declared.order.ServeOrder.{ServeOrder}
 use Rattle.m17_gate.specs.declared.rule.Rule.{Rule}
+use Rattle.m17_serve.specs.Boards.{run_on_board, AroundBoard, ServesOnBoard}
 use Rattle.m17_serve.specs.Gates.{behind_gates}
 use Rattle.m17_serve.specs.Served.{Around, IsServable, Serves, ServesBy, run_told}
 
@@ -59,3 +60,15 @@ BooksByRulesAreLegal E M B =
     IsServable order → (m : ℕ) (book : BookTold (Option B)) (bytes : List ℕ) →
     At devices.books m book → book.written ≡ Some bytes → book.faults ≡ 0 → HaveLegalBook
     (run_told order (behind_gates rules serves.new) (behind_gates rules devices) handed) m bytes
+
+-- The same of a run with a board, whatever the reflector sees of the devices, as long as it sees their books as they are.
+abbrev pub BooksOnBoardAreLegal : (E X M B : Type 0) → Type 0
+BooksOnBoardAreLegal E X M B =
+    (seen : Devices E M (Option B) → Devices X M (Option B)) →
+    ((d : Devices E M (Option B)) → (seen d).books ≡ d.books) →
+    (order : ServeOrder) (name : List ℕ) (around : AroundBoard E M B)
+    (devices : Devices E M (Option B)) (handed : Handed) (lines_failed : Bool)
+    (serves : ServesOnBoard seen order name around devices handed lines_failed) →
+    IsServable order → (m : ℕ) (book : BookTold (Option B)) (bytes : List ℕ) →
+    At devices.books m book → book.written ≡ Some bytes → book.faults ≡ 0 → HaveLegalBook
+    (run_on_board order serves.posters (seen serves.new) (seen devices) handed) m bytes

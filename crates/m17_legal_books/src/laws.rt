@@ -1,5 +1,5 @@
 //! What follows for the books of a run. Each function does nothing: its clause is the law.
-ghost use Rattle.m17_legal_books.specs.Laws.{BooksByRulesAreLegal, BooksOfRunsAreLegal, BooksOfServeAreLegal};
+ghost use Rattle.m17_legal_books.specs.Laws.{BooksByRulesAreLegal, BooksOfRunsAreLegal, BooksOfServeAreLegal, BooksOnBoardAreLegal};
 
 /// The book of a module is legal, whatever its links heard: where it told nothing before the run and tells bytes after it,
 /// and its count of faults didn't rise, these are its header, which names the plan's limit, and records that break no rule
@@ -23,4 +23,12 @@ pub fn books_by_rules_are_legal<E, M, B>()
     ensures { BooksByRulesAreLegal E M B }
 {
     books_of_runs_are_legal::<m17_gate::GateLabel<E>, M, Option<B>>();
+}
+
+/// The same of a book that `serve_on_board` or `serve_on_board_by_rules` hands back. `X` is the kind of the labels of the
+/// ears that the reflector sees: gates by rules, and else `E`.
+pub fn books_on_board_are_legal<E, X, M, B>()
+    ensures { BooksOnBoardAreLegal E X M B }
+{
+    books_of_runs_are_legal::<X, M, m17_board_run::KeptLabel<B>>();
 }

@@ -8,9 +8,11 @@ use Rattle.m17_ports.specs.Told.{told_then}
 use Rattle.m17_ports.specs.Ports.{FailsLast, HasAsked, PortsTold, next_number}
 use Rattle.m17_ports.specs.declared.question.Question.{Question}
 use Rattle.m17_ports.specs.declared.question.Question.TheVariants.{Link}
+use Rattle.m17_ports.specs.declared.question.Question.TheVariants as questions
 use Rattle.m17_talk.specs.Devices.{FailsAmong}
 use Rattle.m17_words.specs.declared.order.ServeOrder.{ServeOrder}
 use Rattle.m17_serve.specs.Asked.{call_after, link_questions, questions_of, shelf_questions, until_of}
+use Rattle.m17_serve.specs.Boards.{board_questions}
 use Rattle.m17_serve.specs.Steps.{AreAsked, Asks}
 
 -- so many calls after so many
@@ -143,3 +145,16 @@ served_questions order p q some asked =
     let long : length links ≡ vec_len order.binds =
     omega (arith, length-map binds (λ bind. Link bind (until_of order.seconds)), length-map order.binds.items string_bytes, order.binds.ok.0) in
     all_asked (questions_of order) p q (omega (arith, long, length-append links (shelf_questions order (option_map string_bytes order.book)))) asked
+
+-- one more was asked behind those that were
+pub one_asked : (qs : List Question) (x : Question) (p q r : PortsTold) → AreAsked qs p q → HasAsked (x ∷ []) q r → AreAsked (qs ++ x ∷ []) p r
+one_asked qs x p q r first next = asked_then qs (x ∷ []) p q r first (asked_one x q r next)
+
+-- the ports failed at one more behind those that were asked
+pub one_failed : (qs : List Question) (x : Question) (p q r : PortsTold) → AreAsked qs p q → q.faults ≡ p.faults → HasAsked (x ∷ []) q r → HasRisen q.faults r.faults
+    → FailsAmong (qs ++ x ∷ []) p r
+one_failed qs x p q r first same next risen = fails_later qs (x ∷ []) p q r first same (record { count = 1; some = omega arith; few = omega arith; asked = next; risen = risen })
+
+-- the questions with a board
+pub board_asked : (order : ServeOrder) (name : List ℕ) (p q : PortsTold) → AreAsked (board_questions order name) p q → HasAsked (board_questions order name) p q
+board_asked order name p q asked = all_asked (board_questions order name) p q (omega (arith, length-append (questions_of order) (questions.Book name ∷ []))) asked

@@ -1,6 +1,6 @@
 -- A run by rules, from what the gates told to what the ears do that are handed back.
-use Rattle.std.proofs.Common.{◌≡◌, ℕ, List, map, Option, None, Some, refl, sym, ap, subst, ◌∙◌, inr}
-use Rattle.std.specs.Prelude.{IfSome}
+use Rattle.std.proofs.Common.{◌≡◌, ℕ, ◌≤◌, List, map, length, Option, None, Some, refl, sym, ap, subst, ◌∙◌, arith, inr}
+use Rattle.std.specs.Prelude.{IfSome, vec_len}
 use Rattle.std.proofs.lemmas.Option.{same_Some}
 use Rattle.m17_ports.specs.declared.shelf.Shelf.{Shelf}
 use Rattle.m17_ports.specs.Book.{BookTold}
@@ -39,6 +39,17 @@ module _ {X Y Z : Type 0} where
       ap (λ (x : List (EarTold X)). devices_by x c e g) ears ∙ ap (λ (x : List (MouthTold Y)). devices_by b x e g) mouths
       ∙ ap (λ (x : List (BookTold Z)). devices_by b d x g) traces ∙ ap (λ (x : List (BookTold Z)). devices_by b d f x) books
 
+module _ {E M B : Type 0} where
+  -- there is room for the ears that come back
+  pub few_ears : (house : Option (Returned (GateSeen E) M (Shelf B))) (n m : ℕ) → IfSome house (λ r. vec_len r.ears ≡ n) → n ≤ m → IfSome house (λ r. vec_len r.ears ≤ m)
+  few_ears None n m is few = tt
+  few_ears (Some r) n m is few = omega (arith, is, few)
+
+  pub few_refused : (refused : Option (Refused (GateSeen E) M (Shelf B))) (gates : List (GateSeen E)) (m : ℕ) → IfSome refused (λ r. r.ears.items ≡ gates) → length gates ≤ m
+      → IfSome refused (λ r. vec_len r.ears ≤ m)
+  few_refused None gates m is few = tt
+  few_refused (Some r) gates m is few = let same : length r.ears.items ≡ length gates = ap length is in omega (arith, same, r.ears.ok.0, few)
+
 module _ {E M B X Y Z : Type 0} (ear : E → EarTold X) (mouth : M → MouthTold Y) (book : B → BookTold Z) where
   -- what gates of the rules tell that the devices stand behind
   pub gated_told : (rules : List Rule) (ears : List E) (gates : List (GateSeen E)) (mouths : List M) (traces books : List (Shelf B)) → gates ≡ map (gate_of rules) ears
@@ -55,7 +66,7 @@ module _ {E M B X Y Z : Type 0} (ear : E → EarTold X) (mouth : M → MouthTold
   same_inner rules ears gates (Some r) is same = ap (map (λ (gate : GateSeen E). gate.inner)) (same ∙ is) ∙ inner_all rules ears
 
   -- what the gates told after the run is what the ears tell that are handed back, behind gates of the rules
-  told_back : (rules : List Rule) (r : Returned (GateSeen E) M (Shelf B)) (back : Returned E M (Shelf B)) (new : Devices X Y (Option Z)) → IsOpened r back
+  pub told_back : (rules : List Rule) (r : Returned (GateSeen E) M (Shelf B)) (back : Returned E M (Shelf B)) (new : Devices X Y (Option Z)) → IsOpened r back
       → AreSameDevices (behind_gates rules new) (house_told (gate_told ear) mouth book (kinds_back r))
       → house_told (gate_told ear) mouth book (kinds_back r) ≡ behind_gates rules (house_told ear mouth book (kinds_back back))
   told_back rules r back new opened same =
@@ -64,7 +75,7 @@ module _ {E M B X Y Z : Type 0} (ear : E → EarTold X) (mouth : M → MouthTold
       (sym (ap (map mouth) opened.mouths)) (sym (ap (map (told_of_shelf book)) opened.traces)) (sym (ap (map (told_of_shelf book)) opened.books))
 
   -- where nothing was run, the ears are those that were handed out
-  refused_told : (r : Refused (GateSeen E) M (Shelf B)) (back : Refused E M (Shelf B)) (rules : List Rule) (new : Devices X Y (Option Z)) (ears : List E) (why : HouseRefusal)
+  pub refused_told : (r : Refused (GateSeen E) M (Shelf B)) (back : Refused E M (Shelf B)) (rules : List Rule) (new : Devices X Y (Option Z)) (ears : List E) (why : HouseRefusal)
       → IsOpenedRefused r back → map (λ gate. gate.inner) r.ears.items ≡ ears → new.ears ≡ map ear ears
       → refused_back (gate_told ear) mouth book (Some r) ≡ Some (behind_gates rules new, why) → refused_back ear mouth book (Some back) ≡ Some (new, why)
   refused_told r back rules new ears why opened inner are over =
@@ -84,7 +95,7 @@ module _ {E M B X Y Z : Type 0} (ear : E → EarTold X) (mouth : M → MouthTold
       HasAsked (questions_of order) run.before run.after × (run.after.faults ≡ run.before.faults) × AreNew order run.before.calls new
 
   -- nor is a refusal
-  no_refusal : (refused : Option (Refused (GateSeen E) M (Shelf B))) (refused' : Option (Refused E M (Shelf B))) → AreOpenedRefused refused refused'
+  pub no_refusal : (refused : Option (Refused (GateSeen E) M (Shelf B))) (refused' : Option (Refused E M (Shelf B))) → AreOpenedRefused refused refused'
       → refused_back (gate_told ear) mouth book refused ≡ None → refused_back ear mouth book refused' ≡ None
   no_refusal None None opened none = refl
   no_refusal None (Some back) opened none = absurd opened
@@ -121,7 +132,7 @@ module _ {E M B X Y Z : Type 0} (ear : E → EarTold X) (mouth : M → MouthTold
       )
 
   -- no run is handed back where none was
-  no_house : (house : Option (Returned (GateSeen E) M (Shelf B))) (house' : Option (Returned E M (Shelf B))) → AreOpened house house'
+  pub no_house : (house : Option (Returned (GateSeen E) M (Shelf B))) (house' : Option (Returned E M (Shelf B))) → AreOpened house house'
       → house_back (gate_told ear) mouth book house ≡ None → house_back ear mouth book house' ≡ None
   no_house None None opened none = refl
   no_house None (Some back) opened none = absurd opened

@@ -8,3 +8,6 @@ mod Endings
 mod Gating
 mod ByRules
 mod Passing
+mod OffBoard
+mod BoardEndings
+mod BoardByRules

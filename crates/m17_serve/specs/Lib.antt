@@ -4,7 +4,9 @@ pub mod Devices
 pub mod Gates
 pub mod Lines
 pub mod Served
+pub mod Boards
 pub mod Endings
 pub mod Laws
 -- For proofs: one step of the opening and of the printing.
 pub mod Steps
+pub mod BoardSteps

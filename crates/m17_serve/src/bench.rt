@@ -6,7 +6,8 @@ use crate::{Served, serve};
 use m17_callsign::{Address, CallAddress};
 use m17_control::{Control, ModuleLetter, Modules, write};
 use m17_crew::Crew;
-use m17_memory::BytesSink;
+use m17_gate::{Rules, read_rules};
+use m17_memory::{BytesSink, BytesSource};
 use m17_port_memory::{ListBook, ListMouth, ScriptEar, ScriptPorts};
 use m17_samples::{ab1cd, frame, n0call};
 use m17_values::{Gram, Heard, Peer};
@@ -30,8 +31,8 @@ fn text(rt: &impl Abort, alloc: Global, text: &str) -> String {
     must(rt, String::from_str(alloc, text))
 }
 
-// The reflector M17-TST with module A over one link, with this folder.
-fn order(rt: &impl Abort, alloc: Global, book: Option<&str>) -> ServeOrder
+/// The reflector M17-TST with module A over one link, with this folder.
+pub(crate) fn order(rt: &impl Abort, alloc: Global, book: Option<&str>) -> ServeOrder
     ensures { IsServable result }
 {
     let modules = match Modules::read("A") {
@@ -56,6 +57,7 @@ fn order(rt: &impl Abort, alloc: Global, book: Option<&str>) -> ServeOrder
         binds,
         limit: 180_000,
         rules: false,
+        board: None,
     }
 }
 
@@ -173,23 +175,39 @@ fn calls(rt: &impl Abort, alloc: Global, fails: &[u64]) -> Vec<u64> {
     must(rt, fails.to_vec(alloc))
 }
 
-// Ports with one link, whose ear hears this, and two books.
-fn ports(rt: &impl Abort, alloc: Global, heard: Vec<Heard>, fails: Fails) -> ScriptPorts {
-    let mouth = must(
-        rt,
-        ListMouth::make(alloc, 32, calls(rt, alloc, fails.mouth)),
-    );
-    let trace = must(
-        rt,
-        ListBook::make(alloc, 1_000, calls(rt, alloc, fails.trace)),
-    );
-    let book = must(
-        rt,
-        ListBook::make(alloc, 1_000, calls(rt, alloc, fails.book)),
-    );
-    let links = must(rt, Vec::from_array(alloc, [(ScriptEar::new(heard), mouth)]));
+/// A new book that fails at these calls.
+pub(crate) fn book_that(rt: &impl Abort, alloc: Global, fails: &[u64]) -> ListBook {
+    must(rt, ListBook::make(alloc, 1_000, calls(rt, alloc, fails)))
+}
+
+/// Ports with one link, whose ear hears this and whose mouth fails at these calls, and with these books; they fail at these.
+pub(crate) fn ports_over(
+    rt: &impl Abort,
+    alloc: Global,
+    hears: Hears,
+    mouth: &[u64],
+    books: Vec<ListBook>,
+    fails: &[u64],
+) -> ScriptPorts {
+    let mouth = must(rt, ListMouth::make(alloc, 32, calls(rt, alloc, mouth)));
+    let ear = ScriptEar::new(heard(rt, alloc, hears));
+    let links = must(rt, Vec::from_array(alloc, [(ear, mouth)]));
+    ScriptPorts::new(links, books, calls(rt, alloc, fails))
+}
+
+// The same with a trace and a book.
+fn ports(rt: &impl Abort, alloc: Global, hears: Hears, fails: Fails) -> ScriptPorts {
+    let trace = book_that(rt, alloc, fails.trace);
+    let book = book_that(rt, alloc, fails.book);
     let books = must(rt, Vec::from_array(alloc, [trace, book]));
-    ScriptPorts::new(links, books, calls(rt, alloc, fails.ports))
+    ports_over(rt, alloc, hears, fails.mouth, books, fails.ports)
+}
+
+/// These rules.
+pub(crate) fn said_rules(rt: &impl Abort, alloc: Global, rules: &str) -> Rules {
+    let bytes = must(rt, rules.as_bytes().to_vec(alloc));
+    let mut source = BytesSource::new(bytes, Vec::new(alloc));
+    must(rt, read_rules(alloc, &mut source))
 }
 
 /// Runs the reflector over such ports: what it came to, and whether this text was printed.
@@ -203,7 +221,7 @@ pub(crate) fn run<C: Crew, R: Threads + Wait + Abort + Copy + Send + 'static>(
     text: &str,
 ) -> (Done, bool) {
     let order = order(rt, alloc, book);
-    let mut ports = ports(rt, alloc, heard(rt, alloc, hears), fails);
+    let mut ports = ports(rt, alloc, hears, fails);
     let mut sink = must(
         rt,
         BytesSink::make(alloc, 100, calls(rt, alloc, fails.sink)),

@@ -99,7 +99,7 @@ fn of_runs<E: Ear, M: Mouth, B: Book>()
 }
 
 // The plan of the words.
-fn plan_of(order: &ServeOrder) -> Plan
+pub(crate) fn plan_of(order: &ServeOrder) -> Plan
     ensures { result ≡ serve_plan order.now }
 {
     Plan {
@@ -114,7 +114,7 @@ fn plan_of(order: &ServeOrder) -> Plan
 }
 
 // How the command ends where the reflector ran.
-fn ending_of(lost: bool, book_failed: bool, printed: Result<(), Failed>) -> ServeEnding
+pub(crate) fn ending_of(lost: bool, book_failed: bool, printed: Result<(), Failed>) -> ServeEnding
     ensures ok { OnOk printed (result ≡ ending_by lost book_failed) }
     ensures err { OnErr printed (result ≡ ServeEnding.WriteFailed) }
 {
@@ -131,7 +131,7 @@ fn ending_of(lost: bool, book_failed: bool, printed: Result<(), Failed>) -> Serv
 }
 
 // How it ends where the reflector refused to run.
-fn ending_for(why: HouseRefusal) -> ServeEnding
+pub(crate) fn ending_for(why: HouseRefusal) -> ServeEnding
     ensures crew { why ≡ refusals.Crew → result ≡ ServeEnding.CrewRefused }
     ensures memory { why ≡ refusals.NoMemory → result ≡ ServeEnding.NoMemory }
 {

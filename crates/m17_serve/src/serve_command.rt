@@ -24,10 +24,10 @@ use std::thread::Threads;
 // What is made before the ports are asked for anything: the letters of the modules, the names of what is kept, and room
 // for the devices.
 #[derive(Drop)]
-struct Made<E, M, B> {
-    letters: Vec<u8>,
-    names: Names,
-    rooms: Opened<E, M, B>,
+pub(crate) struct Made<E, M, B> {
+    pub letters: Vec<u8>,
+    pub names: Names,
+    pub rooms: Opened<E, M, B>,
 }
 
 /// Runs the reflector as its words say: asks the ports for its links, and, where a folder is named, for the trace of each
@@ -135,7 +135,7 @@ pub fn serve_by_rules<R: Threads + Wait + Copy + Send + 'static, P: Ports, C: Cr
 }
 
 // What is made first.
-fn make<E: Drop, M: Drop, B: Drop>(
+pub(crate) fn make<E: Drop, M: Drop, B: Drop>(
     alloc: Global,
     order: &ServeOrder,
 ) -> Result<Made<E, M, B>, NoMemory>
@@ -156,7 +156,7 @@ fn make<E: Drop, M: Drop, B: Drop>(
 }
 
 // What the command came to where nothing is handed back.
-fn without<E, M, B>(ending: ServeEnding) -> Served<E, M, B>
+pub(crate) fn without<E, M, B>(ending: ServeEnding) -> Served<E, M, B>
     ensures ending { result.ending ≡ ending }
     ensures house { result.house ≡ None }
     ensures refused { result.refused ≡ None }

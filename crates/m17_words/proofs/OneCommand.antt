@@ -97,6 +97,7 @@ one_given law calls Serve found (command.Serve o) (command.Serve o') a b = recor
   binds = same_binds _ o o' a.binds_are b.binds_are;
   limit = one_limit _ o.limit o'.limit a.limit_is b.limit_is;
   rules = one_truth o'.rules o.rules (λ h. a.rules_are.1 (b.rules_are.0 h)) (λ h. b.rules_are.1 (a.rules_are.0 h));
+  board = b.board_is ∙ sym a.board_is;
 }
 one_given law calls Serve found (command.Serve o) _ a b = absurd b
 one_given law calls Serve found _ other a b = absurd a

@@ -40,6 +40,7 @@ pub record SameServe (o o' : ServeOrder) : Type 0 where
   pub binds : map string_bytes o'.binds.items ≡ map string_bytes o.binds.items
   pub limit : o'.limit ≡ o.limit
   pub rules : o'.rules ≡ o.rules
+  pub board : option_map string_bytes o'.board ≡ option_map string_bytes o.board
 
 -- The commands are one, with the same values.
 abbrev pub SameCommand : Command → Command → Type 0

@@ -98,6 +98,7 @@ serve_table = table_of (codes "serve") (
     ∷ arguments (codes "bind")
     ∷ option (codes "limit")
     ∷ flag (codes "rules")
+    ∷ option (codes "board")
     ∷ [])
 
 -- the words that such a command takes, and what it finds among them, are known from `clap`'s own definitions

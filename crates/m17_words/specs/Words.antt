@@ -83,8 +83,8 @@ pub record IsBridge (found : List Row) (order : BridgeOrder) : Type 0 where
   pub seconds_are : IsNumberIfAny 1 1000000 (text_of found (codes "for")) order.seconds
 
 -- The values of a run of the reflector: its callsign, the modules, which of them are parrots, the places, for how long it
--- serves, the folder of its traces and books, where its links are bound, one to four, the limit on talking, and whether it
--- serves by rules of callsigns.
+-- serves, the folder of its traces and books, where its links are bound, one to four, the limit on talking, whether it serves
+-- by rules of callsigns, and its board.
 pub record IsServe (found : List Row) (order : ServeOrder) : Type 0 where
   pub call_is : IsCallsignOf (text_or found (codes "call") []) order.call
   pub modules_are : NamesModules (text_or found (codes "modules") (codes "ABC")) order.modules
@@ -97,6 +97,7 @@ pub record IsServe (found : List Row) (order : ServeOrder) : Type 0 where
   pub few_binds : vec_len order.binds ≤ 4
   pub limit_is : IsLimit (text_or found (codes "limit") (codes "180")) order.limit
   pub rules_are : IsFlagged (text_of found (codes "rules")) order.rules
+  pub board_is : option_map string_bytes order.board ≡ text_of found (codes "board")
 
 -- the same of a command
 abbrev pub IsReplayWith : List Row → Command → Type 0

@@ -63,4 +63,6 @@ pub struct ServeOrder {
     pub limit: u64,
     /// Whether the input has rules of callsigns, by which it serves.
     pub rules: bool,
+    /// The name of its board, where it keeps one: any text, which the ports understand.
+    pub board: Option<String>,
 }

@@ -21,6 +21,7 @@ fn what_is_left_out_has_its_default(rt: HostRuntime) {
         binds: must(&rt, Vec::from_array(alloc, [text(&rt, alloc, "x")])),
         limit: 180_000,
         rules: false,
+        board: None,
     });
     expect(&rt, alloc, &LINES, &wanted);
 }
@@ -28,8 +29,8 @@ fn what_is_left_out_has_its_default(rt: HostRuntime) {
 #[test]
 fn each_value_stands_in_the_order(rt: HostRuntime) {
     const LINES: [&str; 2] = [
-        "serve --call M17-TST --modules AZ --parrots Z --places 256 --for 1000000 --book d --limit 86400 --rules a b c d",
-        "serve a --limit=086400 --for=1000000 --rules b --book=d --parrots=Z c --modules=ZA --places=256 d --call=M17-TST",
+        "serve --call M17-TST --modules AZ --parrots Z --places 256 --for 1000000 --book d --limit 86400 --rules --board e a b c d",
+        "serve a --limit=086400 --for=1000000 --rules b --board=e --book=d --parrots=Z c --modules=ZA --places=256 d --call=M17-TST",
     ];
     let alloc = rt.alloc();
     let binds = ["a", "b", "c", "d"].map(|bind| text(&rt, alloc, bind));
@@ -43,12 +44,13 @@ fn each_value_stands_in_the_order(rt: HostRuntime) {
         binds: must(&rt, Vec::from_array(alloc, binds)),
         limit: 86_400_000,
         rules: true,
+        board: Some(text(&rt, alloc, "e")),
     });
     expect(&rt, alloc, &LINES, &wanted);
 }
 
 // Words behind `serve`, and whether they are taken.
-const SERVES: [(&str, bool); 34] = [
+const SERVES: [(&str, bool); 37] = [
     ("--call M17-TST a b c d", true),
     ("--call M17-TST a b c d e", false),
     ("--call M17-TST", false),
@@ -80,6 +82,9 @@ const SERVES: [(&str, bool); 34] = [
     ("--call M17-TST a --rules", true),
     ("--call M17-TST --rules --rules a", false),
     ("--call M17-TST --rules= a", false),
+    ("--call M17-TST --board= a", true),
+    ("--call M17-TST --board d --board d a", false),
+    ("--call M17-TST a --board", false),
     ("--call M17-TST --bind a", false),
     ("--call M17-TST -- -a --b", true),
     ("--call M17-TST -h", false),

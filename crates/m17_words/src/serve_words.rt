@@ -50,6 +50,7 @@ fn serve_with(
 {
     let binds = binds_of(alloc, matches)?;
     let book = book_of(alloc, text_of(matches, "book"))?;
+    let board = book_of(alloc, text_of(matches, "board"))?;
     Ok(Command::Serve(ServeOrder {
         call: plan.call,
         modules: plan.modules,
@@ -60,6 +61,7 @@ fn serve_with(
         binds,
         limit: plan.limit,
         rules: is_there(matches, "rules"),
+        board,
     }))
 }
 

@@ -66,6 +66,7 @@ const SERVE: &[(&str, Kind)] = &[
     ("bind", Kind::Arguments),
     ("limit", Kind::Value),
     ("rules", Kind::Flag),
+    ("board", Kind::Value),
 ];
 
 // The table of a command.

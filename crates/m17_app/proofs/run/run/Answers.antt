@@ -1,6 +1,7 @@
 use Rattle.std.proofs.Common.{rules, Err, inl, inr, sym, ap, ◌∙◌}
 use Rattle.m17_app.specs.Commands.{IsRunnable}
 use Rattle.m17_app.specs.Status.{code_of}
+use Rattle.m17_app.proofs.Boards.{same_board}
 use Rattle.m17_app.proofs.Codes.{is_no_memory}
 use Rattle.m17_app.proofs.Nothing.{does_nothing}
 use Rattle.m17_app.proofs.Runnable.{names_runnable}
@@ -12,11 +13,23 @@ run_command-requires-clause-runnable g c =
 
 pub returns-in-Ok-clause-runs : goal.returns-in-Ok-clause-runs
 returns-in-Ok-clause-runs g c =
-    rw (c.answer_of.ensures.talk, c.answer_of.ensures.house, c.answer_of.ensures.refused, c.answer_of.ensures.bridge)
+    rw (c.answer_of.ensures.talk, c.answer_of.ensures.house, c.answer_of.ensures.refused, c.answer_of.ensures.bridge, c.answer_of.ensures.board)
     (c.run_command.result.status, c.answer_of.ensures.code, inl (c.in-Ok.command, c.in-Ok.ensures.named, c.run_command.ensures.runs))
 
 pub returns-in-Ok-clause-unasked : goal.returns-in-Ok-clause-unasked
-returns-in-Ok-clause-unasked g c seventy = c.run_command.ensures.unasked (is_no_memory c.run_command.result.status (sym c.answer_of.ensures.code ∙ seventy))
+returns-in-Ok-clause-unasked g c seventy none =
+    c.run_command.ensures.unasked (is_no_memory c.run_command.result.status (sym c.answer_of.ensures.code ∙ seventy)) (sym c.answer_of.ensures.board ∙ none)
+
+pub returns-in-Ok-clause-unrefused : goal.returns-in-Ok-clause-unrefused
+returns-in-Ok-clause-unrefused g c seventy =
+    let memory = is_no_memory c.run_command.result.status (sym c.answer_of.ensures.code ∙ seventy) in
+    c.run_command.ensures.runs.0.cause.crew.stands (λ e. let no = sym memory ∙ e in cc) (λ e. let no = sym memory ∙ e in cc)
+
+pub returns-in-Ok-clause-watch : goal.returns-in-Ok-clause-watch
+returns-in-Ok-clause-watch g c some (other, names, board) none =
+    c.run_command.ensures.watch (λ no. some (c.answer_of.ensures.refused ∙ no))
+    (same_board other c.in-Ok.command (c.words_name_one_command.ensures _ other c.in-Ok.command names c.in-Ok.ensures.named) board)
+    (sym c.answer_of.ensures.board ∙ none)
 
 pub returns-in-Err-Refused-clause-runs : goal.returns-in-Err-Refused-clause-runs
 returns-in-Err-Refused-clause-runs g c =
@@ -29,7 +42,7 @@ returns-in-Err-Refused-clause-runs g c =
           c.run_nothing.ensures (g.P.Ports.told c.args.ports.now).faults (g.C.Crew.refusals c.args.crew.now),
           does_nothing g.P.Ear.Ear.told g.P.Mouth.Mouth.told g.P.Book.Book.told (g.P.Ports.told c.args.ports.now) (g.C.Crew.refusals c.args.crew.now) answer.result
               (answer.ensures.talk ∙ c.alone.ensures.none) (answer.ensures.house ∙ c.alone.ensures.no_house)
-              (answer.ensures.refused ∙ c.alone.ensures.no_refusal) (answer.ensures.bridge ∙ c.alone.ensures.no_bridge),
+              (answer.ensures.refused ∙ c.alone.ensures.no_refusal) (answer.ensures.bridge ∙ c.alone.ensures.no_bridge) (answer.ensures.board ∙ c.alone.ensures.no_board),
         ),
       )),
     )
@@ -43,6 +56,6 @@ returns-in-Err-Refused-clause-refused g c = λ are.
         c.run_nothing.ensures (g.P.Ports.told c.args.ports.now).faults (g.C.Crew.refusals c.args.crew.now),
         does_nothing g.P.Ear.Ear.told g.P.Mouth.Mouth.told g.P.Book.Book.told (g.P.Ports.told c.args.ports.now) (g.C.Crew.refusals c.args.crew.now) answer.result
             (answer.ensures.talk ∙ c.alone.ensures.none) (answer.ensures.house ∙ c.alone.ensures.no_house)
-            (answer.ensures.refused ∙ c.alone.ensures.no_refusal) (answer.ensures.bridge ∙ c.alone.ensures.no_bridge),
+            (answer.ensures.refused ∙ c.alone.ensures.no_refusal) (answer.ensures.bridge ∙ c.alone.ensures.no_bridge) (answer.ensures.board ∙ c.alone.ensures.no_board),
       ),
     )

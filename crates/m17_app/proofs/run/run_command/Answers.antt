@@ -3,44 +3,44 @@ use Rattle.m17_app.proofs.run.run_command.Goals as goal
 
 pub returns-in-Judge-clause-runs : goal.returns-in-Judge-clause-runs
 returns-in-Judge-clause-runs g c =
-    rw (c.in-Judge.is, c.alone.ensures.status, c.alone.ensures.none, c.alone.ensures.no_house, c.alone.ensures.no_refusal, c.alone.ensures.no_bridge) (
+    rw (c.in-Judge.is, c.alone.ensures.status, c.alone.ensures.none, c.alone.ensures.no_house, c.alone.ensures.no_refusal, c.alone.ensures.no_bridge, c.alone.ensures.no_board) (
       c.run_judge.ensures (g.P.Ports.told c.args.ports.now).faults (g.C.Crew.refusals c.args.crew.now),
-      record { ports = refl; talk = refl; bridge = refl; serve = record { crew = refl; house = refl; refused = refl } },
+      record { ports = refl; talk = refl; bridge = refl; serve = record { crew = refl; house = refl; refused = refl; board = refl } },
     )
 
 pub returns-in-Show-clause-runs : goal.returns-in-Show-clause-runs
 returns-in-Show-clause-runs g c =
-    rw (c.in-Show.is, c.alone-in-Show.ensures.status, c.alone-in-Show.ensures.none, c.alone-in-Show.ensures.no_house, c.alone-in-Show.ensures.no_refusal, c.alone-in-Show.ensures.no_bridge) (
+    rw (c.in-Show.is, c.alone-in-Show.ensures.status, c.alone-in-Show.ensures.none, c.alone-in-Show.ensures.no_house, c.alone-in-Show.ensures.no_refusal, c.alone-in-Show.ensures.no_bridge, c.alone-in-Show.ensures.no_board) (
       c.run_show.ensures (g.P.Ports.told c.args.ports.now).faults (g.C.Crew.refusals c.args.crew.now),
-      record { ports = refl; talk = refl; bridge = refl; serve = record { crew = refl; house = refl; refused = refl } },
+      record { ports = refl; talk = refl; bridge = refl; serve = record { crew = refl; house = refl; refused = refl; board = refl } },
     )
 
 pub returns-in-Make-clause-runs : goal.returns-in-Make-clause-runs
 returns-in-Make-clause-runs g c =
-    rw (c.in-Make.is, c.alone-in-Make.ensures.status, c.alone-in-Make.ensures.none, c.alone-in-Make.ensures.no_house, c.alone-in-Make.ensures.no_refusal, c.alone-in-Make.ensures.no_bridge) (
+    rw (c.in-Make.is, c.alone-in-Make.ensures.status, c.alone-in-Make.ensures.none, c.alone-in-Make.ensures.no_house, c.alone-in-Make.ensures.no_refusal, c.alone-in-Make.ensures.no_bridge, c.alone-in-Make.ensures.no_board) (
       c.run_make.ensures (g.P.Ports.told c.args.ports.now).faults (g.C.Crew.refusals c.args.crew.now),
-      record { ports = refl; talk = refl; bridge = refl; serve = record { crew = refl; house = refl; refused = refl } },
+      record { ports = refl; talk = refl; bridge = refl; serve = record { crew = refl; house = refl; refused = refl; board = refl } },
     )
 
 pub returns-in-Check-clause-runs : goal.returns-in-Check-clause-runs
 returns-in-Check-clause-runs g c =
-    rw (c.in-Check.is, c.alone-in-Check.ensures.status, c.alone-in-Check.ensures.none, c.alone-in-Check.ensures.no_house, c.alone-in-Check.ensures.no_refusal, c.alone-in-Check.ensures.no_bridge) (
+    rw (c.in-Check.is, c.alone-in-Check.ensures.status, c.alone-in-Check.ensures.none, c.alone-in-Check.ensures.no_house, c.alone-in-Check.ensures.no_refusal, c.alone-in-Check.ensures.no_bridge, c.alone-in-Check.ensures.no_board) (
       c.run_check.ensures (g.P.Ports.told c.args.ports.now).faults (g.C.Crew.refusals c.args.crew.now),
-      record { ports = refl; talk = refl; bridge = refl; serve = record { crew = refl; house = refl; refused = refl } },
+      record { ports = refl; talk = refl; bridge = refl; serve = record { crew = refl; house = refl; refused = refl; board = refl } },
     )
 
 pub returns-in-Migrate-clause-runs : goal.returns-in-Migrate-clause-runs
 returns-in-Migrate-clause-runs g c =
-    rw (c.in-Migrate.is, c.alone-in-Migrate.ensures.status, c.alone-in-Migrate.ensures.none, c.alone-in-Migrate.ensures.no_house, c.alone-in-Migrate.ensures.no_refusal, c.alone-in-Migrate.ensures.no_bridge) (
+    rw (c.in-Migrate.is, c.alone-in-Migrate.ensures.status, c.alone-in-Migrate.ensures.none, c.alone-in-Migrate.ensures.no_house, c.alone-in-Migrate.ensures.no_refusal, c.alone-in-Migrate.ensures.no_bridge, c.alone-in-Migrate.ensures.no_board) (
       c.run_migrate.ensures (g.P.Ports.told c.args.ports.now).faults (g.C.Crew.refusals c.args.crew.now),
-      record { ports = refl; talk = refl; bridge = refl; serve = record { crew = refl; house = refl; refused = refl } },
+      record { ports = refl; talk = refl; bridge = refl; serve = record { crew = refl; house = refl; refused = refl; board = refl } },
     )
 
 pub returns-in-Replay-clause-runs : goal.returns-in-Replay-clause-runs
 returns-in-Replay-clause-runs g c =
-    rw (c.in-Replay.is, c.alone-in-Replay.ensures.status, c.alone-in-Replay.ensures.none, c.alone-in-Replay.ensures.no_house, c.alone-in-Replay.ensures.no_refusal, c.alone-in-Replay.ensures.no_bridge) (
+    rw (c.in-Replay.is, c.alone-in-Replay.ensures.status, c.alone-in-Replay.ensures.none, c.alone-in-Replay.ensures.no_house, c.alone-in-Replay.ensures.no_refusal, c.alone-in-Replay.ensures.no_bridge, c.alone-in-Replay.ensures.no_board) (
       c.run_replay.ensures.runs (g.P.Ports.told c.args.ports.now).faults,
-      record { ports = refl; talk = refl; house = refl; refused = refl; bridge = refl },
+      record { ports = refl; talk = refl; house = refl; refused = refl; bridge = refl; board = refl },
     )
 
 pub returns-in-Talk-clause-runs : goal.returns-in-Talk-clause-runs

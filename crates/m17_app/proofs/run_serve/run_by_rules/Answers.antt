@@ -1,8 +1,10 @@
-use Rattle.std.proofs.Common.{ℕ, List, None, Option, false, refl, ap, subst, inr}
+use Rattle.std.proofs.Common.{ℕ, List, None, Option, false, refl, sym, ap, subst, ◌∙◌, inr}
 use Rattle.m17_serve.specs.Served.{ComesByRules, HasCauses, counts}
-use Rattle.m17_app.specs.Doing.{doing, serve_side}
+use Rattle.m17_app.specs.Doing.{doing, beside_of, serve_side}
+use Rattle.m17_app.specs.Forms.{plain_form}
 use Rattle.m17_app.specs.Status.{Streams, code_of, streams}
 use Rattle.m17_app.proofs.RuledRuns.{has_room, served_by_rules, wants_room, without_rules}
+use Rattle.m17_app.proofs.ServeForms.{by_rules, plain_holds}
 use Rattle.m17_app.proofs.ServeRuns.{memory_ending}
 use Rattle.m17_app.proofs.run_serve.run_by_rules.Goals as goal
 
@@ -16,11 +18,12 @@ returns-in-Ok-clause-runs g c =
     let mid : Streams = streams source (g.K.Sink.told served.new.out) in
     let run = doing g.P.Ear.Ear.told g.P.Mouth.Mouth.told g.P.Book.Book.told (g.P.Ports.told c.args.ports.now) (g.P.Ports.told served.new.ports)
     (g.C.Crew.refusals c.args.crew.now) (g.C.Crew.refusals served.new.crew)
-    (record { status = code_of done.result.status; talk = None; house = served.result.house; refused = served.result.refused; bridge = None }) in
-    rw (done.ensures.no_talk, done.ensures.no_bridge, done.ensures.house, done.ensures.refused) (served_by_rules c.no_rules_are_refused.ensures c.args.order.now c.in-Ok.rules served.result.ending done.result.status before mid _ run
+    (record { status = code_of done.result.status; talk = None; house = served.result.house; refused = served.result.refused; bridge = None; board = None }) in
+    rw (done.ensures.house, done.ensures.refused) (served_by_rules c.no_rules_are_refused.ensures (plain_form c.args.order.now (serve_side run)) (plain_holds c.args.order.now (serve_side run)) c.args.order.now c.in-Ok.rules served.result.ending done.result.status before mid _ (beside_of run)
     (λ text is. (taken.rules text is, taken.to_the_end text is))
     (taken.causes.no_read_fault (λ e. cc))
-    (subst (λ (first : Option (List ℕ)). ComesByRules c.in-Ok.rules c.args.order.now served.result.ending (serve_side run) first mid.sink.written) taken.nothing_written served.ensures.ended)
+    (by_rules c.args.order.now c.in-Ok.rules served.result.ending (serve_side run) _ _
+    (subst (λ (first : Option (List ℕ)). ComesByRules c.in-Ok.rules c.args.order.now served.result.ending (serve_side run) first mid.sink.written) taken.nothing_written served.ensures.ended))
     (subst (λ (n : ℕ). HasCauses served.result.ending (counts run.before.faults run.crew_before n) (counts run.after.faults run.crew_after mid.sink.faults)) (taken.causes.no_write_fault (λ e. cc)) served.ensures.causes)
     (λ other. done.ensures.concluded other source)
     (λ none. let same = done.ensures.memory none in (same.0, ap (λ out. streams source (g.K.Sink.told out)) same.1)))
@@ -39,9 +42,9 @@ returns-in-Err-clause-runs g c =
     let mid : Streams = streams source (g.K.Sink.told c.take_rules.new.out) in
     let run = doing g.P.Ear.Ear.told g.P.Mouth.Mouth.told g.P.Book.Book.told (g.P.Ports.told c.args.ports.now) (g.P.Ports.told c.args.ports.now)
     (g.C.Crew.refusals c.args.crew.now) (g.C.Crew.refusals c.args.crew.now)
-    (record { status = code_of c.conclude.result; talk = None; house = None; refused = None; bridge = None }) in
-    rw (c.alone.ensures.status, c.alone.ensures.none, c.alone.ensures.no_house, c.alone.ensures.no_refusal, c.alone.ensures.no_bridge)
-    (without_rules c.no_rules_are_refused.ensures c.args.order.now failure c.conclude.result before mid _ run (refl, (refl, refl)) refl refl
+    (record { status = code_of c.conclude.result; talk = None; house = None; refused = None; bridge = None; board = None }) in
+    rw (c.alone.ensures.status, c.alone.ensures.no_house, c.alone.ensures.no_refusal)
+    (without_rules c.no_rules_are_refused.ensures (plain_form c.args.order.now (serve_side run)) (plain_holds c.args.order.now (serve_side run)) c.args.order.now failure c.conclude.result before mid _ (beside_of run) (refl, (refl, refl)) refl refl
     c.in-Err.ensures.refused c.in-Err.ensures.causes c.in-Err.ensures.nothing_written
     (λ other. rw c.into_ending.ensures at (c.conclude.ensures.concluded (has_room failure _ c.into_ending.ensures other) source))
     (λ none. let same = c.conclude.ensures.memory (wants_room failure _ c.into_ending.ensures none) in (same.0, ap (λ out. streams source (g.K.Sink.told out)) same.1)))

@@ -1,6 +1,7 @@
 use Rattle.std.proofs.Common.{None, false, refl, inr}
 use Rattle.m17_app.specs.declared.status.Status.TheVariants.{NoMemory}
 use Rattle.m17_app.specs.Status.{Streams, streams}
+use Rattle.m17_app.proofs.Boards.{no_board, none_back}
 use Rattle.m17_app.proofs.Codes.{crew_failed, ports_failed, refused_code}
 use Rattle.m17_app.proofs.streams.run_on.Goals as goal
 
@@ -19,10 +20,15 @@ returns-clause-port_failed g c five = ports_failed _ c.run.result.status _ _ _ c
 pub returns-clause-crew_refused : goal.returns-clause-crew_refused
 returns-clause-crew_refused g c six = crew_failed _ c.run.result.status _ _ _ c.run.ensures.runs six
 
+pub returns-clause-unasked : goal.returns-clause-unasked
+returns-clause-unasked g c seventy unnamed =
+    let told = c.run.ensures.runs in
+    c.run.ensures.unasked seventy (none_back g.Q.Book.Book.told c.run.result.board (no_board _ told.0 _ _ _ told.2 unnamed))
+
 pub returns-clause-ran : goal.returns-clause-ran
 returns-clause-ran g c =
     let told = c.run.ensures.runs in
-    (told.0, told.1, record { before = _; after = _; talk = _; house = _; refused = _; bridge = _; ran = told.2 })
+    (told.0, told.1, record { before = _; after = _; talk = _; house = _; refused = _; bridge = _; board = _; ran = told.2 })
 
 pub returns-in_default-clause-ran : goal.returns-in_default-clause-ran
 returns-in_default-clause-ran g c = (
@@ -35,7 +41,8 @@ returns-in_default-clause-ran g c = (
     house = None;
     refused = None;
     bridge = None;
-    ran = inr (inr (refl, refl, record { ports = refl; talk = refl; bridge = refl; serve = record { crew = refl; house = refl; refused = refl } }));
+    board = None;
+    ran = inr (inr (refl, refl, record { ports = refl; talk = refl; bridge = refl; serve = record { crew = refl; house = refl; refused = refl; board = refl } }));
   },
 )
 
@@ -50,6 +57,7 @@ returns-in_default-make-clause-ran g c = (
     house = None;
     refused = None;
     bridge = None;
-    ran = inr (inr (refl, refl, record { ports = refl; talk = refl; bridge = refl; serve = record { crew = refl; house = refl; refused = refl } }));
+    board = None;
+    ran = inr (inr (refl, refl, record { ports = refl; talk = refl; bridge = refl; serve = record { crew = refl; house = refl; refused = refl; board = refl } }));
   },
 )
