@@ -1,5 +1,5 @@
 -- What contracts see of an ear, a mouth and a book of a real machine, and of its ports.
-use Rattle.std.specs.Prelude.{◌≡◌, ◌≢◌, ◌⊎◌, ℕ, suc, min, ◌-◌, ◌^◌, ◌≤◌, List, [], ◌∷◌, take, Bool, Option, option_map, None, Some}
+use Rattle.std.specs.Prelude.{◌≡◌, ◌≢◌, ◌⊎◌, ℕ, suc, min, ◌-◌, ◌^◌, ◌≤◌, List, [], ◌∷◌, take, Bool, false, Option, option_map, None, Some}
 use Rattle.std.specs.Net.Addr.{is_ipv6}
 use Rattle.std.specs.Net.Grammar.{IsSocketText}
 use Rattle.std.specs.Net.Socket.{socket_ip}
@@ -20,24 +20,31 @@ use Rattle.m17_net.specs.Moments.{ReadsMoment}
 use Rattle.m17_net.specs.Wire.{Sent}
 
 -- an ear: its clock, its socket, the instant from which its moments are counted, the moment at which it ends, if it does,
--- its last moment, how often it has failed, and its number
+-- its last moment, whether it may wait long, the moment of the last datagram, if one came, whether its socket was last told
+-- to wait long, how often it has failed, and its number
 pub record EarKept (C W : Type 0) : Type 0 where
   pub clock : C
   pub wire : W
   pub start : Instant
   pub until : Option ℕ
   pub last : ℕ
+  pub rests : Bool
+  pub came : Option ℕ
+  pub long : Bool
   pub faults : ℕ
   pub number : ℕ
 
 -- an ear that has heard nothing
-abbrev pub new_ear : {C W : Type 0} → C → W → Instant → Option ℕ → ℕ → EarKept C W
-new_ear clock wire start until n = record {
+abbrev pub new_ear : {C W : Type 0} → C → W → Instant → Option ℕ → Bool → ℕ → EarKept C W
+new_ear clock wire start until rests n = record {
   clock = clock;
   wire = wire;
   start = start;
   until = until;
   last = 0;
+  rests = rests;
+  came = None;
+  long = false;
   faults = 0;
   number = n;
 }
@@ -88,10 +95,11 @@ file_book_told book = record {
   device = record { mark = Some book.number; label = tt };
 }
 
--- ports: the instant that they read when they were made, if their clock gave one, how many calls there were, and how often
--- they have failed
+-- ports: the instant that they read when they were made, if their clock gave one, whether their ears may wait long, how many
+-- calls there were, and how often they have failed
 pub record PortsKept : Type 0 where
   pub start : Option Instant
+  pub rests : Bool
   pub calls : ℕ
   pub faults : ℕ
 
@@ -173,14 +181,15 @@ abbrev pub SendsTo : Bool → Datagram → Option (List Sent) → Option (List S
 SendsTo six datagram before after = (address : SocketAddr) × IsAddressOf six datagram.0 address
     × (after ≡ told_then before ((address, datagram.1) ∷ []))
 
--- The halves of a link that is new: both have this number, the ear counts its moments from the start of the ports and
--- ends at its moment, and the mouth knows whether the address that was asked for is one of IPv6.
+-- The halves of a link that is new: both have this number, the ear counts its moments from the start of the ports, ends at
+-- its moment and may wait long where those of the ports may, and the mouth knows whether the address that was asked for is
+-- one of IPv6.
 pub record IsNewLink {C W : Type 0} (bind : List ℕ) (until : Option ℕ) (start : Option Instant)
-    (n : ℕ) (link : EarKept C W × MouthKept W) : Type 0 where
+    (rests : Bool) (n : ℕ) (link : EarKept C W × MouthKept W) : Type 0 where
   pub address : SocketAddr
   pub text : IsSocketText bind address
   pub started : start ≡ Some link.0.start
-  pub ear : link.0 ≡ new_ear link.0.clock link.0.wire link.0.start until n
+  pub ear : link.0 ≡ new_ear link.0.clock link.0.wire link.0.start until rests n
   pub mouth : link.1 ≡ new_mouth link.1.wire (is_ipv6 (socket_ip address)) n
 
 -- What an ear that counts its moments from an instant, and ends at a moment or never, does at one call.

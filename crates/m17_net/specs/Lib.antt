@@ -5,6 +5,7 @@ pub mod Wire
 pub mod Moments
 pub mod Files
 pub mod Devices
+pub mod Waits
 pub mod Laws
 -- for proofs alone
 pub mod Taking

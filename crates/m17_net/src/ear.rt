@@ -7,6 +7,7 @@ ghost use Rattle.m17_ports.specs.Ports.{next_number};
 ghost use Rattle.m17_net.specs.Devices.{ear_found, CountsFault, IsOver, Listens};
 ghost use Rattle.m17_net.specs.Moments.{ReadsMoment};
 ghost use Rattle.m17_net.specs.Taking.{Comes, CountsUnread, SaysWhatCame, TellsAt};
+ghost use Rattle.m17_net.specs.Waits.{ChoosesWait, IsAlone, IsEarly, WaitsLong, last_came, wait_told};
 ghost use Rattle.m17_net.specs.Wire.{CountsError};
 
 use crate::taking::{Taken, take_one};
@@ -18,11 +19,23 @@ use std::marker::Model;
 use std::net::UdpSocket;
 use std::time::{Duration, Instant};
 
-/// How long an ear waits for a datagram at the most, in milliseconds; and how long it rests after an error, so that
-/// nothing spins.
+/// How long an ear waits for a datagram at the most while somebody may be there, in milliseconds; and how long it rests
+/// after an error, so that nothing spins.
 pub(crate) const WAIT_MS: u64 = 20;
 
-/// The receiving half of a UDP socket. Moments are milliseconds since the ports were made.
+/// How long an ear waits at the most where nobody is there, in milliseconds.
+const LONG_WAIT_MS: u64 = 5_000;
+
+/// How long nothing has come where nobody is there, in milliseconds: longer than a reflector keeps a member that is silent,
+/// so nobody is left who could be pinged, sent an echo or found silent.
+const NOBODY_MS: u64 = 40_000;
+
+/// How far off the end of an ear is at the least where it waits long, in milliseconds: no such wait passes it.
+const FAR_MS: u64 = 2 * LONG_WAIT_MS;
+
+/// The receiving half of a UDP socket. Moments are milliseconds since the ports were made. It waits for a datagram for 20 ms
+/// at the most; one that may rest waits for 5 seconds where none came for 40 seconds, or none ever, while its end is 10
+/// seconds away or more.
 #[derive(Drop)]
 pub struct UdpEar<C: Timer + Drop, W: Wire + Drop = UdpSocket> {
     clock: C,
@@ -30,6 +43,10 @@ pub struct UdpEar<C: Timer + Drop, W: Wire + Drop = UdpSocket> {
     start: Instant,
     until: Option<u64>,
     last: u64,
+    // Whether it may wait long, the moment of the last datagram, and whether its socket was told to wait long.
+    rests: bool,
+    came: Option<u64>,
+    long: bool,
     faults: u64,
     number: u64,
 }
@@ -45,6 +62,9 @@ impl<C: Timer + Drop, W: Wire + Drop> Model for UdpEar<C, W> {
       start = e.start;
       until = e.until;
       last = e.last;
+      rests = e.rests;
+      came = e.came;
+      long = e.long;
       faults = e.faults;
       number = e.number;
     } };
@@ -53,15 +73,16 @@ impl<C: Timer + Drop, W: Wire + Drop> Model for UdpEar<C, W> {
 impl<C: Timer + Drop, W: Wire + Drop> UdpEar<C, W> {
     ghost use Rattle.m17_net.specs.Devices.{EarKept, new_ear};
 
-    // An ear on this socket, whose moments are counted from `start`.
+    // An ear on this socket, which waits for 20 ms, with moments that are counted from `start`.
     pub(crate) fn new(
         clock: C,
         wire: W,
         start: Instant,
         until: Option<u64>,
+        rests: bool,
         number: u64,
     ) -> UdpEar<C, W>
-        ensures { result ≡ new_ear clock wire start until number }
+        ensures { result ≡ new_ear clock wire start until rests number }
     {
         UdpEar {
             clock,
@@ -69,6 +90,9 @@ impl<C: Timer + Drop, W: Wire + Drop> UdpEar<C, W> {
             start,
             until,
             last: 0,
+            rests,
+            came: None,
+            long: false,
             faults: 0,
             number,
         }
@@ -84,10 +108,52 @@ impl<C: Timer + Drop, W: Wire + Drop> UdpEar<C, W> {
         }
     }
 
+    // Whether nothing came for so long that nobody is there.
+    fn is_alone(&self) -> bool
+        ensures { result ≡ true ↔ IsAlone self.now.came self.now.last }
+    {
+        match self.came {
+            Some(at) => NOBODY_MS <= self.last.saturating_sub(at),
+            None => true,
+        }
+    }
+
+    // Whether its end is far off.
+    fn is_early(&self) -> bool
+        ensures { result ≡ true ↔ IsEarly self.now.until self.now.last }
+    {
+        match self.until {
+            Some(until) => FAR_MS <= until.saturating_sub(self.last),
+            None => true,
+        }
+    }
+
+    // Tells its socket how long to wait, where that is not what it was told last.
+    fn choose_wait(&mut self)
+        ensures chosen { self.new.long ≡ true ↔ WaitsLong self.old }
+        ensures told { W.waits self.new.wire ≡ told_then (W.waits self.old.wire)
+            (wait_told self.old.long self.new.long) }
+        ensures nothing_taken { W.taken self.new.wire ≡ W.taken self.old.wire }
+        ensures nothing_sent { W.sent self.new.wire ≡ W.sent self.old.wire }
+        ensures sound { W.broken self.new.wire ≡ W.broken self.old.wire }
+        ensures same { self.new ≡ record self.old {
+          wire = self.new.wire;
+          long = self.new.long;
+        } }
+    {
+        let long = self.rests && self.is_alone() && self.is_early();
+        if long != self.long {
+            self.wire
+                .wait_at_most(if long { LONG_WAIT_MS } else { WAIT_MS });
+            self.long = long;
+        }
+    }
+
     // Takes what comes next, if something does. It rests after errors.
     fn take_next(&mut self) -> Result<Option<(Peer, Gram)>, Failed>
         ensures comes { Comes result (W.taken self.old.wire) (W.taken self.new.wire) }
         ensures nothing_sent { W.sent self.new.wire ≡ W.sent self.old.wire }
+        ensures same_waits { W.waits self.new.wire ≡ W.waits self.old.wire }
         ensures sound { OnOk result (W.broken self.new.wire ≡ W.broken self.old.wire) }
         ensures broken { OnErr result
             (W.broken self.new.wire ≡ option_map suc (W.broken self.old.wire)) }
@@ -107,7 +173,7 @@ impl<C: Timer + Drop, W: Wire + Drop> UdpEar<C, W> {
         }
     }
 
-    // Rests as long as it would have waited.
+    // Rests as long as it waits while somebody may be there.
     fn rest(&self) {
         self.clock.rest(Duration::from_millis(WAIT_MS));
     }
@@ -157,16 +223,21 @@ impl<C: Timer + Drop, W: Wire + Drop> UdpEar<C, W> {
         ensures came { SaysWhatCame result came }
         ensures counted_so { CountsFault result self.old.faults self.new.faults }
         ensures unread { CountsUnread result (C.unread self.old.clock) (C.unread self.new.clock) }
+        ensures last_came { self.new.came ≡ last_came result self.old.came }
         ensures same { self.new ≡ record self.old {
           clock = self.new.clock;
           last = self.new.last;
+          came = self.new.came;
           faults = self.new.faults;
         } }
     {
         match self.read_moment() {
             Ok(_) if self.is_over() => Heard::End,
             Ok(at) => match came {
-                Some((from, bytes)) => Heard::Datagram { from, at, bytes },
+                Some((from, bytes)) => {
+                    self.came = Some(at);
+                    Heard::Datagram { from, at, bytes }
+                }
                 None => Heard::Quiet { at },
             },
             Err(_) => self.fault(),
@@ -206,10 +277,15 @@ impl<C: Timer + Drop, W: Wire + Drop> Ear for UdpEar<C, W> {
         ensures counted_so { CountsFault result self.old.faults self.new.faults }
         ensures same_start { self.new.start ≡ self.old.start }
         ensures same_end { self.new.until ≡ self.old.until }
+
+        // How long its socket waits for that.
+        ensures waits { ChoosesWait self.old (W.waits self.old.wire) result
+            self.new (W.waits self.new.wire) }
     {
         if self.is_over() {
             return Heard::End;
         }
+        self.choose_wait();
         match self.take_next() {
             Ok(came) => self.tell(came),
             Err(_) => self.fault(),

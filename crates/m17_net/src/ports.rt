@@ -25,12 +25,14 @@ use std::time::{Clock, Duration, Instant};
 use std::{fs, io};
 
 /// Links on UDP sockets, and books in files, of the system that `rt` stands for. Each link and each book has the number
-/// of the call that made it. A book's writes are made by a thread of its own, which `staff` starts before the book is asked
+/// of the call that made it. The ears may rest where these ports were told so: whoever hears several of them in turn lets them
+/// not, since one that waits long would keep the others waiting. A book's writes are made by a thread of its own, which `staff` starts before the book is asked
 /// for, and `m17_disk::settle` ends.
 #[derive(Drop)]
 pub struct UdpPorts<R: Drop> {
     rt: R,
     start: Option<Instant>,
+    rests: bool,
     calls: u64,
     faults: u64,
     spares: Vec<Spare<R>>,
@@ -51,6 +53,7 @@ impl<R: Drop> Model for UdpPorts<R> {
 
     ghost view = { λ p. record {
       start = p.start;
+      rests = p.rests;
       calls = p.calls;
       faults = p.faults;
     } };
@@ -59,13 +62,16 @@ impl<R: Drop> Model for UdpPorts<R> {
 impl<R: Net + Files<File = File> + Clock + AllocGlobal + Copy + Drop> UdpPorts<R> {
     ghost use Rattle.m17_net.specs.Devices.{PortsKept};
 
-    /// Ports that were asked for nothing yet. The moments of their ears are counted from now.
-    pub fn new(rt: R) -> UdpPorts<R>
-        ensures { result ≡ record { start = result.start; calls = 0; faults = 0 } }
+    /// Ports that were asked for nothing yet. The moments of their ears are counted from now, and these wait long where nobody
+    /// is there if `rests` is true.
+    pub fn new(rt: R, rests: bool) -> UdpPorts<R>
+        ensures { result
+            ≡ record { start = result.start; rests = rests; calls = 0; faults = 0 } }
     {
         UdpPorts {
             rt,
             start: Instant::now(&rt).ok(),
+            rests,
             calls: 0,
             faults: 0,
             spares: Vec::new(rt.alloc()),
@@ -105,13 +111,14 @@ impl<R: Net + Files<File = File> + Clock + AllocGlobal + Copy + Drop> UdpPorts<R
 
     // A link with this number, bound there.
     fn open(&self, bind: &str, until: Option<u64>, number: u64) -> Option<(UdpEar<R>, UdpMouth)>
-        ensures { IfSome result (IsNewLink bind.now until self.now.start number) }
+        ensures { IfSome result (IsNewLink bind.now until self.now.start
+            self.now.rests number) }
     {
         let start = self.start?;
         let address = bind.parse::<SocketAddr>().ok()?;
         let (ear, mouth) = sockets(&self.rt, address).ok()?;
         Some((
-            UdpEar::new(self.rt, ear, start, until, number),
+            UdpEar::new(self.rt, ear, start, until, self.rests, number),
             UdpMouth::new(mouth, address.is_ipv6(), number),
         ))
     }
@@ -152,7 +159,7 @@ impl<
     }
 }
 
-// A socket that is bound there, twice: neither half waits for longer than an ear may.
+// A socket that is bound there, twice: neither half waits for longer than an ear does while somebody may be there.
 pub(crate) fn sockets<R: Net>(rt: &R, address: SocketAddr) -> io::Result<(UdpSocket, UdpSocket)> {
     let wait = Some(Duration::from_millis(WAIT_MS));
     let socket = rt.bind_udp(address)?;
@@ -195,11 +202,12 @@ impl<
         ensures ear { IfOk result (λ link. IsNewEar self.old.calls (udp_ear_told link.0)) }
         ensures mouth { IfOk result (λ link. IsNewMouth self.old.calls (udp_mouth_told link.1)) }
 
-        // The link is as it was asked for, its moments are counted from the start of the ports, and only the text of an
-        // address is taken.
+        // The link is as it was asked for, its moments are counted from the start of the ports, its ear may wait long where
+        // theirs may, and only the text of an address is taken.
         ensures made { IfOk result
-            (IsNewLink bind.now until self.old.start self.old.calls) }
+            (IsNewLink bind.now until self.old.start self.old.rests self.old.calls) }
         ensures same_start { self.new.start ≡ self.old.start }
+        ensures same_rests { self.new.rests ≡ self.old.rests }
 
         // The call is counted, and so is its failure.
         ensures no_fault { OnOk result (self.new.faults ≡ self.old.faults) }
@@ -219,6 +227,7 @@ impl<
             (udp_ports_told self.new) }
         ensures book { IfOk result (λ book. IsNewBook self.old.calls (queue_told book)) }
         ensures same_start { self.new.start ≡ self.old.start }
+        ensures same_rests { self.new.rests ≡ self.old.rests }
 
         // The call is counted, and so is its failure.
         ensures no_fault { OnOk result (self.new.faults ≡ self.old.faults) }

@@ -31,7 +31,7 @@ fn link<
         + Abort
         + 'static,
 >(rt: R, bind: &str, until: Option<u64>) -> (UdpEar<R>, UdpMouth) {
-    must(&rt, UdpPorts::new(rt).link(bind, until))
+    must(&rt, UdpPorts::new(rt, false).link(bind, until))
 }
 
 // A socket of a test, which waits for a second at the most, and its peer.
@@ -235,7 +235,7 @@ fn text_of<R: Abort>(rt: &R, alloc: Global, socket: &UdpSocket) -> String {
 fn a_port_in_use_and_other_texts_give_no_link(rt: HostRuntime) {
     let (socket, _) = friend(&rt, "127.0.0.1:0");
     let taken = text_of(&rt, rt.alloc(), &socket);
-    let mut ports = UdpPorts::new(rt);
+    let mut ports = UdpPorts::new(rt, false);
     assert!(rt; !gives_link(&mut ports, taken.as_str()) && give_no_link(&mut ports));
     assert!(rt; gives_link(&mut ports, "127.0.0.1:0"));
 }
@@ -298,7 +298,7 @@ fn a_book_is_made_anew_and_holds_what_was_written(rt: HostRuntime) {
         &rt,
         fs::write(&rt, path.as_path(), "what stood there before"),
     );
-    let mut ports = UdpPorts::new(rt);
+    let mut ports = UdpPorts::new(rt, false);
     let hand = must(&rt, ports.staff());
     let written = writes_anew(&rt, &mut ports, path.as_str());
     let settled = settled(&rt, rt.alloc(), hand).is_ok();
@@ -340,7 +340,7 @@ where
 #[test]
 fn a_book_on_a_full_device_fails(rt: HostRuntime) {
     if fs::metadata(&rt, "/dev/full").is_ok() {
-        let mut ports = UdpPorts::new(rt);
+        let mut ports = UdpPorts::new(rt, false);
         let hands = [must(&rt, ports.staff()), must(&rt, ports.staff())];
         let failed = write_to_full(&rt, &mut ports);
         let taken = write_once_to_full(&rt, &mut ports);

@@ -33,6 +33,7 @@ pub(crate) fn take_one<W: Wire>(wire: &mut W) -> Taken
     ensures taken { TakesSo result (W.taken wire.old) (W.taken wire.new) }
     ensures nothing_sent { W.sent wire.new ≡ W.sent wire.old }
     ensures broken { BreaksSo result (W.broken wire.old) (W.broken wire.new) }
+    ensures same_waits { W.waits wire.new ≡ W.waits wire.old }
 {
     let mut bytes = [0u8; ROOM];
     for _ in 0..TRIES {

@@ -43,6 +43,7 @@ struct Seen {
     slept: Cell<u64>,
     reads: Cell<u64>,
     offered: Cell<usize>,
+    waits: Cell<(u64, u64)>,
 }
 
 fn nothing_seen() -> Seen {
@@ -52,6 +53,7 @@ fn nothing_seen() -> Seen {
         slept: Cell::new(0),
         reads: Cell::new(0),
         offered: Cell::new(0),
+        waits: Cell::new((0, 0)),
     }
 }
 
@@ -86,6 +88,8 @@ impl Wire for Scripted<'_> {
 
     ghost unsent = { λ _. None };
 
+    ghost waits = { λ _. None };
+
     fn take(&mut self, into: &mut [u8]) -> io::Result<(usize, SocketAddr)> {
         match self.next() {
             Gives(bytes) => {
@@ -105,6 +109,11 @@ impl Wire for Scripted<'_> {
             }
             Fails(kind) => Err(Error::from(kind)),
         }
+    }
+
+    fn wait_at_most(&mut self, ms: u64) {
+        let (_, told) = self.seen.waits.get();
+        self.seen.waits.set((ms, told.saturating_add(1)));
     }
 }
 
@@ -230,7 +239,7 @@ fn ear_of<'a, R: Abort>(
         answers,
         seen: clock.seen,
     };
-    UdpEar::new(clock, wire, start, until, 0)
+    UdpEar::new(clock, wire, start, until, false, 0)
 }
 
 // What an ear of the tests says: a datagram of these bytes at 10 ms, nothing until this moment, a fault, or the end.
@@ -352,11 +361,81 @@ fn moments_are_whole_milliseconds_since_the_start(rt: HostRuntime) {
         answers: &[WAITED],
         seen: &seen,
     };
-    let mut ear = UdpEar::new(clock, wire, start, Some(15), 0);
+    let mut ear = UdpEar::new(clock, wire, start, Some(15), false, 0);
     for at in [0, 0, 1, 14, 14] {
         assert!(rt; is(ear.hear(), Quiet(at)));
     }
     assert!(rt; is(ear.hear(), Told::End) && is(ear.hear(), Told::End));
+}
+
+// What the socket answers to each call of an ear that ends at 66,000 ms, the moments that the clock reads, the first of them
+// before all calls, and how long the socket is to wait at each call, with how often it was told so.
+const RESTING: [Answer; 9] = [
+    WAITED,
+    WAITED,
+    Gives(b"x"),
+    WAITED,
+    WAITED,
+    WAITED,
+    WAITED,
+    WAITED,
+    WAITED,
+];
+
+const RESTING_NANOS: [u64; 10] = [
+    0,
+    5_000_000_000,
+    10_000_000_000,
+    11_000_000_000,
+    11_020_000_000,
+    50_999_000_000,
+    51_000_000_000,
+    55_000_000_000,
+    56_001_000_000,
+    66_000_000_000,
+];
+
+const RESTING_WAITS: [(u64, u64); 9] = [
+    (5_000, 1),
+    (5_000, 1),
+    (5_000, 1),
+    (20, 2),
+    (20, 2),
+    (20, 2),
+    (5_000, 3),
+    (5_000, 3),
+    (20, 4),
+];
+
+// The waits that the socket of such an ear was told, the last and how many, behind each of nine calls, and whether the ear
+// ended with the ninth.
+fn waits_of<R: Abort>(rt: &R, rests: bool) -> ([(u64, u64); 9], bool) {
+    let seen = nothing_seen();
+    let clock = Hands {
+        nanos: &RESTING_NANOS,
+        seen: &seen,
+    };
+    let start = must(rt, Instant::now(&clock));
+    let wire = Scripted {
+        answers: &RESTING,
+        seen: &seen,
+    };
+    let mut ear = UdpEar::new(clock, wire, start, Some(66_000), rests, 0);
+    let mut waits = [(0, 0); 9];
+    let mut ended = false;
+    for wait in &mut waits {
+        ended = ear.hear() == Heard::End;
+        *wait = seen.waits.get();
+    }
+    (waits, ended)
+}
+
+// An ear that may rest waits long where nothing came yet, and again 40 seconds after a datagram; behind that datagram, and
+// where its end is near, it waits for 20 ms. The socket is told where that changes. An ear that may not tells it nothing.
+#[test]
+fn an_ear_waits_long_where_nobody_is_there(rt: HostRuntime) {
+    assert!(rt; waits_of(&rt, true) == (RESTING_WAITS, true));
+    assert!(rt; waits_of(&rt, false) == ([(0, 0); 9], true));
 }
 
 #[test]
