@@ -187,16 +187,3 @@ module _ {A : Type 0} (f : A → ℕ) (w : A → ℕ) where
       let one = alone (f x) (w x) 0 n (omega arith) (omega (arith, h 0 x refl)) in
       let rest = numbered_sum n xs (λ i y at. h (suc i) y at) in
       let all = sum_by-cons w x xs in omega arith
-
-module _ {A : Type 0} where
-  -- one item more of what is left
-  pub drop_step : (xs : List A) (i : ℕ) (x : A) → slice_get xs i ≡ Some x → drop i xs ≡ x ∷ drop (suc i) xs
-  drop_step [] i x e = absurd (none-some x e)
-  drop_step (y ∷ xs) zero x e = ap (λ (z : A). z ∷ xs) (same_Some y x e)
-  drop_step (y ∷ xs) (suc i) x e = drop_step xs i x e
-
-  pub drop_all : (xs : List A) (i : ℕ) → length xs ≤ i → drop i xs ≡ []
-  drop_all [] zero le = refl
-  drop_all [] (suc i) le = refl
-  drop_all (x ∷ xs) zero le = absurd (omega arith)
-  drop_all (x ∷ xs) (suc i) le = drop_all xs i (omega arith)

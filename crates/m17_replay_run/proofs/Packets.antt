@@ -1,16 +1,17 @@
 -- The verdicts on packets, by the tapes of the modules.
-use Rattle.std.proofs.Common.{◌≡◌, ◌==◌, ℕ, zero, suc, ◌-◌, ◌<◌, Bool, true, false, cond, List, [], ◌∷◌, length, Option, None, Some, inl, inr, sym, subst, refl, ap, ◌∙◌, arith}
-use Rattle.std.specs.Prelude.{◌&&◌, ◌⊎◌, slice_get, nat_le, filter, option_and_then}
+use Rattle.std.proofs.Common.{◌≡◌, ◌==◌, ℕ, zero, suc, ◌+◌, ◌-◌, ◌<◌, Bool, true, false, cond, List, [], ◌∷◌, length, Option, None, Some, inl, inr, sym, subst, refl, ap, ◌∙◌, arith}
+use Rattle.std.specs.Prelude.{◌&&◌, slice_get, nat_le, filter, option_and_then}
 use Rattle.std.specs.Int.{bit_at}
-use Rattle.std.specs.List.{filter_map, range_with_len}
-use Rattle.std.specs.Option.{option_map_or, option_or}
-use Rattle.std.proofs.lemmas.Bool.{and_parts, cases_Bool, cases_eq, eqb-true, eq-eqb, ne_eqb, false≢true, leb-true}
+use Rattle.std.specs.List.{range_with_len}
+use Rattle.std.specs.Option.{option_map_or}
+use Rattle.std.proofs.lemmas.Bool.{and_parts, cases_Bool, eq-eqb, false≢true, leb-true}
 use Rattle.std.proofs.lemmas.Bool.Decides.{nat_tests}
-use Rattle.std.proofs.lemmas.Option.{same_Some, none-some, get_or_from_slice_get}
+use Rattle.std.proofs.lemmas.Option.{get_or_from_slice_get}
 use Rattle.m17_control.specs.declared.event.Body.{Body}
 use Rattle.m17_control.specs.declared.event.Body.TheVariants.{Join, Leave, Packet, Reply, Tick, Stop}
 use Rattle.m17_control.specs.declared.event.Event.{Event}
-use Rattle.m17_control.specs.Modules.{serves, letters_of}
+use Rattle.m17_control.specs.declared.modules.Modules.{Modules}
+use Rattle.m17_control.specs.Modules.{serves, letters_of, letters_before}
 use Rattle.m17_floor.specs.declared.verdict.Verdict.{Verdict}
 use Rattle.m17_floor.specs.Acts.{is_packet as is_packet_act}
 use Rattle.m17_floor.specs.Floor.{verdict_at}
@@ -22,7 +23,7 @@ use Rattle.m17_directory.specs.declared.verdict.Act.TheVariants as act
 use Rattle.m17_directory.specs.declared.verdict.LinkVerdict.{LinkVerdict}
 use Rattle.m17_directory.specs.declared.verdict.LinkVerdict.TheVariants.{Routed}
 use Rattle.m17_directory.specs.Entries.{Entry, Setup}
-use Rattle.m17_directory.specs.Laws.{PacketsAreOfEntries, OnlyServedAreRouted, is_packet, is_packet_for, packet_index}
+use Rattle.m17_directory.specs.Laws.{OnlyServedAreRouted}
 use Rattle.m17_directory.specs.Routed.{link_verdict, routed}
 use Rattle.m17_worker.specs.Tape.{is_packet_of, position_of, verdict_on}
 use Rattle.m17_plan.specs.declared.plan.Plan.{Plan}
@@ -30,8 +31,8 @@ use Rattle.m17_house.specs.Replay.{is_packet_body, is_packet_from, verdict_among
 use Rattle.m17_plan.specs.Planned.{setup_of, module_setup}
 use Rattle.m17_reflect.specs.Links.{letter_of}
 use Rattle.m17_reflect.specs.Run.{module_count}
-use Rattle.m17_replay_run.specs.Tapes.{cell_at, packet_on}
-use Rattle.m17_replay_run.proofs.Lists.{IsIn, at_below, below_at, in_filter, in_given, kept_passes, range_has}
+use Rattle.m17_replay_run.specs.Tapes.{cell_at, cell_for, packet_by}
+use Rattle.m17_replay_run.proofs.Lists.{at_below, below_at}
 
 -- a packet, in the words of the floor, of the house and of the directory
 packet_bodies : (body : Body) → is_packet_act (kind_of body) ≡ is_packet_body body
@@ -41,14 +42,6 @@ packet_bodies (Packet k p) = refl
 packet_bodies (Reply k control) = refl
 packet_bodies Tick = refl
 packet_bodies Stop = refl
-
-packet_there : (body : Body) → is_packet_body body ≡ true → is_packet body ≡ true
-packet_there (Join k x callsign listen after) e = absurd (false≢true e)
-packet_there (Leave k why) e = absurd (false≢true e)
-packet_there (Packet k p) e = refl
-packet_there (Reply k control) e = absurd (false≢true e)
-packet_there Tick e = absurd (false≢true e)
-packet_there Stop e = absurd (false≢true e)
 
 swapped : (a b : ℕ) → (a == b) ≡ (b == a)
 swapped a b = grind (arith, nat_tests)
@@ -71,35 +64,38 @@ verdict_same made n events none =
     (last_below_same (λ i. option_map_or (is_packet_of n) (slice_get events i) false) (λ i. is_packet_from n (slice_get events i)) (length events)
     (λ i lt. cell_same n (slice_get events i) (none i)))
 
-index_there : (b : Bool) (event : Event) (n : ℕ) → b ≡ true → event.tag.index ≡ n → cond b (Some event.tag.index) None ≡ Some n
-index_there true event n e is = ap Some is
-index_there false event n e is = absurd cc
+first_step : (x : ℕ) (rest : List ℕ) (b : Bool) → b ≡ true → slice_get (cond b (x ∷ rest) rest) 0 ≡ Some x
+first_step x rest true e = refl
+first_step x rest false e = absurd (false≢true e)
 
-not_true : (b : Bool) → (b ≡ true → ⊥) → b ≡ false
-not_true true never = absurd (never refl)
-not_true false never = refl
+later_step : (x : ℕ) (front all : List ℕ) (b : Bool) → slice_get (cond b (x ∷ all) all) (length (cond b (x ∷ front) front)) ≡ slice_get all (length front)
+later_step x front all true = refl
+later_step x front all false = refl
 
-no_from : (n : ℕ) (o : Option Event) → ((event : Event) → o ≡ Some event → is_packet_from n (Some event) ≡ true → ⊥) → is_packet_from n o ≡ false
-no_from n None never = refl
-no_from n (Some event) never = not_true (is_packet_from n (Some event)) (never event refl)
+-- what passes stands behind all that passes before it
+ranked : (p : ℕ → Bool) (a k n : ℕ) → k < n → p (a + k) ≡ true → slice_get (filter p (range_with_len a n)) (length (filter p (range_with_len a k))) ≡ Some (a + k)
+ranked p a k zero lt is = absurd (omega arith)
+ranked p a zero (suc n) lt is =
+    let here : a ≡ a + 0 = omega arith in
+    first_step a (filter p (range_with_len (a + 1) n)) (p a) (ap p here ∙ is) ∙ ap Some here
+ranked p a (suc k) (suc n) lt is =
+    let there : a + 1 + k ≡ a + suc k = omega arith in
+    later_step a (filter p (range_with_len (a + 1) k)) (filter p (range_with_len (a + 1) n)) (p a)
+    ∙ ranked p (a + 1) k n (omega (arith, lt)) (ap p there ∙ is)
+    ∙ ap Some there
 
-module _ (of_entries : PacketsAreOfEntries) (served : OnlyServedAreRouted) (plan : Plan) (entries : List Entry) where
+-- a served letter stands behind those before it
+letter_ranked : (modules : Modules) (letter : ℕ) → serves modules letter ≡ true → slice_get (letters_of modules) (length (letters_before modules letter)) ≡ Some letter
+unfolding serves
+letter_ranked modules letter e =
+    let (both, bit) = and_parts (nat_le 65 letter && nat_le letter 90) (bit_at modules.0 (letter - 65) == 1) e in
+    let (low, high) = and_parts (nat_le 65 letter) (nat_le letter 90) both in
+    let here : 65 + (letter - 65) ≡ letter = omega (arith, leb-true 65 letter low) in
+    ranked (serves modules) 65 (letter - 65) 26 (omega (arith, leb-true letter 90 high)) (ap (serves modules) here ∙ e) ∙ ap Some here
+
+module _ (served : OnlyServedAreRouted) (plan : Plan) (entries : List Entry) where
   abbrev setup : Setup
   setup = setup_of plan
-
-  -- no packet of an entry is among the events of a module for which it is none
-  none_among : (letter n : ℕ) → is_packet_for letter (link_verdict setup entries n) ≡ false → verdict_among (module_setup plan letter) n (routed setup entries letter) ≡ None
-  none_among letter n other =
-      let events : List Event = routed setup entries letter in
-      ap (option_and_then (verdict_at (floor_setup (module_setup plan letter)) (acts_of events)))
-      (last_below_none (λ i. is_packet_from n (slice_get events i)) (length events) (λ i lt.
-      no_from n (slice_get events i) (λ event at is.
-      let parts = and_parts (event.tag.index == n) (is_packet_body event.body) is in
-      let there : IsIn (filter_map packet_index events) n =
-      in_given packet_index events i event n at (index_there (is_packet event.body) event n (packet_there event.body parts.1) (eqb-true event.tag.index n parts.0)) in
-      let kept : IsIn (filter (λ m. is_packet_for letter (link_verdict setup entries m)) (range_with_len 0 (length entries))) n =
-      subst (λ (l : List ℕ). IsIn l n) (of_entries setup entries letter) there in
-      false≢true (sym other ∙ kept_passes (λ m. is_packet_for letter (link_verdict setup entries m)) (range_with_len 0 (length entries)) kept.0 n kept.1))))
 
   -- nothing is among the events of a module that is not served
   unserved : (letter n : ℕ) → serves plan.modules letter ≡ false → verdict_among (module_setup plan letter) n (routed setup entries letter) ≡ None
@@ -107,72 +103,37 @@ module _ (of_entries : PacketsAreOfEntries) (served : OnlyServedAreRouted) (plan
       ap (verdict_among (module_setup plan letter) n) (served setup entries letter e)
       ∙ ap (option_and_then (verdict_at (floor_setup (module_setup plan letter)) (acts_of []))) (last_below_none (λ i. is_packet_from n (slice_get [] i)) 0 (λ i lt. absurd (omega arith)))
 
-  -- a served letter stands at the number of some module
-  letter_there : (letter : ℕ) → serves plan.modules letter ≡ true → (m : ℕ) × (m < module_count plan) × (letter_of plan m ≡ letter)
-  unfolding serves
-  letter_there letter e =
-      let (both, bit) = and_parts (nat_le 65 letter && nat_le letter 90) (bit_at plan.modules.0 (letter - 65) == 1) e in
-      let (low, high) = and_parts (nat_le 65 letter) (nat_le letter 90) both in
-      let at = range_has 65 26 letter (leb-true 65 letter low) (omega (arith, leb-true letter 90 high)) in
-      let (m, there) = in_filter (serves plan.modules) (range_with_len 65 26) at.0 letter at.1 e in
-      (m, below_at (letters_of plan.modules) m letter there, get_or_from_slice_get (letters_of plan.modules) m letter 0 there)
-
   -- The tapes of the modules have the verdicts of an entry's packet.
   pub record AreCells (tapes : List (List (Option Verdict))) (n : ℕ) : Type 0 where
     pub count : length tapes ≡ module_count plan
     pub each : (m : ℕ) (tape : List (Option Verdict)) → slice_get tapes m ≡ Some tape → cell_at tape n ≡ verdict_among (module_setup plan (letter_of plan m)) n (routed setup entries (letter_of plan m))
 
-  none_on : (tapes : List (List (Option Verdict))) (n : ℕ) → ((m : ℕ) (tape : List (Option Verdict)) → slice_get tapes m ≡ Some tape → cell_at tape n ≡ None) → packet_on tapes n ≡ None
-  none_on [] n h = refl
-  none_on (tape ∷ tapes) n h = ap (λ o. option_or o (packet_on tapes n)) (h 0 tape refl) ∙ none_on tapes n (λ m t at. h (suc m) t at)
-
-  -- one tape has something, and no other anything else
-  one_on : (tapes : List (List (Option Verdict))) (n : ℕ) (v : Verdict) → ((m : ℕ) (tape : List (Option Verdict)) → slice_get tapes m ≡ Some tape → (cell_at tape n ≡ None) ⊎ (cell_at tape n ≡ Some v)) → (m : ℕ) (tape : List (Option Verdict)) → slice_get tapes m ≡ Some tape → cell_at tape n ≡ Some v → packet_on tapes n ≡ Some v
-  one_on [] n v h m tape at is = absurd (none-some tape at)
-  one_on (t ∷ tapes) n v h zero tape at is =
-      ap (λ o. option_or o (packet_on tapes n)) (ap (λ (t : List (Option Verdict)). cell_at t n) (same_Some t tape at) ∙ is)
-  one_on (t ∷ tapes) n v h (suc m) tape at is = elim (h 0 t refl) [
-    | inl none ↦ ap (λ o. option_or o (packet_on tapes n)) none ∙ one_on tapes n v (λ j u there. h (suc j) u there) m tape at is
-    | inr some ↦ ap (λ o. option_or o (packet_on tapes n)) some
-  ]
-
   module _ (tapes : List (List (Option Verdict))) (n : ℕ) (h : AreCells tapes n) where
-    -- the verdict on a packet for one module
-    here_or_none : (letter : ℕ) → link_verdict setup entries n ≡ Routed letter act.Packet → (m : ℕ) → (verdict_among (module_setup plan (letter_of plan m)) n (routed setup entries (letter_of plan m)) ≡ None) ⊎ (letter_of plan m ≡ letter)
-    here_or_none letter is m = elim (cases_eq letter (letter_of plan m)) [
-      | inl same ↦ inr (sym same)
-      | inr other ↦ inl (none_among (letter_of plan m) n (ap (is_packet_for (letter_of plan m)) is ∙ ne_eqb letter (letter_of plan m) other))
-    ]
+    -- the verdict of a module that is served
+    in_place : (letter : ℕ) → serves plan.modules letter ≡ true
+        → option_and_then (λ (tape : List (Option Verdict)). cell_at tape n) (slice_get tapes (length (letters_before plan.modules letter)))
+        ≡ verdict_among (module_setup plan letter) n (routed setup entries letter)
+    in_place letter e =
+        let m : ℕ = length (letters_before plan.modules letter) in
+        let there : slice_get (letters_of plan.modules) m ≡ Some letter = letter_ranked plan.modules letter e in
+        let (tape, at) = at_below tapes m (omega (arith, h.count, below_at (letters_of plan.modules) m letter there)) in
+        ap (option_and_then (λ (tape : List (Option Verdict)). cell_at tape n)) at
+        ∙ h.each m tape at
+        ∙ ap (λ l. verdict_among (module_setup plan l) n (routed setup entries l)) (get_or_from_slice_get (letters_of plan.modules) m letter 0 there)
 
-    cell_or_none : (letter : ℕ) → link_verdict setup entries n ≡ Routed letter act.Packet → (v : Option Verdict) → verdict_among (module_setup plan letter) n (routed setup entries letter) ≡ v → (m : ℕ) (tape : List (Option Verdict)) → slice_get tapes m ≡ Some tape → (cell_at tape n ≡ None) ⊎ (cell_at tape n ≡ v)
-    cell_or_none letter is v e m tape at = elim (here_or_none letter is m) [
-      | inl none ↦ inl (h.each m tape at ∙ none)
-      | inr same ↦ inr (h.each m tape at ∙ ap (λ l. verdict_among (module_setup plan l) n (routed setup entries l)) same ∙ e)
-    ]
+    by_letter : (letter : ℕ) → cell_for plan.modules tapes letter n ≡ verdict_among (module_setup plan letter) n (routed setup entries letter)
+    by_letter letter =
+        let cell : Option Verdict = option_and_then (λ (tape : List (Option Verdict)). cell_at tape n) (slice_get tapes (length (letters_before plan.modules letter))) in
+        elim (cases_Bool (serves plan.modules letter)) [
+          | inl there ↦ ap (λ b. cond b cell None) there ∙ in_place letter there
+          | inr away ↦ ap (λ b. cond b cell None) away ∙ sym (unserved letter n away)
+        ]
 
-    same_none : (c : Option Verdict) → (c ≡ None) ⊎ (c ≡ None) → c ≡ None
-    same_none c (inl none) = none
-    same_none c (inr none) = none
-
-    of_packet : (letter : ℕ) → link_verdict setup entries n ≡ Routed letter act.Packet → (v : Option Verdict) → verdict_among (module_setup plan letter) n (routed setup entries letter) ≡ v → packet_on tapes n ≡ v
-    of_packet letter is None e = none_on tapes n (λ m tape at. same_none (cell_at tape n) (cell_or_none letter is None e m tape at))
-    of_packet letter is (Some v) e = elim (cases_Bool (serves plan.modules letter)) [
-      | inr away ↦ absurd (let both : None ≡ Some v = sym (unserved letter n away) ∙ e in cc)
-      | inl there ↦
-          let (m, lt, same) = letter_there letter there in
-          let (tape, at) = at_below tapes m (omega (arith, h.count)) in
-          one_on tapes n v (cell_or_none letter is (Some v) e) m tape at
-          (h.each m tape at ∙ ap (λ l. verdict_among (module_setup plan l) n (routed setup entries l)) same ∙ e)
-    ]
-
-    of_none : (v : LinkVerdict) → link_verdict setup entries n ≡ v → ((letter : ℕ) → is_packet_for letter v ≡ false) → packet_on tapes n ≡ None
-    of_none v is other = none_on tapes n (λ m tape at. h.each m tape at ∙ none_among (letter_of plan m) n (ap (is_packet_for (letter_of plan m)) is ∙ other (letter_of plan m)))
-
-    by_verdict : (v : LinkVerdict) → link_verdict setup entries n ≡ v → packet_on tapes n ≡ verdict_routed plan entries n v
-    by_verdict (Routed letter act.Packet) is = of_packet letter is (verdict_among (module_setup plan letter) n (routed setup entries letter)) refl
-    by_verdict v is = of_none v is (λ letter. refl)
+    by_verdict : (v : LinkVerdict) → packet_by plan.modules tapes n v ≡ verdict_routed plan entries n v
+    by_verdict (Routed letter act.Packet) = by_letter letter
+    by_verdict v = refl
 
     -- The tapes have the verdict on the entry's packet.
-    pub packet_is : packet_on tapes n ≡ packet_verdict plan entries n
+    pub packet_is : packet_by plan.modules tapes n (link_verdict setup entries n) ≡ packet_verdict plan entries n
     unfolding packet_verdict
-    packet_is = by_verdict (link_verdict setup entries n) refl
+    packet_is = by_verdict (link_verdict setup entries n)

@@ -32,12 +32,12 @@ use Rattle.m17_reflect.specs.Run.{Run}
 use Rattle.m17_reflect.specs.Trails.{events_of}
 use Rattle.m17_replay_run.specs.Ending.{HasAnEnd}
 use Rattle.m17_replay_run.specs.Known.{Laws}
-use Rattle.m17_replay_run.specs.Tapes.{IsFilledInOrder, cell_at, packet_on}
+use Rattle.m17_replay_run.specs.Tapes.{IsFilledInOrder, cell_at, packet_by, packet_on}
 use Rattle.m17_replay_run.proofs.Alone.{IsAlone, HasRun, has_run}
 use Rattle.m17_replay_run.proofs.Freely.{is_free, is_link, link_at}
 use Rattle.m17_replay_run.proofs.Lists.{at_below, below_at, map_range, mapped_one, one_of}
 use Rattle.m17_replay_run.proofs.Packets.{AreCells, packet_is, verdict_same}
-use Rattle.m17_replay_run.proofs.TapeSteps.{in_order}
+use Rattle.m17_replay_run.proofs.TapeSteps.{in_order, range_there}
 use Rattle.m17_replay_run.proofs.Taped.{verdicts_are}
 use Rattle.m17_replay_run.proofs.Told.{of_link, tallies_are, trail_is}
 
@@ -53,7 +53,7 @@ pub record IsTakenApart {E M B : Type 0} (run : Run E M B) (verdicts : List Link
   pub tape : List (Option LinkVerdict)
   pub tapes : run.handed.link_tapes ≡ tape ∷ []
   pub verdicts_are : verdicts ≡ filter_map (λ (cell : Option LinkVerdict). cell) tape
-  pub packets_are : packets ≡ map (packet_on run.handed.tapes) (range_with_len 0 (length verdicts))
+  pub packets_are : packets ≡ map (packet_on run.plan.modules run.handed.tapes verdicts) (range_with_len 0 (length verdicts))
   pub before : MouthTold M
   pub after : MouthTold M
   pub is_before : run.before.mouths ≡ before ∷ []
@@ -85,7 +85,7 @@ module _ {E M B : Type 0} (laws : Laws) (run : Run E M B) (script : List Heard) 
       ∙ ap (λ es. verdict_on (setup_at plan m) es n) is
       ∙ verdict_same (setup_at plan m) n (routed (setup_of plan) entries (letter_of plan m)) (of_link laws run script alone h (letter_of plan m))
 
-  are_cells : (n : ℕ) → n < length entries → AreCells laws.of_entries laws.served plan entries run.handed.tapes n
+  are_cells : (n : ℕ) → n < length entries → AreCells laws.served plan entries run.handed.tapes n
   are_cells n lt = record {
     count = h.carried.judged.tape_count;
     each = λ m tape at.
@@ -103,9 +103,12 @@ module _ {E M B : Type 0} (laws : Laws) (run : Run E M B) (script : List Heard) 
         entries = entries;
         replay = is_free run script alone h laws.fit;
         each = each;
-        each_packet = t.packets_are ∙ ap (λ k. map (packet_on run.handed.tapes) (range_with_len 0 k)) many
-            ∙ map_range (packet_on run.handed.tapes) (packet_verdict plan entries) 0 (length entries)
-            (λ n from below. packet_is laws.of_entries laws.served plan entries run.handed.tapes n (are_cells n (omega arith)));
+        each_packet = t.packets_are ∙ ap (λ k. map (packet_on plan.modules run.handed.tapes verdicts) (range_with_len 0 k)) many
+            ∙ map_range (packet_on plan.modules run.handed.tapes verdicts) (packet_verdict plan entries) 0 (length entries)
+            (λ n from below. let lt : n < length entries = omega arith in
+            ap (option_and_then (packet_by plan.modules run.handed.tapes n))
+            (ap (λ (l : List LinkVerdict). slice_get l n) each ∙ range_there (link_verdict (setup_of plan) entries) n (length entries) lt)
+            ∙ packet_is laws.served plan entries run.handed.tapes n (are_cells n lt));
         tallies = λ x tally is. tallies_are laws run script alone h t.before t.after t.is_before t.is_after t.sound t.still t.nothing x tally (t.told x ∙ is);
       }
 

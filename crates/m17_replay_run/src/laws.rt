@@ -11,7 +11,6 @@ pub(crate) fn known_laws()
     ensures { Laws }
 {
     directory::others_fit_the_places();
-    directory::packets_are_of_entries();
     directory::only_served_are_routed();
     directory::route_carries_link();
     module::items_are_at_places();

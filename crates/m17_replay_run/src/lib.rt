@@ -8,6 +8,8 @@
 
 mod devices;
 mod laws;
+#[cfg(test)]
+mod long_tests;
 mod outcomes;
 mod replaying;
 #[cfg(test)]

@@ -1,8 +1,9 @@
 //! What each entry came to, read off the tapes of a run.
 ghost use Rattle.std.specs.Prelude.{◌≡◌, ◌<◌, Some, count_by, is_some, length, map, slice_get};
-ghost use Rattle.m17_replay_run.specs.Tapes.{cell_at, packet_on};
+ghost use Rattle.m17_replay_run.specs.Tapes.{cell_at, cell_for, packet_by};
 
-use m17_directory::LinkVerdict;
+use m17_control::Modules;
+use m17_directory::{Act, LinkVerdict};
 use m17_floor::Verdict;
 use std::marker::Model;
 
@@ -11,9 +12,11 @@ use std::marker::Model;
 /// routed to a module as one.
 #[derive(Drop)]
 pub struct Outcomes {
+    // The modules that are served.
+    served: Modules,
     // The link's tape, whose first cells have the verdicts.
     link: Vec<Option<LinkVerdict>>,
-    // The tape of each module.
+    // The tape of each of them, in the order of letters.
     modules: Vec<Vec<Option<Verdict>>>,
 }
 
@@ -23,7 +26,7 @@ impl Model for Outcomes {
 
     ghost Value = { OutcomesKept };
 
-    ghost view = { λ o. outcomes_on o.link.items (map (λ tape. tape.items) o.modules.items) };
+    ghost view = { λ o. outcomes_on o.served o.link.items (map (λ tape. tape.items) o.modules.items) };
 
     ghost invariant = { λ o. IsFilledInOrder o.link.items };
 }
@@ -31,12 +34,21 @@ impl Model for Outcomes {
 impl Outcomes {
     ghost use Rattle.m17_replay_run.specs.Tapes.{IsFilledInOrder, outcomes_on};
 
-    // What these tapes have.
-    pub(crate) fn of(link: Vec<Option<LinkVerdict>>, modules: Vec<Vec<Option<Verdict>>>) -> Outcomes
+    // What these tapes have, of a link and of the modules that are served.
+    pub(crate) fn of(
+        served: Modules,
+        link: Vec<Option<LinkVerdict>>,
+        modules: Vec<Vec<Option<Verdict>>>,
+    ) -> Outcomes
         requires { IsFilledInOrder link.items }
-        ensures { result ≡ outcomes_on link.items (map (λ tape. tape.items) modules.items) }
+        ensures { result
+            ≡ outcomes_on served link.items (map (λ tape. tape.items) modules.items) }
     {
-        Outcomes { link, modules }
+        Outcomes {
+            served,
+            link,
+            modules,
+        }
     }
 
     /// How many entries were heard.
@@ -63,7 +75,10 @@ impl Outcomes {
         requires heard { n < length self.now.packets }
         ensures { slice_get self.now.packets n ≡ Some result }
     {
-        packet_verdict(&self.modules, n)
+        match &self.link[n] {
+            Some(verdict) => packet_verdict(&self.served, &self.modules, n, verdict),
+            None => unreachable!(),
+        }
     }
 }
 
@@ -84,15 +99,39 @@ fn cell_of(tape: &[Option<Verdict>], n: usize) -> Option<Verdict>
     }
 }
 
-// The verdict on the packet of entry `n`, by the tapes of the modules.
-fn packet_verdict(tapes: &[Vec<Option<Verdict>>], n: usize) -> Option<Verdict>
-    ensures { result ≡ packet_on (map (λ tape. tape.items) tapes.now) n }
+// The verdict on the packet of entry `n`, which came to this.
+fn packet_verdict(
+    served: &Modules,
+    tapes: &[Vec<Option<Verdict>>],
+    n: usize,
+    verdict: &LinkVerdict,
+) -> Option<Verdict>
+    ensures { result
+        ≡ packet_by served.now (map (λ tape. tape.items) tapes.now) n verdict.now }
 {
-    for tape in tapes {
-        let cell = cell_of(tape, n);
-        if cell.is_some() {
-            return cell;
-        }
+    match verdict {
+        LinkVerdict::Routed {
+            module,
+            act: Act::Packet,
+        } => cell_of_module(served, tapes, module.byte(), n),
+        _ => None,
     }
-    None
+}
+
+// What the tape of the module with this letter has for entry `n`; nothing where it is not served.
+fn cell_of_module(
+    served: &Modules,
+    tapes: &[Vec<Option<Verdict>>],
+    letter: u8,
+    n: usize,
+) -> Option<Verdict>
+    ensures { result ≡ cell_for served.now (map (λ tape. tape.items) tapes.now) letter n }
+{
+    match served.rank(letter) {
+        Some(at) => match tapes.get(at) {
+            Some(tape) => cell_of(tape, n),
+            None => None,
+        },
+        None => None,
+    }
 }

@@ -12,6 +12,7 @@ ghost use Rattle.m17_replay_run.specs.Tapes.{IsFilledInOrder, outcomes_on};
 use crate::devices::{Rooms, make_rooms};
 use crate::laws::known_laws;
 use crate::outcomes::Outcomes;
+use m17_control::Modules;
 use m17_crew::Crew;
 use m17_plan::Plan;
 use m17_port_memory::{ListBook, ScriptEar, TallyMouth};
@@ -67,15 +68,15 @@ fn patient_plan(plan: &Plan, entries: u32) -> Plan
     }
 }
 
-// What is left of a run over one link. The lanes and all else that it handed back are let go.
-fn take_apart(returned: Returned<ScriptEar, TallyMouth, Shelf<ListBook>>) -> Replay
+// What is left of a run over one link, with these modules. The lanes and all else that it handed back are let go.
+fn take_apart(served: Modules, returned: Returned<ScriptEar, TallyMouth, Shelf<ListBook>>) -> Replay
     requires ear { (ear : _) × (returned.ears.items ≡ ear ∷ []) }
     requires mouth { (mouth : _) × (returned.mouths.items ≡ mouth ∷ []) }
     requires tape { (tape : _) × (returned.link_tapes.items ≡ tape ∷ [])
         × IsFilledInOrder tape.items }
     ensures heard { map (λ ear. ear.script) returned.ears.items ≡ result.heard.items ∷ [] }
     ensures mouth { returned.mouths.items ≡ result.mouth ∷ [] }
-    ensures outcomes { map (λ tape. outcomes_on tape.items
+    ensures outcomes { map (λ tape. outcomes_on served tape.items
         (map (λ tape. tape.items) returned.tapes.items)) returned.link_tapes.items
         ≡ result.outcomes ∷ [] }
 {
@@ -90,7 +91,7 @@ fn take_apart(returned: Returned<ScriptEar, TallyMouth, Shelf<ListBook>>) -> Rep
     let mouth = mouths.pop().unwrap();
     let tape = link_tapes.pop().unwrap();
     Replay {
-        outcomes: Outcomes::of(tape, tapes),
+        outcomes: Outcomes::of(served, tape, tapes),
         mouth,
         heard: ear.into_script(),
     }
@@ -175,7 +176,7 @@ pub fn replay_over_threads<C: Crew, R: Threads + Wait + Copy + Send + 'static>(
     ears.push_reserved(ScriptEar::new(heard));
     mouths.push_reserved(mouth);
     match reflect(rt, alloc, &patient, ears, mouths, traces, books, crew) {
-        Ok(returned) => Ok(take_apart(returned)),
+        Ok(returned) => Ok(take_apart(patient.modules, returned)),
         Err(refused) => Err(hand_back(refused)),
     }
 }

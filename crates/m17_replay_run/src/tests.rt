@@ -20,7 +20,7 @@ use std::sync::Wait;
 use std::thread::Threads;
 
 // What was made. Where it was not, the test ends.
-fn must<T, E: Drop, R: Abort>(rt: &R, made: Result<T, E>) -> T
+pub(crate) fn must<T, E: Drop, R: Abort>(rt: &R, made: Result<T, E>) -> T
     ensures { made ≡ Ok result }
 {
     made.ok().expect(rt, "made")
@@ -59,7 +59,7 @@ fn peer(number: u8) -> Peer {
     }
 }
 
-fn call(rt: &impl Abort) -> CallAddress {
+pub(crate) fn call(rt: &impl Abort) -> CallAddress {
     let address = encode("AB1CD").ok().expect(rt, "an address");
     CallAddress::new(address).expect(rt, "a callsign")
 }
@@ -98,13 +98,13 @@ fn heard(rt: &impl Abort, row: &Row) -> Heard {
     }
 }
 
-// A reflector with the modules A, B and C, and so many places.
-fn plan(rt: &impl Abort, places: u32) -> Plan
+// A reflector with these modules, and so many places.
+pub(crate) fn plan(rt: &impl Abort, letters: &str, places: u32) -> Plan
     requires { (0 < places) × (places < 257) }
     ensures { IsPlan result }
 {
-    let modules = Modules::read("ABC").ok().expect(rt, "modules");
-    assert!(rt; modules.count() == 3);
+    let modules = Modules::read(letters).ok().expect(rt, "modules");
+    assert!(rt; modules.count() != 0);
     Plan {
         name: call(rt),
         modules,
@@ -141,7 +141,7 @@ fn peers() -> [Peer; 4] {
     [peer(1), peer(2), peer(3), peer(4)]
 }
 
-// What the plain replay comes to: the verdicts, those on packets, and the tallies of the peers 1 to 4.
+// What the plain replay comes to: the verdicts, those on packets, and the tallies of these peers.
 #[derive(Drop)]
 struct Plain {
     verdicts: Vec<LinkVerdict>,
@@ -149,11 +149,11 @@ struct Plain {
     mouth: TallyMouth,
 }
 
-fn plainly(rt: &impl Abort, alloc: Global, plan: &Plan, entries: &[Heard]) -> Plain
+fn plainly(rt: &impl Abort, alloc: Global, plan: &Plan, entries: &[Heard], peers: &[Peer]) -> Plain
     requires plan { IsPlan plan.now }
     requires ends { EndsSomewhere entries.now }
 {
-    let mut mouth = tallying(rt, alloc, &peers());
+    let mut mouth = tallying(rt, alloc, peers);
     let (verdicts, packets) = must(rt, replay_plain(alloc, plan, entries, &mut mouth));
     Plain {
         verdicts,
@@ -168,11 +168,12 @@ fn over_threads<R: Threads + Wait + Abort + Copy + Send + 'static>(
     alloc: Global,
     plan: &Plan,
     entries: Vec<Heard>,
+    peers: &[Peer],
 ) -> Replay
     requires plan { IsPlan plan.now }
     requires an_end { HasAnEnd entries.items }
 {
-    let mouth = tallying(rt, alloc, &peers());
+    let mouth = tallying(rt, alloc, peers);
     let mut crew = StdCrew::new();
     must(
         rt,
@@ -181,7 +182,7 @@ fn over_threads<R: Threads + Wait + Abort + Copy + Send + 'static>(
 }
 
 // Both come to the same.
-fn expect_the_same(rt: &impl Abort, plain: &Plain, replay: &Replay) {
+fn expect_the_same(rt: &impl Abort, plain: &Plain, replay: &Replay, peers: &[Peer]) {
     let count = replay.outcomes.count();
     assert!(rt; count == plain.verdicts.len());
     assert!(rt; count == plain.packets.len());
@@ -192,13 +193,35 @@ fn expect_the_same(rt: &impl Abort, plain: &Plain, replay: &Replay) {
         );
         assert!(rt; replay.outcomes.packet(n) == plain.packets[n], "entry {n}");
     }
-    for peer in &peers() {
+    for peer in peers {
         let tally = replay.mouth.tally(peer);
         assert!(rt; tally.is_some() && tally == plain.mouth.tally(peer));
     }
 }
 
-// A replay over threads comes to what the plain one comes to, and all that was to be heard comes back.
+// A replay over threads of these entries comes to what the plain one comes to, for these peers, and all that was to be
+// heard comes back. It says how many of the entries found no place.
+pub(crate) fn full_in_both<R: Threads + Wait + Abort + Copy + Send + 'static>(
+    rt: &R,
+    alloc: Global,
+    plan: &Plan,
+    entries: Vec<Heard>,
+    peers: &[Peer],
+) -> usize
+    requires plan { IsPlan plan.now }
+    requires ends { EndsSomewhere entries.items }
+    requires an_end { HasAnEnd entries.items }
+{
+    let count = entries.len();
+    let plain = plainly(rt, alloc, plan, &entries, peers);
+    let replay = over_threads(rt, alloc, plan, entries, peers);
+    expect_the_same(rt, &plain, &replay, peers);
+    assert!(rt; replay.heard.len() == count);
+    let full = |verdict: &&LinkVerdict| **verdict == LinkVerdict::Full;
+    plain.verdicts.iter().filter(full).count()
+}
+
+// The same of these rows, heard by a reflector of three modules.
 fn expect_the_plain_one<R: Threads + Wait + Abort + Copy + Send + 'static>(
     rt: &R,
     alloc: Global,
@@ -207,12 +230,9 @@ fn expect_the_plain_one<R: Threads + Wait + Abort + Copy + Send + 'static>(
 )
     requires { (0 < places) × (places < 257) }
 {
-    let plan = plan(rt, places);
+    let plan = plan(rt, "ABC", places);
     let entries = entries(rt, alloc, rows);
-    let plain = plainly(rt, alloc, &plan, &entries);
-    let replay = over_threads(rt, alloc, &plan, entries);
-    expect_the_same(rt, &plain, &replay);
-    assert!(rt; replay.heard.len().checked_sub(1) == Some(rows.len()));
+    full_in_both(rt, alloc, &plan, entries, &peers());
 }
 
 #[test]
@@ -283,7 +303,7 @@ fn replay_nothing<C: Crew, R: Threads + Wait + Abort + Copy + Send + 'static>(
     alloc: Global,
     crew: &mut C,
 ) -> Result<Replay, Refused> {
-    let plan = plan(rt, 64);
+    let plan = plan(rt, "ABC", 64);
     let mouth = tallying(rt, alloc, &[peer(1)]);
     replay_over_threads(rt, alloc, &plan, entries(rt, alloc, &[]), mouth, crew)
 }

@@ -97,14 +97,15 @@ returns-in-Ok-reflect-clause-judged g c =
     let v = mapped_one (λ (t : Vec (Option LinkVerdict) Global). t.items) c.in-Ok-reflect.returned.link_tapes.items tape.0 tape.1 in
     let one_mouth : c.push_reserved-2.new.self.items ≡ c.args.mouth ∷ [] = c.push_reserved-2.ensures.items ∙ ap (λ l. l ++ c.args.mouth ∷ []) c.in-Ok-make_rooms.ensures.no_mouth in
     let tapes = lists_of c.in-Ok-reflect.returned.tapes.items in
-    let outcomes : c.take_apart.result.outcomes ≡ outcomes_on tape.0 tapes =
-    head_is c.take_apart.result.outcomes (outcomes_on tape.0 tapes)
-    (sym c.take_apart.ensures.outcomes ∙ ap (map (λ (t : Vec (Option LinkVerdict) Global). outcomes_on t.items tapes)) v.1 ∙ ap (λ l. outcomes_on l tapes ∷ []) v.2) in
+    let served = c.patient_plan-patient.result.modules in
+    let outcomes : c.take_apart.result.outcomes ≡ outcomes_on served tape.0 tapes =
+    head_is c.take_apart.result.outcomes (outcomes_on served tape.0 tapes)
+    (sym c.take_apart.ensures.outcomes ∙ ap (map (λ (t : Vec (Option LinkVerdict) Global). outcomes_on served t.items tapes)) v.1 ∙ ap (λ l. outcomes_on served l tapes ∷ []) v.2) in
     freely_replayed c.known_laws.ensures c.args.plan.now script _ headline over c.take_apart.result.outcomes.verdicts c.take_apart.result.outcomes.packets c.take_apart.result.mouth (record {
       tape = tape.0;
       tapes = tape.1;
       verdicts_are = ap (λ (o : OutcomesKept). o.verdicts) outcomes;
-      packets_are = ap (λ (o : OutcomesKept). o.packets) outcomes ∙ ap (λ (l : List LinkVerdict). map (packet_on tapes) (range_with_len 0 (length l))) (sym (ap (λ (o : OutcomesKept). o.verdicts) outcomes));
+      packets_are = ap (λ (o : OutcomesKept). o.packets) outcomes ∙ ap (λ (l : List LinkVerdict). map (packet_on served tapes l) (range_with_len 0 (length l))) (sym (ap (λ (o : OutcomesKept). o.verdicts) outcomes));
       before = tally_mouth_told c.args.mouth;
       after = tally_mouth_told c.take_apart.result.mouth;
       is_before = ap (map tally_mouth_told) one_mouth;

@@ -14,5 +14,5 @@ returns-clause-packets c =
     let link = c.self.inside.link.items in
     let tapes = map (λ tape. tape.items) c.self.inside.modules.items in
     c.count_filled.ensures ∙ ap (count_by (λ cell. is_some cell)) c.deref.ensures.value ∙ filled_count link
-    ∙ sym (length-map-range_with_len (packet_on tapes) 0 (length (verdicts_on link)))
+    ∙ sym (length-map-range_with_len (packet_on c.self.inside.served tapes (verdicts_on link)) 0 (length (verdicts_on link)))
     ∙ ap (λ (o : OutcomesKept). length o.packets) c.self.view_is
