@@ -1,6 +1,6 @@
 //! That a trace and a book are the same in whatever pieces their bytes come, and how many bytes a book may have.
 use crate::bench::{BOOK, Pieces, TALK, kept, must, source};
-use m17_book::{FormRefusal, Reader, Record, read_book, read_trace};
+use m17_book::{FormRefusal, Reader, Record, read_book, read_book_1, read_trace};
 use m17_io::Source;
 use m17_values::Heard;
 use std::alloc::Global;
@@ -117,4 +117,29 @@ fn a_book_of_too_many_bytes_is_large(rt: HostRuntime) {
     assert!(rt; read == [Err(field), Err(large)]);
     let mut source = source(&rt, alloc, &more, &[]);
     assert!(rt; Reader::new().next(&mut source) == Err(field));
+}
+
+/// A book of this header and so many Leaves.
+fn leaves<R: Abort>(rt: &R, alloc: Global, header: &[u8], count: usize) -> Vec<u8> {
+    let mut bytes = must(rt, header.to_vec(alloc));
+    for _ in 0..count {
+        must(rt, bytes.extend_from_slice(&BOOK.as_slice()[248..]));
+    }
+    bytes
+}
+
+/// How many records a book of version 1 has, or why it is none.
+fn kept_before<R: Abort>(rt: &R, alloc: Global, bytes: &[u8]) -> Result<usize, FormRefusal> {
+    let mut source = source(rt, alloc, bytes, &[]);
+    read_book_1(alloc, &mut source).map(|book| book.1.len())
+}
+
+// No clause says that there is memory for very many records.
+#[test]
+fn a_book_of_70_000_records_is_read(rt: HostRuntime) {
+    let alloc = rt.alloc();
+    let two = leaves(&rt, alloc, &BOOK.as_slice()[..17], 70_000);
+    let one = leaves(&rt, alloc, b"M17BOOK1C", 70_000);
+    let read = [kept(&rt, alloc, &two, &[]), kept_before(&rt, alloc, &one)];
+    assert!(rt; read == [Ok(70_000), Ok(70_000)]);
 }

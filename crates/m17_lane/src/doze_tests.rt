@@ -54,9 +54,11 @@ fn any_other_push_ends_a_doze(rt: HostRuntime) {
     assert!(rt; (quietly, waiting, pushed, trying) == (true, false, Ok(()), false));
 }
 
+// A sleep behind a doze is none: a quiet push that left it asleep would hold the test up for ever.
 #[test]
 fn a_quiet_push_ends_a_sleep(rt: HostRuntime) {
     let (mut pusher, popper) = must(&rt, make_one(rt.alloc(), 64));
+    drop(popper.lane.filled.announce_doze());
     let announced = popper.lane.filled.announce();
     pusher.push_quietly(&rt, 1u8);
     announced.sleep(&rt);

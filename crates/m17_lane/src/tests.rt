@@ -276,6 +276,20 @@ fn each_producers_numbers_come_in_its_order(rt: HostRuntime) {
     assert!(rt; pass_thousands(&rt, rt.alloc(), 1, 50, 300) == (0, None));
 }
 
+// The only producer of a lane for one item sleeps while that is there, and goes on when it was popped: then no more than
+// half of the lane is taken, which is nothing. One that is not woken holds the test up for ever.
+#[test]
+fn a_sleeper_at_a_lane_for_one_item_goes_on(rt: HostRuntime) {
+    let (pusher, popper) = must(&rt, make_one(rt.alloc(), 1));
+    let lend = &rt;
+    let (_, (_, wrong)) = thread::join(
+        lend,
+        move || push_numbers(lend, pusher, 0, 4),
+        move || pop_numbers(lend, popper, 4, 20_000),
+    );
+    assert!(rt; wrong == 0);
+}
+
 // Pushes a number by each end in turn, with a rest before each, so that the consumer is asleep when it comes.
 fn ring_in_turn<R: Wait + Clock>(rt: &R, ends: Three, rounds: u32) {
     let (mut a, mut b, mut c) = ends;

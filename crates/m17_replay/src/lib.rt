@@ -30,4 +30,6 @@ pub use verdict_line::make_verdict_line;
 #[cfg(test)]
 mod lines_tests;
 #[cfg(test)]
+mod many_tests;
+#[cfg(test)]
 mod tests;

@@ -16,7 +16,7 @@ use std::test::Fail;
 use std::thread::Threads;
 
 // A reflector with these modules and so many places, without parrots.
-fn plan(places: u32, letters: &str) -> Result<Plan, Fail>
+pub(crate) fn plan(places: u32, letters: &str) -> Result<Plan, Fail>
     requires { (0 < places) × (places < 257) }
     ensures { IfOk result IsPlan }
 {
@@ -107,7 +107,7 @@ fn expect<R: Threads + Wait + Abort + Copy + Send + 'static>(
     expect_failing(rt, alloc, plan, false, bytes, (&[], &[]), ending, text)
 }
 
-const CONN_A: &[u8] = b"CONN\x00\x00\x00\x9f\xdd\x51A";
+pub(crate) const CONN_A: &[u8] = b"CONN\x00\x00\x00\x9f\xdd\x51A";
 
 const CONN_B: &[u8] = b"CONN\x00\x00\x00\x9f\xdd\x51B";
 

@@ -10,6 +10,8 @@ mod bench;
 #[cfg(test)]
 mod beside_tests;
 #[cfg(test)]
+mod board_tests;
+#[cfg(test)]
 mod faults_tests;
 #[cfg(test)]
 mod limit_tests;

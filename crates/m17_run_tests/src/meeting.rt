@@ -59,18 +59,29 @@ impl Counts {
     }
 }
 
-// A book that keeps nothing. Its first write waits for the other book's, and fails where that doesn't come.
+// A book that keeps nothing. One of its writes shows its own count and waits for the other book's; where that doesn't come,
+// that write fails and all that follow.
 #[derive(Drop)]
 pub(crate) struct MeetingBook {
     counts: Option<Counts>,
+    // How many writes there are before that one.
+    before: u64,
+    awaited: u64,
     met: bool,
 }
 
 impl MeetingBook {
-    // A book that waits by these counts.
+    // A book whose first write waits by these counts.
     pub(crate) fn new(counts: Counts) -> MeetingBook {
+        MeetingBook::behind(counts, 0, 1)
+    }
+
+    // A book that waits so, behind so many writes, until the other count is so high.
+    pub(crate) fn behind(counts: Counts, before: u64, awaited: u64) -> MeetingBook {
         MeetingBook {
             counts: Some(counts),
+            before,
+            awaited,
             met: true,
         }
     }
@@ -79,6 +90,8 @@ impl MeetingBook {
     pub(crate) fn alone() -> MeetingBook {
         MeetingBook {
             counts: None,
+            before: 0,
+            awaited: 0,
             met: true,
         }
     }
@@ -99,8 +112,12 @@ impl Book for MeetingBook {
     ghost faults_fit = { λ _. lit≤ tt };
 
     fn write(&mut self, _bytes: &[u8]) -> Result<(), Failed> {
+        if self.before > 0 {
+            self.before -= 1;
+            return Ok(());
+        }
         if let Some(counts) = self.counts.take() {
-            self.met = counts.meet(1, 1);
+            self.met = counts.meet(1, self.awaited);
         }
         if self.met { Ok(()) } else { Err(Failed) }
     }

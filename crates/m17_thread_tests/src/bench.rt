@@ -41,7 +41,7 @@ fn one<T: Drop, R: Abort>(rt: &R, alloc: Global, a: T) -> Vec<T>
     all
 }
 
-// The queues: each holds one item, and the mark of queue q is q.
+// The queues: each holds four items, and the mark of queue q is q.
 fn lay_queues<R: Abort>(
     rt: &R,
     alloc: Global,
@@ -53,7 +53,7 @@ fn lay_queues<R: Abort>(
     let mut pushers = Vec::new(alloc);
     let mut poppers = Vec::new(alloc);
     for mark in 0..QUEUES {
-        let (pusher, popper) = must(rt, make_one_marked(alloc, bell, mark, 1));
+        let (pusher, popper) = must(rt, make_one_marked(alloc, bell, mark, 4));
         must(rt, pushers.push(pusher));
         must(rt, poppers.push(popper));
     }
