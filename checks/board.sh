@@ -22,7 +22,7 @@ page_of_file() {
 Last change AGE ago
 A | <b>&" | since 21:00:09, AGE; last record 21:00:09; 9 records, 5 packets admitted
 B | AB1CD | since 21:00:04, AGE; last record 21:00:10; 4 records, 3 packets admitted
-1 lines of the file are no lines of a board.
+1 line of the file is no line of a board.
 Read, and again every 2 s.
 TEXT
     cmp got wanted || { cat got; return 1; }
@@ -43,21 +43,85 @@ shows() {
 followed_page() {
     needs python3
     place=$(python3 -c 'import socket; s = socket.socket(); s.bind(("127.0.0.1", 0)); print(s.getsockname()[1])') || return 1
-    timeout 60 "$top/contrib/m17-board" --port "$place" board &
+    timeout 120 "$top/contrib/m17-board" --port "$place" board &
     server=$!
     shows "$place" 'cannot be read: No such file' || return 1
     : >board && shows "$place" 'The board is empty' || return 1
-    printf 'A records 1 admitted 0 at 10 talker none\n' >>board && shows "$place" '^A | nobody | .* 1 records' || return 1
-    printf 'A records 2 admi' >>board && shows "$place" '^A | nobody | .* 1 records' || return 1
-    printf 'tted 1 at 20 talker N0CALL M\n' >>board && shows "$place" '^A | N0CALL M | since .* 2 records, 1 packets' || return 1
+    printf 'A records 1 admitted 0 at 10 talker none\n' >>board && shows "$place" '^A | nobody | .* 1 record, 0 packets' || return 1
+    printf 'A records 2 admi' >>board && shows "$place" '^A | nobody | .* 1 record, 0 packets' || return 1
+    printf 'tted 1 at 20 talker N0CALL M\n' >>board && shows "$place" '^A | N0CALL M | since .* 2 records, 1 packet ' || return 1
     shows "$place" '^Last change [0-9]* s ago' || return 1
     printf 'C records 1 admitted 0 at 5 talker none\n' >new && mv new board && shows "$place" '^C | nobody' || return 1
     ! grep '^A' lines || return 1
+    # Made anew in its place, and longer than before when it is looked at again.
+    printf 'D records %s admitted 1 at 7 talker AB1CD\n' 1 2 3 >board && shows "$place" '^D | AB1CD | .* 3 records, 1 packet ' || return 1
+    ! grep -e '^C' -e 'of the file' lines || return 1
+    # And in its place with other bytes at the same length.
+    printf 'E records %s admitted 1 at 7 talker AB1CD\n' 1 2 3 >board && shows "$place" '^E | AB1CD' && ! grep '^D' lines || return 1
     gives 0 'status 403\n' read_page "http://127.0.0.1:$place/" evil.example && gives 0 'status 404\n' read_page "http://127.0.0.1:$place/x" || return 1
     gives 5 '' timeout 20 "$top/contrib/m17-board" --port "$place" board 2>why || return 1
     kill $server && wait $server
 }
 check "m17-board follows a board that grows and one that is made anew, and answers this machine alone" followed_page
+
+# A board whose moment 0 is at 1,000 seconds has a line of moment 1 s, and a minute later one more, at each place of a read
+# where it may come between: the start is the right one every time.
+line_between() {
+    needs python3
+    python3 -B - "$top/contrib/m17-board" <<'TEXT'
+import importlib.machinery
+import importlib.util
+import os
+import sys
+import types
+
+loader = importlib.machinery.SourceFileLoader("m17_board", sys.argv[1])
+script = importlib.util.module_from_spec(importlib.util.spec_from_loader("m17_board", loader))
+loader.exec_module(script)
+
+
+def write(records, seconds):
+    with open("grown", "ab") as file:
+        file.write(b"A records %d admitted 0 at %d talker none\n" % (records, 1000 * seconds))
+    os.utime("grown", (1000 + seconds, 1000 + seconds))
+
+
+def start_of(place, is_behind):
+    """Reads while the second line is written before or behind this look at the file's times. It says whether that look came."""
+    looks = []
+
+    def fstat(number):
+        looks.append(number)
+        if len(looks) == place and not is_behind:
+            write(2, 61)
+        told = os.fstat(number)
+        if len(looks) == place and is_behind:
+            write(2, 61)
+        return told
+
+    if os.path.exists("grown"):
+        os.remove("grown")
+    write(1, 1)
+    board = script.Board("grown")
+    script.os = types.SimpleNamespace(fstat=fstat, pread=os.pread)
+    assert board.read() is None
+    came = len(looks) >= place
+    shown = board.modules[b"A"]["records"]
+    assert board.start == 1000 and board.changed == (1001 if shown == 1 else 1061), (place, is_behind, vars(board))
+    script.os = os
+    assert board.read() is None and board.start == 1000, (place, is_behind, vars(board))
+    assert not came or board.modules[b"A"]["records"] == 2
+    return came
+
+
+for is_behind in (False, True):
+    place = 1
+    while start_of(place, is_behind):
+        place += 1
+    assert place > 1
+TEXT
+}
+check "m17-board has the right start where a line comes while it reads" line_between
 
 words_of_board() {
     needs python3

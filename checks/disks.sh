@@ -62,3 +62,9 @@ trace_that_hangs() {
     hangs trace 6000 && has let in && has book failed && has status 8 in time
 }
 check "a trace that hangs in a flood keeps nobody out" trace_that_hangs
+
+# Its pipe is full from the start: the watch alone waits.
+board_that_hangs() {
+    hangs board 300 && has heard 300 && has A admitted 300 missed 0 && has book failed && has status 8 in time
+}
+check "a board that hangs holds nobody, and gives 8" board_that_hangs

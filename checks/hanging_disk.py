@@ -6,6 +6,7 @@ is drained in the end, a file for what came out of it. What hangs is one of
     book     the book of module A, while the datagrams are said there as frames
     other    the same, and seven seconds later 300 frames are said in module B
     trace    the trace of the link, while the datagrams are ones that no packet is, and then somebody asks for a place
+    board    the board, whose pipe takes nothing, while the datagrams are said in module A as frames
 
 It prints how many frames were heard, in module B too, or that who asked was let in; what the reflector printed, its status,
 and whether it ended in time. The status is 1 where a talk could not begin.
@@ -24,7 +25,8 @@ sys.path.insert(0, os.path.join(os.path.dirname(os.path.abspath(__file__)), ".."
 from make import address, stream_packet  # noqa: E402
 
 SET_PIPE_SIZE = 1031
-SERVES_SECONDS = {"book": 10, "other": 20, "trace": 14}
+SERVES_SECONDS = {"book": 10, "other": 20, "trace": 14, "board": 5}
+PIPES = {"book": "kept/A.book", "other": "kept/A.book", "trace": "kept/link0.trace", "board": "board"}
 PATIENCE_SECONDS = 30
 BURST = 8
 
@@ -120,9 +122,13 @@ def main():
     os.mkdir("kept")
     if hangs != "trace":
         os.symlink("/dev/null", "kept/link0.trace")
-    end = hanging_pipe("kept/link0.trace" if hangs == "trace" else "kept/A.book")
+    end = hanging_pipe(PIPES[hangs])
+    if hangs == "board":
+        full = os.open("board", os.O_WRONLY | os.O_NONBLOCK)
+        os.write(full, bytes(4096))
     port, seconds = free_port(), SERVES_SECONDS[hangs]
     words = ["serve", "--call", "M17-TST", "--modules", "AB", "--for", str(seconds), "--book", "kept"]
+    words += ["--board", "board"] if hangs == "board" else []
     start = time.monotonic()
     serves = subprocess.Popen([program, *words, f"127.0.0.1:{port}"], stdout=subprocess.PIPE)
     if hangs == "trace":

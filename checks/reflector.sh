@@ -50,6 +50,8 @@ x
 --call M17-TST --listen x
 --call M17-TST --rules --rules x
 --call M17-TST --rules=rules.txt x
+--call M17-TST --board b --board b x
+--call M17-TST x --board
 -h
 --help
 END
@@ -72,6 +74,8 @@ x --call=M17-TST
 --call M17-TST --book= x
 --call M17-TST --book d x
 --call M17-TST --rules x
+--call M17-TST --board b x
+--call M17-TST --board= --rules x
 --call M17-TST -- --x
 END
 }
@@ -400,6 +404,26 @@ end_of_serve() {
     said talker 'closed dropped kept 0' && ends 0 'A admitted 0 missed 0\n'
 }
 check "serve --for ends, and each member gets a DISC" end_of_serve
+
+# Of a trace the moment of its first entry, in milliseconds, and how many entries it has that tell of no datagram.
+first_of_trace() {
+    python3 -c '
+data = open("kept/link0.trace", "rb").read()
+print(int.from_bytes(data[9:17], "big"), (len(data) - 8) // 9)'
+}
+
+# Where nobody is there a link waits for five seconds; in its last ten it waits for 20 ms at a time.
+link_at_rest() {
+    free_ports
+    serves --modules A --for 12 "127.0.0.1:$port" || return 1
+    ends 0 'A admitted 0 missed 0\n' || return 1
+    first_of_trace >first && read -r moment entries <first
+    [ "$moment" -ge 5000 ] && [ "$moment" -lt 12000 ] && [ "$entries" -gt 20 ] || {
+        cat first
+        return 1
+    }
+}
+check "a link of serve where nobody is there rests, and ends in time" link_at_rest
 
 # What was written until then stays, and ends with a whole entry and a whole record.
 stopped() {

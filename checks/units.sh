@@ -2,7 +2,7 @@
 # behind reflector.sh, whose helpers it uses.
 # shellcheck shell=sh
 
-units="m17.service m17-log.service m17-crc.service m17-bridge.service m17-clean.service m17-clean.timer"
+units="m17.service m17-log.service m17-crc.service m17-bridge.service m17-board.service m17-clean.service m17-clean.timer"
 
 # The units name programs of a prefix; here they are ones that are there.
 verified_units() {
@@ -47,7 +47,7 @@ check "systemd-analyze security finds little that the services are exposed to" e
 # Refused words start nothing again, lines in the journal have a bound, and the relay has a file for each client.
 bounded_units() {
     needs python3
-    for unit in m17 m17-log m17-crc m17-bridge; do
+    for unit in m17 m17-log m17-crc m17-bridge m17-board; do
         grep -q '^RestartPreventExitStatus=\(1 \)\{0,1\}2' "$top/examples/$unit.service" || return 1
     done
     for unit in m17-log m17-crc; do
