@@ -1,0 +1,32 @@
+#!/usr/bin/env bash
+# handover.sh [ROUNDS]
+#
+# What three threads cost a relay that is plain C: bench/handover/relay.c in one thread and in three, in turn, ROUNDS times (9)
+# of SECONDS_EACH (2). The table has medians, and medians of the rounds' ratios. It needs cc.
+set -u
+here=$(cd "$(dirname "${BASH_SOURCE[0]}")" && pwd)
+rounds=${1:-9}
+seconds=${SECONDS_EACH:-2}
+dir=$(mktemp -d)
+trap 'rm -rf "$dir"' EXIT
+cc -O2 -Wall -Wextra -pthread -o "$dir/relay" "$here/handover/relay.c" || exit 1
+
+median() { sort -g | awk '{ v[NR] = $1 } END { print NR % 2 ? v[(NR + 1) / 2] : (v[NR / 2] + v[NR / 2 + 1]) / 2 }'; }
+
+echo "$(nproc) processors, $rounds rounds of $seconds s, medians"
+echo
+echo '| listeners | one thread: datagrams a second | us each | three threads: datagrams a second | by one | us each | by one |'
+echo '|---|---|---|---|---|---|---|'
+for listeners in 10 60 250; do
+    rm -f "$dir/rows"
+    for _round in $(seq "$rounds"); do
+        echo "$("$dir/relay" 1 "$listeners" "$seconds") $("$dir/relay" 3 "$listeners" "$seconds")" >>"$dir/rows"
+    done
+    one=$(awk '{ print $1 }' "$dir/rows" | median)
+    one_us=$(awk '{ print $2 }' "$dir/rows" | median)
+    three=$(awk '{ print $3 }' "$dir/rows" | median)
+    three_us=$(awk '{ print $4 }' "$dir/rows" | median)
+    by=$(awk '$1 > 0 { print $3 / $1 }' "$dir/rows" | median)
+    by_us=$(awk '$2 > 0 { print $4 / $2 }' "$dir/rows" | median)
+    LC_ALL=C printf '| %d | %.0f | %.2f | %.0f | %.2f | %.2f | %.2f |\n' "$listeners" "$one" "$one_us" "$three" "$by" "$three_us" "$by_us"
+done
