@@ -2,7 +2,7 @@
 //! is data; `expect` runs the program by it.
 use crate::done::Done;
 use crate::run::run;
-use m17_devices::{BytesSink, BytesSource, Crew, Ports, RefusingCrew, ScriptPorts, StdCrew};
+use m17_devices::{Book, BytesSink, BytesSource, Crew, Ports, RefusingCrew, ScriptPorts, StdCrew};
 use m17_samples::frame;
 use m17_stream::write;
 use std::alloc::Global;
@@ -138,7 +138,10 @@ pub(crate) fn run_over<
     crew: &mut C,
     source: &mut BytesSource,
     sink: &mut BytesSink,
-) -> Done<P::Ear, P::Mouth, P::Book> {
+) -> Done<P::Ear, P::Mouth, P::Book>
+where
+    <P::Book as Book>::Label: 'static,
+{
     let words = words(rt, alloc, given);
     run(rt, alloc, &words, ports, crew, source, sink)
 }
@@ -156,7 +159,10 @@ pub(crate) fn status_over<
     crew: &mut C,
     source: &mut BytesSource,
     sink: &mut BytesSink,
-) -> u8 {
+) -> u8
+where
+    <P::Book as Book>::Label: 'static,
+{
     run_over(rt, alloc, given, ports, crew, source, sink).status
 }
 
