@@ -1,5 +1,5 @@
 -- Whatever a link behind a gate posts to a module is allowed.
-use Rattle.std.proofs.Common.{◌≡◌, ℕ, zero, suc, ◌+◌, ◌/◌, Bool, true, false, cond, eqb, not, List, [], ◌∷◌, ◌++◌, map, length, filter_map, Option, None, Some, refl, sym, subst, inl, inr, arith}
+use Rattle.std.proofs.Common.{◌≡◌, ℕ, zero, suc, ◌+◌, ◌/◌, Bool, true, false, cond, eqb, List, [], ◌∷◌, ◌++◌, map, length, filter_map, Option, None, Some, refl, sym, subst, inl, inr, arith}
 use Rattle.std.specs.Prelude.{filter, nat_lt}
 use Rattle.std.specs.List.{AllByRecursion, cons_option, flat_map, range_with_len}
 use Rattle.std.proofs.lemmas.Bool.{eqb-true}
@@ -10,11 +10,11 @@ use Rattle.m17_values.specs.declared.peer.Peer.{Peer}
 use Rattle.m17_control.specs.declared.event.Body.TheVariants as body
 use Rattle.m17_control.specs.declared.event.Event.{Event}
 use Rattle.m17_control.specs.declared.event.Why.{Why}
-use Rattle.m17_control.specs.declared.event.Why.TheVariants.{Moved, Silent, Stopped, Replaced}
+use Rattle.m17_control.specs.declared.event.Why.TheVariants.{Silent, Stopped, Replaced}
 use Rattle.m17_control.specs.declared.packet.Control.TheVariants as control
 use Rattle.m17_control.specs.declared.packet.Packet.{Packet}
 use Rattle.m17_control.specs.declared.packet.Packet.TheVariants as packets
-use Rattle.m17_control.specs.Modules.{letters_of, serves}
+use Rattle.m17_control.specs.Modules.{letters_of}
 use Rattle.m17_gate.specs.declared.asked.Asked.TheVariants.{Connects, Listens}
 use Rattle.m17_gate.specs.declared.rule.Rule.{Rule}
 use Rattle.m17_gate.specs.Fits.{allows, allows_any}
@@ -24,12 +24,12 @@ use Rattle.m17_directory.specs.declared.dispatch.Dispatch.{Dispatch}
 use Rattle.m17_directory.specs.declared.dispatch.Dispatch.TheVariants.{ToModule, ToDoor}
 use Rattle.m17_directory.specs.declared.known.Known.{Known}
 use Rattle.m17_directory.specs.declared.known.Request.{Request}
-use Rattle.m17_directory.specs.declared.verdict.Act.TheVariants as act
-use Rattle.m17_directory.specs.declared.verdict.LinkVerdict.TheVariants.{Asks, Faulted, NotServed, Routed}
+use Rattle.m17_directory.specs.declared.verdict.LinkVerdict.TheVariants.{Faulted}
 use Rattle.m17_directory.specs.Entries.{Claim, Entry, Notice, Says, SaysEach, Setup, claim_at, ends_at, moment_at, moment_before, notice_at}
 use Rattle.m17_directory.specs.Known.{Past, known_at, now, request_in, request_of}
-use Rattle.m17_directory.specs.Outcome.{Here, Outcome, has_place, is_what, known_asks, leave, leaving, of_end, of_packet, only, other_asks, posting, settled, to_door, to_each_module, to_module}
+use Rattle.m17_directory.specs.Outcome.{Here, has_place, leave, of_end, of_packet, only, settled, to_each_module, to_module}
 use Rattle.m17_directory.specs.Routed.{asks_at, both, comes_to, event_for, here_of, others_at, past_at, posted, posts_at, routed, row_for, said_at, settled_at, settled_by, silent_at, still_at, tick_ms, ticks_at, unclaimed_at}
+use Rattle.m17_directory.proofs.Lines.{of_lines}
 use Rattle.m17_denied.specs.Laws.{DeniedNeverReachesAModule, asked_of}
 
 -- what an entry comes to before a claim posts: the silent leave, the ticks come, and what the entry says
@@ -71,41 +71,14 @@ module _ (rules : List Rule) where
   either P true x y a b = a
   either P false x y a b = b
 
-  known_asks_allowed : (here : Here) (k : Known) (request : Request) → AllAllowed (known_asks here k request).posts
-  known_asks_allowed here k request =
-      let door : Outcome = posting (NotServed request.letter) (to_door here k.peer control.Nack) in
-      let again : Outcome = posting (Routed k.letter act.Again) (to_module here k.letter (body.Reply k.member control.Ackn)) in
-      let moved : Outcome = leaving here Asks Moved k in
-      let a : AllAllowed door.posts = (tt, tt) in
-      let b : AllAllowed again.posts = (refl, tt) in
-      let c : AllAllowed moved.posts = (refl, tt) in
-      either (λ o. AllAllowed o.posts) (not (serves here.setup.modules request.letter)) door (cond (is_what request k) again moved) a
-      (either (λ o. AllAllowed o.posts) (is_what request k) again moved b c)
-
-  other_asks_allowed : (here : Here) (x : Peer) (request : Request) → AllAllowed (other_asks here x request).posts
-  other_asks_allowed here x request =
-      let door : Outcome = posting (NotServed request.letter) (to_door here x control.Nack) in
-      let a : AllAllowed door.posts = (tt, tt) in
-      either (λ o. AllAllowed o.posts) (not (serves here.setup.modules request.letter)) door (only Asks) a tt
-
   packet_allowed : (here : Here) (x : Peer) (row : Option Known) (p : Packet) → allows rules p ≡ true → AllAllowed (of_packet here x row p).posts
-  packet_allowed here x (Some k) (packets.Control (control.Conn from letter)) h = known_asks_allowed here k (record { letter = letter; callsign = from; listen = false })
-  packet_allowed here x (Some k) (packets.Control (control.Lstn from letter)) h = known_asks_allowed here k (record { letter = letter; callsign = from; listen = true })
-  packet_allowed here x (Some k) (packets.Stream p) h = (h, tt)
-  packet_allowed here x (Some k) (packets.Control (control.Ping from)) h = (refl, tt)
-  packet_allowed here x (Some k) (packets.Control (control.Pong from)) h = tt
-  packet_allowed here x (Some k) (packets.Control (control.Disc from)) h = (refl, tt)
-  packet_allowed here x (Some k) (packets.Control control.Ackn) h = tt
-  packet_allowed here x (Some k) (packets.Control control.Nack) h = tt
-  packet_allowed here x None (packets.Control (control.Conn from letter)) h = other_asks_allowed here x (record { letter = letter; callsign = from; listen = false })
-  packet_allowed here x None (packets.Control (control.Lstn from letter)) h = other_asks_allowed here x (record { letter = letter; callsign = from; listen = true })
-  packet_allowed here x None (packets.Stream p) h = tt
-  packet_allowed here x None (packets.Control (control.Ping from)) h = tt
-  packet_allowed here x None (packets.Control (control.Pong from)) h = tt
-  packet_allowed here x None (packets.Control (control.Disc None)) h = tt
-  packet_allowed here x None (packets.Control (control.Disc (Some from))) h = (tt, tt)
-  packet_allowed here x None (packets.Control control.Ackn) h = tt
-  packet_allowed here x None (packets.Control control.Nack) h = tt
+  packet_allowed here x row p h = of_lines (λ o. AllAllowed o.posts) here x row p (record {
+    nothing = λ v said. tt;
+    at_door = λ y v reply said is. (tt, tt);
+    frame = λ k s is of. (subst (λ (q : Packet). allows rules q ≡ true) of h, tt);
+    reply = λ k what reply is said. (refl, tt);
+    leaves = λ k v why is said other. (refl, tt);
+  })
 
   end_allowed : (here : Here) (rows : List Known) → AllAllowed (of_end here rows).posts
   end_allowed here rows = both_allowed (map (leave here Stopped) rows) (to_each_module here body.Stop) (leaves_allowed here Stopped rows) (stops_all here (letters_of here.setup.modules))

@@ -6,20 +6,17 @@ use Rattle.std.proofs.lemmas.List.Filters.{length-filter_both}
 use Rattle.m17_directory.specs.Entries.{peer_cmp}
 use Rattle.std.proofs.lemmas.Bool.{cond-true}
 use Rattle.std.proofs.lemmas.Option.{same_Some, none-some}
+use Rattle.std.proofs.lemmas.List.{length-map, map-append}
+use Rattle.m17_lists.proofs.Ranges.{range_ends_in_its_last}
 use Rattle.m17_directory.specs.declared.dispatch.Dispatch.{Dispatch}
 use Rattle.m17_directory.specs.declared.known.Departed.{Departed}
 use Rattle.m17_directory.specs.declared.known.Known.{Known}
 use Rattle.m17_directory.specs.StandsFor.{with_left, departed_of}
 use Rattle.m17_directory.specs.Steps.{Lists, with_row}
-use Rattle.m17_directory.proofs.Positions.{range_more}
 
 pub filter_le : {X : Type 0} (p : X → Bool) (xs : List X) → length (filter p xs) ≤ length xs
 filter_le p [] = omega arith
 filter_le p (x ∷ xs) = elim (p x) as (λ b. length (cond b (x ∷ filter p xs) (filter p xs)) ≤ suc (length xs)) [ true ↦ omega (arith, filter_le p xs) | false ↦ omega (arith, filter_le p xs) ]
-
-pub map_length : {X Y : Type 0} (f : X → Y) (xs : List X) → length (map f xs) ≡ length xs
-map_length f [] = refl
-map_length f (x ∷ xs) = ap suc (map_length f xs)
 
 take_le : {X : Type 0} (p : X → Bool) (i : ℕ) (xs : List X) → length (filter p (take i xs)) ≤ i
 take_le p zero xs = omega arith
@@ -39,20 +36,16 @@ one_less p (r ∷ rows) (suc i) k l e t =
 
 pub posted_less : (f : Known → Dispatch) (p : Known → Bool) (rows : List Known) (i : ℕ) (k : Known) (old new : List Dispatch) (room : ℕ) → i < length rows → k ≡ get_or rows i k → p k ≡ true → new ≡ old ++ map f (filter p (take i rows)) → length old + length (filter p rows) ≤ room → length new < room
 posted_less f p rows i k old new room l e t told few =
-    omega (arith, ap length told, length-append old (map f (filter p (take i rows))), map_length f (filter p (take i rows)), one_less p rows i k l e t)
+    omega (arith, ap length told, length-append old (map f (filter p (take i rows))), length-map (filter p (take i rows)) f, one_less p rows i k l e t)
 
 pub departing_less : (p : Known → Bool) (rows : List Known) (i : ℕ) (old new : List Departed) (room : ℕ) → i < length rows → new ≡ with_left old (filter p (take i rows)) → length rows + length old ≤ room → length new < room
 departing_less p rows i old new room l left few =
-    omega (arith, ap length left, length-append old (map departed_of (filter p (take i rows))), map_length departed_of (filter p (take i rows)), take_le p i rows)
+    omega (arith, ap length left, length-append old (map departed_of (filter p (take i rows))), length-map (filter p (take i rows)) departed_of, take_le p i rows)
 
 -- the letters so far
 filter_end : {X : Type 0} (p : X → Bool) (xs : List X) (y : X) → filter p (xs ++ y ∷ []) ≡ filter p xs ++ cond (p y) (y ∷ []) []
 filter_end p [] y = refl
 filter_end p (x ∷ xs) y = elim (p x) as (λ b. cond b (x ∷ filter p (xs ++ y ∷ [])) (filter p (xs ++ y ∷ [])) ≡ cond b (x ∷ filter p xs) (filter p xs) ++ cond (p y) (y ∷ []) []) [ true ↦ ap (λ zs. x ∷ zs) (filter_end p xs y) | false ↦ filter_end p xs y ]
-
-map_end : {X Y : Type 0} (f : X → Y) (xs ys : List X) → map f (xs ++ ys) ≡ map f xs ++ map f ys
-map_end f [] ys = refl
-map_end f (x ∷ xs) ys = ap (λ zs. f x ∷ zs) (map_end f xs ys)
 
 map_cond : {X Y : Type 0} (f : X → Y) (b : Bool) (y : X) → map f (cond b (y ∷ []) []) ≡ cond b (f y ∷ []) []
 map_cond f true y = refl
@@ -63,14 +56,14 @@ told_end f p xs y old post new before e =
     e
     ∙ ap (λ zs. zs ++ cond (p y) (f y ∷ []) []) before
     ∙ append_assoc old (map f (filter p xs)) (cond (p y) (f y ∷ []) [])
-    ∙ ap (λ zs. old ++ zs) (sym (ap (map f) (filter_end p xs y) ∙ map_end f (filter p xs) (cond (p y) (y ∷ []) []) ∙ ap (λ zs. map f (filter p xs) ++ zs) (map_cond f (p y) y)))
+    ∙ ap (λ zs. old ++ zs) (sym (ap (map f) (filter_end p xs y) ∙ map-append f (filter p xs) (cond (p y) (y ∷ []) []) ∙ ap (λ zs. map f (filter p xs) ++ zs) (map_cond f (p y) y)))
 
 pub told_more : {Y : Type 0} (f : ℕ → Y) (p : ℕ → Bool) (old post new : List Y) (byte : ℕ) → 65 ≤ byte → post ≡ old ++ map f (filter p (range_with_len 65 (byte - 65))) → new ≡ post ++ cond (p byte) (f byte ∷ []) [] → new ≡ old ++ map f (filter p (range_with_len 65 (byte + 1 - 65)))
 told_more f p old post new byte l before e =
     let a : 65 + (byte - 65) ≡ byte = omega arith in
     let b : suc (byte - 65) ≡ byte + 1 - 65 = omega arith in
     told_end f p (range_with_len 65 (byte - 65)) byte old post new before e
-    ∙ ap (λ xs. old ++ map f (filter p xs)) (ap (λ i. range_with_len 65 (byte - 65) ++ i ∷ []) (sym a) ∙ sym (range_more 65 (byte - 65)) ∙ ap (range_with_len 65) b)
+    ∙ ap (λ xs. old ++ map f (filter p xs)) (ap (λ i. range_with_len 65 (byte - 65) ++ i ∷ []) (sym a) ∙ sym (range_ends_in_its_last 65 (byte - 65)) ∙ ap (range_with_len 65) b)
 
 cond_few : {Y : Type 0} (b : Bool) (y : Y) → length (cond b (y ∷ []) []) ≤ 1
 cond_few true y = omega arith
@@ -107,7 +100,7 @@ pub room_for : {X Y : Type 0} (p : X → Bool) (xs : List X) (post : List Y) →
 room_for p xs post few none = omega (arith, filter_le p xs, ap length none)
 
 pub few_told : {X Y : Type 0} (f : X → Y) (p : X → Bool) (xs : List X) (post new : List Y) → length xs ≤ 256 → post ≡ [] → new ≡ post ++ map f (filter p xs) → length new ≤ 256
-few_told f p xs post new few none e = omega (arith, filter_le p xs, ap length none, ap length e, length-append post (map f (filter p xs)), map_length f (filter p xs))
+few_told f p xs post new few none e = omega (arith, filter_le p xs, ap length none, ap length e, length-append post (map f (filter p xs)), length-map (filter p xs) f)
 
 pub left_none : (p : Known → Bool) (old : Lists) → filter p old.known ≡ [] → old ≡ record {
   known = filter (λ k. not (p k)) old.known;
@@ -131,4 +124,4 @@ with_row_length k (r ∷ rows) = put_length k r rows (with_row k rows) (peer_cmp
 -- who leaves departs: together there are as many
 pub left_together : (p : Known → Bool) (old : Lists) → length (filter (λ k. not (p k)) old.known) + length (with_left old.departing (filter p old.known)) ≡ length old.known + length old.departing
 left_together p old =
-    omega (arith, length-filter_both p (λ k. not (p k)) (λ k. refl) old.known, length-append old.departing (map departed_of (filter p old.known)), map_length departed_of (filter p old.known))
+    omega (arith, length-filter_both p (λ k. not (p k)) (λ k. refl) old.known, length-append old.departing (map departed_of (filter p old.known)), length-map (filter p old.known) departed_of)

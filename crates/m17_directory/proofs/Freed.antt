@@ -1,10 +1,12 @@
 -- Where places are given freely, who joins a module takes a place that whoever had it before has left.
 use Rattle.std.proofs.Common.{◌≡◌, ◌⊎◌, ℕ, zero, suc, ◌+◌, ◌-◌, ◌<◌, ◌≤◌, ◌==◌, ◌&&◌, Bool, true, false, cond, eqb, List, [], ◌∷◌, ◌++◌, length, map, drop, filter, filter_map, slice_get, nat_lt, option_and_then, MatchBool, Option, None, Some, inl, inr, refl, ap, sym, subst, ◌∙◌, arith}
 use Rattle.std.specs.List.{list_any, cons_option, flat_map, range_with_len}
-use Rattle.std.proofs.lemmas.Bool.{cases_Bool, cases_lt, and_from, and_parts, eq-eqb, eqb-true, false≢true}
+use Rattle.std.proofs.lemmas.Bool.{cases_Bool, cases_lt, and_from, and_parts, eq-eqb, eqb-true, false≢true, and_right, or_parts}
 use Rattle.std.proofs.lemmas.List.{append-nil, append_assoc, drop-append-le}
 use Rattle.std.proofs.lemmas.List.Elements.{filter_map-append}
 use Rattle.std.proofs.lemmas.Option.{same_Some, slice_get_within}
+use Rattle.m17_lists.proofs.Places.{one_more_stands_at_the_end, places_before_stay}
+use Rattle.m17_lists.proofs.Lengths.{one_more_is_one_longer}
 use Rattle.m17_values.specs.declared.member.Member.{Member}
 use Rattle.m17_control.specs.declared.event.Body.{Body}
 use Rattle.m17_control.specs.declared.event.Body.TheVariants as body
@@ -20,15 +22,14 @@ use Rattle.m17_directory.specs.Outcome.{Outcome, leave, has_place}
 use Rattle.m17_directory.specs.Routed.{here_of, unclaimed_at, others_at, settled_at, asks_at, both, past_at, posts_at, posted, event_for, routed}
 use Rattle.m17_control.specs.declared.event.Why.TheVariants.{Replaced}
 use Rattle.m17_directory.specs.Laws.{is_join, join_event, ClaimsAreAsked, JoinsTakeFreePlaces}
-use Rattle.m17_directory.proofs.Same.{length_asked, length_more}
-use Rattle.m17_directory.proofs.Positions.{get_before, get_end}
+use Rattle.m17_directory.proofs.Same.{length_asked}
 use Rattle.m17_directory.proofs.LawMore.{posted_upto}
 use Rattle.m17_directory.proofs.LawPosts.{leaves_heard}
 use Rattle.m17_directory.proofs.LawJoins.{none_heard, joins_of_events}
 use Rattle.m17_directory.proofs.LawCounts.{count, count_append, is_such, such_heard}
 use Rattle.m17_directory.proofs.LawWho.{AsksFor, asks_one, heard_count, others_are}
 use Rattle.m17_directory.proofs.LawLeaves.{joiner, leaver, left_is, step}
-use Rattle.m17_directory.proofs.Otherwise.{any_step, none_has, settled_view}
+use Rattle.m17_directory.proofs.Otherwise.{none_has, settled_view}
 
 -- this member
 is_it : Member → Member → Bool
@@ -107,10 +108,10 @@ behind m events i h =
 
 -- a Join within, and behind
 joiner_before : (xs ys : List Event) (i : ℕ) → i < length xs → joiner_at (xs ++ ys) i ≡ joiner_at xs i
-joiner_before xs ys i l = ap (option_and_then (λ (event : Event). joiner_of event.body)) (get_before xs ys i l)
+joiner_before xs ys i l = ap (option_and_then (λ (event : Event). joiner_of event.body)) (places_before_stay xs ys i l)
 
 leaver_before : (xs ys : List Event) (i : ℕ) → i < length xs → leaver_at (xs ++ ys) i ≡ leaver_at xs i
-leaver_before xs ys i l = ap (option_and_then (λ (event : Event). leaver_of event.body)) (get_before xs ys i l)
+leaver_before xs ys i l = ap (option_and_then (λ (event : Event). leaver_of event.body)) (places_before_stay xs ys i l)
 
 joiner_within : (xs : List Event) (i : ℕ) (m : Member) (o : Option Event) → slice_get xs i ≡ o → option_and_then (λ (event : Event). joiner_of event.body) o ≡ Some m → i < length xs
 joiner_within xs i m None e h = cc
@@ -170,8 +171,8 @@ last_or : (xs : List Event) (y : Event) (n : ℕ) (k : Member) → joiner_at (xs
 last_or xs y n k h = elim (cases_lt n (length xs)) [
   | inl l ↦ inl l
   | inr l ↦
-      let at : n ≡ length xs = (let w : n < length (xs ++ y ∷ []) = within (xs ++ y ∷ []) n k h in omega (arith, length_more xs y)) in
-      inr (at, sym (ap (option_and_then (λ (event : Event). joiner_of event.body)) (ap (slice_get (xs ++ y ∷ [])) at ∙ get_end xs y)) ∙ h)
+      let at : n ≡ length xs = (let w : n < length (xs ++ y ∷ []) = within (xs ++ y ∷ []) n k h in omega (arith, one_more_is_one_longer xs y)) in
+      inr (at, sym (ap (option_and_then (λ (event : Event). joiner_of event.body)) (ap (slice_get (xs ++ y ∷ [])) at ∙ one_more_stands_at_the_end xs y)) ∙ h)
 ]
 
 free_push : (places : ℕ) (xs : List Event) (y : Event) (c : Member) → joiner y ≡ Some c → c.place < places → ((i : ℕ) (m : Member) → joiner_at xs i ≡ Some m → m.place ≡ c.place → LeavesBetween xs m i (length xs)) → TakeFreePlaces places xs → TakeFreePlaces places (xs ++ y ∷ [])
@@ -227,19 +228,15 @@ none_such_step : (b : Bool) (n : ℕ) → b ≡ false → n ≡ 0 → cond b 1 0
 none_such_step true n e h = absurd (cc)
 none_such_step false n e h = omega arith
 
-and_false : (b : Bool) → (b && false) ≡ false
-and_false true = refl
-and_false false = refl
-
 none_such : (letter q : ℕ) (m : Member) (ks : List Known) → m.place ≡ q → list_any (has_place q) ks ≡ false → count (is_such letter (is_it m)) ks ≡ 0
 unfolding is_it
 none_such letter q m [] at e = refl
 none_such letter q m (k ∷ ks) at e =
-    let parts = any_step (has_place q k) (list_any (has_place q) ks) e in
+    let parts = or_parts (has_place q k) (list_any (has_place q) ks) e in
     none_such_step (eqb k.letter letter && ((k.member.place == m.place) && (k.member.generation == m.generation))) (count (is_such letter (is_it m)) ks)
     (ap (λ x. eqb k.letter letter && ((k.member.place == x) && (k.member.generation == m.generation))) at
     ∙ ap (λ b. eqb k.letter letter && (b && (k.member.generation == m.generation))) parts.0
-    ∙ and_false (eqb k.letter letter))
+    ∙ and_right (eqb k.letter letter) false refl)
     (none_such letter q m ks at parts.1)
 
 module _ (setup : Setup) (entries : List Entry) (letter : ℕ) (given : AreGivenFreely setup entries) where

@@ -1,8 +1,10 @@
 -- Where an entry is taken in as the code does, the directory stands for the list with it.
-use Rattle.std.proofs.Common.{◌≡◌, ℕ, suc, ◌+◌, Bool, true, false, cond, not, ◌||◌, leb, List, [], ◌∷◌, ◌++◌, length, filter, max, Option, None, Some, refl, ap, sym, ◌∙◌, arith, append-nil}
+use Rattle.std.proofs.Common.{◌≡◌, ℕ, suc, ◌+◌, Bool, true, false, cond, ◌||◌, leb, List, [], ◌∷◌, ◌++◌, length, filter, max, Option, None, Some, refl, ap, sym, ◌∙◌, arith, append-nil}
 use Rattle.std.specs.Option.{option_and_then}
 use Rattle.std.proofs.lemmas.Bool.{false≢true, lt-leb}
 use Rattle.std.proofs.lemmas.Option.{same_Some, none-some}
+use Rattle.m17_lists.proofs.Places.{one_more_stands_at_the_end, places_before_stay}
+use Rattle.m17_lists.proofs.Lengths.{one_more_is_one_longer}
 use Rattle.m17_values.specs.declared.peer.Peer.{Peer}
 use Rattle.m17_control.specs.declared.packet.Packet.{Packet}
 use Rattle.m17_directory.specs.declared.asked.Asked.{Asked}
@@ -10,33 +12,29 @@ use Rattle.m17_directory.specs.declared.dispatch.Dispatch.{Dispatch}
 use Rattle.m17_directory.specs.declared.known.Known.{Known}
 use Rattle.m17_directory.specs.declared.known.Request.{Request}
 use Rattle.m17_directory.specs.declared.verdict.LinkVerdict.{LinkVerdict}
-use Rattle.m17_directory.specs.declared.verdict.LinkVerdict.TheVariants.{Asks, NotServed}
 use Rattle.m17_directory.specs.Entries.{Notice, Entry, Setup, notice_of, notice_at, claim_at, moment_of, moment_at, moment_before, is_disc, is_fault, is_end, ends_at}
 use Rattle.m17_directory.specs.Known.{Past, now, request_of, known_at}
-use Rattle.m17_control.specs.declared.packet.Packet.TheVariants as packets
-use Rattle.m17_control.specs.declared.packet.Control.TheVariants.{Conn, Lstn, Ackn, Nack, Ping, Pong, Disc}
-use Rattle.m17_control.specs.Modules.{serves}
-use Rattle.m17_directory.specs.Outcome.{Here, Outcome, only, posting, to_door, of_other, of_packet}
+use Rattle.m17_directory.specs.Outcome.{Here, Outcome, of_other, of_packet}
 use Rattle.m17_directory.specs.Routed.{here_of, row_for, unclaimed_at, is_asks, asks_at, asked_before, past_at, others_than, others_at}
 use Rattle.m17_directory.specs.StandsFor.{DirectoryKept, StandsFor, IsAsked, IsHeard, faults_before, unclaimed, with_left}
 use Rattle.m17_directory.specs.Steps.{Lists, IsComeTo, IsTaken, is_other, rows_by, still_by, said_by, heard_by, known_by, asked_as, asked_by, asks_by}
-use Rattle.m17_directory.proofs.Positions.{get_before, get_end}
+use Rattle.m17_directory.proofs.Lines.{is_left, known_left, other_left}
 use Rattle.m17_directory.proofs.Faults.{ends_is}
-use Rattle.m17_directory.proofs.Same.{past_of, moment_more, moment_same, faults_same, known_at_same, heard_is, length_more, length_asked}
+use Rattle.m17_directory.proofs.Same.{past_of, moment_more, moment_same, faults_same, known_at_same, heard_is, length_asked}
 use Rattle.m17_directory.proofs.Same as same
-use Rattle.m17_directory.proofs.Taken.{is_left, known_left, known_quiet, known_fault, known_packet, no_row_heard, no_row_other}
+use Rattle.m17_directory.proofs.Taken.{known_quiet, known_fault, known_packet, no_row_heard, no_row_other}
 
 pub says_before : (entries more : List Entry) → same.Says (entries ++ more) entries (length entries)
-says_before entries more = λ i l. ap notice_of (get_before entries more i l)
+says_before entries more = λ i l. ap notice_of (places_before_stay entries more i l)
 
 pub claims_before : (entries more : List Entry) → same.Claims (entries ++ more) entries (length entries)
-claims_before entries more = λ i l. ap (option_and_then (λ (entry : Entry). entry.claim)) (get_before entries more i l)
+claims_before entries more = λ i l. ap (option_and_then (λ (entry : Entry). entry.claim)) (places_before_stay entries more i l)
 
 pub notice_end : (entries : List Entry) (entry : Entry) → notice_at (entries ++ entry ∷ []) (length entries) ≡ entry.notice
-notice_end entries entry = ap notice_of (get_end entries entry)
+notice_end entries entry = ap notice_of (one_more_stands_at_the_end entries entry)
 
 pub claim_end : (entries : List Entry) (entry : Entry) → claim_at (entries ++ entry ∷ []) (length entries) ≡ entry.claim
-claim_end entries entry = ap (option_and_then (λ (e : Entry). e.claim)) (get_end entries entry)
+claim_end entries entry = ap (option_and_then (λ (e : Entry). e.claim)) (one_more_stands_at_the_end entries entry)
 
 -- the lists of what is kept
 abbrev pub lists_of : DirectoryKept → Lists
@@ -104,17 +102,6 @@ asked_from here Notice.End asks asked e = absurd (none-some asked e)
 rows_if_left : (here : Here) (x : Peer) (left rows : List Known) → is_left left ≡ true → rows_by here x left rows ≡ filter (is_other x) rows
 rows_if_left here x [] rows e = absurd (false≢true e)
 rows_if_left here x (k ∷ left) rows e = refl
-
-pub other_left : (here : Here) (x : Peer) (p : Packet) → (of_other here x p).left ≡ []
-other_left here x (packets.Control (Conn from letter)) = elim (not (serves here.setup.modules letter)) as (λ b. (cond b (posting (NotServed letter) (to_door here x Nack)) (only Asks)).left ≡ []) [ true ↦ refl | false ↦ refl ]
-other_left here x (packets.Control (Lstn from letter)) = elim (not (serves here.setup.modules letter)) as (λ b. (cond b (posting (NotServed letter) (to_door here x Nack)) (only Asks)).left ≡ []) [ true ↦ refl | false ↦ refl ]
-other_left here x (packets.Control Ackn) = refl
-other_left here x (packets.Control Nack) = refl
-other_left here x (packets.Control (Ping from)) = refl
-other_left here x (packets.Control (Pong from)) = refl
-other_left here x (packets.Control (Disc None)) = refl
-other_left here x (packets.Control (Disc (Some from))) = refl
-other_left here x (packets.Stream p) = refl
 
 -- a packet of another peer changes nobody's row
 pub come_to_other : (here : Here) (x : Peer) (p : Packet) (old new : Lists) (before after : List Dispatch) (answer : LinkVerdict)
@@ -235,7 +222,7 @@ module _ (old new : DirectoryKept) (entries : List Entry) (notice : Notice) (sto
     asked_now asked e =
         let by = asked_from here notice (is_asks (heard_by here old.moment ends old.known notice).verdict) asked (sym taken.asked ∙ e) in
         record {
-          last = ap suc by.index ∙ sym (length_more entries (unclaimed notice));
+          last = ap suc by.index ∙ sym (one_more_is_one_longer entries (unclaimed notice));
           asks = ap (λ i. asks_at (past_at new.setup longer i)) by.index ∙ ap (λ s. asks_at (past_at s longer n)) setup ∙ asks_now_is ∙ by.does;
           no_claim = ap (claim_at longer) by.index ∙ claim_end entries (unclaimed notice);
           at = by.at;
@@ -247,12 +234,12 @@ module _ (old new : DirectoryKept) (entries : List Entry) (notice : Notice) (sto
     pub hear_stands : IsHeard old new entries notice (record { verdict = verdict; posts = posts })
     hear_stands = record {
       stands = record {
-        moment = sym moment_is ∙ ap (moment_before longer) (sym (length_more entries (unclaimed notice)));
+        moment = sym moment_is ∙ ap (moment_before longer) (sym (one_more_is_one_longer entries (unclaimed notice)));
         known = taken.known ∙ sym known_now_is
             ∙ ap (λ s. known_at (past_at s longer (suc n))) (sym setup)
-            ∙ ap (λ i. known_at (past_at new.setup longer i)) (sym (length_more entries (unclaimed notice)));
+            ∙ ap (λ i. known_at (past_at new.setup longer i)) (sym (one_more_is_one_longer entries (unclaimed notice)));
         asked = asked_now;
-        faults = sym faults_is ∙ ap (faults_before longer) (sym (length_more entries (unclaimed notice)));
+        faults = sym faults_is ∙ ap (faults_before longer) (sym (one_more_is_one_longer entries (unclaimed notice)));
       };
       outcome = record {
         verdict = taken.verdict ∙ ap (λ (o : Outcome). o.verdict) (sym heard_now_is);

@@ -2,16 +2,18 @@
 use Rattle.std.proofs.Common.{◌≡◌, ℕ, zero, suc, ◌-◌, ◌<◌, Bool, true, false, cond, not, ◌&&◌, ◌||◌, leb, eqb, List, [], ◌∷◌, ◌++◌, length, slice_get, unwrap_or, Option, None, Some, option_map, option_and_then, refl, ap, sym, ◌∙◌, inl, inr, arith}
 use Rattle.std.specs.Option.{option_map_or}
 use Rattle.std.proofs.lemmas.Bool.{cond-true, cond-false, eq-eqb, ne_eqb, and_parts, cases_eq, false≢true}
-use Rattle.std.proofs.lemmas.Option.{same_Some, none-some, option_and_then_some}
+use Rattle.std.proofs.lemmas.Option.{none-some, option_and_then_some}
+use Rattle.m17_lists.proofs.Tests.{mapped_option_is_of_one}
+use Rattle.m17_lists.proofs.Places.{one_more_stands_at_the_end, places_before_stay}
+use Rattle.m17_lists.proofs.Lengths.{one_more_is_one_longer}
 use Rattle.m17_values.specs.declared.peer.Peer.{Peer}
 use Rattle.m17_directory.specs.declared.known.Known.{Known}
 use Rattle.m17_directory.specs.declared.known.Request.{Request}
 use Rattle.m17_directory.specs.Entries.{Claim, Entry, Setup, notice_at, claim_at, moment_at, passes_time, is_from, says_disc, last_heard, silence_ms, is_silent_at, ends_at}
 use Rattle.m17_directory.specs.Known.{Past, now, asks_for, turns, is_of_place, last_given, is_position, request_in, row_of, row_by, row_at}
 use Rattle.m17_directory.specs.Routed.{is_silent}
-use Rattle.m17_directory.proofs.Positions.{get_before, get_end}
 use Rattle.m17_directory.proofs.Rows.{if_passes}
-use Rattle.m17_directory.proofs.Same.{past_of, turns_same, length_more}
+use Rattle.m17_directory.proofs.Same.{past_of, turns_same}
 use Rattle.m17_lookup.specs.Lookup.{last_below}
 use Rattle.m17_lookup.proofs.LastBelow.{last_below_same, last_below_suc, last_below_lt}
 
@@ -35,10 +37,6 @@ pub record HasRow (past : Past) (x : Peer) (k : Known) : Type 0 where
   pub wants : request_in (notice_at past.entries position) ≡ Some request
   pub is : row_of past x claim request ≡ k
 
-map_some : {A B : Type 0} (f : A → B) (o : Option A) (y : B) → option_map f o ≡ Some y → (x : A) × (o ≡ Some x) × (f x ≡ y)
-map_some f None y e = absurd (none-some y e)
-map_some f (Some x) y e = (x, refl, same_Some (f x) y e)
-
 if_some : {A : Type 0} (b : Bool) (o : Option A) (y : A) → cond b o None ≡ Some y → (b ≡ true) × (o ≡ Some y)
 if_some true o y e = (refl, e)
 if_some false o y e = absurd (none-some y e)
@@ -47,7 +45,7 @@ row_by_parts : (past : Past) (x : Peer) (k : Known) (i : ℕ) (o : Option Claim)
 row_by_parts past x k i None turned asks given e = absurd (none-some k e)
 row_by_parts past x k i (Some claim) turned asks given e =
     let parts = if_some (is_position i (last_given past claim.member.place)) (option_map (row_of past x claim) (request_in (notice_at past.entries i))) k e in
-    let row = map_some (row_of past x claim) (request_in (notice_at past.entries i)) k parts.1 in
+    let row = mapped_option_is_of_one (row_of past x claim) (request_in (notice_at past.entries i)) k parts.1 in
     record {
       position = i;
       claim = claim;
@@ -167,16 +165,16 @@ module _ (setup : Setup) (entries : List Entry) (l : List Bool) (v : Bool) where
   n = length l
 
   pub now_after : now after ≡ suc n
-  now_after = length_more l v
+  now_after = one_more_is_one_longer l v
 
   asks_before : (x : Peer) (i : ℕ) → i < n → asks_for after x i ≡ asks_for before x i
-  asks_before x i k = ap (λ o. unwrap_or o false && is_from x (notice_at entries i)) (get_before l (v ∷ []) i k)
+  asks_before x i k = ap (λ o. unwrap_or o false && is_from x (notice_at entries i)) (places_before_stay l (v ∷ []) i k)
 
   pub asks_now : (x : Peer) → asks_for after x n ≡ (v && is_from x (notice_at entries n))
-  asks_now x = ap (λ o. unwrap_or o false && is_from x (notice_at entries n)) (get_end l v)
+  asks_now x = ap (λ o. unwrap_or o false && is_from x (notice_at entries n)) (one_more_stands_at_the_end l v)
 
   turned_before : (x : Peer) → last_below (turns after x) n ≡ last_below (turns before x) n
-  turned_before x = last_below_same (turns after x) (turns before x) n (λ i k. turns_same setup entries entries (l ++ v ∷ []) l x i (λ j m. refl) (get_before l (v ∷ []) i k))
+  turned_before x = last_below_same (turns after x) (turns before x) n (λ i k. turns_same setup entries entries (l ++ v ∷ []) l x i (λ j m. refl) (places_before_stay l (v ∷ []) i k))
 
   given_after : (place : ℕ) → last_given after place ≡ cond (is_of_place place (claim_at entries n)) (Some n) (last_given before place)
   given_after place =

@@ -3,8 +3,10 @@ use Rattle.std.proofs.Common.{◌≡◌, ℕ, zero, suc, ◌+◌, ◌<◌, ◌�
 use Rattle.std.specs.List.{flat_map, range_with_len, sum_by}
 use Rattle.std.proofs.lemmas.Bool.{cases_eq, cond-true, eq-eqb, ne_eqb}
 use Rattle.std.proofs.lemmas.List.Sums.{sum_by-append}
+use Rattle.m17_lists.proofs.Ranges.{one_number_more}
 use Rattle.m17_control.specs.declared.event.Event.{Event}
 use Rattle.m17_control.specs.Modules.{serves, letters_of}
+use Rattle.m17_control.proofs.ModuleSets.{serves_within}
 use Rattle.m17_directory.specs.declared.known.Request.{Request}
 use Rattle.m17_directory.specs.Entries.{Notice, Claim, Entry, Setup, notice_at, claim_at}
 use Rattle.m17_directory.specs.Known.{request_in}
@@ -13,10 +15,8 @@ use Rattle.m17_directory.specs.Routed.{here_of, asks_at, past_at, routed}
 use Rattle.m17_directory.specs.Laws.{is_join, join_event, joins_by, joins_at, join_by, all_joins, JoinsOfAllModules}
 use Rattle.m17_directory.proofs.Same.{length_asked}
 use Rattle.m17_directory.proofs.LawSent.{asks_served}
-use Rattle.m17_directory.proofs.LawStops.{served_letter}
 use Rattle.m17_directory.proofs.LawJoins.{joins_claims}
 use Rattle.m17_directory.proofs.LawCounts.{count, count_is, count_append}
-use Rattle.m17_directory.proofs.LawPeers.{flat_more}
 
 abbrev total : (ℕ → ℕ) → List ℕ → ℕ
 total f [] = 0
@@ -81,7 +81,7 @@ module _ (test : Event → Bool) where
   letters_joins at (Notice.Sent from m p) (Some request) (Some claim) h =
       let event : Event = join_event at from request claim in
       let served : serves at.setup.modules request.letter ≡ true = h request refl in
-      let within = served_letter at.setup.modules request.letter served in
+      let within = serves_within at.setup.modules request.letter served in
       total_same (λ letter. count test (cond (eqb request.letter letter) (event ∷ []) [])) (λ letter. cond (eqb request.letter letter) (cond (test event) 1 0) 0) (letters_of at.setup.modules) (λ letter. one_count (eqb request.letter letter) event)
       ∙ only_one request.letter (serves at.setup.modules) (cond (test event) 1 0) 65 26 served within.0 (omega (arith, within.1))
       ∙ sym (all_part (cond (test event) 1 0) 0 refl)
@@ -114,7 +114,7 @@ module _ (test : Event → Bool) where
     joins_more : (n letter : ℕ) → count test (some_joins (suc n) letter) ≡ count test (some_joins n letter) + count test (joins_if n (asks_at (past_at setup entries n)) letter)
     unfolding joins_at
     joins_more n letter =
-        ap (count test) (flat_more (joins_at setup entries letter) n)
+        ap (count test) (one_number_more (joins_at setup entries letter) n)
         ∙ count_append test (some_joins n letter) (joins_at setup entries letter n)
 
     abbrev each_join : ℕ → List Event
@@ -130,7 +130,7 @@ module _ (test : Event → Bool) where
         ∙ total_add f g letters
         ∙ ap (λ m. m + total g letters) (upto n)
         ∙ ap (λ m. count test (flat_map each_join (range_with_len 0 n)) + m) (joins_step n asks refl)
-        ∙ sym (ap (count test) (flat_more each_join n) ∙ count_append test (flat_map each_join (range_with_len 0 n)) (each_join n))
+        ∙ sym (ap (count test) (one_number_more each_join n) ∙ count_append test (flat_map each_join (range_with_len 0 n)) (each_join n))
 
 pub all_modules : JoinsOfAllModules
 unfolding all_joins

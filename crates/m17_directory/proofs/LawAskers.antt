@@ -1,65 +1,33 @@
 -- Who asks for a place joins or is turned away, by its claim alone.
 use Rattle.std.proofs.Common.{◌≡◌, ℕ, Bool, true, false, cond, not, ◌&&◌, List, is_some, Option, None, Some, refl, ap, sym, ◌∙◌, subst}
 use Rattle.m17_values.specs.declared.peer.Peer.{Peer}
-use Rattle.m17_control.specs.declared.event.Body.TheVariants as body
-use Rattle.m17_control.specs.declared.event.Why.TheVariants as why
-use Rattle.m17_control.specs.declared.packet.Control.TheVariants as control
 use Rattle.m17_control.specs.declared.packet.Packet.{Packet}
-use Rattle.m17_control.specs.declared.packet.Packet.TheVariants as packets
 use Rattle.m17_control.specs.Modules.{serves}
 use Rattle.m17_directory.specs.declared.known.Known.{Known}
 use Rattle.m17_directory.specs.declared.known.Request.{Request}
-use Rattle.m17_directory.specs.declared.verdict.Act.TheVariants as act
-use Rattle.m17_directory.specs.declared.verdict.LinkVerdict.TheVariants as verdict
 use Rattle.m17_directory.specs.Entries.{Notice, Claim, Entry, Setup, notice_at, claim_at, ends_at}
 use Rattle.m17_directory.specs.Known.{Past, now, request_in, known_at}
-use Rattle.m17_directory.specs.Outcome.{Here, Outcome, only, to_module, to_door, posting, leaving, is_what, known_asks, other_asks, of_packet}
+use Rattle.m17_directory.specs.Outcome.{Here, Outcome, of_packet}
 use Rattle.m17_directory.specs.Routed.{here_of, row_for, unclaimed_at, settled_by, settled_at, asks_at, both, past_at, link_verdict}
 use Rattle.m17_directory.specs.Laws.{is_full, is_joining, AskersJoinOrAreFull, AskersAskForServedModules}
 use Rattle.m17_directory.specs.Steps.{still_by, said_by}
 use Rattle.m17_directory.proofs.Same.{length_asked, heard_is}
-use Rattle.m17_directory.proofs.LawSent.{either, asks_served}
+use Rattle.m17_directory.proofs.Lines.{of_lines}
+use Rattle.m17_directory.proofs.LawSent.{asks_served}
 use Rattle.m17_directory.proofs.LawWho.{AsksFor, asks_one}
 
 -- before its claim an entry is neither
 abbrev Neither : Outcome → Type 0
 Neither o = (is_full o.verdict ≡ false) × (is_joining o.verdict ≡ false)
 
-known_neither : (here : Here) (k : Known) (request : Request) → Neither (known_asks here k request)
-known_neither at k request =
-    let door : Outcome = posting (verdict.NotServed request.letter) (to_door at k.peer control.Nack) in
-    let again : Outcome = posting (verdict.Routed k.letter act.Again) (to_module at k.letter (body.Reply k.member control.Ackn)) in
-    let moved : Outcome = leaving at verdict.Asks why.Moved k in
-    let a : Neither door = (refl, refl) in
-    let b : Neither again = (refl, refl) in
-    let c : Neither moved = (refl, refl) in
-    either Neither (not (serves at.setup.modules request.letter)) door (cond (is_what request k) again moved) a (either Neither (is_what request k) again moved b c)
-
-other_neither : (here : Here) (x : Peer) (request : Request) → Neither (other_asks here x request)
-other_neither at x request =
-    let door : Outcome = posting (verdict.NotServed request.letter) (to_door at x control.Nack) in
-    let a : Neither door = (refl, refl) in
-    let b : Neither (only verdict.Asks) = (refl, refl) in
-    either Neither (not (serves at.setup.modules request.letter)) door (only verdict.Asks) a b
-
 packet_neither : (here : Here) (x : Peer) (o : Option Known) (p : Packet) → Neither (of_packet here x o p)
-packet_neither at x (Some k) (packets.Control (control.Conn from letter)) = known_neither at k (record { letter = letter; callsign = from; listen = false })
-packet_neither at x (Some k) (packets.Control (control.Lstn from letter)) = known_neither at k (record { letter = letter; callsign = from; listen = true })
-packet_neither at x (Some k) (packets.Stream p) = (refl, refl)
-packet_neither at x (Some k) (packets.Control (control.Ping from)) = (refl, refl)
-packet_neither at x (Some k) (packets.Control (control.Pong from)) = (refl, refl)
-packet_neither at x (Some k) (packets.Control (control.Disc from)) = (refl, refl)
-packet_neither at x (Some k) (packets.Control control.Ackn) = (refl, refl)
-packet_neither at x (Some k) (packets.Control control.Nack) = (refl, refl)
-packet_neither at x None (packets.Control (control.Conn from letter)) = other_neither at x (record { letter = letter; callsign = from; listen = false })
-packet_neither at x None (packets.Control (control.Lstn from letter)) = other_neither at x (record { letter = letter; callsign = from; listen = true })
-packet_neither at x None (packets.Stream p) = (refl, refl)
-packet_neither at x None (packets.Control (control.Ping from)) = (refl, refl)
-packet_neither at x None (packets.Control (control.Pong from)) = (refl, refl)
-packet_neither at x None (packets.Control (control.Disc None)) = (refl, refl)
-packet_neither at x None (packets.Control (control.Disc (Some from))) = (refl, refl)
-packet_neither at x None (packets.Control control.Ackn) = (refl, refl)
-packet_neither at x None (packets.Control control.Nack) = (refl, refl)
+packet_neither here x o p = of_lines Neither here x o p (record {
+  nothing = λ v said. (said.full, said.joins);
+  at_door = λ y v reply said is. (said.full, said.joins);
+  frame = λ k s is of. (refl, refl);
+  reply = λ k what reply is said. (said.full, said.joins);
+  leaves = λ k v w is said other. (said.full, said.joins);
+})
 
 said_neither : (here : Here) (ends : Bool) (rows still : List Known) (notice : Notice) → Neither (said_by here ends rows still notice)
 said_neither at ends rows still (Notice.Sent from m p) = packet_neither at from (row_for from still) p

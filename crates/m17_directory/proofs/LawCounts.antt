@@ -1,5 +1,5 @@
 -- How many rows of a kind are known after an entry, and how many leave by it.
-use Rattle.std.proofs.Common.{◌≡◌, ◌⊎◌, ℕ, ◌+◌, Bool, true, false, cond, not, ◌&&◌, eqb, List, [], ◌∷◌, ◌++◌, map, filter, count_by, Option, None, Some, Ordering, Less, Equal, Greater, inl, inr, refl, ap, sym, ◌∙◌, arith}
+use Rattle.std.proofs.Common.{◌≡◌, ℕ, ◌+◌, Bool, true, false, cond, not, ◌&&◌, eqb, List, [], ◌∷◌, ◌++◌, map, filter, count_by, Option, None, Some, Ordering, Less, Equal, Greater, inl, inr, refl, ap, sym, ◌∙◌, arith}
 use Rattle.std.specs.List.{AllByRecursion}
 use Rattle.std.specs.Ordering.{match_ordering}
 use Rattle.std.proofs.lemmas.Bool.{false≢true}
@@ -7,24 +7,17 @@ use Rattle.std.proofs.lemmas.Option.{same_Some, none-some}
 use Rattle.std.proofs.lemmas.List.Sums.{sum_by-append}
 use Rattle.m17_values.specs.declared.member.Member.{Member}
 use Rattle.m17_values.specs.declared.peer.Peer.{Peer}
-use Rattle.m17_control.specs.declared.event.Body.TheVariants as body
-use Rattle.m17_control.specs.declared.event.Why.TheVariants as why
-use Rattle.m17_control.specs.declared.packet.Control.TheVariants as control
 use Rattle.m17_control.specs.declared.packet.Packet.{Packet}
-use Rattle.m17_control.specs.declared.packet.Packet.TheVariants as packets
-use Rattle.m17_control.specs.Modules.{serves}
 use Rattle.m17_directory.specs.declared.known.Known.{Known}
-use Rattle.m17_directory.specs.declared.known.Request.{Request}
 use Rattle.m17_directory.specs.declared.verdict.LinkVerdict.TheVariants as verdict
-use Rattle.m17_directory.specs.declared.verdict.Act.TheVariants as act
 use Rattle.m17_directory.specs.Entries.{Notice, peer_cmp, is_peer}
-use Rattle.m17_directory.specs.Outcome.{Here, Outcome, only, to_module, to_door, posting, leaving, is_what, known_asks, other_asks, of_known, of_other, of_packet, of_end}
+use Rattle.m17_directory.specs.Outcome.{Here, only, of_known, of_other, of_packet, of_end}
 use Rattle.m17_directory.specs.Routed.{is_silent, row_for}
 use Rattle.m17_directory.specs.Steps.{IsInOrder, heard_now, is_other, with_row, rows_by, silent_by, still_by, said_by, known_by}
 use Rattle.m17_directory.proofs.Peers.{peer_same, is_peer_same, is_peer_from}
 use Rattle.m17_directory.proofs.Rows.{after_none, after_same, order_filter}
 use Rattle.m17_directory.proofs.Taken.{no_row_other}
-use Rattle.m17_directory.proofs.LawSent.{either}
+use Rattle.m17_directory.proofs.Lines.{left_is, other_left}
 
 abbrev pub count : {X : Type 0} → (X → Bool) → List X → ℕ
 count p [] = 0
@@ -71,46 +64,6 @@ count_other p x k (r ∷ rows) h e =
     (λ s. no_row_other x rows (after_none x rows (after_same x r.peer rows (is_peer_same x r.peer s) h.0)))
     (count_other p x k rows h.1)
 
--- by a packet its own peer leaves at most
-other_left : (here : Here) (x : Peer) (request : Request) → (other_asks here x request).left ≡ []
-other_left at x request =
-    let door : Outcome = posting (verdict.NotServed request.letter) (to_door at x control.Nack) in
-    either (λ o. o.left ≡ []) (not (serves at.setup.modules request.letter)) door (only verdict.Asks) refl refl
-
-none_left : (here : Here) (x : Peer) (p : Packet) → (of_other here x p).left ≡ []
-none_left at x (packets.Control (control.Conn from letter)) = other_left at x (record { letter = letter; callsign = from; listen = false })
-none_left at x (packets.Control (control.Lstn from letter)) = other_left at x (record { letter = letter; callsign = from; listen = true })
-none_left at x (packets.Stream p) = refl
-none_left at x (packets.Control (control.Ping from)) = refl
-none_left at x (packets.Control (control.Pong from)) = refl
-none_left at x (packets.Control (control.Disc None)) = refl
-none_left at x (packets.Control (control.Disc (Some from))) = refl
-none_left at x (packets.Control control.Ackn) = refl
-none_left at x (packets.Control control.Nack) = refl
-
-abbrev LeftIs : Known → Outcome → Type 0
-LeftIs k o = (o.left ≡ []) ⊎ (o.left ≡ k ∷ [])
-
-asks_left : (here : Here) (k : Known) (request : Request) → LeftIs k (known_asks here k request)
-asks_left at k request =
-    let door : Outcome = posting (verdict.NotServed request.letter) (to_door at k.peer control.Nack) in
-    let again : Outcome = posting (verdict.Routed k.letter act.Again) (to_module at k.letter (body.Reply k.member control.Ackn)) in
-    let moved : Outcome = leaving at verdict.Asks why.Moved k in
-    let a : LeftIs k door = inl refl in
-    let b : LeftIs k again = inl refl in
-    let c : LeftIs k moved = inr refl in
-    either (LeftIs k) (not (serves at.setup.modules request.letter)) door (cond (is_what request k) again moved) a (either (LeftIs k) (is_what request k) again moved b c)
-
-known_left : (here : Here) (k : Known) (p : Packet) → LeftIs k (of_known here k p)
-known_left at k (packets.Control (control.Conn from letter)) = asks_left at k (record { letter = letter; callsign = from; listen = false })
-known_left at k (packets.Control (control.Lstn from letter)) = asks_left at k (record { letter = letter; callsign = from; listen = true })
-known_left at k (packets.Stream p) = inl refl
-known_left at k (packets.Control (control.Ping from)) = inl refl
-known_left at k (packets.Control (control.Pong from)) = inl refl
-known_left at k (packets.Control (control.Disc from)) = inr refl
-known_left at k (packets.Control control.Ackn) = inl refl
-known_left at k (packets.Control control.Nack) = inl refl
-
 sums : (a s l t r : ℕ) → s + t ≡ r → a + l ≡ t → a + (s + l) ≡ r
 sums a s l t r e f = omega arith
 
@@ -138,8 +91,8 @@ module _ (such : Known → Bool) (keeps : (x : Peer) (m : ℕ) (k : Known) → s
       ap (both_count at x still) e ∙ omega (arith, count_other such x k still h row)
 
   packet_count : (here : Here) (x : Peer) (still : List Known) (p : Packet) (o : Option Known) → IsInOrder still → row_for x still ≡ o → both_count here x still (of_packet here x o p).left ≡ count such still
-  packet_count at x still p None h row = nobody_left at x still (of_other at x p).left (none_left at x p)
-  packet_count at x still p (Some k) h row = elim (known_left at k p) [
+  packet_count at x still p None h row = nobody_left at x still (of_other at x p).left (other_left at x p)
+  packet_count at x still p (Some k) h row = elim (left_is at k p) [
     | inl e ↦ nobody_left at x still (of_known at k p).left e
     | inr e ↦ one_left at x k still (of_known at k p).left h row e
   ]

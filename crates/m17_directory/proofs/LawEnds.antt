@@ -1,7 +1,8 @@
 -- Where a link has ended nobody is known.
-use Rattle.std.proofs.Common.{◌≡◌, ℕ, suc, Bool, true, false, ◌&&◌, ◌||◌, List, [], ◌∷◌, ◌++◌, length, unwrap_or, filter_map, Option, None, refl, ap, sym, ◌∙◌}
+use Rattle.std.proofs.Common.{◌≡◌, ℕ, suc, Bool, true, false, ◌&&◌, List, [], ◌∷◌, ◌++◌, length, unwrap_or, filter_map, Option, None, refl, ap, sym, ◌∙◌}
 use Rattle.std.specs.List.{cons_option}
-use Rattle.std.proofs.lemmas.Bool.{false≢true}
+use Rattle.std.proofs.lemmas.Bool.{false≢true, or_right}
+use Rattle.m17_lists.proofs.Places.{one_more_stands_at_the_end}
 use Rattle.m17_values.specs.declared.peer.Peer.{Peer}
 use Rattle.m17_directory.specs.declared.verdict.LinkVerdict.{LinkVerdict}
 use Rattle.m17_directory.specs.declared.verdict.LinkVerdict.TheVariants as verdict
@@ -11,16 +12,11 @@ use Rattle.m17_directory.specs.Routed.{unclaimed_at, is_asks, asks_at, asked_bef
 use Rattle.m17_directory.specs.Laws.{is_ended, NobodyIsKnownBehindTheEnd}
 use Rattle.m17_directory.proofs.Same.{past_of, length_asked}
 use Rattle.m17_directory.proofs.Later.{goes}
-use Rattle.m17_directory.proofs.Positions.{get_end}
 use Rattle.m17_directory.proofs.LawPosts.{ended_where}
 
 ended_asks : (v : LinkVerdict) → is_ended v ≡ true → is_asks v ≡ false
 ended_asks verdict.Asks e = absurd (false≢true e)
 ended_asks v e = refl
-
-turns_if_ends : (a b : Bool) → b ≡ true → (a || b) ≡ true
-turns_if_ends true b e = refl
-turns_if_ends false b e = e
 
 none_found : {A B : Type 0} (f : A → Option B) (xs : List A) → ((x : A) → f x ≡ None) → filter_map f xs ≡ []
 none_found f [] h = refl
@@ -29,8 +25,8 @@ none_found f (x ∷ xs) h = ap (λ o. cons_option o (filter_map f xs)) (h x) ∙
 row_gone : (setup : Setup) (entries : List Entry) (l : List Bool) (v : Bool) → ends_at entries (length l) ≡ true → v ≡ false → (x : Peer) → row_at (past_of setup entries (l ++ v ∷ [])) x ≡ None
 row_gone setup entries l v ends asks x =
     goes setup entries l v x
-    (turns_if_ends _ (ends_at entries (length l)) ends)
-    (ap (λ o. unwrap_or o false && is_from x (notice_at entries (length l))) (get_end l v) ∙ ap (λ b. b && is_from x (notice_at entries (length l))) asks)
+    (or_right _ (ends_at entries (length l)) ends)
+    (ap (λ o. unwrap_or o false && is_from x (notice_at entries (length l))) (one_more_stands_at_the_end l v) ∙ ap (λ b. b && is_from x (notice_at entries (length l))) asks)
 
 known_gone : (setup : Setup) (entries : List Entry) (l : List Bool) (v : Bool) → ends_at entries (length l) ≡ true → v ≡ false → known_at (past_of setup entries (l ++ v ∷ [])) ≡ []
 unfolding known_at

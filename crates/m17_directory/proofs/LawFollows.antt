@@ -1,9 +1,10 @@
 -- Each Leave that a module is routed stands behind a Join of its member; and the place of one that was replaced was claimed again.
-use Rattle.std.proofs.Common.{◌≡◌, ℕ, zero, suc, ◌-◌, ◌<◌, ◌≤◌, ◌/◌, nat_lt, Bool, true, false, cond, not, eqb, List, [], ◌∷◌, ◌++◌, length, map, filter, filter_map, slice_get, unwrap_or, option_and_then, Option, None, Some, inl, inr, refl, ap, sym, ◌∙◌, subst, arith, length-append}
+use Rattle.std.proofs.Common.{◌≡◌, ℕ, zero, suc, ◌-◌, ◌<◌, ◌≤◌, Bool, true, false, cond, eqb, List, [], ◌∷◌, ◌++◌, length, filter, filter_map, slice_get, unwrap_or, option_and_then, Option, None, Some, inl, inr, refl, ap, sym, ◌∙◌, subst, arith, length-append}
 use Rattle.std.specs.List.{AllByRecursion, cons_option, flat_map, range_with_len}
 use Rattle.std.proofs.lemmas.Bool.{cases_eq, cases_lt, cond-true, eq-eqb, eqb-true, and_parts}
 use Rattle.std.proofs.lemmas.List.Elements.{filter_map-append}
 use Rattle.std.proofs.lemmas.Option.{same_Some, none-some}
+use Rattle.m17_lists.proofs.Places.{places_before_stay}
 use Rattle.m17_values.specs.declared.member.Member.{Member}
 use Rattle.m17_values.specs.declared.peer.Peer.{Peer}
 use Rattle.m17_control.specs.declared.event.Body.{Body}
@@ -11,31 +12,23 @@ use Rattle.m17_control.specs.declared.event.Body.TheVariants as body
 use Rattle.m17_control.specs.declared.event.Event.{Event}
 use Rattle.m17_control.specs.declared.event.Why.{Why}
 use Rattle.m17_control.specs.declared.event.Why.TheVariants as why
-use Rattle.m17_control.specs.declared.packet.Control.TheVariants as control
-use Rattle.m17_control.specs.declared.packet.Packet.{Packet}
-use Rattle.m17_control.specs.declared.packet.Packet.TheVariants as packets
-use Rattle.m17_control.specs.Modules.{serves, letters_of}
 use Rattle.m17_control.specs.Renamed.{joiner_of, joiner_at}
 use Rattle.m17_directory.specs.declared.dispatch.Dispatch.{Dispatch}
 use Rattle.m17_directory.specs.declared.dispatch.Dispatch.TheVariants.{ToModule, ToDoor}
 use Rattle.m17_directory.specs.declared.known.Known.{Known}
 use Rattle.m17_directory.specs.declared.known.Request.{Request}
-use Rattle.m17_directory.specs.declared.verdict.LinkVerdict.TheVariants.{Routed, Asks, NotServed, Faulted}
-use Rattle.m17_directory.specs.declared.verdict.Act.TheVariants as act
-use Rattle.m17_directory.specs.Entries.{Notice, Claim, Entry, Setup, notice_at, claim_at, passes_time, is_peer, is_from, moment_before, ends_at}
+use Rattle.m17_directory.specs.Entries.{Notice, Claim, Entry, Setup, notice_at, claim_at, is_from}
 use Rattle.m17_directory.specs.Known.{Past, now, request_in, row_at, known_at}
-use Rattle.m17_directory.specs.Outcome.{Here, Outcome, only, to_module, to_each_module, to_door, leave, posting, leaving, is_what, has_place, known_asks, other_asks, of_packet, of_end, settled}
-use Rattle.m17_directory.specs.Routed.{tick_ms, here_of, is_silent, row_for, unclaimed_at, others_at, settled_by, settled_at, asks_at, both, past_at, posts_at, posted, event_for, routed}
+use Rattle.m17_directory.specs.Outcome.{Here, has_place}
+use Rattle.m17_directory.specs.Routed.{here_of, others_at, asks_at, past_at, posts_at, posted, event_for, routed}
 use Rattle.m17_directory.specs.Laws.{is_join, join_event, joins_by, joins_at, IsClaimedAgain, LeavesFollowJoins}
-use Rattle.m17_directory.specs.Steps.{silent_by, ticks_by, still_by, said_by, heard_by}
-use Rattle.m17_directory.proofs.Same.{length_asked, heard_is}
+use Rattle.m17_directory.proofs.Same.{length_asked}
 use Rattle.m17_directory.proofs.Later.{has_row}
 use Rattle.m17_directory.proofs.LawJoins.{joins_of_events, joins_posted}
 use Rattle.m17_directory.proofs.LawMore.{posted_upto}
-use Rattle.m17_directory.proofs.LawPlaces.{still_all, others_all}
-use Rattle.m17_directory.proofs.LawSent.{all_append, all_map, all_filter, all_found, either, asked_get}
+use Rattle.m17_directory.proofs.AllPosts.{all_found, others_all, all_posts}
+use Rattle.m17_directory.proofs.LawSent.{asked_get}
 use Rattle.m17_directory.proofs.LawWho.{asks_one}
-use Rattle.m17_directory.proofs.Positions.{get_before}
 
 -- what is true of each Leave among what is posted: its letter, its member, and why
 module _ (P : ℕ → Member → Why → Type 0) where
@@ -54,120 +47,22 @@ module _ (P : ℕ → Member → Why → Type 0) where
   abbrev MayGo : Known → Type 0
   MayGo k = (w : Why) → (w ≡ why.Replaced → ⊥) → P k.letter k.member w
 
-  abbrev IsRowToGo : Option Known → Type 0
-  IsRowToGo None = Unit {0}
-  IsRowToGo (Some k) = MayGo k
-
-  row_to_go : (x : Peer) (rows : List Known) → AllByRecursion MayGo rows → IsRowToGo (row_for x rows)
-  row_to_go x [] h = tt
-  row_to_go x (k ∷ rows) h = elim (is_peer x k.peer) as (λ b. IsRowToGo (cond b (Some k) (row_for x rows))) [ true ↦ h.0 | false ↦ row_to_go x rows h.1 ]
-
-  rows_leave : (here : Here) (w : Why) (rows : List Known) → AllByRecursion (λ (k : Known). P k.letter k.member w) rows → SuchLeaves (map (leave here w) rows)
-  rows_leave here w rows h = all_map (λ (k : Known). P k.letter k.member w) IsSuchLeave (leave here w) rows (λ k s. s) h
-
-  rows_go : (here : Here) (w : Why) (rows : List Known) → (w ≡ why.Replaced → ⊥) → AllByRecursion MayGo rows → SuchLeaves (map (leave here w) rows)
-  rows_go here w rows other h = all_map MayGo IsSuchLeave (leave here w) rows (λ k s. s w other) h
-
-  each_none : (here : Here) (what : Body) (letters : List ℕ) → ((letter : ℕ) → OfLeave letter what) → SuchLeaves (map (λ letter. to_module here letter what) letters)
-  each_none here what [] h = tt
-  each_none here what (letter ∷ letters) h = (h letter, each_none here what letters h)
-
-  known_asks_go : (here : Here) (k : Known) (request : Request) → MayGo k → SuchLeaves (known_asks here k request).posts
-  known_asks_go here k request s =
-      let door : Outcome = posting (NotServed request.letter) (to_door here k.peer control.Nack) in
-      let again : Outcome = posting (Routed k.letter act.Again) (to_module here k.letter (body.Reply k.member control.Ackn)) in
-      let moved : Outcome = leaving here Asks why.Moved k in
-      let a : SuchLeaves door.posts = (tt, tt) in
-      let b : SuchLeaves again.posts = (tt, tt) in
-      let c : SuchLeaves moved.posts = (s why.Moved (λ e. cc), tt) in
-      either (λ o. SuchLeaves o.posts) (not (serves here.setup.modules request.letter)) door (cond (is_what request k) again moved) a
-      (either (λ o. SuchLeaves o.posts) (is_what request k) again moved b c)
-
-  other_asks_go : (here : Here) (x : Peer) (request : Request) → SuchLeaves (other_asks here x request).posts
-  other_asks_go here x request =
-      let door : Outcome = posting (NotServed request.letter) (to_door here x control.Nack) in
-      let a : SuchLeaves door.posts = (tt, tt) in
-      either (λ o. SuchLeaves o.posts) (not (serves here.setup.modules request.letter)) door (only Asks) a tt
-
-  packet_go : (here : Here) (x : Peer) (o : Option Known) (p : Packet) → IsRowToGo o → SuchLeaves (of_packet here x o p).posts
-  packet_go here x (Some k) (packets.Control (control.Conn from letter)) s = known_asks_go here k (record { letter = letter; callsign = from; listen = false }) s
-  packet_go here x (Some k) (packets.Control (control.Lstn from letter)) s = known_asks_go here k (record { letter = letter; callsign = from; listen = true }) s
-  packet_go here x (Some k) (packets.Stream p) s = (tt, tt)
-  packet_go here x (Some k) (packets.Control (control.Ping from)) s = (tt, tt)
-  packet_go here x (Some k) (packets.Control (control.Pong from)) s = tt
-  packet_go here x (Some k) (packets.Control (control.Disc from)) s = (s why.Asked (λ e. cc), tt)
-  packet_go here x (Some k) (packets.Control control.Ackn) s = tt
-  packet_go here x (Some k) (packets.Control control.Nack) s = tt
-  packet_go here x None (packets.Control (control.Conn from letter)) s = other_asks_go here x (record { letter = letter; callsign = from; listen = false })
-  packet_go here x None (packets.Control (control.Lstn from letter)) s = other_asks_go here x (record { letter = letter; callsign = from; listen = true })
-  packet_go here x None (packets.Stream p) s = tt
-  packet_go here x None (packets.Control (control.Ping from)) s = tt
-  packet_go here x None (packets.Control (control.Pong from)) s = tt
-  packet_go here x None (packets.Control (control.Disc None)) s = tt
-  packet_go here x None (packets.Control (control.Disc (Some from))) s = (tt, tt)
-  packet_go here x None (packets.Control control.Ackn) s = tt
-  packet_go here x None (packets.Control control.Nack) s = tt
-
-  ticks_none : (here : Here) (before : ℕ) → SuchLeaves (ticks_by here before)
-  ticks_none here before =
-      elim (nat_lt (before / tick_ms) (here.moment / tick_ms)) as (λ b. SuchLeaves (cond b (to_each_module here body.Tick) []))
-      [ true ↦ each_none here body.Tick (letters_of here.setup.modules) (λ letter. tt) | false ↦ tt ]
-
-  end_go : (here : Here) (rows : List Known) → AllByRecursion MayGo rows → SuchLeaves (of_end here rows).posts
-  end_go here rows h =
-      all_append IsSuchLeave (map (leave here why.Stopped) rows) (to_each_module here body.Stop) (rows_go here why.Stopped rows (λ e. cc) h)
-      (each_none here body.Stop (letters_of here.setup.modules) (λ letter. tt))
-
-  said_go : (here : Here) (ends : Bool) (rows still : List Known) (notice : Notice) → AllByRecursion MayGo rows → AllByRecursion MayGo still → SuchLeaves (said_by here ends rows still notice).posts
-  said_go here ends rows still (Notice.Sent from at p) h s = packet_go here from (row_for from still) p (row_to_go from still s)
-  said_go here ends rows still (Notice.Garbled from at refusal) h s = tt
-  said_go here ends rows still (Notice.Quiet at) h s = tt
-  said_go here ends rows still Notice.Fault h s = either (λ o. SuchLeaves o.posts) ends (of_end here rows) (only Faulted) (end_go here rows h) tt
-  said_go here ends rows still Notice.End h s = end_go here rows h
-
-  silent_go : (here : Here) (rows : List Known) (notice : Notice) → AllByRecursion MayGo rows → AllByRecursion MayGo (silent_by here rows notice)
-  silent_go here rows notice h =
-      elim (passes_time notice) as (λ b. AllByRecursion MayGo (cond b (filter (is_silent here.moment) rows) [])) [ true ↦ all_filter _ (is_silent here.moment) rows h | false ↦ tt ]
-
-  heard_go : (here : Here) (before : ℕ) (ends : Bool) (rows : List Known) (notice : Notice) → AllByRecursion MayGo rows → SuchLeaves (heard_by here before ends rows notice).posts
-  heard_go here before ends rows notice h =
-      let said : List Dispatch = (said_by here ends rows (still_by here rows notice) notice).posts in
-      let leaves : List Dispatch = map (leave here why.Silent) (silent_by here rows notice) in
-      all_append IsSuchLeave (leaves ++ ticks_by here before) said
-      (all_append IsSuchLeave leaves (ticks_by here before) (rows_go here why.Silent (silent_by here rows notice) (λ e. cc) (silent_go here rows notice h)) (ticks_none here before))
-      (said_go here ends rows (still_by here rows notice) notice h (still_all MayGo here rows notice h))
-
   -- those that are replaced
   abbrev AreReplaced : List Known → Option Claim → Type 0
   AreReplaced others claim = (c : Claim) → claim ≡ Some c → AllByRecursion (λ (k : Known). P k.letter k.member why.Replaced) (filter (has_place c.member.place) others)
 
-  settled_go : (here : Here) (others : List Known) (x : Peer) (request : Request) (claim : Option Claim) → AreReplaced others claim → SuchLeaves (settled here others x request claim).posts
-  settled_go here others x request None h = (tt, tt)
-  settled_go here others x request (Some claim) h =
-      all_append IsSuchLeave (map (leave here why.Replaced) (filter (has_place claim.member.place) others)) _
-      (rows_leave here why.Replaced (filter (has_place claim.member.place) others) (h claim refl)) (tt, tt)
-
-  settled_by_go : (past : Past) (claim : Option Claim) (notice : Notice) (request : Option Request) → AreReplaced (others_at past) claim → SuchLeaves (settled_by past claim notice request).posts
-  settled_by_go past claim (Notice.Sent from at p) (Some request) h = settled_go (here_of past) (others_at past) from request claim h
-  settled_by_go past claim (Notice.Sent from at p) None h = tt
-  settled_by_go past claim (Notice.Garbled from at refusal) request h = tt
-  settled_by_go past claim (Notice.Quiet at) request h = tt
-  settled_by_go past claim Notice.Fault request h = tt
-  settled_by_go past claim Notice.End request h = tt
-
-  comes_go : (b : Bool) (o u : Outcome) → SuchLeaves o.posts → SuchLeaves u.posts → SuchLeaves (cond b (both o u) o).posts
-  comes_go true o u h k = all_append IsSuchLeave o.posts u.posts h k
-  comes_go false o u h k = h
-
   posts_go : (setup : Setup) (entries : List Entry) (n : ℕ) → AllByRecursion MayGo (known_at (past_at setup entries n)) → AreReplaced (others_at (past_at setup entries n)) (claim_at entries (now (past_at setup entries n))) → SuchLeaves (posts_at setup entries n)
-  unfolding posts_at settled_at
-  posts_go setup entries n h r =
-      let past : Past = past_at setup entries n in
-      let ends : Bool = ends_at past.entries (now past) in
-      let notice : Notice = notice_at past.entries (now past) in
-      let first : SuchLeaves (unclaimed_at past).posts = subst (λ (o : Outcome). SuchLeaves o.posts) (sym (heard_is past)) (heard_go (here_of past) (moment_before past.entries (now past)) ends (known_at past) notice h) in
-      let second : SuchLeaves (settled_at past (claim_at entries (now past))).posts = settled_by_go past (claim_at entries (now past)) notice (request_in notice) r in
-      comes_go (asks_at past) (unclaimed_at past) (settled_at past (claim_at entries (now past))) first second
+  posts_go setup entries n h r = all_posts IsSuchLeave MayGo setup entries n (record {
+    known = h;
+    leaves = λ k w s other. s w other;
+    tick = λ letter s. tt;
+    stop = λ letter s e. tt;
+    door = λ x reply is. tt;
+    frame = λ k p s. tt;
+    reply = λ k reply s. tt;
+    replaced = r;
+    join = λ c given x request asks wants. tt;
+  })
 
   -- .. among the events of a module
   event_step : (letter to : ℕ) (event : Event) (rest : List Event) (b : Bool) → eqb to letter ≡ b → OfLeave to event.body → AllByRecursion (λ (e : Event). OfLeave letter e.body) rest → AllByRecursion (λ (e : Event). OfLeave letter e.body) (cons_option (cond b (Some event) None) rest)
@@ -274,7 +169,7 @@ has_join one [] k is e = absurd cc
 has_join one (x ∷ xs) k is e = has_join_step (is_join x.body) x one xs k is e (has_join one xs k is)
 
 joiner_before : (xs ys : List Event) (i : ℕ) (k : Member) → i < length xs → joiner_at xs i ≡ Some k → joiner_at (xs ++ ys) i ≡ Some k
-joiner_before xs ys i k l e = ap (option_and_then (λ (event : Event). joiner_of event.body)) (get_before xs ys i l) ∙ e
+joiner_before xs ys i k l e = ap (option_and_then (λ (event : Event). joiner_of event.body)) (places_before_stay xs ys i l) ∙ e
 
 join_behind : (xs ys : List Event) (k : Member) → HasJoin ys k → HasJoin (xs ++ ys) k
 join_behind [] ys k h = h
@@ -346,7 +241,7 @@ module _ (setup : Setup) (entries : List Entry) (letter : ℕ) where
   follows (suc n) p event k w e is =
       let there : slice_get (so_far n ++ by_entry n) p ≡ Some event = ap (λ xs. slice_get xs p) (sym (one_more n)) ∙ e in
       elim (cases_lt p (length (so_far n))) [
-        | inl l ↦ follows_later n p k w l (follows n p event k w (sym (get_before (so_far n) (by_entry n) p l) ∙ there) is)
+        | inl l ↦ follows_later n p k w l (follows n p event k w (sym (places_before_stay (so_far n) (by_entry n) p l) ∙ there) is)
         | inr l ↦ follows_now n p k w l
             (leave_at (IsSettled setup entries n) letter (by_entry n) (p - length (so_far n)) event k w
             (events_go (IsSettled setup entries n) letter (posts_at setup entries n) (posts_settled setup entries n))

@@ -1,15 +1,13 @@
 -- Which packets and Joins a module is routed, entry by entry.
-use Rattle.std.proofs.Common.{◌≡◌, ℕ, zero, suc, ◌+◌, Bool, true, false, cond, not, eqb, List, [], ◌∷◌, ◌++◌, length, map, filter, filter_map, Option, None, Some, refl, ap, sym, ◌∙◌, subst}
+use Rattle.std.proofs.Common.{◌≡◌, ℕ, zero, suc, ◌+◌, Bool, true, false, cond, eqb, List, [], ◌∷◌, ◌++◌, length, map, filter, filter_map, Option, None, Some, refl, ap, sym, ◌∙◌, subst}
 use Rattle.std.specs.List.{cons_option, flat_map, range_with_len}
 use Rattle.std.proofs.lemmas.List.Elements.{filter_map-append}
 use Rattle.m17_values.specs.declared.peer.Peer.{Peer}
 use Rattle.m17_control.specs.declared.event.Body.TheVariants as body
 use Rattle.m17_control.specs.declared.event.Event.{Event}
 use Rattle.m17_control.specs.declared.event.Why.TheVariants as why
-use Rattle.m17_control.specs.declared.packet.Control.TheVariants as control
 use Rattle.m17_control.specs.declared.packet.Packet.{Packet}
-use Rattle.m17_control.specs.declared.packet.Packet.TheVariants as packets
-use Rattle.m17_control.specs.Modules.{serves, letters_of}
+use Rattle.m17_control.specs.Modules.{letters_of}
 use Rattle.m17_directory.specs.declared.dispatch.Dispatch.{Dispatch}
 use Rattle.m17_directory.specs.declared.dispatch.Dispatch.TheVariants.{ToModule, ToDoor}
 use Rattle.m17_directory.specs.declared.known.Known.{Known}
@@ -19,12 +17,14 @@ use Rattle.m17_directory.specs.declared.verdict.LinkVerdict.TheVariants as verdi
 use Rattle.m17_directory.specs.declared.verdict.Act.TheVariants as act
 use Rattle.m17_directory.specs.Entries.{Notice, Claim, Entry, Setup, notice_at, claim_at, moment_before, ends_at}
 use Rattle.m17_directory.specs.Known.{Past, now, request_in, known_at}
-use Rattle.m17_directory.specs.Outcome.{Here, Outcome, only, to_module, to_each_module, to_door, leave, posting, leaving, is_what, has_place, known_asks, other_asks, of_packet, of_end}
+use Rattle.m17_directory.specs.Outcome.{Here, Outcome, only, to_module, to_each_module, leave, has_place, of_packet, of_end}
 use Rattle.m17_directory.specs.Routed.{here_of, row_for, unclaimed_at, others_at, settled_by, settled_at, asks_at, both, past_at, link_verdict, posts_at, posted, event_for, routed}
 use Rattle.m17_directory.specs.Laws.{is_packet, packet_letter, packet_routed, packet_index, is_packet_for, PacketsAreOfEntries, is_join, join_event, joins_by, joins_at, JoinsAreTheClaims}
 use Rattle.m17_directory.specs.Steps.{silent_by, still_by, said_by}
 use Rattle.m17_directory.proofs.Same.{length_asked, heard_is}
-use Rattle.m17_directory.proofs.LawSent.{either, AllSent}
+use Rattle.m17_directory.proofs.Lines.{of_lines}
+use Rattle.m17_directory.proofs.AllPosts.{either}
+use Rattle.m17_directory.proofs.LawSent.{AllSent}
 use Rattle.m17_directory.proofs.LawRouted.{posts_sent}
 use Rattle.m17_directory.proofs.LawPosts.{packets_routed, none_of, no_leaves, read_heard}
 
@@ -114,36 +114,14 @@ joins_of_events letter (ToDoor direct ∷ posts) = joins_of_events letter posts
 abbrev pub JoinsNone : ℕ → Outcome → Type 0
 JoinsNone letter o = filter_map (join_for letter) o.posts ≡ []
 
-none_known_asks : (letter : ℕ) (here : Here) (k : Known) (request : Request) → JoinsNone letter (known_asks here k request)
-none_known_asks letter at k request =
-    let door : Outcome = posting (verdict.NotServed request.letter) (to_door at k.peer control.Nack) in
-    let again : Outcome = posting (verdict.Routed k.letter act.Again) (to_module at k.letter (body.Reply k.member control.Ackn)) in
-    let moved : Outcome = leaving at verdict.Asks why.Moved k in
-    either (JoinsNone letter) (not (serves at.setup.modules request.letter)) door (cond (is_what request k) again moved) refl (either (JoinsNone letter) (is_what request k) again moved refl refl)
-
-none_other_asks : (letter : ℕ) (here : Here) (x : Peer) (request : Request) → JoinsNone letter (other_asks here x request)
-none_other_asks letter at x request =
-    let door : Outcome = posting (verdict.NotServed request.letter) (to_door at x control.Nack) in
-    either (JoinsNone letter) (not (serves at.setup.modules request.letter)) door (only verdict.Asks) refl refl
-
 none_packet : (letter : ℕ) (here : Here) (x : Peer) (o : Option Known) (p : Packet) → JoinsNone letter (of_packet here x o p)
-none_packet letter at x (Some k) (packets.Control (control.Conn from l)) = none_known_asks letter at k (record { letter = l; callsign = from; listen = false })
-none_packet letter at x (Some k) (packets.Control (control.Lstn from l)) = none_known_asks letter at k (record { letter = l; callsign = from; listen = true })
-none_packet letter at x None (packets.Control (control.Conn from l)) = none_other_asks letter at x (record { letter = l; callsign = from; listen = false })
-none_packet letter at x None (packets.Control (control.Lstn from l)) = none_other_asks letter at x (record { letter = l; callsign = from; listen = true })
-none_packet letter at x (Some k) (packets.Stream p) = refl
-none_packet letter at x (Some k) (packets.Control (control.Ping from)) = refl
-none_packet letter at x (Some k) (packets.Control (control.Pong from)) = refl
-none_packet letter at x (Some k) (packets.Control (control.Disc from)) = refl
-none_packet letter at x (Some k) (packets.Control control.Ackn) = refl
-none_packet letter at x (Some k) (packets.Control control.Nack) = refl
-none_packet letter at x None (packets.Stream p) = refl
-none_packet letter at x None (packets.Control (control.Ping from)) = refl
-none_packet letter at x None (packets.Control (control.Pong from)) = refl
-none_packet letter at x None (packets.Control (control.Disc None)) = refl
-none_packet letter at x None (packets.Control (control.Disc (Some from))) = refl
-none_packet letter at x None (packets.Control control.Ackn) = refl
-none_packet letter at x None (packets.Control control.Nack) = refl
+none_packet letter here x o p = of_lines (JoinsNone letter) here x o p (record {
+  nothing = λ v said. refl;
+  at_door = λ y v reply said is. refl;
+  frame = λ k s is of. refl;
+  reply = λ k what reply is said. refl;
+  leaves = λ k v w is said other. refl;
+})
 
 none_end : (letter : ℕ) (here : Here) (rows : List Known) → JoinsNone letter (of_end here rows)
 none_end letter at rows =

@@ -1,10 +1,13 @@
 -- What an entry comes to depends on the entries before it and on itself, and one entry more posts behind the others.
-use Rattle.std.proofs.Common.{◌≡◌, ◌⊎◌, inl, inr, ℕ, zero, suc, ◌+◌, ◌<◌, Bool, cond, List, [], ◌∷◌, ◌++◌, length, take, slice_get, option_and_then, filter_map, Option, None, Some, refl, ap, sym, ◌∙◌, arith}
+use Rattle.std.proofs.Common.{◌≡◌, ◌⊎◌, inl, inr, ℕ, suc, ◌+◌, ◌<◌, Bool, cond, List, [], ◌∷◌, ◌++◌, length, take, option_and_then, filter_map, Option, None, Some, refl, ap, sym, ◌∙◌, arith}
 use Rattle.std.specs.List.{flat_map, range_with_len}
 use Rattle.std.proofs.lemmas.Bool.{cases_eq}
 use Rattle.std.proofs.lemmas.List.{append-nil}
 use Rattle.std.proofs.lemmas.List.Elements.{filter_map-append}
 use Rattle.std.proofs.lemmas.Grind.{flat_map-append}
+use Rattle.m17_lists.proofs.Ranges.{range_ends_in_its_last, same_at_each_number}
+use Rattle.m17_lists.proofs.Places.{places_before_stay, same_fronts_same_places}
+use Rattle.m17_lists.proofs.Lengths.{one_more_is_one_longer}
 use Rattle.m17_values.specs.declared.peer.Peer.{Peer}
 use Rattle.m17_directory.specs.declared.dispatch.Dispatch.{Dispatch}
 use Rattle.m17_directory.specs.declared.known.Known.{Known}
@@ -15,8 +18,7 @@ use Rattle.m17_directory.specs.Outcome.{Here, Outcome, settled}
 use Rattle.m17_directory.specs.Routed.{here_of, unclaimed_at, others_than, others_at, settled_by, settled_at, is_asks, both, comes_to, asked_before, past_at, outcome_at, posts_at, posted, event_for, reply_for, routed, direct_replies}
 use Rattle.m17_directory.specs.Laws.{LaterEntriesChangeNothing, OneEntryMore, EntriesBeforeDecide}
 use Rattle.m17_directory.specs.Steps.{still_by}
-use Rattle.m17_directory.proofs.Positions.{get_before, range_more}
-use Rattle.m17_directory.proofs.Same.{Says, Claims, past_of, says_less, claims_less, moment_same, known_same, heard_same, heard_at_same, length_more, length_asked, asked_same}
+use Rattle.m17_directory.proofs.Same.{Says, Claims, past_of, says_less, claims_less, moment_same, known_same, heard_same, heard_at_same, length_asked, asked_same}
 
 -- the same setup, index and moment
 here_same : (setup : Setup) (a b : List Entry) (l : List Bool) → Says a b (suc (length l)) → here_of (past_of setup a l) ≡ here_of (past_of setup b l)
@@ -81,14 +83,8 @@ outcome_same setup a b n says claims =
 pub later_nothing : LaterEntriesChangeNothing
 later_nothing setup entries more n l =
     outcome_same setup (entries ++ more) entries n
-    (λ i k. ap notice_of (get_before entries more i (omega arith)))
-    (λ i k. ap (option_and_then (λ (entry : Entry). entry.claim)) (get_before entries more i (omega arith)))
-
-flat_map_same : {X : Type 0} (f g : ℕ → List X) (from n : ℕ) → ((i : ℕ) → i < from + n → f i ≡ g i) → flat_map f (range_with_len from n) ≡ flat_map g (range_with_len from n)
-flat_map_same f g from zero h = refl
-flat_map_same f g from (suc n) h =
-    ap (λ xs. xs ++ flat_map f (range_with_len (from + 1) n)) (h from (omega arith))
-    ∙ ap (λ xs. g from ++ xs) (flat_map_same f g (from + 1) n (λ i l. h i (omega arith)))
+    (λ i k. ap notice_of (places_before_stay entries more i (omega arith)))
+    (λ i k. ap (option_and_then (λ (entry : Entry). entry.claim)) (places_before_stay entries more i (omega arith)))
 
 posts_later : (setup : Setup) (entries more : List Entry) (n : ℕ) → n < length entries → posts_at setup (entries ++ more) n ≡ posts_at setup entries n
 unfolding posts_at
@@ -98,7 +94,7 @@ pub posted_upto : (setup : Setup) (entries : List Entry) (n : ℕ) → flat_map 
 posted_upto setup entries n =
     let f : ℕ → List Dispatch = posts_at setup entries in
     let at : 0 + n ≡ n = omega arith in
-    ap (flat_map f) (range_more 0 n)
+    ap (flat_map f) (range_ends_in_its_last 0 n)
     ∙ flat_map-append f (range_with_len 0 n) ((0 + n) ∷ [])
     ∙ ap (λ m. flat_map f (range_with_len 0 n) ++ flat_map f (m ∷ [])) at
     ∙ ap (λ xs. flat_map f (range_with_len 0 n) ++ xs) (append-nil (f n))
@@ -108,9 +104,9 @@ unfolding posted
 posted_more setup entries entry =
     let longer : List Entry = entries ++ entry ∷ [] in
     let n : ℕ = length entries in
-    ap (λ m. flat_map (posts_at setup longer) (range_with_len 0 m)) (length_more entries entry)
+    ap (λ m. flat_map (posts_at setup longer) (range_with_len 0 m)) (one_more_is_one_longer entries entry)
     ∙ posted_upto setup longer n
-    ∙ ap (λ xs. xs ++ posts_at setup longer n) (flat_map_same (posts_at setup longer) (posts_at setup entries) 0 n (λ i l. posts_later setup entries (entry ∷ []) i (omega arith)))
+    ∙ ap (λ xs. xs ++ posts_at setup longer n) (same_at_each_number (posts_at setup longer) (posts_at setup entries) 0 n (λ i l. posts_later setup entries (entry ∷ []) i (omega arith)))
 
 routed_more : (setup : Setup) (entries : List Entry) (entry : Entry) (letter : ℕ) → routed setup (entries ++ entry ∷ []) letter ≡ routed setup entries letter ++ filter_map (event_for letter) (posts_at setup (entries ++ entry ∷ []) (length entries))
 unfolding routed
@@ -128,16 +124,6 @@ pub one_more : OneEntryMore
 one_more = record { posts = posted_more; routes = routed_more; answers = replies_more }
 
 -- lists that begin alike
-pub get_taken : {A : Type 0} (xs : List A) (n i : ℕ) → i < n → slice_get (take n xs) i ≡ slice_get xs i
-get_taken [] zero i h = refl
-get_taken [] (suc n) i h = refl
-get_taken (x ∷ xs) zero i h = absurd (omega arith)
-get_taken (x ∷ xs) (suc n) zero h = refl
-get_taken (x ∷ xs) (suc n) (suc i) h = get_taken xs n i (omega arith)
-
-get_alike : {A : Type 0} (xs ys : List A) (n : ℕ) → take n xs ≡ take n ys → (i : ℕ) → i < n → slice_get xs i ≡ slice_get ys i
-get_alike xs ys n e i l = sym (get_taken xs n i l) ∙ ap (λ zs. slice_get zs i) e ∙ get_taken ys n i l
-
 says_alike_step : (a b : List Entry) (n i : ℕ) → Says a b n → notice_at a n ≡ notice_at b n → i < suc n → (i ≡ n) ⊎ (i < n) → notice_at a i ≡ notice_at b i
 says_alike_step a b n i h e l (inl same) = ap (notice_at a) same ∙ e ∙ ap (notice_at b) (sym same)
 says_alike_step a b n i h e l (inr less) = h i less
@@ -156,10 +142,10 @@ others_at_same setup a b n says claims =
     ∙ ap (λ m. others_at (past_of setup b m)) (asked_same setup a b n (says_less a b (suc n) n (omega arith) says) claims)
 
 before_says : (a b : List Entry) (n : ℕ) → take n a ≡ take n b → notice_at a n ≡ notice_at b n → Says a b (suc n)
-before_says a b n e h = says_alike a b n (λ i l. ap notice_of (get_alike a b n e i l)) h
+before_says a b n e h = says_alike a b n (λ i l. ap notice_of (same_fronts_same_places a b n e i l)) h
 
 before_claims : (a b : List Entry) (n : ℕ) → take n a ≡ take n b → Claims a b n
-before_claims a b n e = λ i l. ap (option_and_then (λ (entry : Entry). entry.claim)) (get_alike a b n e i l)
+before_claims a b n e = λ i l. ap (option_and_then (λ (entry : Entry). entry.claim)) (same_fronts_same_places a b n e i l)
 
 pub before_decide : EntriesBeforeDecide
 before_decide = record {

@@ -1,13 +1,13 @@
 -- The peers that are named stand in strict order, and are just the senders.
-use Rattle.std.proofs.Common.{◌≡◌, ◌↔◌, ◌⊎◌, ℕ, zero, suc, ◌<◌, Bool, true, false, cond, List, [], ◌∷◌, slice_get, Option, None, Some, Ordering, Less, Equal, Greater, refl, ap, sym, subst, ◌∙◌, inl, inr, arith}
+use Rattle.std.proofs.Common.{◌≡◌, ◌↔◌, ◌⊎◌, ℕ, zero, suc, ◌<◌, Bool, true, false, cond, List, [], ◌∷◌, slice_get, Some, Ordering, Less, Equal, Greater, refl, ap, sym, subst, ◌∙◌, inl, inr, arith}
 use Rattle.std.specs.Ordering.{match_ordering}
-use Rattle.std.proofs.lemmas.Bool.{cond-true, cases_eq, cases_Bool, false≢true}
+use Rattle.std.proofs.lemmas.Bool.{cond-true, cases_eq, false≢true}
 use Rattle.std.proofs.lemmas.Option.{same_Some}
 use Rattle.m17_values.specs.declared.peer.Peer.{Peer}
 use Rattle.m17_directory.specs.Entries.{Notice, Entry, notice_at, peer_cmp, is_peer, with_peer, with_sender, peers_named}
 use Rattle.m17_directory.specs.Laws.{CameFrom, PeersAreNamedInOrder}
-use Rattle.m17_directory.proofs.Peers.{peer_same, is_peer_same, is_peer_self, is_peer_from}
-use Rattle.m17_directory.proofs.Named.{AreAfter, AreInOrder, is_named, peers_in_order, named_new, named_with}
+use Rattle.m17_directory.proofs.Peers.{is_peer_same, is_peer_from}
+use Rattle.m17_directory.proofs.Named.{AreAfter, AreInOrder, is_named, peers_in_order, named_new, named_still}
 
 -- by places
 after_get : (x : Peer) (peers : List Peer) (j : ℕ) (y : Peer) → AreAfter x peers → slice_get peers j ≡ Some y → peer_cmp x y ≡ Less
@@ -89,19 +89,12 @@ goes_by x (Notice.Quiet at) peers e = absurd e
 goes_by x Notice.Fault peers e = absurd e
 goes_by x Notice.End peers e = absurd e
 
-stays_by : (x : Peer) (notice : Notice) (peers : List Peer) → is_named x peers ≡ true → is_named x (with_sender notice peers) ≡ true
-stays_by x (Notice.Sent from at p) peers h = named_with x from peers h
-stays_by x (Notice.Garbled from at refusal) peers h = named_with x from peers h
-stays_by x (Notice.Quiet at) peers h = h
-stays_by x Notice.Fault peers h = h
-stays_by x Notice.End peers h = h
-
 goes : (entries : List Entry) (x : Peer) (n i : ℕ) → i < n → CameFrom x (notice_at entries i) → is_named x (peers_named entries n) ≡ true
 unfolding peers_named
 goes entries x zero i l c = absurd (omega arith)
 goes entries x (suc n) i l c = elim (cases_eq i n) [
   | inl same ↦ goes_by x (notice_at entries n) (peers_named entries n) (subst (λ j. CameFrom x (notice_at entries j)) same c)
-  | inr other ↦ stays_by x (notice_at entries n) (peers_named entries n) (goes entries x n i (omega arith) c)
+  | inr other ↦ named_still x (notice_at entries n) (peers_named entries n) (goes entries x n i (omega arith) c)
 ]
 
 senders : (entries : List Entry) (n : ℕ) (x : Peer) → ((i : ℕ) × (slice_get (peers_named entries n) i ≡ Some x)) ↔ ((i : ℕ) × (i < n) × CameFrom x (notice_at entries i))

@@ -2,8 +2,7 @@
 use Rattle.std.proofs.Common.{◌≡◌, ℕ, zero, suc, ◌+◌, ◌<◌, ◌≤◌, Bool, true, false, cond, not, ◌&&◌, List, [], ◌∷◌, ◌++◌, length, map, filter, count_by, Option, None, Some, refl, ap, sym, ◌∙◌, subst, arith}
 use Rattle.std.specs.List.{flat_map, range_with_len}
 use Rattle.std.proofs.lemmas.Bool.{false≢true}
-use Rattle.std.proofs.lemmas.List.{append-nil}
-use Rattle.std.proofs.lemmas.Grind.{flat_map-append}
+use Rattle.m17_lists.proofs.Ranges.{one_number_more}
 use Rattle.m17_values.specs.declared.member.Member.{Member}
 use Rattle.m17_values.specs.declared.peer.Peer.{Peer}
 use Rattle.m17_directory.specs.declared.known.Departed.{Departed}
@@ -17,7 +16,6 @@ use Rattle.m17_directory.specs.Laws.{ClaimsAreAsked, joined_by, joined_before, l
 use Rattle.m17_directory.specs.Steps.{heard_now, is_other}
 use Rattle.m17_directory.proofs.Peers.{is_peer_same}
 use Rattle.m17_directory.proofs.Same.{length_asked}
-use Rattle.m17_directory.proofs.Positions.{range_more}
 use Rattle.m17_directory.proofs.LawMore.{others_is}
 use Rattle.m17_directory.proofs.LawCounts.{count, count_is, count_append, count_map, NoneOf}
 use Rattle.m17_directory.proofs.LawWho.{AsksFor, still, asks_one, heard_count, others_are, others_none, known_next, claim_count}
@@ -32,14 +30,6 @@ joined_none (Notice.Garbled from at refusal) = refl
 joined_none (Notice.Quiet at) = refl
 joined_none Notice.Fault = refl
 joined_none Notice.End = refl
-
-pub flat_more : {X : Type 0} (f : ℕ → List X) (n : ℕ) → flat_map f (range_with_len 0 (suc n)) ≡ flat_map f (range_with_len 0 n) ++ f n
-flat_more f n =
-    let at : 0 + n ≡ n = omega arith in
-    ap (flat_map f) (range_more 0 n)
-    ∙ flat_map-append f (range_with_len 0 n) ((0 + n) ∷ [])
-    ∙ ap (λ m. flat_map f (range_with_len 0 n) ++ flat_map f (m ∷ [])) at
-    ∙ ap (λ xs. flat_map f (range_with_len 0 n) ++ xs) (append-nil (f n))
 
 module _ (setup : Setup) (entries : List Entry) (test : Departed → Bool) where
   abbrev such : Known → Bool
@@ -99,13 +89,13 @@ module _ (setup : Setup) (entries : List Entry) (test : Departed → Bool) where
   unfolding joined_before
   joined_more n =
       let f : ℕ → List Departed = λ i. joins i (asks_at (past_at setup entries i)) (claim_at entries i) in
-      ap (count test) (flat_more f n) ∙ count_append test (flat_map f (range_with_len 0 n)) (f n)
+      ap (count test) (one_number_more f n) ∙ count_append test (flat_map f (range_with_len 0 n)) (f n)
 
   left_more : (n : ℕ) → count test (left_before setup entries (suc n)) ≡ count test (left_before setup entries n) + count such (out n (asks_at (past_at setup entries n)) (claim_at entries n)).left
   unfolding left_before
   left_more n =
       let f : ℕ → List Departed = λ i. map departed_of (outcome_at setup entries i).left in
-      ap (count test) (flat_more f n) ∙ count_append test (flat_map f (range_with_len 0 n)) (f n)
+      ap (count test) (one_number_more f n) ∙ count_append test (flat_map f (range_with_len 0 n)) (f n)
       ∙ ap (λ m. count test (flat_map f (range_with_len 0 n)) + m) (left_count n)
 
   nobody_first : known_at (past_at setup entries zero) ≡ []

@@ -3,37 +3,17 @@ use Rattle.std.proofs.Common.{◌≡◌, ◌⊎◌, ℕ, zero, suc, ◌<◌, ◌
 use Rattle.std.specs.List.{AllByRecursion}
 use Rattle.std.proofs.lemmas.Bool.{eqb-true}
 use Rattle.m17_directory.specs.declared.known.Known.{Known}
-use Rattle.m17_directory.specs.Entries.{Notice, Claim, Entry, Setup, claim_at, passes_time, notice_at, is_peer, peers_named}
-use Rattle.m17_directory.specs.Known.{Past, now, row_at, known_at}
-use Rattle.m17_directory.specs.Outcome.{Here, has_place}
-use Rattle.m17_directory.specs.Routed.{here_of, is_silent, others_than, others_at, asks_at, asked_before, past_at}
+use Rattle.m17_directory.specs.Entries.{Claim, Entry, Setup, claim_at, peers_named}
+use Rattle.m17_directory.specs.Known.{Past, row_at, known_at}
+use Rattle.m17_directory.specs.Outcome.{has_place}
+use Rattle.m17_directory.specs.Routed.{others_at, asks_at, asked_before, past_at}
 use Rattle.m17_directory.specs.Fits.{OthersFitThePlaces}
 use Rattle.m17_directory.specs.Laws.{ClaimsAreAsked, ClaimsArePlaced, AllPlacesAreClaimed}
-use Rattle.m17_directory.specs.Steps.{still_by}
 use Rattle.m17_directory.proofs.Bounds.{IsSeated, seated_none, seated_known, seated_filter, seated_put, seated_length, freed, fewer_than_places}
 use Rattle.m17_directory.proofs.Later.{has_row}
-use Rattle.m17_directory.proofs.LawMore.{others_is}
-use Rattle.m17_directory.proofs.LawSent.{all_filter, all_found}
+use Rattle.m17_directory.proofs.AllPosts.{all_found, others_all}
 use Rattle.m17_directory.proofs.LawWho.{here, ends, rows, notice, others_are, known_next, row, known_claim}
 use Rattle.m17_directory.proofs.Same.{length_asked}
-
--- what holds of all that are known holds of those that are still known, and of the others
-pub still_all : (P : Known → Type 0) (at : Here) (ks : List Known) (said : Notice) → AllByRecursion P ks → AllByRecursion P (still_by at ks said)
-still_all P at ks said h =
-    elim (passes_time said) as (λ b. AllByRecursion P (cond b (filter (λ k. not (is_silent at.moment k)) ks) ks)) [ true ↦ all_filter P (λ k. not (is_silent at.moment k)) ks h | false ↦ h ]
-
-than_all : (P : Known → Type 0) (said : Notice) (ks : List Known) → AllByRecursion P ks → AllByRecursion P (others_than said ks)
-than_all P (Notice.Sent from at p) ks h = all_filter P (λ k. not (is_peer from k.peer)) ks h
-than_all P (Notice.Garbled from at refusal) ks h = h
-than_all P (Notice.Quiet at) ks h = h
-than_all P Notice.Fault ks h = h
-than_all P Notice.End ks h = h
-
-pub others_all : (P : Known → Type 0) (past : Past) → AllByRecursion P (known_at past) → AllByRecursion P (others_at past)
-others_all P past h =
-    subst (AllByRecursion P) (sym (others_is past))
-    (than_all P (notice_at past.entries (now past)) (still_by (here_of past) (known_at past) (notice_at past.entries (now past)))
-    (still_all P (here_of past) (known_at past) (notice_at past.entries (now past)) h))
 
 nobody_first : (setup : Setup) (entries : List Entry) → known_at (past_at setup entries zero) ≡ []
 unfolding known_at asked_before peers_named

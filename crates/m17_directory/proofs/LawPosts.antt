@@ -1,5 +1,5 @@
 -- Which packets and Leaves an entry posts: the packet that its verdict names, and the Leaves of those that leave.
-use Rattle.std.proofs.Common.{◌≡◌, ℕ, suc, ◌/◌, nat_lt, Bool, true, false, cond, not, ◌||◌, leb, List, [], ◌∷◌, ◌++◌, map, filter, filter_map, Option, None, Some, option_map, refl, ap, sym, ◌∙◌, subst}
+use Rattle.std.proofs.Common.{◌≡◌, ℕ, suc, ◌/◌, nat_lt, Bool, true, false, cond, ◌||◌, leb, List, [], ◌∷◌, ◌++◌, map, filter, filter_map, Option, None, Some, option_map, refl, ap, sym, ◌∙◌, subst}
 use Rattle.std.specs.List.{cons_option}
 use Rattle.std.proofs.lemmas.List.{append-nil, map-append}
 use Rattle.std.proofs.lemmas.List.Elements.{filter_map-append}
@@ -10,27 +10,25 @@ use Rattle.m17_control.specs.declared.event.Body.{Body}
 use Rattle.m17_control.specs.declared.event.Body.TheVariants as body
 use Rattle.m17_control.specs.declared.event.Why.{Why}
 use Rattle.m17_control.specs.declared.event.Why.TheVariants as why
-use Rattle.m17_control.specs.declared.packet.Control.TheVariants as control
 use Rattle.m17_control.specs.declared.packet.Packet.{Packet}
-use Rattle.m17_control.specs.declared.packet.Packet.TheVariants as packets
-use Rattle.m17_control.specs.Modules.{serves, letters_of}
+use Rattle.m17_control.specs.Modules.{letters_of}
 use Rattle.m17_directory.specs.declared.dispatch.Dispatch.{Dispatch}
 use Rattle.m17_directory.specs.declared.dispatch.Dispatch.TheVariants.{ToModule, ToDoor}
 use Rattle.m17_directory.specs.declared.known.Known.{Known}
 use Rattle.m17_directory.specs.declared.known.Request.{Request}
 use Rattle.m17_directory.specs.declared.verdict.LinkVerdict.{LinkVerdict}
 use Rattle.m17_directory.specs.declared.verdict.LinkVerdict.TheVariants as verdict
-use Rattle.m17_directory.specs.declared.verdict.Act.TheVariants as act
 use Rattle.m17_directory.specs.Entries.{Notice, Claim, Entry, notice_at, claim_at, is_fault, is_end, moment_before, ends_at}
 use Rattle.m17_directory.specs.Known.{Past, now, request_in, known_at}
-use Rattle.m17_directory.specs.Outcome.{Here, Outcome, only, to_module, to_each_module, to_door, leave, posting, leaving, is_what, has_place, known_asks, other_asks, of_packet, of_end}
+use Rattle.m17_directory.specs.Outcome.{Here, Outcome, only, to_module, to_each_module, leave, has_place, of_packet, of_end}
 use Rattle.m17_directory.specs.Routed.{tick_ms, here_of, row_for, unclaimed_at, others_at, settled_by, settled_at, is_asks, asks_at, both, past_at, link_verdict, posts_at}
 use Rattle.m17_directory.specs.Laws.{packet_letter, packet_routed, PacketsAreRouted, leaver_of, left_member, EachWhoLeavesIsPosted, is_ended, EndedWhereItEnds}
 use Rattle.m17_directory.specs.StandsFor.{faults_before}
 use Rattle.m17_directory.specs.Steps.{silent_by, still_by, ticks_by, said_by, heard_by}
 use Rattle.m17_directory.proofs.Faults.{ends_is}
 use Rattle.m17_directory.proofs.Same.{length_asked, heard_is}
-use Rattle.m17_directory.proofs.LawSent.{either}
+use Rattle.m17_directory.proofs.AllPosts.{either}
+use Rattle.m17_directory.proofs.Lines.{of_lines, goes_on}
 
 -- What is read off what is posted, where it is read off Leaves in one way, and off Ticks and Stops not at all.
 module _ {X : Type 0} (read : Dispatch → Option X) where
@@ -67,36 +65,14 @@ module _ {X : Type 0} (read : Dispatch → Option X) where
 abbrev Packs : Outcome → Type 0
 Packs o = filter_map packet_letter o.posts ≡ packet_routed o.verdict
 
-packs_known_asks : (here : Here) (k : Known) (request : Request) → Packs (known_asks here k request)
-packs_known_asks here k request =
-    let door : Outcome = posting (verdict.NotServed request.letter) (to_door here k.peer control.Nack) in
-    let again : Outcome = posting (verdict.Routed k.letter act.Again) (to_module here k.letter (body.Reply k.member control.Ackn)) in
-    let moved : Outcome = leaving here verdict.Asks why.Moved k in
-    either Packs (not (serves here.setup.modules request.letter)) door (cond (is_what request k) again moved) refl (either Packs (is_what request k) again moved refl refl)
-
-packs_other_asks : (here : Here) (x : Peer) (request : Request) → Packs (other_asks here x request)
-packs_other_asks here x request =
-    let door : Outcome = posting (verdict.NotServed request.letter) (to_door here x control.Nack) in
-    either Packs (not (serves here.setup.modules request.letter)) door (only verdict.Asks) refl refl
-
 packs_packet : (here : Here) (x : Peer) (o : Option Known) (p : Packet) → Packs (of_packet here x o p)
-packs_packet here x (Some k) (packets.Control (control.Conn from letter)) = packs_known_asks here k (record { letter = letter; callsign = from; listen = false })
-packs_packet here x (Some k) (packets.Control (control.Lstn from letter)) = packs_known_asks here k (record { letter = letter; callsign = from; listen = true })
-packs_packet here x (Some k) (packets.Stream p) = refl
-packs_packet here x (Some k) (packets.Control (control.Ping from)) = refl
-packs_packet here x (Some k) (packets.Control (control.Pong from)) = refl
-packs_packet here x (Some k) (packets.Control (control.Disc from)) = refl
-packs_packet here x (Some k) (packets.Control control.Ackn) = refl
-packs_packet here x (Some k) (packets.Control control.Nack) = refl
-packs_packet here x None (packets.Control (control.Conn from letter)) = packs_other_asks here x (record { letter = letter; callsign = from; listen = false })
-packs_packet here x None (packets.Control (control.Lstn from letter)) = packs_other_asks here x (record { letter = letter; callsign = from; listen = true })
-packs_packet here x None (packets.Stream p) = refl
-packs_packet here x None (packets.Control (control.Ping from)) = refl
-packs_packet here x None (packets.Control (control.Pong from)) = refl
-packs_packet here x None (packets.Control (control.Disc None)) = refl
-packs_packet here x None (packets.Control (control.Disc (Some from))) = refl
-packs_packet here x None (packets.Control control.Ackn) = refl
-packs_packet here x None (packets.Control control.Nack) = refl
+packs_packet here x o p = of_lines Packs here x o p (record {
+  nothing = λ v said. sym said.packet;
+  at_door = λ y v reply said is. sym said.packet;
+  frame = λ k s is of. refl;
+  reply = λ k what reply is said. sym said.packet;
+  leaves = λ k v w is said other. sym said.packet;
+})
 
 packs_end : (here : Here) (rows : List Known) → Packs (of_end here rows)
 packs_end here rows =
@@ -174,36 +150,14 @@ left_seat (ToDoor direct) = None
 abbrev pub Leaves : Outcome → Type 0
 Leaves o = filter_map left_seat o.posts ≡ map seat_of o.left
 
-leaves_known_asks : (here : Here) (k : Known) (request : Request) → Leaves (known_asks here k request)
-leaves_known_asks here k request =
-    let door : Outcome = posting (verdict.NotServed request.letter) (to_door here k.peer control.Nack) in
-    let again : Outcome = posting (verdict.Routed k.letter act.Again) (to_module here k.letter (body.Reply k.member control.Ackn)) in
-    let moved : Outcome = leaving here verdict.Asks why.Moved k in
-    either Leaves (not (serves here.setup.modules request.letter)) door (cond (is_what request k) again moved) refl (either Leaves (is_what request k) again moved refl refl)
-
-leaves_other_asks : (here : Here) (x : Peer) (request : Request) → Leaves (other_asks here x request)
-leaves_other_asks here x request =
-    let door : Outcome = posting (verdict.NotServed request.letter) (to_door here x control.Nack) in
-    either Leaves (not (serves here.setup.modules request.letter)) door (only verdict.Asks) refl refl
-
 leaves_packet : (here : Here) (x : Peer) (o : Option Known) (p : Packet) → Leaves (of_packet here x o p)
-leaves_packet here x (Some k) (packets.Control (control.Conn from letter)) = leaves_known_asks here k (record { letter = letter; callsign = from; listen = false })
-leaves_packet here x (Some k) (packets.Control (control.Lstn from letter)) = leaves_known_asks here k (record { letter = letter; callsign = from; listen = true })
-leaves_packet here x (Some k) (packets.Stream p) = refl
-leaves_packet here x (Some k) (packets.Control (control.Ping from)) = refl
-leaves_packet here x (Some k) (packets.Control (control.Pong from)) = refl
-leaves_packet here x (Some k) (packets.Control (control.Disc from)) = refl
-leaves_packet here x (Some k) (packets.Control control.Ackn) = refl
-leaves_packet here x (Some k) (packets.Control control.Nack) = refl
-leaves_packet here x None (packets.Control (control.Conn from letter)) = leaves_other_asks here x (record { letter = letter; callsign = from; listen = false })
-leaves_packet here x None (packets.Control (control.Lstn from letter)) = leaves_other_asks here x (record { letter = letter; callsign = from; listen = true })
-leaves_packet here x None (packets.Stream p) = refl
-leaves_packet here x None (packets.Control (control.Ping from)) = refl
-leaves_packet here x None (packets.Control (control.Pong from)) = refl
-leaves_packet here x None (packets.Control (control.Disc None)) = refl
-leaves_packet here x None (packets.Control (control.Disc (Some from))) = refl
-leaves_packet here x None (packets.Control control.Ackn) = refl
-leaves_packet here x None (packets.Control control.Nack) = refl
+leaves_packet here x o p = of_lines Leaves here x o p (record {
+  nothing = λ v said. refl;
+  at_door = λ y v reply said is. refl;
+  frame = λ k s is of. refl;
+  reply = λ k what reply is said. refl;
+  leaves = λ k v w is said other. refl;
+})
 
 leaves_end : (here : Here) (rows : List Known) → Leaves (of_end here rows)
 leaves_end here rows =
@@ -276,44 +230,12 @@ leaves_posted = record {
 }
 
 -- where the link ends its verdict says so
-ended_known_asks : (here : Here) (k : Known) (request : Request) → is_ended (known_asks here k request).verdict ≡ false
-ended_known_asks here k request =
-    let door : Outcome = posting (verdict.NotServed request.letter) (to_door here k.peer control.Nack) in
-    let again : Outcome = posting (verdict.Routed k.letter act.Again) (to_module here k.letter (body.Reply k.member control.Ackn)) in
-    let moved : Outcome = leaving here verdict.Asks why.Moved k in
-    let goes_on : Outcome → Type 0 = λ o. is_ended o.verdict ≡ false in
-    either goes_on (not (serves here.setup.modules request.letter)) door (cond (is_what request k) again moved) refl (either goes_on (is_what request k) again moved refl refl)
-
-ended_other_asks : (here : Here) (x : Peer) (request : Request) → is_ended (other_asks here x request).verdict ≡ false
-ended_other_asks here x request =
-    let door : Outcome = posting (verdict.NotServed request.letter) (to_door here x control.Nack) in
-    either (λ o. is_ended o.verdict ≡ false) (not (serves here.setup.modules request.letter)) door (only verdict.Asks) refl refl
-
-ended_packet : (here : Here) (x : Peer) (o : Option Known) (p : Packet) → is_ended (of_packet here x o p).verdict ≡ false
-ended_packet here x (Some k) (packets.Control (control.Conn from letter)) = ended_known_asks here k (record { letter = letter; callsign = from; listen = false })
-ended_packet here x (Some k) (packets.Control (control.Lstn from letter)) = ended_known_asks here k (record { letter = letter; callsign = from; listen = true })
-ended_packet here x (Some k) (packets.Stream p) = refl
-ended_packet here x (Some k) (packets.Control (control.Ping from)) = refl
-ended_packet here x (Some k) (packets.Control (control.Pong from)) = refl
-ended_packet here x (Some k) (packets.Control (control.Disc from)) = refl
-ended_packet here x (Some k) (packets.Control control.Ackn) = refl
-ended_packet here x (Some k) (packets.Control control.Nack) = refl
-ended_packet here x None (packets.Control (control.Conn from letter)) = ended_other_asks here x (record { letter = letter; callsign = from; listen = false })
-ended_packet here x None (packets.Control (control.Lstn from letter)) = ended_other_asks here x (record { letter = letter; callsign = from; listen = true })
-ended_packet here x None (packets.Stream p) = refl
-ended_packet here x None (packets.Control (control.Ping from)) = refl
-ended_packet here x None (packets.Control (control.Pong from)) = refl
-ended_packet here x None (packets.Control (control.Disc None)) = refl
-ended_packet here x None (packets.Control (control.Disc (Some from))) = refl
-ended_packet here x None (packets.Control control.Ackn) = refl
-ended_packet here x None (packets.Control control.Nack) = refl
-
 -- whether the link ends at what is said, after so many faults
 abbrev pub EndsBy : Notice → ℕ → Bool → Type 0
 EndsBy notice faults ends = ends ≡ (is_end notice || leb 16 (cond (is_fault notice) faults 0))
 
 ended_said : (here : Here) (ends : Bool) (rows still : List Known) (notice : Notice) (faults : ℕ) → EndsBy notice faults ends → is_ended (said_by here ends rows still notice).verdict ≡ ends
-ended_said here ends rows still (Notice.Sent from at p) faults e = ended_packet here from (row_for from still) p ∙ sym e
+ended_said here ends rows still (Notice.Sent from at p) faults e = goes_on here from (row_for from still) p ∙ sym e
 ended_said here ends rows still (Notice.Garbled from at refusal) faults e = sym e
 ended_said here ends rows still (Notice.Quiet at) faults e = sym e
 ended_said here ends rows still Notice.Fault faults e = elim ends as (λ b. is_ended (cond b (of_end here rows) (only verdict.Faulted)).verdict ≡ b) [ true ↦ refl | false ↦ refl ]

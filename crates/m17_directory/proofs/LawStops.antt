@@ -1,14 +1,14 @@
 -- What a link that ends once routes to a served module ends in its one Stop.
-use Rattle.std.proofs.Common.{◌≡◌, ℕ, zero, suc, ◌+◌, ◌<◌, ◌≤◌, Bool, true, false, cond, ◌&&◌, leb, eqb, List, [], ◌∷◌, ◌++◌, length, map, filter, filter_map, None, Some, inl, inr, refl, ap, sym, ◌∙◌, arith}
+use Rattle.std.proofs.Common.{◌≡◌, ℕ, zero, suc, ◌+◌, ◌<◌, ◌≤◌, Bool, true, false, cond, eqb, List, [], ◌∷◌, ◌++◌, length, map, filter, filter_map, None, Some, inl, inr, refl, ap, sym, ◌∙◌, arith}
 use Rattle.std.specs.List.{AllByRecursion, cons_option, flat_map, range_with_len}
-use Rattle.std.proofs.lemmas.Bool.{and_parts, cases_eq, cond-true, cond-false, eq-eqb, ne_eqb, leb-true, false≢true}
+use Rattle.std.proofs.lemmas.Bool.{cases_eq, cond-true, cond-false, eq-eqb, ne_eqb, false≢true}
 use Rattle.std.proofs.lemmas.List.{append_assoc}
 use Rattle.std.proofs.lemmas.List.Elements.{filter_map-append}
 use Rattle.m17_control.specs.declared.event.Body.TheVariants as body
 use Rattle.m17_control.specs.declared.event.Event.{Event}
 use Rattle.m17_control.specs.declared.event.Why.TheVariants as why
-use Rattle.m17_control.specs.declared.modules.Modules.{Modules}
 use Rattle.m17_control.specs.Modules.{serves}
+use Rattle.m17_control.proofs.ModuleSets.{serves_within}
 use Rattle.m17_directory.specs.declared.dispatch.Dispatch.{Dispatch}
 use Rattle.m17_directory.specs.declared.dispatch.Dispatch.TheVariants.{ToModule, ToDoor}
 use Rattle.m17_directory.specs.declared.known.Known.{Known}
@@ -22,7 +22,8 @@ use Rattle.m17_directory.specs.StandsFor.{faults_before}
 use Rattle.m17_directory.specs.Steps.{silent_by, still_by, ticks_by, said_by}
 use Rattle.m17_directory.proofs.Same.{length_asked, heard_is}
 use Rattle.m17_directory.proofs.LawMore.{posted_upto}
-use Rattle.m17_directory.proofs.LawSent.{all_append, Served, IsSent, AllSent, sent_leaves, sent_ticks, served_silent, known_served}
+use Rattle.m17_directory.proofs.LawSent.{IsServed, Served, IsSent, AllSent, sent_leaves, sent_ticks, known_served}
+use Rattle.m17_directory.proofs.AllPosts.{all_append, silent_all}
 use Rattle.m17_directory.proofs.LawRouted.{posts_sent, all_events, all_flat}
 use Rattle.m17_directory.proofs.LawPosts.{EndsBy, ends_by}
 
@@ -55,20 +56,13 @@ module _ (letter : ℕ) (p : ℕ → Bool) (event : Event) where
         | inr other ↦ skipped_if (p from) from rest (event ∷ []) (ne_eqb from letter other) (only_one (from + 1) n passes (omega arith) (omega arith))
       ]
 
-pub served_letter : (m : Modules) (letter : ℕ) → serves m letter ≡ true → (65 ≤ letter) × (letter ≤ 90)
-unfolding serves
-served_letter m letter e =
-    let first = and_parts (leb 65 letter && leb letter 90) _ e in
-    let both = and_parts (leb 65 letter) (leb letter 90) first.0 in
-    (leb-true 65 letter both.0, leb-true letter 90 both.1)
-
 -- the Stop of an entry
 abbrev stop_at : Here → Event
 stop_at here = record { tag = record { link = here.setup.link; index = here.index }; at = here.moment; body = body.Stop }
 
 one_stop : (here : Here) (letter : ℕ) → serves here.setup.modules letter ≡ true → filter_map (event_for letter) (to_each_module here body.Stop) ≡ stop_at here ∷ []
 one_stop here letter s =
-    let within = served_letter here.setup.modules letter s in
+    let within = serves_within here.setup.modules letter s in
     only_one letter (serves here.setup.modules) (stop_at here) 65 26 s within.0 (omega (arith, within.1))
 
 abbrev IsNoStop : Event → Type 0
@@ -142,7 +136,7 @@ module _ (past : Past) (served : Served (here_of past) (known_at past)) (ended :
         all_append IsNoStop (filter_map (event_for letter) front) (filter_map (event_for letter) leaves)
         (events_no_stop front
         (all_append (IsSent at false) (map (leave at why.Silent) (silent_by at rows notice)) (ticks_by at (moment_before past.entries (now past)))
-        (sent_leaves at false why.Silent (silent_by at rows notice) (served_silent at rows notice served))
+        (sent_leaves at false why.Silent (silent_by at rows notice) (silent_all (IsServed at) at rows notice served))
         (sent_ticks at false (moment_before past.entries (now past)))))
         (events_no_stop leaves (sent_leaves at false why.Stopped rows served))
 

@@ -1,6 +1,8 @@
 -- Who has joined a module has left it or is known in it.
-use Rattle.std.proofs.Common.{◌≡◌, ℕ, zero, suc, ◌+◌, ◌<◌, ◌≤◌, Bool, true, false, cond, not, List, [], ◌∷◌, ◌++◌, length, take, filter, slice_get, option_and_then, None, Some, refl, ap, sym, ◌∙◌, subst, arith}
+use Rattle.std.proofs.Common.{◌≡◌, ℕ, suc, ◌+◌, ◌<◌, Bool, true, false, cond, not, List, [], ◌∷◌, ◌++◌, length, take, filter, slice_get, option_and_then, None, Some, refl, ap, sym, ◌∙◌, subst, arith}
 use Rattle.std.proofs.lemmas.Bool.{false≢true}
+use Rattle.std.proofs.lemmas.List.{length-take-le}
+use Rattle.m17_lists.proofs.Places.{one_more_stands_at_the_end, places_before_stay, taken_keeps_places}
 use Rattle.m17_values.specs.declared.peer.Peer.{Peer}
 use Rattle.m17_control.specs.declared.packet.Packet as packet
 use Rattle.m17_directory.specs.declared.known.Known.{Known}
@@ -15,10 +17,9 @@ use Rattle.m17_directory.proofs.Same.{Says, Claims, past_of, says_less, claims_l
 use Rattle.m17_directory.proofs.Named.{known_order}
 use Rattle.m17_directory.proofs.Heard.{known_last, others_by}
 use Rattle.m17_directory.proofs.Settled.{known_claimed}
-use Rattle.m17_directory.proofs.Told.{asks_request}
-use Rattle.m17_directory.proofs.Positions.{get_before, get_end}
-use Rattle.m17_directory.proofs.LawMore.{get_taken, says_alike, others_is, others_at_same}
-use Rattle.m17_directory.proofs.LawSent.{all_filter, all_passed}
+use Rattle.m17_directory.proofs.Lines.{asks_for}
+use Rattle.m17_directory.proofs.LawMore.{says_alike, others_is, others_at_same}
+use Rattle.m17_directory.proofs.AllPosts.{all_filter, all_passed}
 use Rattle.m17_directory.proofs.LawCounts.{count, count_append, count_parts, known_count, NoneOf, put_count}
 
 -- an entry that asks is a packet that requests something
@@ -32,7 +33,7 @@ pub record AsksFor (notice : Notice) : Type 0 where
 
 asks_for_one : (here : Here) (ends : Bool) (rows still : List Known) (notice : Notice) → is_asks (said_by here ends rows still notice).verdict ≡ true → AsksFor notice
 asks_for_one here ends rows still (Notice.Sent from at p) e =
-    let one = asks_request here from (row_for from still) p e in
+    let one = asks_for here from (row_for from still) p e in
     record { from = from; at = at; packet = p; request = one.0; says = refl; wants = one.1 }
 asks_for_one here ends rows still (Notice.Garbled from at refusal) e = absurd (false≢true e)
 asks_for_one here ends rows still (Notice.Quiet at) e = absurd (false≢true e)
@@ -81,11 +82,6 @@ known_next setup entries n none =
     let f : ℕ → List Known = λ m. known_by at (ends_at entries m) (known_at past) (still_by at (known_at past) (notice_at entries m)) (notice_at entries m) in
     known_last setup entries n (notice_at entries n) refl none ∙ ap f (sym (length_asked setup entries n))
 
-take_full : {A : Type 0} (xs : List A) (n : ℕ) → n ≤ length xs → length (take n xs) ≡ n
-take_full xs zero h = refl
-take_full [] (suc n) h = absurd (omega arith)
-take_full (x ∷ xs) (suc n) h = ap suc (take_full xs n (omega arith))
-
 pub others_none : (x : Peer) (rows : List Known) → NoneOf x (filter (is_other x) rows)
 others_none x rows = all_passed (is_other x) rows
 
@@ -98,13 +94,13 @@ module _ (setup : Setup) (entries : List Entry) (n : ℕ) (within : n < length e
   plain = take n entries ++ unclaimed (notice_at entries n) ∷ []
 
   taken : length (take n entries) ≡ n
-  taken = take_full entries n (omega arith)
+  taken = length-take-le n entries (omega arith)
 
   plain_get : (i : ℕ) → i < n → slice_get entries i ≡ slice_get plain i
-  plain_get i l = sym (get_before (take n entries) (unclaimed (notice_at entries n) ∷ []) i (omega (arith, taken)) ∙ get_taken entries n i l)
+  plain_get i l = sym (places_before_stay (take n entries) (unclaimed (notice_at entries n) ∷ []) i (omega (arith, taken)) ∙ taken_keeps_places entries n i l)
 
   plain_end : slice_get plain n ≡ Some (unclaimed (notice_at entries n))
-  plain_end = ap (slice_get plain) (sym taken) ∙ get_end (take n entries) (unclaimed (notice_at entries n))
+  plain_end = ap (slice_get plain) (sym taken) ∙ one_more_stands_at_the_end (take n entries) (unclaimed (notice_at entries n))
 
   plain_says : Says entries plain (suc n)
   plain_says = says_alike entries plain n (λ i l. ap notice_of (plain_get i l)) (sym (ap notice_of plain_end))

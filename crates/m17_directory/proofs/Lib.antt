@@ -1,3 +1,4 @@
+pub mod AllPosts
 pub mod Bounds
 pub mod Faults
 pub mod Filters
@@ -22,9 +23,9 @@ pub mod LawSays
 pub mod LawSent
 pub mod LawStops
 pub mod LawWho
+pub mod Lines
 pub mod Named
 pub mod Peers
-pub mod Positions
 pub mod Rows
 pub mod Same
 pub mod Settled

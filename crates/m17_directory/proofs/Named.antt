@@ -90,7 +90,7 @@ named_by x (Notice.Quiet at) peers e = absurd (false≢true e)
 named_by x Notice.Fault peers e = absurd (false≢true e)
 named_by x Notice.End peers e = absurd (false≢true e)
 
-named_still : (x : Peer) (notice : Notice) (peers : List Peer) → is_named x peers ≡ true → is_named x (with_sender notice peers) ≡ true
+pub named_still : (x : Peer) (notice : Notice) (peers : List Peer) → is_named x peers ≡ true → is_named x (with_sender notice peers) ≡ true
 named_still x (Notice.Sent from at p) peers h = named_with x from peers h
 named_still x (Notice.Garbled from at refusal) peers h = named_with x from peers h
 named_still x (Notice.Quiet at) peers h = h

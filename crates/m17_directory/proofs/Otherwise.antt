@@ -1,7 +1,7 @@
 -- Two lists that say the same, each with claims given freely: position by position the same, but for the members.
-use Rattle.std.proofs.Common.{◌≡◌, ◌⊎◌, ℕ, zero, suc, ◌+◌, ◌<◌, ◌≤◌, ◌==◌, ◌&&◌, ◌||◌, Bool, true, false, not, cond, List, [], ◌∷◌, length, slice_get, nat_lt, eqb, option_map, MatchBool, Option, None, Some, inl, inr, refl, ap, sym, subst, ◌∙◌, arith}
+use Rattle.std.proofs.Common.{◌≡◌, ◌⊎◌, ℕ, zero, suc, ◌+◌, ◌<◌, ◌≤◌, ◌==◌, ◌&&◌, Bool, true, false, not, cond, List, [], ◌∷◌, length, slice_get, nat_lt, eqb, option_map, MatchBool, Option, None, Some, inl, inr, refl, ap, sym, subst, ◌∙◌, arith}
 use Rattle.std.specs.List.{AllZip, filter, list_any, flat_map, range_with_len}
-use Rattle.std.proofs.lemmas.Bool.{cases_eq, and_from, eq-eqb, cond-true, cond-false, false≢true}
+use Rattle.std.proofs.lemmas.Bool.{cases_eq, and_from, eq-eqb, cond-true, cond-false, or_left, or_parts, or_right}
 use Rattle.std.proofs.lemmas.List.{length-map}
 use Rattle.std.proofs.lemmas.Option.{slice_get-map}
 use Rattle.m17_values.specs.declared.member.Member.{Member}
@@ -44,31 +44,19 @@ as_many entries others same =
     sym (length-map entries (λ (entry : Entry). entry.notice)) ∙ ap length same ∙ length-map others (λ (entry : Entry). entry.notice)
 
 -- nobody has the place
-pub any_step : (b c : Bool) → (b || c) ≡ false → (b ≡ false) × (c ≡ false)
-any_step true c e = absurd (cc)
-any_step false c e = (refl, e)
-
 pub none_has : (p : Known → Bool) (rows : List Known) → list_any p rows ≡ false → filter p rows ≡ []
 none_has p [] e = refl
 none_has p (k ∷ rows) e =
-    let parts = any_step (p k) (list_any p rows) e in
+    let parts = or_parts (p k) (list_any p rows) e in
     cond-false (p k) _ _ parts.0 ∙ none_has p rows parts.1
 
 all_stay : (p : Known → Bool) (rows : List Known) → list_any p rows ≡ false → filter (λ k. not (p k)) rows ≡ rows
 all_stay p [] e = refl
 all_stay p (k ∷ rows) e =
-    let parts = any_step (p k) (list_any p rows) e in
+    let parts = or_parts (p k) (list_any p rows) e in
     cond-true (not (p k)) _ _ (ap not parts.0) ∙ ap (λ xs. k ∷ xs) (all_stay p rows parts.1)
 
 -- a test that some number below passes
-or_left : (b c : Bool) → b ≡ true → (b || c) ≡ true
-or_left true c e = refl
-or_left false c e = absurd (false≢true e)
-
-or_right : (b c : Bool) → c ≡ true → (b || c) ≡ true
-or_right true c e = refl
-or_right false c e = e
-
 any_from : (p : ℕ → Bool) (from n i : ℕ) → from ≤ i → i < from + n → p i ≡ true → list_any p (range_with_len from n) ≡ true
 any_from p from zero i a b h = absurd (omega arith)
 any_from p from (suc n) i a b h = elim (cases_eq from i) [

@@ -4,6 +4,8 @@ use Rattle.std.specs.List.{AllZip, filter}
 use Rattle.std.specs.declared.cmp.Ordering.{Ordering}
 use Rattle.std.specs.declared.cmp.Ordering.TheVariants.{Less, Equal, Greater}
 use Rattle.std.specs.Ordering.{match_ordering}
+use Rattle.std.proofs.lemmas.Option.{none-some}
+use Rattle.m17_lists.proofs.Pairs.{pairs_behind_pairs}
 use Rattle.m17_values.specs.declared.member.Member.{Member}
 use Rattle.m17_values.specs.declared.peer.Peer.{Peer}
 use Rattle.m17_control.specs.declared.event.Body.TheVariants as body
@@ -19,14 +21,17 @@ use Rattle.m17_directory.specs.declared.dispatch.Dispatch.{Dispatch}
 use Rattle.m17_directory.specs.declared.dispatch.Dispatch.TheVariants.{ToModule, ToDoor}
 use Rattle.m17_directory.specs.declared.known.Known.{Known}
 use Rattle.m17_directory.specs.declared.known.Request.{Request}
+use Rattle.m17_directory.specs.declared.verdict.Act.{Act}
+use Rattle.m17_directory.specs.declared.verdict.Act.TheVariants as act
 use Rattle.m17_directory.specs.declared.verdict.LinkVerdict.{LinkVerdict}
 use Rattle.m17_directory.specs.declared.verdict.LinkVerdict.TheVariants as link
 use Rattle.m17_directory.specs.Entries.{Notice, Claim, peer_cmp, is_peer, passes_time}
 use Rattle.m17_directory.specs.Given.{IsRenamedRow}
-use Rattle.m17_directory.specs.Outcome.{Here, Outcome, only, to_module, to_each_module, to_door, leave, posting, leaving, is_what, known_asks, other_asks, of_known, of_other, of_packet, of_end, has_place, settled}
+use Rattle.m17_directory.specs.Outcome.{Here, Outcome, Line, only, to_module, to_each_module, to_door, leave, posting, leaving, is_what, line_known_asks, outcome_of, of_known, of_other, of_packet, of_end, has_place, settled}
 use Rattle.m17_directory.specs.Routed.{is_silent, row_for, others_than, both}
 use Rattle.m17_directory.specs.Steps.{heard_now, is_other, with_row, ticks_by, silent_by, still_by, said_by, heard_by, rows_by, known_by}
-use Rattle.m17_directory.proofs.Zips.{zip_append, zip_map, zip_filter, BothOr}
+use Rattle.m17_directory.proofs.Lines.{of_lines}
+use Rattle.m17_directory.proofs.Zips.{zip_map, zip_filter, BothOr}
 
 module _ (stands : Member → Member → Bool) where
   abbrev pub Row : Known → Known → Type 0
@@ -98,36 +103,37 @@ module _ (stands : Member → Member → Bool) where
   leaving_same : (here : Here) (v : LinkVerdict) (why : Why) (k : Known) (m : Member) → stands k.member m ≡ true → Same (leaving here v why k) (leaving here v why (record k { member = m }))
   leaving_same here v why k m h = record { verdict = refl; posts = ((refl, record { tag = refl; at = refl; what = (h, refl) }), tt); left = (record { member = h; rest = refl }, tt) }
 
-  asks_same : (here : Here) (k : Known) (m : Member) (request : Request) → stands k.member m ≡ true → Same (known_asks here k request) (known_asks here (record k { member = m }) request)
-  asks_same here k m request h =
-      choice (not (serves here.setup.modules request.letter)) _ _ _ _ (door_same (link.NotServed request.letter) here k.peer control.Nack)
-      (choice (is_what request k) _ _ _ _
-      (record { verdict = refl; posts = ((refl, record { tag = refl; at = refl; what = (h, refl) }), tt); left = tt })
-      (leaving_same here link.Asks Moved k m h))
+  choice_line : (here : Here) (x : Peer) (b : Bool) (l m l' m' : Line) → Same (outcome_of here x l) (outcome_of here x m) → Same (outcome_of here x l') (outcome_of here x m') → Same (outcome_of here x (cond b l l')) (outcome_of here x (cond b m m'))
+  choice_line here x true l m l' m' h g = h
+  choice_line here x false l m l' m' h g = g
 
+  reply_same : (here : Here) (k : Known) (m : Member) (what : Act) (reply : Control) → stands k.member m ≡ true → Same (outcome_of here k.peer (Line.Reply k what reply)) (outcome_of here k.peer (Line.Reply (record k { member = m }) what reply))
+  reply_same here k m what reply h = record { verdict = refl; posts = ((refl, record { tag = refl; at = refl; what = (h, refl) }), tt); left = tt }
+
+  asks_same : (here : Here) (k : Known) (m : Member) (request : Request) → stands k.member m ≡ true → Same (outcome_of here k.peer (line_known_asks here k request)) (outcome_of here k.peer (line_known_asks here (record k { member = m }) request))
+  asks_same here k m request h =
+      choice_line here k.peer (not (serves here.setup.modules request.letter)) _ _ _ _ (door_same (link.NotServed request.letter) here k.peer control.Nack)
+      (choice_line here k.peer (is_what request k) _ _ _ _ (reply_same here k m act.Again control.Ackn h) (leaving_same here link.Asks Moved k m h))
+
+  -- of one that is known, by whichever member
   known_packet : (here : Here) (k : Known) (m : Member) (p : Packet) → stands k.member m ≡ true → Same (of_known here k p) (of_known here (record k { member = m }) p)
   known_packet here k m (packets.Control (control.Conn from letter)) h = asks_same here k m (record { letter = letter; callsign = from; listen = false }) h
   known_packet here k m (packets.Control (control.Lstn from letter)) h = asks_same here k m (record { letter = letter; callsign = from; listen = true }) h
   known_packet here k m (packets.Stream p) h = record { verdict = refl; posts = ((refl, record { tag = refl; at = refl; what = (h, refl) }), tt); left = tt }
-  known_packet here k m (packets.Control (control.Ping from)) h = record { verdict = refl; posts = ((refl, record { tag = refl; at = refl; what = (h, refl) }), tt); left = tt }
+  known_packet here k m (packets.Control (control.Ping from)) h = reply_same here k m act.Pong _ h
   known_packet here k m (packets.Control (control.Pong from)) h = only_same _
   known_packet here k m (packets.Control (control.Disc from)) h = leaving_same here _ Asked k m h
   known_packet here k m (packets.Control control.Ackn) h = only_same _
   known_packet here k m (packets.Control control.Nack) h = only_same _
 
-  other_same : (here : Here) (x : Peer) (request : Request) → Same (other_asks here x request) (other_asks here x request)
-  other_same here x request = choice (not (serves here.setup.modules request.letter)) _ _ _ _ (door_same (link.NotServed request.letter) here x control.Nack) (only_same link.Asks)
-
   other_packet : (here : Here) (x : Peer) (p : Packet) → Same (of_other here x p) (of_other here x p)
-  other_packet here x (packets.Control (control.Conn from letter)) = other_same here x (record { letter = letter; callsign = from; listen = false })
-  other_packet here x (packets.Control (control.Lstn from letter)) = other_same here x (record { letter = letter; callsign = from; listen = true })
-  other_packet here x (packets.Stream p) = only_same _
-  other_packet here x (packets.Control (control.Ping from)) = only_same _
-  other_packet here x (packets.Control (control.Pong from)) = only_same _
-  other_packet here x (packets.Control (control.Disc None)) = only_same _
-  other_packet here x (packets.Control (control.Disc (Some from))) = door_same _ here x _
-  other_packet here x (packets.Control control.Ackn) = only_same _
-  other_packet here x (packets.Control control.Nack) = only_same _
+  other_packet here x p = of_lines (λ o. Same o o) here x None p (record {
+    nothing = λ v said. only_same v;
+    at_door = λ y v reply said is. door_same v here y reply;
+    frame = λ k s is of. absurd (none-some k is);
+    reply = λ k what reply is said. absurd (none-some k is);
+    leaves = λ k v why is said other. absurd (none-some k is);
+  })
 
   packet_same : (here : Here) (x : Peer) (o u : Option Known) (p : Packet) → BothOr Row o u → Same (of_packet here x o p) (of_packet here x u p)
   packet_same here x None None p h = other_packet here x p
@@ -138,7 +144,7 @@ module _ (stands : Member → Member → Bool) where
   end_same : (here : Here) (ks rs : List Known) → Rows ks rs → Same (of_end here ks) (of_end here rs)
   end_same here ks rs h = record {
     verdict = refl;
-    posts = zip_append Post (map (leave here Stopped) ks) (to_each_module here body.Stop) (map (leave here Stopped) rs) (to_each_module here body.Stop) (leaves_same here Stopped ks rs h) (stops_one here (letters_of here.setup.modules));
+    posts = pairs_behind_pairs Post (map (leave here Stopped) ks) (map (leave here Stopped) rs) (to_each_module here body.Stop) (to_each_module here body.Stop) (leaves_same here Stopped ks rs h) (stops_one here (letters_of here.setup.modules));
     left = h;
   }
 
@@ -177,10 +183,10 @@ module _ (stands : Member → Member → Bool) where
       let silent : Rows (silent_by here ks notice) (silent_by here rs notice) = silent_same here ks rs notice h in
       record {
         verdict = said.verdict;
-        posts = zip_append Post (map (leave here Silent) (silent_by here ks notice) ++ ticks_by here before) _ (map (leave here Silent) (silent_by here rs notice) ++ ticks_by here before) _
-            (zip_append Post (map (leave here Silent) (silent_by here ks notice)) (ticks_by here before) (map (leave here Silent) (silent_by here rs notice)) (ticks_by here before) (leaves_same here Silent _ _ silent) (ticks_if _ here))
+        posts = pairs_behind_pairs Post (map (leave here Silent) (silent_by here ks notice) ++ ticks_by here before) (map (leave here Silent) (silent_by here rs notice) ++ ticks_by here before) _ _
+            (pairs_behind_pairs Post (map (leave here Silent) (silent_by here ks notice)) (map (leave here Silent) (silent_by here rs notice)) (ticks_by here before) (ticks_by here before) (leaves_same here Silent _ _ silent) (ticks_if _ here))
             said.posts;
-        left = zip_append Row (silent_by here ks notice) _ (silent_by here rs notice) _ silent said.left;
+        left = pairs_behind_pairs Row (silent_by here ks notice) (silent_by here rs notice) _ _ silent said.left;
       }
 
   -- who is known after it
@@ -240,6 +246,6 @@ module _ (stands : Member → Member → Bool) where
   pub both_same : (o u o' u' : Outcome) → Same o u → Same o' u' → Same (both o o') (both u u')
   both_same o u o' u' h g = record {
     verdict = g.verdict;
-    posts = zip_append Post o.posts o'.posts u.posts u'.posts h.posts g.posts;
-    left = zip_append Row o.left o'.left u.left u'.left h.left g.left;
+    posts = pairs_behind_pairs Post o.posts u.posts o'.posts u'.posts h.posts g.posts;
+    left = pairs_behind_pairs Row o.left u.left o'.left u'.left h.left g.left;
   }

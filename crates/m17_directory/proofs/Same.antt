@@ -2,6 +2,7 @@
 use Rattle.std.proofs.Common.{◌≡◌, ℕ, zero, suc, ◌-◌, ◌<◌, ◌≤◌, Bool, false, cond, ◌&&◌, ◌||◌, leb, max, fold, map, take, List, [], ◌∷◌, ◌++◌, length, slice_get, unwrap_or, filter_map, Option, None, Some, option_map, option_and_then, refl, ap, sym, ◌∙◌, arith}
 use Rattle.std.specs.List.{cons_option}
 use Rattle.std.specs.Option.{option_map_or}
+use Rattle.m17_lists.proofs.Lengths.{one_more_is_one_longer}
 use Rattle.m17_values.specs.declared.peer.Peer.{Peer}
 use Rattle.m17_directory.specs.declared.known.Known.{Known}
 use Rattle.m17_directory.specs.Entries.{Claim, Entry, Setup, notice_at, claim_at, moment_of, moment_before, moment_at, passes_time, is_from, is_fault, is_end, says_disc, last_heard, silence_ms, is_silent_at, ends_at, with_sender, peers_named}
@@ -164,14 +165,10 @@ heard_same setup a b l says claims =
     ∙ ap (heard_by (here (moment_at b n)) (moment_before b n) (ends_at b n) (known_at (past_of setup b l))) (says n (omega arith))
     ∙ sym (heard_is (past_of setup b l))
 
-pub length_more : {A : Type 0} (xs : List A) (y : A) → length (xs ++ y ∷ []) ≡ suc (length xs)
-length_more [] y = refl
-length_more (x ∷ xs) y = ap suc (length_more xs y)
-
 pub length_asked : (setup : Setup) (entries : List Entry) (n : ℕ) → length (asked_before setup entries n) ≡ n
 unfolding asked_before
 length_asked setup entries zero = refl
-length_asked setup entries (suc n) = length_more (asked_before setup entries n) _ ∙ ap suc (length_asked setup entries n)
+length_asked setup entries (suc n) = one_more_is_one_longer (asked_before setup entries n) _ ∙ ap suc (length_asked setup entries n)
 
 pub asked_same : (setup : Setup) (a b : List Entry) (n : ℕ) → Says a b n → Claims a b n → asked_before setup a n ≡ asked_before setup b n
 unfolding asked_before

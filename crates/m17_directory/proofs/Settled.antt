@@ -1,7 +1,8 @@
 -- Where a request is settled as the code does, the directory stands for the list in which its entry has the claim.
 use Rattle.std.proofs.Common.{◌≡◌, ℕ, suc, Bool, true, false, cond, not, ◌&&◌, eqb, List, [], ◌∷◌, ◌++◌, length, filter, Option, None, Some, option_map, refl, ap, sym, ◌∙◌, inl, inr, arith}
-use Rattle.std.proofs.lemmas.Bool.{cases_eq, eq-eqb, ne_eqb}
+use Rattle.std.proofs.lemmas.Bool.{cases_eq, eq-eqb, ne_eqb, and_right}
 use Rattle.std.proofs.lemmas.Option.{none-some}
+use Rattle.m17_lists.proofs.Lengths.{one_more_is_one_longer}
 use Rattle.m17_values.specs.declared.peer.Peer.{Peer}
 use Rattle.m17_control.specs.declared.packet.Packet.{Packet}
 use Rattle.m17_directory.specs.declared.asked.Asked.{Asked}
@@ -17,7 +18,7 @@ use Rattle.m17_directory.specs.StandsFor.{DirectoryKept, StandsFor, IsAsked, IsS
 use Rattle.m17_directory.specs.Steps.{IsInOrder, IsGiven, row_given, known_after, with_row, still_by, said_by, known_by}
 use Rattle.m17_directory.proofs.Peers.{is_peer_same}
 use Rattle.m17_directory.proofs.Rows.{if_passes, order_filter, order_put, row_for-filter, row_for-put, same_rows}
-use Rattle.m17_directory.proofs.Same.{past_of, moment_same, faults_same, turns_same, row_same, known_at_same, heard_at_same, heard_is, length_more, length_asked, asked_same, says_less}
+use Rattle.m17_directory.proofs.Same.{past_of, moment_same, faults_same, turns_same, row_same, known_at_same, heard_at_same, heard_is, length_asked, asked_same, says_less}
 use Rattle.m17_directory.proofs.Same as same
 use Rattle.m17_directory.proofs.Later.{hearing, keeps, after, asks_now, stays, goes, comes}
 use Rattle.m17_directory.proofs.Named.{known_order, known_look}
@@ -31,10 +32,6 @@ passes_twice p (Some k) = refl
 passes_as : (p q : Known → Bool) (o : Option Known) → ((k : Known) → p k ≡ q k) → if_passes p o ≡ if_passes q o
 passes_as p q None h = refl
 passes_as p q (Some k) h = ap (λ b. cond b (Some k) None) (h k)
-
-and_false : (b : Bool) → (b && false) ≡ false
-and_false true = refl
-and_false false = refl
 
 pub eqb_swap : (a b : ℕ) → eqb a b ≡ eqb b a
 eqb_swap a b = elim (cases_eq a b) [
@@ -90,8 +87,8 @@ module _ (setup : Setup) (a b : List Entry) (l : List Bool) (v : Bool) (says : s
         comes setup a l v x claim request does mine given (ap request_in said ∙ wants)
         ∙ ap (λ y. Some (record row { peer = y })) (is_peer_same x from (sym e))
     wanted x false e =
-        let fa : asks_for (after setup a l v) x n ≡ false = asks_now setup a l v x ∙ ap (λ y. v && is_from x y) said ∙ ap (λ q. v && q) (sym e) ∙ and_false v in
-        let fb : asks_for (after setup b l v) x n ≡ false = asks_now setup b l v x ∙ ap (λ y. v && is_from x y) (sym (says n (omega arith)) ∙ said) ∙ ap (λ q. v && q) (sym e) ∙ and_false v in
+        let fa : asks_for (after setup a l v) x n ≡ false = asks_now setup a l v x ∙ ap (λ y. v && is_from x y) said ∙ ap (λ q. v && q) (sym e) ∙ and_right v false refl in
+        let fb : asks_for (after setup b l v) x n ≡ false = asks_now setup b l v x ∙ ap (λ y. v && is_from x y) (sym (says n (omega arith)) ∙ said) ∙ ap (λ q. v && q) (sym e) ∙ and_right v false refl in
         kept_row x (turns (after setup a l v) x n) refl fa fb
         ∙ ap (λ c. if_passes (keeps c) (row_at (after setup b l v) x)) given
         ∙ passes_as (keeps (Some claim)) (λ k. not (has_place claim.member.place k)) (row_at (after setup b l v) x) (λ k. ap not (eqb_swap claim.member.place k.member.place))
@@ -128,7 +125,7 @@ module _ (old : DirectoryKept) (entries : List Entry) (notice : Notice) (claim :
   parts = stood.asked asked waits
 
   index_is : asked.index ≡ at_end
-  index_is = omega (arith, parts.last, length_more entries (unclaimed notice))
+  index_is = omega (arith, parts.last, one_more_is_one_longer entries (unclaimed notice))
 
   notice_is : notice ≡ Notice.Sent asked.peer parts.at parts.packet
   notice_is = sym (notice_end entries (unclaimed notice)) ∙ ap (notice_at plain) (sym index_is) ∙ parts.says
@@ -143,20 +140,20 @@ module _ (old : DirectoryKept) (entries : List Entry) (notice : Notice) (claim :
   claims_plain = λ i k. claims_before entries (claimed notice claim ∷ []) i k ∙ sym (claims_before entries (unclaimed notice ∷ []) i k)
 
   moment_plain : moment_before plain (suc at_end) ≡ old.moment
-  moment_plain = ap (moment_before plain) (sym (length_more entries (unclaimed notice))) ∙ sym stood.moment
+  moment_plain = ap (moment_before plain) (sym (one_more_is_one_longer entries (unclaimed notice))) ∙ sym stood.moment
 
   moment_longer : moment_before longer (suc at_end) ≡ old.moment
   moment_longer = moment_same longer plain (suc at_end) says_plain ∙ moment_plain
 
   faults_longer : faults_before longer (length longer) ≡ old.faults
   faults_longer =
-      ap (faults_before longer) (length_more entries (claimed notice claim))
+      ap (faults_before longer) (one_more_is_one_longer entries (claimed notice claim))
       ∙ faults_same longer plain (suc at_end) says_plain
-      ∙ ap (faults_before plain) (sym (length_more entries (unclaimed notice)))
+      ∙ ap (faults_before plain) (sym (one_more_is_one_longer entries (unclaimed notice)))
       ∙ sym stood.faults
 
   known_plain : known_at (past_at old.setup plain (suc at_end)) ≡ old.known
-  known_plain = ap (λ i. known_at (past_at old.setup plain i)) (sym (length_more entries (unclaimed notice))) ∙ sym stood.known
+  known_plain = ap (λ i. known_at (past_at old.setup plain i)) (sym (one_more_is_one_longer entries (unclaimed notice))) ∙ sym stood.known
 
   asks_plain : asks_at past' ≡ true
   asks_plain = ap (λ i. asks_at (past_at old.setup plain i)) (sym index_is) ∙ parts.asks
@@ -246,7 +243,7 @@ pub settle_stands : (old new : DirectoryKept) (entries : List Entry) (notice : N
     → IsSettled old new entries (claimed notice claim) (record { verdict = verdict; posts = posts })
 settle_stands old new entries notice claim posts verdict asked stood waits setup moment faults given =
     let longer : List Entry = entries ++ claimed notice claim ∷ [] in
-    let len : length longer ≡ suc (length entries) = length_more entries (claimed notice claim) in
+    let len : length longer ≡ suc (length entries) = one_more_is_one_longer entries (claimed notice claim) in
     let out : settled_at (past_at old.setup longer (length entries)) claim ≡ settled (record { setup = old.setup; index = asked.index; moment = old.moment }) old.known asked.peer asked.request claim =
     settled_now old entries notice claim stood asked waits in
     record {

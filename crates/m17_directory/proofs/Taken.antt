@@ -4,33 +4,21 @@ use Rattle.std.proofs.lemmas.Bool.{false≢true, true≢false, lt-leb}
 use Rattle.std.proofs.lemmas.Option.{none-some}
 use Rattle.m17_values.specs.declared.peer.Peer.{Peer}
 use Rattle.m17_control.specs.declared.packet.Packet.{Packet}
-use Rattle.m17_control.specs.declared.packet.Packet.TheVariants as packets
-use Rattle.m17_control.specs.declared.packet.Control.TheVariants.{Conn, Lstn, Ackn, Nack, Ping, Pong, Disc}
-use Rattle.m17_control.specs.Modules.{serves}
 use Rattle.m17_directory.specs.declared.known.Known.{Known}
-use Rattle.m17_directory.specs.declared.known.Request.{Request}
 use Rattle.m17_directory.specs.Entries.{Notice, Entry, Setup, notice_at, claim_at, moment_at, passes_time, is_peer, is_from, is_disc, says_disc, is_fault, is_end, is_silent_at, ends_at}
 use Rattle.m17_directory.specs.Known.{Past, turns, row_at, known_at}
-use Rattle.m17_control.specs.declared.event.Body.TheVariants as body
-use Rattle.m17_control.specs.declared.event.Why.TheVariants.{Moved}
-use Rattle.m17_directory.specs.declared.verdict.LinkVerdict.TheVariants.{Routed, Asks, NotServed}
-use Rattle.m17_directory.specs.declared.verdict.Act.TheVariants as act
-use Rattle.m17_directory.specs.Outcome.{Here, Outcome, to_module, to_door, posting, leaving, is_what, known_asks, of_known, of_packet}
+use Rattle.m17_directory.specs.Outcome.{Here, Outcome, of_packet}
 use Rattle.m17_directory.specs.Routed.{here_of, is_silent, row_for, is_asks, asks_at}
 use Rattle.m17_directory.specs.StandsFor.{faults_before}
 use Rattle.m17_directory.specs.Steps.{IsInOrder, heard_now, is_other, rows_by, still_by, said_by}
 use Rattle.m17_directory.proofs.Faults.{ends_is}
+use Rattle.m17_directory.proofs.Lines.{is_left, known_left}
 use Rattle.std.proofs.lemmas.Cmp.{eq_by_cmp_equiv}
 use Rattle.m17_directory.proofs.Peers.{peer_order, is_peer_same}
 use Rattle.m17_directory.proofs.Rows.{if_passes, order_filter, order_map, row_for-filter, row_for-map, same_rows}
 use Rattle.m17_directory.proofs.Same.{past_of, heard_is}
 use Rattle.m17_directory.proofs.Later.{hearing, keeps, after, asks_now, stays, goes_unclaimed, row_silent, row_at_peer}
 use Rattle.m17_directory.proofs.Named.{known_order, known_look}
-
--- whether somebody leaves by it
-abbrev pub is_left : List Known → Bool
-is_left [] = false
-is_left (k ∷ left) = true
 
 heard_now_peer : (x : Peer) (m : ℕ) (k : Known) → (heard_now x m k).peer ≡ k.peer
 heard_now_peer x m k = elim (is_peer x k.peer) as (λ b. (hearing b m k).peer ≡ k.peer) [ true ↦ refl | false ↦ refl ]
@@ -64,37 +52,6 @@ no_row_other x (k ∷ rows) e =
     let parts = no_row_parts (is_peer x k.peer) k (row_for x rows) e in
     ap (λ b. cond (not b) (k ∷ filter (is_other x) rows) (filter (is_other x) rows)) parts.0
     ∙ ap (λ ks. k ∷ ks) (no_row_other x rows parts.1)
-
--- who leaves by a packet: one that is known and asks for something else, or says DISC
-three : (a b : Bool) (x y z : Outcome) → is_left x.left ≡ is_asks x.verdict → is_left y.left ≡ is_asks y.verdict → is_left z.left ≡ is_asks z.verdict → is_left (cond a x (cond b y z)).left ≡ is_asks (cond a x (cond b y z)).verdict
-three true b x y z hx hy hz = hx
-three false true x y z hx hy hz = hy
-three false false x y z hx hy hz = hz
-
-asks_left : (here : Here) (k : Known) (request : Request) → is_left (known_asks here k request).left ≡ is_asks (known_asks here k request).verdict
-asks_left here k request =
-    three (not (serves here.setup.modules request.letter)) (is_what request k)
-    (posting (NotServed request.letter) (to_door here k.peer Nack))
-    (posting (Routed k.letter act.Again) (to_module here k.letter (body.Reply k.member Ackn)))
-    (leaving here Asks Moved k) refl refl refl
-
-or_false : (b : Bool) → b ≡ (b || false)
-or_false true = refl
-or_false false = refl
-
-pub known_left : (here : Here) (k : Known) (p : Packet) → is_left (of_known here k p).left ≡ (is_asks (of_known here k p).verdict || is_disc p)
-known_left here k (packets.Control (Conn from letter)) =
-    let request : Request = record { letter = letter; callsign = from; listen = false } in
-    asks_left here k request ∙ or_false (is_asks (known_asks here k request).verdict)
-known_left here k (packets.Control (Lstn from letter)) =
-    let request : Request = record { letter = letter; callsign = from; listen = true } in
-    asks_left here k request ∙ or_false (is_asks (known_asks here k request).verdict)
-known_left here k (packets.Control Ackn) = refl
-known_left here k (packets.Control Nack) = refl
-known_left here k (packets.Control (Ping from)) = refl
-known_left here k (packets.Control (Pong from)) = refl
-known_left here k (packets.Control (Disc from)) = refl
-known_left here k (packets.Stream p) = refl
 
 -- what becomes of one row
 gone_or_heard : (k : Known) (m : ℕ) (same leaves asks disc : Bool) → (same ≡ true → leaves ≡ (asks || disc))

@@ -3,32 +3,27 @@ use Rattle.std.proofs.Common.{◌≡◌, ◌↔◌, ◌⊎◌, ℕ, ◌+◌, Boo
 use Rattle.std.proofs.lemmas.Bool.{false≢true, lt-leb}
 use Rattle.std.proofs.lemmas.List.Filters.{length-filter_both}
 use Rattle.std.proofs.lemmas.Option.{same_Some, none-some}
+use Rattle.std.proofs.lemmas.List.{length-map}
 use Rattle.m17_values.specs.declared.heard.Heard.{Heard}
 use Rattle.m17_values.specs.declared.heard.Heard.TheVariants as heard
 use Rattle.m17_values.specs.declared.peer.Peer.{Peer}
-use Rattle.m17_control.specs.declared.event.Body.TheVariants as body
-use Rattle.m17_control.specs.declared.event.Why.TheVariants.{Moved}
 use Rattle.m17_control.specs.declared.packet.Packet.{Packet}
-use Rattle.m17_control.specs.declared.packet.Packet.TheVariants as packets
 use Rattle.m17_control.specs.declared.packet.Refusal.{Refusal}
-use Rattle.m17_control.specs.declared.packet.Control.TheVariants.{Conn, Lstn, Ackn, Nack, Ping, Pong, Disc}
 use Rattle.m17_control.specs.Forms.{Spells, Refuses}
-use Rattle.m17_control.specs.Modules.{serves}
 use Rattle.m17_directory.specs.declared.asked.Asked.{Asked}
 use Rattle.m17_directory.specs.declared.dispatch.Dispatch.{Dispatch}
 use Rattle.m17_directory.specs.declared.known.Known.{Known}
 use Rattle.m17_directory.specs.declared.known.Request.{Request}
-use Rattle.m17_directory.specs.declared.verdict.Act.TheVariants as act
 use Rattle.m17_directory.specs.declared.verdict.LinkVerdict.{LinkVerdict}
 use Rattle.m17_directory.specs.declared.verdict.LinkVerdict.TheVariants as link
 use Rattle.m17_directory.specs.Entries.{Notice, Says, is_peer, is_fault, is_end}
 use Rattle.m17_directory.specs.Known.{request_of}
-use Rattle.m17_directory.specs.Outcome.{Here, Outcome, only, posting, leaving, to_door, to_module, is_what, known_asks, other_asks, of_known, of_packet, of_end}
+use Rattle.m17_directory.specs.Outcome.{Here, only, of_packet, of_end}
 use Rattle.m17_directory.specs.Routed.{is_silent, row_for, is_asks}
+use Rattle.m17_directory.specs.Laws.{is_ended}
 use Rattle.m17_directory.specs.StandsFor.{HasGrown, departed_of}
 use Rattle.m17_directory.specs.Steps.{Lists, IsInOrder, IsTaken, is_other, heard_now, rows_by, silent_by, still_by, said_by, heard_by, known_by, asked_as, asked_by, asks_by}
-use Rattle.m17_directory.proofs.Filters.{map_length}
-use Rattle.m17_directory.proofs.Heard.{other_left}
+use Rattle.m17_directory.proofs.Lines.{asks_for, goes_on, left_is, other_left}
 use Rattle.m17_directory.proofs.Peers.{is_peer_same}
 use Rattle.m17_directory.proofs.Rows.{order_filter, after_same}
 use Rattle.m17_directory.proofs.Tables.{none_alike}
@@ -38,24 +33,6 @@ says_datagram from at bytes read h e same (inl x) =
     (Notice.Sent from at x.0, subst (λ (g : Heard). Says g (Notice.Sent from at x.0)) (sym e) (inl (x.0, subst (λ (bs : List ℕ). Spells x.0 bs) same x.1, refl)))
 says_datagram from at bytes read h e same (inr x) =
     (Notice.Garbled from at x.0, subst (λ (g : Heard). Says g (Notice.Garbled from at x.0)) (sym e) (inr (x.0, subst (λ (bs : List ℕ). Refuses bs x.0) same x.1, refl)))
-
--- a packet that asks has a request
-pub asks_request : (here : Here) (x : Peer) (o : Option Known) (p : Packet) → is_asks (of_packet here x o p).verdict ≡ true → (r : Request) × (request_of p ≡ Some r)
-asks_request here x o (packets.Control (Conn from letter)) e = (record { letter = letter; callsign = from; listen = false }, refl)
-asks_request here x o (packets.Control (Lstn from letter)) e = (record { letter = letter; callsign = from; listen = true }, refl)
-asks_request here x None (packets.Control Ackn) e = absurd (false≢true e)
-asks_request here x (Some k) (packets.Control Ackn) e = absurd (false≢true e)
-asks_request here x None (packets.Control Nack) e = absurd (false≢true e)
-asks_request here x (Some k) (packets.Control Nack) e = absurd (false≢true e)
-asks_request here x None (packets.Control (Ping from)) e = absurd (false≢true e)
-asks_request here x (Some k) (packets.Control (Ping from)) e = absurd (false≢true e)
-asks_request here x None (packets.Control (Pong from)) e = absurd (false≢true e)
-asks_request here x (Some k) (packets.Control (Pong from)) e = absurd (false≢true e)
-asks_request here x None (packets.Control (Disc None)) e = absurd (false≢true e)
-asks_request here x None (packets.Control (Disc (Some from))) e = absurd (false≢true e)
-asks_request here x (Some k) (packets.Control (Disc from)) e = absurd (false≢true e)
-asks_request here x None (packets.Stream p) e = absurd (false≢true e)
-asks_request here x (Some k) (packets.Stream p) e = absurd (false≢true e)
 
 asks_is : (v : LinkVerdict) → is_asks v ≡ true → v ≡ link.Asks
 asks_is link.Asks e = refl
@@ -76,7 +53,7 @@ asked_some here x (Some s) r e = (asked_as here x s, refl)
 
 some_asked : (here : Here) (ends : Bool) (rows still : List Known) (notice : Notice) → is_asks (said_by here ends rows still notice).verdict ≡ true → (a : Asked) × (asks_by here notice true ≡ Some a)
 some_asked here ends rows still (Notice.Sent from at p) e =
-    let request = asks_request here from (row_for from still) p e in
+    let request = asks_for here from (row_for from still) p e in
     asked_some here from (request_of p) request.0 request.1
 some_asked here ends rows still (Notice.Garbled from at refusal) e = absurd (false≢true e)
 some_asked here ends rows still (Notice.Quiet at) e = absurd (false≢true e)
@@ -103,11 +80,6 @@ index_of here (Notice.Quiet at) asks = tt
 index_of here Notice.Fault asks = tt
 index_of here Notice.End asks = tt
 
--- the link ended
-abbrev is_ended : LinkVerdict → Bool
-is_ended link.Ended = true
-is_ended _ = false
-
 ended_is : (v : LinkVerdict) → is_ended v ≡ true → v ≡ link.Ended
 ended_is link.Ended e = refl
 ended_is link.Asks e = absurd (false≢true e)
@@ -120,45 +92,6 @@ ended_is link.Full e = absurd (false≢true e)
 ended_is link.Stray e = absurd (false≢true e)
 ended_is link.Timed e = absurd (false≢true e)
 ended_is link.Faulted e = absurd (false≢true e)
-
-three_ended : (a b : Bool) (x y z : Outcome) → is_ended x.verdict ≡ false → is_ended y.verdict ≡ false → is_ended z.verdict ≡ false → is_ended (cond a x (cond b y z)).verdict ≡ false
-three_ended true b x y z hx hy hz = hx
-three_ended false true x y z hx hy hz = hy
-three_ended false false x y z hx hy hz = hz
-
-two_ended : (a : Bool) (x y : Outcome) → is_ended x.verdict ≡ false → is_ended y.verdict ≡ false → is_ended (cond a x y).verdict ≡ false
-two_ended true x y hx hy = hx
-two_ended false x y hx hy = hy
-
-known_asks_goes_on : (here : Here) (k : Known) (r : Request) → is_ended (known_asks here k r).verdict ≡ false
-known_asks_goes_on here k r =
-    three_ended (not (serves here.setup.modules r.letter)) (is_what r k)
-    (posting (link.NotServed r.letter) (to_door here k.peer Nack))
-    (posting (link.Routed k.letter act.Again) (to_module here k.letter (body.Reply k.member Ackn)))
-    (leaving here link.Asks Moved k) refl refl refl
-
-other_asks_goes_on : (here : Here) (x : Peer) (r : Request) → is_ended (other_asks here x r).verdict ≡ false
-other_asks_goes_on here x r =
-    two_ended (not (serves here.setup.modules r.letter)) (posting (link.NotServed r.letter) (to_door here x Nack)) (only link.Asks) refl refl
-
-goes_on : (here : Here) (x : Peer) (o : Option Known) (p : Packet) → is_ended (of_packet here x o p).verdict ≡ false
-goes_on here x None (packets.Control (Conn from letter)) = other_asks_goes_on here x (record { letter = letter; callsign = from; listen = false })
-goes_on here x (Some k) (packets.Control (Conn from letter)) = known_asks_goes_on here k (record { letter = letter; callsign = from; listen = false })
-goes_on here x None (packets.Control (Lstn from letter)) = other_asks_goes_on here x (record { letter = letter; callsign = from; listen = true })
-goes_on here x (Some k) (packets.Control (Lstn from letter)) = known_asks_goes_on here k (record { letter = letter; callsign = from; listen = true })
-goes_on here x None (packets.Control Ackn) = refl
-goes_on here x (Some k) (packets.Control Ackn) = refl
-goes_on here x None (packets.Control Nack) = refl
-goes_on here x (Some k) (packets.Control Nack) = refl
-goes_on here x None (packets.Control (Ping from)) = refl
-goes_on here x (Some k) (packets.Control (Ping from)) = refl
-goes_on here x None (packets.Control (Pong from)) = refl
-goes_on here x (Some k) (packets.Control (Pong from)) = refl
-goes_on here x None (packets.Control (Disc None)) = refl
-goes_on here x None (packets.Control (Disc (Some from))) = refl
-goes_on here x (Some k) (packets.Control (Disc from)) = refl
-goes_on here x None (packets.Stream p) = refl
-goes_on here x (Some k) (packets.Stream p) = refl
 
 fault_ended : (here : Here) (b : Bool) (rows : List Known) → is_ended (cond b (of_end here rows) (only link.Faulted)).verdict ≡ b
 fault_ended here true rows = refl
@@ -182,30 +115,8 @@ alone_step : (x : Peer) (rows : List Known) (k : Known) → IsInOrder rows → r
 alone_step x [] k h e = absurd (none-some k e)
 alone_step x (r ∷ rows) k h e = alone_by x r rows k (is_peer x r.peer) refl h e (alone_step x rows k h.1)
 
-one_left : (a b : Bool) (x y z : Outcome) (k : Known) → (x.left ≡ []) ⊎ (x.left ≡ k ∷ []) → (y.left ≡ []) ⊎ (y.left ≡ k ∷ []) → (z.left ≡ []) ⊎ (z.left ≡ k ∷ []) → ((cond a x (cond b y z)).left ≡ []) ⊎ ((cond a x (cond b y z)).left ≡ k ∷ [])
-one_left true b x y z k hx hy hz = hx
-one_left false true x y z k hx hy hz = hy
-one_left false false x y z k hx hy hz = hz
-
-asks_left_one : (here : Here) (k : Known) (r : Request) → ((known_asks here k r).left ≡ []) ⊎ ((known_asks here k r).left ≡ k ∷ [])
-asks_left_one here k r =
-    one_left (not (serves here.setup.modules r.letter)) (is_what r k)
-    (posting (link.NotServed r.letter) (to_door here k.peer Nack))
-    (posting (link.Routed k.letter act.Again) (to_module here k.letter (body.Reply k.member Ackn)))
-    (leaving here link.Asks Moved k) k (inl refl) (inl refl) (inr refl)
-
-known_left_one : (here : Here) (k : Known) (p : Packet) → ((of_known here k p).left ≡ []) ⊎ ((of_known here k p).left ≡ k ∷ [])
-known_left_one here k (packets.Control (Conn from letter)) = asks_left_one here k (record { letter = letter; callsign = from; listen = false })
-known_left_one here k (packets.Control (Lstn from letter)) = asks_left_one here k (record { letter = letter; callsign = from; listen = true })
-known_left_one here k (packets.Control Ackn) = inl refl
-known_left_one here k (packets.Control Nack) = inl refl
-known_left_one here k (packets.Control (Ping from)) = inl refl
-known_left_one here k (packets.Control (Pong from)) = inl refl
-known_left_one here k (packets.Control (Disc from)) = inr refl
-known_left_one here k (packets.Stream p) = inl refl
-
 heard_count : (here : Here) (x : Peer) (rows : List Known) → length (map (heard_now x here.moment) rows) + 0 ≡ length rows
-heard_count here x rows = omega (arith, map_length (heard_now x here.moment) rows)
+heard_count here x rows = omega (arith, length-map rows (heard_now x here.moment))
 
 left_by : (here : Here) (x : Peer) (k : Known) (rows left : List Known) → (left ≡ []) ⊎ (left ≡ k ∷ []) → length (filter (is_other x) rows) + 1 ≡ length rows → length (rows_by here x left rows) + length left ≡ length rows
 left_by here x k rows left (inl e) h = ap (λ l. length (rows_by here x l rows) + length l) e ∙ heard_count here x rows
@@ -216,7 +127,7 @@ left_one here x p rows None h e = ap (λ left. length (rows_by here x left rows)
 left_one here x p rows (Some k) h e =
     let single : length (filter (λ r. is_peer x r.peer) rows) ≡ 1 = ap length (alone_step x rows k h e) in
     let both = length-filter_both (λ (r : Known). is_peer x r.peer) (is_other x) (λ r. refl) rows in
-    left_by here x k rows (of_packet here x (Some k) p).left (known_left_one here k p) (omega (arith, single, both))
+    left_by here x k rows (of_packet here x (Some k) p).left (left_is here k p) (omega (arith, single, both))
 
 timed_count : (here : Here) (rows : List Known) → length (filter (λ k. not (is_silent here.moment k)) rows) + length (filter (is_silent here.moment) rows ++ []) ≡ length rows
 timed_count here rows =
@@ -275,4 +186,4 @@ module _ (here : Here) (before : ℕ) (ends : Bool) (old new : Lists) (notice : 
   pub still_together : IsInOrder old.known → length new.known + length new.departing ≡ length old.known + length old.departing
   still_together h =
       let left : List Known = (heard_by here before ends old.known notice).left in
-      omega (arith, ap length taken.known, ap length taken.departing, length-append old.departing (map departed_of left), map_length departed_of left, together_said here ends old.known notice h)
+      omega (arith, ap length taken.known, ap length taken.departing, length-append old.departing (map departed_of left), length-map left departed_of, together_said here ends old.known notice h)

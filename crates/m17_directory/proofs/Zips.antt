@@ -1,12 +1,7 @@
 -- Two lists whose items go together place by place.
-use Rattle.std.proofs.Common.{◌≡◌, ℕ, zero, suc, ◌+◌, ◌<◌, Bool, true, false, cond, List, [], ◌∷◌, ◌++◌, length, map, Option, None, Some, refl, ap, ◌∙◌, arith}
+use Rattle.std.proofs.Common.{◌≡◌, ℕ, zero, suc, ◌+◌, ◌<◌, Bool, true, false, cond, List, [], ◌∷◌, length, map, Option, None, Some, refl, ap, ◌∙◌, arith}
 use Rattle.std.specs.List.{AllZip, filter, filter_map, flat_map, cons_option, range_with_len}
-
-pub zip_append : {A B : Type 0} (R : A → B → Type 0) (xs us : List A) (ys vs : List B) → AllZip R xs ys → AllZip R us vs → AllZip R (xs ++ us) (ys ++ vs)
-zip_append R [] us [] vs h g = g
-zip_append R (x ∷ xs) us (y ∷ ys) vs h g = (h.0, zip_append R xs us ys vs h.1 g)
-zip_append R [] us (y ∷ ys) vs h g = absurd h
-zip_append R (x ∷ xs) us [] vs h g = absurd h
+use Rattle.m17_lists.proofs.Pairs.{pairs_behind_pairs}
 
 pub zip_length : {A B : Type 0} (R : A → B → Type 0) (xs : List A) (ys : List B) → AllZip R xs ys → length xs ≡ length ys
 zip_length R [] [] h = refl
@@ -32,10 +27,6 @@ zip_filter R p q (x ∷ xs) (y ∷ ys) k h = filter_step R x y (filter p xs) (fi
 zip_filter R p q [] (y ∷ ys) k h = absurd h
 zip_filter R p q (x ∷ xs) [] k h = absurd h
 
-pub zip_same : {A : Type 0} (R : A → A → Type 0) (xs : List A) → ((x : A) → R x x) → AllZip R xs xs
-zip_same R [] k = tt
-zip_same R (x ∷ xs) k = (k x, zip_same R xs k)
-
 -- where both are there, or neither is
 abbrev pub BothOr : {A B : Type 0} → (A → B → Type 0) → Option A → Option B → Type 0
 BothOr R None None = Unit {0}
@@ -57,7 +48,7 @@ zip_filter_map R S f g (x ∷ xs) [] k h = absurd h
 pub zip_flat : {A B : Type 0} (R : A → B → Type 0) (f : ℕ → List A) (g : ℕ → List B) (from n : ℕ) → ((i : ℕ) → i < from + n → AllZip R (f i) (g i)) → AllZip R (flat_map f (range_with_len from n)) (flat_map g (range_with_len from n))
 zip_flat R f g from zero h = tt
 zip_flat R f g from (suc n) h =
-    zip_append R (f from) (flat_map f (range_with_len (from + 1) n)) (g from) (flat_map g (range_with_len (from + 1) n)) (h from (omega arith))
+    pairs_behind_pairs R (f from) (g from) (flat_map f (range_with_len (from + 1) n)) (flat_map g (range_with_len (from + 1) n)) (h from (omega arith))
     (zip_flat R f g (from + 1) n (λ i l. h i (omega arith)))
 
 pub zip_equal : {A : Type 0} (xs ys : List A) → AllZip (λ x y. x ≡ y) xs ys → xs ≡ ys

@@ -10,12 +10,14 @@ use Rattle.m17_control.specs.declared.packet.Control.TheVariants as control
 use Rattle.m17_control.specs.declared.packet.Packet.{Packet}
 use Rattle.m17_control.specs.declared.packet.Packet.TheVariants as packets
 use Rattle.m17_control.specs.Modules.{serves, letters_of}
+use Rattle.m17_stream.specs.declared.packet.StreamPacket.{StreamPacket}
 use Rattle.m17_directory.specs.declared.dispatch.Dispatch.{Dispatch}
 use Rattle.m17_directory.specs.declared.dispatch.Dispatch.TheVariants.{ToModule, ToDoor}
 use Rattle.m17_directory.specs.declared.known.Known.{Known}
 use Rattle.m17_directory.specs.declared.known.Request.{Request}
 use Rattle.m17_directory.specs.declared.verdict.LinkVerdict.{LinkVerdict}
 use Rattle.m17_directory.specs.declared.verdict.LinkVerdict.TheVariants.{Routed, Alive, Asks, NotConnected, NotServed, Full, Stray, Ended}
+use Rattle.m17_directory.specs.declared.verdict.Act.{Act}
 use Rattle.m17_directory.specs.declared.verdict.Act.TheVariants as act
 use Rattle.m17_directory.specs.Entries.{Setup, Claim}
 
@@ -69,55 +71,85 @@ abbrev pub is_what : Request → Known → Bool
 is_what request k = k.letter == request.letter && k.callsign == request.callsign
     && (if request.listen then k.listen else not k.listen)
 
+-- A line of the table: what becomes of a packet.
+pub data Line : Type 0 where
+  -- nothing is posted
+  Nothing : (verdict : LinkVerdict) → Line
+  -- the peer that sent it gets a reply past all modules
+  AtDoor : (verdict : LinkVerdict) (reply : Control) → Line
+  -- the module of one that is known gets its voice frame
+  Frame : (k : Known) (frame : StreamPacket) → Line
+  -- the module of one that is known gets a reply to it
+  Reply : (k : Known) (what : Act) (reply : Control) → Line
+  -- one that is known leaves
+  Leaves : (k : Known) (verdict : LinkVerdict) (why : Why) → Line
+
 -- A request of one that is known: for a module that is not served, for what it has already, and for
 -- anything else.
-abbrev pub known_asks : Here → Known → Request → Outcome
-known_asks here k request =
+abbrev pub line_known_asks : Here → Known → Request → Line
+line_known_asks here k request =
     if not (serves here.setup.modules request.letter)
-    then posting (NotServed request.letter) (to_door here k.peer control.Nack)
-    else (if is_what request k
-    then posting (Routed k.letter act.Again)
-    (to_module here k.letter (body.Reply k.member control.Ackn))
-    else leaving here Asks Moved k)
+    then Line.AtDoor (NotServed request.letter) control.Nack
+    else (if is_what request k then Line.Reply k act.Again control.Ackn
+    else Line.Leaves k Asks Moved)
 
 -- A request of another peer.
-abbrev pub other_asks : Here → Peer → Request → Outcome
-other_asks here from request =
+abbrev pub line_other_asks : Here → Request → Line
+line_other_asks here request =
     if not (serves here.setup.modules request.letter)
-    then posting (NotServed request.letter) (to_door here from control.Nack)
-    else only Asks
+    then Line.AtDoor (NotServed request.letter) control.Nack else Line.Nothing Asks
 
 -- The packets of one that is known, in the order of the table.
-abbrev pub of_known : Here → Known → Packet → Outcome
-of_known here k (packets.Control (control.Conn from letter)) =
-    known_asks here k (record { letter = letter; callsign = from; listen = false })
-of_known here k (packets.Control (control.Lstn from letter)) =
-    known_asks here k (record { letter = letter; callsign = from; listen = true })
-of_known here k (packets.Stream p) =
-    posting (Routed k.letter act.Packet) (to_module here k.letter (body.Packet k.member p))
-of_known here k (packets.Control (control.Ping from)) =
-    posting (Routed k.letter act.Pong)
-    (to_module here k.letter (body.Reply k.member (control.Pong here.setup.name)))
-of_known here k (packets.Control (control.Pong from)) = only (Alive k.letter)
-of_known here k (packets.Control (control.Disc from)) =
-    leaving here (Routed k.letter act.Leave) Asked k
-of_known here k (packets.Control control.Ackn) = only Stray
-of_known here k (packets.Control control.Nack) = only Stray
+abbrev pub line_of_known : Here → Known → Packet → Line
+line_of_known here k (packets.Control (control.Conn from letter)) =
+    line_known_asks here k (record { letter = letter; callsign = from; listen = false })
+line_of_known here k (packets.Control (control.Lstn from letter)) =
+    line_known_asks here k (record { letter = letter; callsign = from; listen = true })
+line_of_known here k (packets.Stream frame) = Line.Frame k frame
+line_of_known here k (packets.Control (control.Ping from)) =
+    Line.Reply k act.Pong (control.Pong here.setup.name)
+line_of_known here k (packets.Control (control.Pong from)) = Line.Nothing (Alive k.letter)
+line_of_known here k (packets.Control (control.Disc from)) =
+    Line.Leaves k (Routed k.letter act.Leave) Asked
+line_of_known here k (packets.Control control.Ackn) = Line.Nothing Stray
+line_of_known here k (packets.Control control.Nack) = Line.Nothing Stray
 
 -- The packets of another peer, in the order of the table.
+abbrev pub line_of_other : Here → Packet → Line
+line_of_other here (packets.Control (control.Conn from letter)) =
+    line_other_asks here (record { letter = letter; callsign = from; listen = false })
+line_of_other here (packets.Control (control.Lstn from letter)) =
+    line_other_asks here (record { letter = letter; callsign = from; listen = true })
+line_of_other here (packets.Stream frame) = Line.Nothing NotConnected
+line_of_other here (packets.Control (control.Ping from)) = Line.Nothing NotConnected
+line_of_other here (packets.Control (control.Pong from)) = Line.Nothing NotConnected
+line_of_other here (packets.Control (control.Disc None)) = Line.Nothing NotConnected
+line_of_other here (packets.Control (control.Disc (Some from))) =
+    Line.AtDoor NotConnected (control.Disc None)
+line_of_other here (packets.Control control.Ackn) = Line.Nothing Stray
+line_of_other here (packets.Control control.Nack) = Line.Nothing Stray
+
+-- What a line comes to, where this peer sent the packet.
+abbrev pub outcome_of : Here → Peer → Line → Outcome
+outcome_of here x (Line.Nothing verdict) = only verdict
+outcome_of here x (Line.AtDoor verdict reply) = posting verdict (to_door here x reply)
+outcome_of here x (Line.Frame k frame) =
+    posting (Routed k.letter act.Packet) (to_module here k.letter (body.Packet k.member frame))
+outcome_of here x (Line.Reply k what reply) =
+    posting (Routed k.letter what) (to_module here k.letter (body.Reply k.member reply))
+outcome_of here x (Line.Leaves k verdict why) = leaving here verdict why k
+
+abbrev pub known_asks : Here → Known → Request → Outcome
+known_asks here k request = outcome_of here k.peer (line_known_asks here k request)
+
+abbrev pub other_asks : Here → Peer → Request → Outcome
+other_asks here x request = outcome_of here x (line_other_asks here request)
+
+abbrev pub of_known : Here → Known → Packet → Outcome
+of_known here k p = outcome_of here k.peer (line_of_known here k p)
+
 abbrev pub of_other : Here → Peer → Packet → Outcome
-of_other here x (packets.Control (control.Conn from letter)) =
-    other_asks here x (record { letter = letter; callsign = from; listen = false })
-of_other here x (packets.Control (control.Lstn from letter)) =
-    other_asks here x (record { letter = letter; callsign = from; listen = true })
-of_other here x (packets.Stream p) = only NotConnected
-of_other here x (packets.Control (control.Ping from)) = only NotConnected
-of_other here x (packets.Control (control.Pong from)) = only NotConnected
-of_other here x (packets.Control (control.Disc None)) = only NotConnected
-of_other here x (packets.Control (control.Disc (Some from))) =
-    posting NotConnected (to_door here x (control.Disc None))
-of_other here x (packets.Control control.Ackn) = only Stray
-of_other here x (packets.Control control.Nack) = only Stray
+of_other here x p = outcome_of here x (line_of_other here p)
 
 -- A packet, by the row of the peer that sent it, if it is known.
 abbrev pub of_packet : Here → Peer → Option Known → Packet → Outcome

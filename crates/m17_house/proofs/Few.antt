@@ -1,5 +1,5 @@
 -- How much an entry posts: who leaves by it, and little more.
-use Rattle.std.proofs.Common.{ℕ, ◌+◌, ◌/◌, ◌≤◌, Bool, true, false, not, cond, List, [], ◌∷◌, ◌++◌, length, map, filter, nat_lt, Option, None, Some, arith}
+use Rattle.std.proofs.Common.{ℕ, ◌+◌, ◌/◌, ◌≤◌, Bool, true, false, cond, List, [], ◌∷◌, ◌++◌, length, map, filter, nat_lt, Option, None, Some, arith}
 use Rattle.std.specs.List.{range_with_len}
 use Rattle.std.proofs.lemmas.List.{length-append, length-map}
 use Rattle.std.proofs.lemmas.List.Sums.{length-filter, count_by-le-length}
@@ -7,21 +7,19 @@ use Rattle.std.proofs.lemmas.List.FromFn.{length-range_with_len}
 use Rattle.m17_values.specs.declared.peer.Peer.{Peer}
 use Rattle.m17_control.specs.declared.event.Body.{Body}
 use Rattle.m17_control.specs.declared.event.Body.TheVariants as body
-use Rattle.m17_control.specs.declared.event.Why.TheVariants.{Silent, Stopped, Moved, Replaced}
-use Rattle.m17_control.specs.declared.packet.Control.TheVariants as control
+use Rattle.m17_control.specs.declared.event.Why.TheVariants.{Silent, Stopped, Replaced}
 use Rattle.m17_control.specs.declared.packet.Packet.{Packet}
-use Rattle.m17_control.specs.declared.packet.Packet.TheVariants as packets
 use Rattle.m17_control.specs.declared.modules.Modules.{Modules}
 use Rattle.m17_control.specs.Modules.{serves, letters_of}
 use Rattle.m17_directory.specs.declared.dispatch.Dispatch.{Dispatch}
 use Rattle.m17_directory.specs.declared.known.Known.{Known}
 use Rattle.m17_directory.specs.declared.known.Request.{Request}
 use Rattle.m17_directory.specs.declared.verdict.LinkVerdict.TheVariants as link
-use Rattle.m17_directory.specs.declared.verdict.Act.TheVariants as act
 use Rattle.m17_directory.specs.Entries.{Claim, Notice, notice_at, moment_before, moment_at, ends_at}
 use Rattle.m17_directory.specs.Known.{Past, now, known_at}
-use Rattle.m17_directory.specs.Outcome.{Here, Outcome, only, posting, leaving, leave, to_module, to_door, to_each_module, is_what, known_asks, other_asks, of_known, of_other, of_packet, of_end, has_place}
+use Rattle.m17_directory.specs.Outcome.{Here, Outcome, only, leave, to_module, to_each_module, of_packet, of_end, has_place}
 use Rattle.m17_directory.specs.Routed.{here_of, silent_at, still_at, row_for, said_at, ticks_at, tick_ms, unclaimed_at, others_at, settled_at, settled_by, request_at}
+use Rattle.m17_directory.proofs.Lines.{of_lines}
 
 -- there are 26 letters
 few_letters : (m : Modules) → length (letters_of m) ≤ 26
@@ -38,41 +36,14 @@ few_cond : (most : ℕ) (b : Bool) (o p : Outcome) → IsFew most o → IsFew mo
 few_cond most true o p f g = f
 few_cond most false o p f g = g
 
-few_known_asks : (here : Here) (k : Known) (request : Request) → IsFew 26 (known_asks here k request)
-few_known_asks here k request =
-    few_cond 26 (not (serves here.setup.modules request.letter)) (posting (link.NotServed request.letter) (to_door here k.peer control.Nack))
-    (cond (is_what request k) (posting (link.Routed k.letter act.Again) (to_module here k.letter (body.Reply k.member control.Ackn))) (leaving here link.Asks Moved k))
-    (record { few = omega arith })
-    (few_cond 26 (is_what request k) (posting (link.Routed k.letter act.Again) (to_module here k.letter (body.Reply k.member control.Ackn))) (leaving here link.Asks Moved k) (record { few = omega arith }) (record { few = omega arith }))
-
-few_other_asks : (here : Here) (x : Peer) (request : Request) → IsFew 26 (other_asks here x request)
-few_other_asks here x request =
-    few_cond 26 (not (serves here.setup.modules request.letter)) (posting (link.NotServed request.letter) (to_door here x control.Nack)) (only link.Asks) (record { few = omega arith }) (record { few = omega arith })
-
-few_known : (here : Here) (k : Known) (p : Packet) → IsFew 26 (of_known here k p)
-few_known here k (packets.Control (control.Conn from letter)) = few_known_asks here k (record { letter = letter; callsign = from; listen = false })
-few_known here k (packets.Control (control.Lstn from letter)) = few_known_asks here k (record { letter = letter; callsign = from; listen = true })
-few_known here k (packets.Stream p) = record { few = omega arith }
-few_known here k (packets.Control (control.Ping from)) = record { few = omega arith }
-few_known here k (packets.Control (control.Pong from)) = record { few = omega arith }
-few_known here k (packets.Control (control.Disc from)) = record { few = omega arith }
-few_known here k (packets.Control control.Ackn) = record { few = omega arith }
-few_known here k (packets.Control control.Nack) = record { few = omega arith }
-
-few_other : (here : Here) (x : Peer) (p : Packet) → IsFew 26 (of_other here x p)
-few_other here x (packets.Control (control.Conn from letter)) = few_other_asks here x (record { letter = letter; callsign = from; listen = false })
-few_other here x (packets.Control (control.Lstn from letter)) = few_other_asks here x (record { letter = letter; callsign = from; listen = true })
-few_other here x (packets.Stream p) = record { few = omega arith }
-few_other here x (packets.Control (control.Ping from)) = record { few = omega arith }
-few_other here x (packets.Control (control.Pong from)) = record { few = omega arith }
-few_other here x (packets.Control (control.Disc None)) = record { few = omega arith }
-few_other here x (packets.Control (control.Disc (Some from))) = record { few = omega arith }
-few_other here x (packets.Control control.Ackn) = record { few = omega arith }
-few_other here x (packets.Control control.Nack) = record { few = omega arith }
-
 few_packet : (here : Here) (x : Peer) (row : Option Known) (p : Packet) → IsFew 26 (of_packet here x row p)
-few_packet here x (Some k) p = few_known here k p
-few_packet here x None p = few_other here x p
+few_packet here x row p = of_lines (IsFew 26) here x row p (record {
+  nothing = λ v said. record { few = omega arith };
+  at_door = λ y v reply said is. record { few = omega arith };
+  frame = λ k s is of. record { few = omega arith };
+  reply = λ k what reply is said. record { few = omega arith };
+  leaves = λ k v why is said other. record { few = omega arith };
+})
 
 few_end : (here : Here) (rows : List Known) → IsFew 26 (of_end here rows)
 few_end here rows = record { few = omega (arith, length-append (map (leave here Stopped) rows) (to_each_module here body.Stop), length-map rows (leave here Stopped), few_told here body.Stop) }

@@ -81,14 +81,8 @@ pub fn replay_plain(
     ensures untouched { OnErr result (mouth.new ≡ mouth.old) }
 {
     let mut run = Run::make(alloc, plan)?;
-    let mut verdicts = match Vec::with_capacity(alloc, heard.len()) {
-        Ok(verdicts) => verdicts,
-        Err(_) => return Err(NoMemory),
-    };
-    let mut packets = match Vec::with_capacity(alloc, heard.len()) {
-        Ok(packets) => packets,
-        Err(_) => return Err(NoMemory),
-    };
+    let mut verdicts = Vec::with_capacity(alloc, heard.len())?;
+    let mut packets = Vec::with_capacity(alloc, heard.len())?;
     play(&mut run, plan, heard, mouth, &mut verdicts, &mut packets);
     Ok((verdicts, packets))
 }

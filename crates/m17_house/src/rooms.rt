@@ -53,10 +53,7 @@ impl Rooms {
         ensures { IfOk result (λ rooms. (letter : ℕ) → serves plan.now.modules letter ≡ true
             → RoomStands plan.now letter [] rooms) }
     {
-        let mut cells = match Vec::with_capacity(alloc, LETTERS) {
-            Ok(cells) => cells,
-            Err(_) => return Err(NoMemory),
-        };
+        let mut cells = Vec::with_capacity(alloc, LETTERS)?;
         for letter in b'A'..b'Z' + 1 {
             let room = make_room(alloc, plan, letter)?;
             cells.push_reserved(room);

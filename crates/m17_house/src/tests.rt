@@ -10,8 +10,8 @@ use m17_directory::{Act, LinkVerdict};
 use m17_floor::Verdict;
 use m17_plan::Plan;
 use m17_port_memory::TallyMouth;
-use m17_samples::{ab1cd, frame, n0call};
-use m17_values::{Gram, Heard, Peer};
+use m17_samples::{ab1cd, frame, n0call, peer};
+use m17_values::{Gram, Heard};
 use std::alloc::Global;
 use std::process::Abort;
 
@@ -52,17 +52,6 @@ type Row = (u8, u64, Say, Comes);
 
 // Tallies of peers: ACKN, NACK, PING, PONG, DISC and frames; none of a peer that is not named.
 type Tallied = (u8, Option<[u64; 6]>);
-
-fn peer(number: u8) -> Peer {
-    let mut ip = [0; 16];
-    ip[0] = 10;
-    ip[3] = number;
-    Peer {
-        six: false,
-        ip,
-        port: 17_000,
-    }
-}
 
 fn call(rt: &impl Abort, address: Address) -> CallAddress {
     CallAddress::new(address).expect(rt, "a callsign")

@@ -1,8 +1,9 @@
 use Rattle.std.proofs.Common.{◌≡◌, length, map, filter, not, ap, refl, arith, length-append}
 use Rattle.std.proofs.lemmas.List.Filters.{length-filter_both}
+use Rattle.std.proofs.lemmas.List.{length-map}
 use Rattle.m17_directory.specs.StandsFor.{departed_of}
 use Rattle.m17_directory.specs.Steps.{is_among}
-use Rattle.m17_directory.proofs.Filters.{filter_le, map_length}
+use Rattle.m17_directory.proofs.Filters.{filter_le}
 use Rattle.m17_directory.proofs.people.People.leave.Goals as goal
 
 pub invariant_of-self : goal.invariant_of-self
@@ -15,5 +16,5 @@ invariant_of-self c =
     let both = length-filter_both who (λ k. not (who k)) (λ k. refl) rows in
     record {
       few = omega (arith, stay, c.self.invariant.few, filter_le (λ k. not (who k)) rows);
-      together = omega (arith, stay, gone, both, c.self.invariant.together, ap length c.say_leaves.ensures.left, length-append c.self.inside.departing (map departed_of left), map_length departed_of left);
+      together = omega (arith, stay, gone, both, c.self.invariant.together, ap length c.say_leaves.ensures.left, length-append c.self.inside.departing (map departed_of left), length-map left departed_of);
     }
