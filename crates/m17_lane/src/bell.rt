@@ -64,29 +64,23 @@ impl Bell {
             dozes: AtomicBool::new(false),
             marks,
         };
-        match Arc::new(alloc, rung) {
-            Ok(rung) => Ok(Bell { rung, mark: None }),
-            Err(_) => Err(NoMemory),
-        }
+        let rung = Arc::new(alloc, rung)?;
+        Ok(Bell { rung, mark: None })
     }
 
     /// The same bell once more, for a consumer that keeps one beside its lanes. `NoMemory` where it has too many owners.
     pub fn share(&self) -> Result<Bell, NoMemory> {
-        match Arc::try_clone(&self.rung) {
-            Ok(rung) => Ok(Bell { rung, mark: None }),
-            Err(_) => Err(NoMemory),
-        }
+        let rung = Arc::try_clone(&self.rung)?;
+        Ok(Bell { rung, mark: None })
     }
 
     // The same bell for a lane whose pushes set this mark.
     pub(crate) fn share_marked(&self, mark: u32) -> Result<Bell, NoMemory> {
-        match Arc::try_clone(&self.rung) {
-            Ok(rung) => Ok(Bell {
-                rung,
-                mark: Some(mark),
-            }),
-            Err(_) => Err(NoMemory),
-        }
+        let rung = Arc::try_clone(&self.rung)?;
+        Ok(Bell {
+            rung,
+            mark: Some(mark),
+        })
     }
 
     /// How many groups of 64 words of 64 marks it has: 0 for a bell without marks.

@@ -64,6 +64,16 @@ fn a_quiet_push_ends_a_sleep(rt: HostRuntime) {
     announced.sleep(&rt);
 }
 
+// It would sleep for ever, were it not roused.
+#[test]
+fn who_sleeps_is_roused_before_a_push(rt: HostRuntime) {
+    let (pusher, mut popper) = must(&rt, make_one::<u8>(rt.alloc(), 64));
+    let announced = popper.lane.filled.announce();
+    pusher.rouse();
+    announced.sleep(&rt);
+    assert!(rt; popper.try_pop(&rt).is_none());
+}
+
 // A quiet push sets its mark, so that who looks for marks finds the item.
 #[test]
 fn a_quiet_push_sets_its_mark(rt: HostRuntime) {

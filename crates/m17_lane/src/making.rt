@@ -87,9 +87,7 @@ fn make_for<T: Drop>(
     ensures popper { IfOk result (λ r. r.1 ≡ new_popper r.1.lane capacity producers) }
     ensures pushers { IfOk result (λ r. r.0.items ≡ new_pushers r.1 producers) }
 {
-    let Ok((line, mut pass)) = Line::ruled(alloc, capacity as usize) else {
-        return Err(NoMemory);
-    };
+    let (line, mut pass) = Line::ruled(alloc, capacity as usize)?;
     declare_all(&line, &mut pass, producers);
     let room = Room::new(producers, capacity);
     let lane = Lane {
@@ -98,9 +96,7 @@ fn make_for<T: Drop>(
         room,
         enough: enough_for(capacity),
     };
-    let Ok(lane) = Arc::new(alloc, lane) else {
-        return Err(NoMemory);
-    };
+    let lane = Arc::new(alloc, lane)?;
     let pushers = hire_all(alloc, &lane, &mut pass, producers)?;
     let popper = Popper {
         lane,
@@ -195,13 +191,9 @@ fn hire_all<T: Drop>(
     ensures popper { OnOk result (knows pass.new
         ≡ popper (2 ^ 32 - producers) producers producers [] [] [] []) }
 {
-    let Ok(mut pushers) = Vec::with_capacity(alloc, producers as usize) else {
-        return Err(NoMemory);
-    };
+    let mut pushers = Vec::with_capacity(alloc, producers as usize)?;
     for _hired in 0..producers {
-        let Ok(lane) = Arc::try_clone(lane) else {
-            return Err(NoMemory);
-        };
+        let lane = Arc::try_clone(lane)?;
         let pass = lane.line.another::<Hire>(pass);
         pushers.push_reserved(Pusher { lane, pass });
     }

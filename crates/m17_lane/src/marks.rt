@@ -72,9 +72,7 @@ impl Marks {
 }
 
 fn clear_words(alloc: Global, count: u32) -> Result<Vec<AtomicU64>, NoMemory> {
-    let Ok(mut words) = Vec::with_capacity(alloc, count as usize) else {
-        return Err(NoMemory);
-    };
+    let mut words = Vec::with_capacity(alloc, count as usize)?;
     for _cleared in 0..count {
         words.push_reserved(AtomicU64::new(0));
     }

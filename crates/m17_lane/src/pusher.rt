@@ -77,6 +77,12 @@ impl<T> Pusher<T> {
         self.push(rt, item, Haste::Later);
     }
 
+    /// Wakes the consumer where it sleeps, before something comes that another thread is still to push: so it wakes while
+    /// that is made ready, and not after it. Nothing is pushed. The consumer may find nothing, and sleeps again then.
+    pub fn rouse(&self) {
+        self.lane.filled.ring();
+    }
+
     fn push<R: Wait>(&mut self, rt: &R, item: T, haste: Haste)
         ensures { self.new ≡ pushed_to self.old item }
     {

@@ -17,7 +17,7 @@ use m17_lane::{Bell, Popper, Pusher, make_one, make_one_marked};
 use m17_port_memory::{ListBook, ScriptEar};
 use m17_ports::{Book, Ear};
 use m17_roll::RollSeat;
-use m17_samples::frame;
+use m17_samples::{frame, member};
 use m17_values::{Gram, Heard, Member, NoMemory, Peer};
 use std::alloc::{AllocError, Global};
 use std::process::Abort;
@@ -332,23 +332,6 @@ pub(crate) fn start_over<R: Threads + Wait + Abort + Copy + Send + 'static>(
 /// Joins a receiver that was started, and lets go of all that the test had of it.
 pub(crate) fn join<R: Threads + Wait>(rt: &R, started: Started) {
     let _receiver = started.running.join(rt);
-}
-
-/// A member.
-pub(crate) fn member(place: u32, generation: u64) -> Member {
-    Member { place, generation }
-}
-
-/// A peer of the tests.
-pub(crate) fn peer(host: u8) -> Peer {
-    let mut ip = [0; 16];
-    ip[0] = 10;
-    ip[3] = host;
-    Peer {
-        six: false,
-        ip,
-        port: 17_000,
-    }
 }
 
 fn call(rt: &impl Abort) -> CallAddress {

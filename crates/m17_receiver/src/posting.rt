@@ -56,8 +56,19 @@ fn push_one<R: Wait>(
         Dispatch::ToModule {
             module: letter,
             event,
-        } => push_event(rt, modules, letter, event, inboxes),
+        } => {
+            foretell(&event, door);
+            push_event(rt, modules, letter, event, inboxes);
+        }
         Dispatch::ToDoor(direct) => door.push_waiting(rt, direct),
+    }
+}
+
+// Most packets that go to a module give something to say, so the sender is woken while the worker looks at one: a thread of
+// an idle processor takes longer to wake than the worker does.
+fn foretell(event: &Event, door: &Pusher<Direct>) {
+    if let Body::Packet { .. } = event.body {
+        door.rouse();
     }
 }
 

@@ -4,8 +4,7 @@ ghost use Rattle.std.specs.Prelude.{None};
 ghost use Rattle.m17_ports.specs.Told.{StartsEmpty};
 
 use crate::bench::{
-    Bench, Plan, conn, disc, go, is_plan, make_bench, member, must, peer, ping, run_by,
-    run_through, voice,
+    Bench, Plan, conn, disc, go, is_plan, make_bench, must, ping, run_by, run_through, voice,
 };
 use m17_control::{Body, Control, ModuleLetter};
 use m17_crew::Order;
@@ -13,6 +12,7 @@ use m17_directory::{Act, LinkVerdict};
 use m17_lane::Bell;
 use m17_port_memory::{ListBook, ScriptEar};
 use m17_ports::{Book, Ear, Shelf};
+use m17_samples::{member, peer};
 use m17_values::{Failed, Heard, Member, Peer};
 use std::alloc::Global;
 use std::process::Abort;
@@ -440,4 +440,21 @@ fn a_full_roll_turns_away(rt: HostRuntime) {
         assert!(rt; third == Some(LinkVerdict::Full));
         assert!(rt; answered == [Some(peer(3)), None]);
     }
+}
+
+// The sender, which rests on the bell of the door, is woken by a packet that goes to a module, though nothing comes by the
+// door: else this would sleep for ever.
+#[test]
+fn a_packet_wakes_the_sender_before_the_worker_has_it(rt: HostRuntime) {
+    assert!(rt; is_plan(&ONE_MODULE));
+    let heard = [conn(&rt, peer(1), 0, b'A'), voice(peer(1), 1, 0)];
+    let heard = must(&rt, Vec::from_array(rt.alloc(), heard));
+    let bell = must(&rt, Bell::make_marked(rt.alloc(), 1));
+    let trace = must(&rt, ListBook::make(rt.alloc(), 4_096, Vec::new(rt.alloc())));
+    let ear = ScriptEar::new(heard);
+    let bench = make_bench(&rt, rt.alloc(), &ONE_MODULE, &bell, ear, trace);
+    let announced = bell.announce();
+    let mut bench = go(&rt, bench, Order::Go);
+    announced.sleep(&rt);
+    assert!(rt; bench.door.try_pop(&rt).is_none());
 }

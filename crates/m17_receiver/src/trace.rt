@@ -49,7 +49,7 @@ fn spelled(first: bool, entry: &Heard) -> ArrayVec<u8, SPELLED_BYTES>
 
 // Adds bytes at the end.
 fn add(bytes: &mut ArrayVec<u8, SPELLED_BYTES>, more: &[u8])
-    requires { array_vec_len bytes.old + length more.now ≤ 101 }
+    requires { array_vec_len bytes.old + length more.now ≤ SPELLED_BYTES }
     ensures items { bytes.new.items ≡ bytes.old.items ++ more.now }
     ensures len { array_vec_len bytes.new ≡ array_vec_len bytes.old + length more.now }
 {

@@ -77,7 +77,7 @@ module _ {E M B : Type 0} where
     missed = map (λ (k : Worker B). k.offers.missed) jobs.workers;
     admitted = map (λ (k : Worker B). k.module.admitted) jobs.workers;
     link_tapes = map tape_of jobs.receivers;
-    tapes = map (λ (k : Worker B). k.tape.items) jobs.workers;
+    tapes = map (λ (k : Worker B). k.tape) jobs.workers;
     lost = list_any lost_of jobs.receivers;
     book_failed = has_failed jobs;
   }
@@ -184,7 +184,7 @@ module _ {E M B EL ML BL : Type 0} where
         admitted = all_admitted c.writes c.plan n c.before.workers c.after.workers c.made.trails f.worked o.trails.count o.served;
         link_tape_count = length-map c.after.receivers tape_of ∙ lens.0 ∙ sym lens.1;
         link_tapes = link_tapes c.hears c.writes c.plan c.before.receivers c.after.receivers links f.are o.came;
-        tape_count = length-map c.after.workers (λ (k : Worker B). k.tape.items) ∙ f.came_back ∙ f.worked.count;
+        tape_count = length-map c.after.workers (λ (k : Worker B). k.tape) ∙ f.came_back ∙ f.worked.count;
         tapes = all_tapes c.writes c.plan n c.before.workers c.after.workers c.made.trails f.worked o.served;
         written = record {
           trace_count = length-map c.after.receivers (trace_tells c.writes) ∙ lens.0 ∙ sym lens.1;

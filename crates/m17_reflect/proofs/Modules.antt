@@ -107,9 +107,9 @@ module _ {B : Type 0} where
       admitted_of writes plan links m j k (events_of t) (h.are m j at_j) (zip_at (HasWorked writes) js ks h.worked m j k at_j at_k) (did m j k t at_j at_k e))
 
   -- the tapes of the modules
-  pub all_tapes : {BL : Type 0} (writes : B → BookTold BL) (plan : Plan) (links : ℕ) (js ks : List (Worker B)) (trails : List (TrailEnd Event)) → HaveWorked writes plan links js ks → ((m : ℕ) (j k : Worker B) (t : TrailEnd Event) → slice_get js m ≡ Some j → slice_get ks m ≡ Some k → At trails m t → HasServed writes (events_of t) j k) → (m : ℕ) (t : TrailEnd Event) (tape : List (Option Verdict)) → At trails m t → At (map (λ (k : Worker B). k.tape.items) ks) m tape → IsModuleTape (setup_at plan m) (events_of t) plan.entries tape
+  pub all_tapes : {BL : Type 0} (writes : B → BookTold BL) (plan : Plan) (links : ℕ) (js ks : List (Worker B)) (trails : List (TrailEnd Event)) → HaveWorked writes plan links js ks → ((m : ℕ) (j k : Worker B) (t : TrailEnd Event) → slice_get js m ≡ Some j → slice_get ks m ≡ Some k → At trails m t → HasServed writes (events_of t) j k) → (m : ℕ) (t : TrailEnd Event) (tape : List (Option Verdict)) → At trails m t → At (map (λ (k : Worker B). k.tape) ks) m tape → IsModuleTape (setup_at plan m) (events_of t) plan.entries tape
   all_tapes writes plan links js ks trails h did m t tape e et =
-      let (k, at_k, is_k) = unmapped (λ (k : Worker B). k.tape.items) ks m tape et in
+      let (k, at_k, is_k) = unmapped (λ (k : Worker B). k.tape) ks m tape et in
       let inside = below_at ks m k at_k in
       let many = worker_count writes plan links js ks h in
       let (j, at_j) = at_below js m (omega (arith, h.count)) in

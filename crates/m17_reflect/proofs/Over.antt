@@ -129,7 +129,7 @@ module _ {E M B EL ML BL : Type 0} (hears : E → EarTold EL) (tells : M → Mou
       (sym (ap (λ es. es.items) g.counts.0 ∙ v.missed))
       (sym (ap (λ es. es.items) g.counts.1 ∙ v.admitted))
       (sym (map_twice (λ (j : Receiver E B). j.tape) (λ tape. tape.items) k.r'.jobs) ∙ ap (map (λ tape. tape.items)) (sym (ap (λ es. es.items) g.tapes.0 ∙ w.tapes)))
-      (sym (map_twice (λ (w : Worker B). w.tape) (λ tape. tape.items) k.w'.jobs) ∙ ap (map (λ tape. tape.items)) (sym (ap (λ es. es.items) g.tapes.1 ∙ v.tapes)))
+      (sym (ap (λ es. es.items) g.tapes.1 ∙ v.tapes))
       (sym (g.flags.0 ∙ w.lost))
       (sym (g.flags.1 ∙ both_flags p.links.failed _ p.modules.failed _ w.failed v.failed)))
 

@@ -55,7 +55,7 @@ module _ {B : Type 0} where
   admitted_of writes plan links m j k events is worked h =
       h.stands.admitted ∙ ap (λ (s : module_items.Setup). admitted_count (floor_setup s) (acts_of events)) (worked.same.setup ∙ is.setup)
 
-  pub tape_is : {BL : Type 0} (writes : B → BookTold BL) (plan : Plan) (links m : ℕ) (j k : Worker B) (events : List Event) → IsWorkerOf plan links m j → HasWorked writes j k → HasServed writes events j k → IsModuleTape (setup_at plan m) events plan.entries k.tape.items
+  pub tape_is : {BL : Type 0} (writes : B → BookTold BL) (plan : Plan) (links m : ℕ) (j k : Worker B) (events : List Event) → IsWorkerOf plan links m j → HasWorked writes j k → HasServed writes events j k → IsModuleTape (setup_at plan m) events plan.entries k.tape
   tape_is writes plan links m j k events is worked h = record {
     length_is = worked.same.cells ∙ is.cells;
     verdicts = λ index lt. h.taped index lt ∙ ap (λ (s : module_items.Setup). Some (verdict_on s events index)) is.setup;

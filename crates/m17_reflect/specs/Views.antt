@@ -54,7 +54,7 @@ module _ {E M B : Type 0} where
     missed = r.missed.items;
     admitted = r.admitted.items;
     link_tapes = map (λ tape. tape.items) r.link_tapes.items;
-    tapes = map (λ tape. tape.items) r.tapes.items;
+    tapes = r.tapes.items;
     lost = r.lost;
     book_failed = r.book_failed;
   }

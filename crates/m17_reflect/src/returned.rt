@@ -5,6 +5,7 @@ use m17_directory::LinkVerdict;
 use m17_floor::Verdict;
 use m17_lane::Trail;
 use m17_roll::RollEnd;
+use m17_tape::Tape;
 
 /// What a run that was carried out hands back: the devices, in the order handed in, and what went through the threads.
 /// Links and modules are numbered from 0, modules in order of their letters.
@@ -31,7 +32,7 @@ pub struct Returned<E, M, B> {
     /// The verdicts of each link's first entries.
     pub link_tapes: Vec<Vec<Option<LinkVerdict>>>,
     /// Each module's verdicts on the packets of the first entries of link 0.
-    pub tapes: Vec<Vec<Option<Verdict>>>,
+    pub tapes: Vec<Tape<Verdict>>,
     /// Whether some link ended by 16 failures of its socket in a row.
     pub lost: bool,
     /// Whether a write of some trace or book failed.

@@ -1,30 +1,12 @@
 -- Tapes, one by one.
-use Rattle.std.proofs.Common.{◌≡◌, ℕ, zero, suc, ◌+◌, ◌<◌, ◌≤◌, true, false, cond, List, [], ◌∷◌, length, map, is_some, Option, None, Some, Vec, Global, refl, sym, ap, ◌∙◌, arith}
-use Rattle.std.specs.Prelude.{slice_get, count_by, option_and_then}
+use Rattle.std.proofs.Common.{◌≡◌, ℕ, zero, suc, ◌+◌, ◌<◌, ◌≤◌, true, false, cond, List, [], ◌∷◌, length, map, is_some, Option, None, Some, refl, ap, ◌∙◌, arith}
+use Rattle.std.specs.Prelude.{slice_get, count_by}
 use Rattle.std.specs.List.{range_with_len}
-use Rattle.std.specs.Option.{option_map}
 use Rattle.std.proofs.lemmas.List.Sums.{sum_by-cons}
 use Rattle.std.proofs.lemmas.List.FromFn.{get_or-map-range_with_len, length-map-range_with_len}
-use Rattle.std.proofs.lemmas.Option.{same_Some, slice_get-get_or, slice_get-map}
-use Rattle.m17_floor.specs.declared.verdict.Verdict.{Verdict}
+use Rattle.std.proofs.lemmas.Option.{same_Some, slice_get-get_or}
 use Rattle.m17_directory.specs.declared.verdict.LinkVerdict.{LinkVerdict}
-use Rattle.m17_replay_run.specs.Tapes.{IsFilledInOrder, cell_at, verdicts_on}
-
-abbrev pub lists_of : List (Vec (Option Verdict) Global) → List (List (Option Verdict))
-lists_of tapes = map (λ (tape : Vec (Option Verdict) Global). tape.items) tapes
-
--- What the tape at a place has, where there is one, and where there is none.
-pub cell_there : (tapes : List (Vec (Option Verdict) Global)) (at n : ℕ) (tape : Vec (Option Verdict) Global) → slice_get tapes at ≡ Some tape
-    → option_and_then (λ (l : List (Option Verdict)). cell_at l n) (slice_get (lists_of tapes) at) ≡ cell_at tape.items n
-cell_there tapes at n tape is =
-    ap (option_and_then (λ (l : List (Option Verdict)). cell_at l n))
-    (slice_get-map (λ (tape : Vec (Option Verdict) Global). tape.items) tapes at ∙ ap (option_map (λ (tape : Vec (Option Verdict) Global). tape.items)) is)
-
-pub no_cell_there : (tapes : List (Vec (Option Verdict) Global)) (at n : ℕ) → slice_get tapes at ≡ None
-    → option_and_then (λ (l : List (Option Verdict)). cell_at l n) (slice_get (lists_of tapes) at) ≡ None
-no_cell_there tapes at n is =
-    ap (option_and_then (λ (l : List (Option Verdict)). cell_at l n))
-    (slice_get-map (λ (tape : Vec (Option Verdict) Global). tape.items) tapes at ∙ ap (option_map (λ (tape : Vec (Option Verdict) Global). tape.items)) is)
+use Rattle.m17_replay_run.specs.Tapes.{IsFilledInOrder, verdicts_on}
 
 -- Cells that are filled up to a number, and empty behind it.
 none_behind : (tape : List (Option LinkVerdict)) → ((i : ℕ) → i < length tape → slice_get tape i ≡ Some None) → verdicts_on tape ≡ []

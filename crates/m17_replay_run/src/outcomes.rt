@@ -1,10 +1,11 @@
 //! What each entry came to, read off the tapes of a run.
-ghost use Rattle.std.specs.Prelude.{◌≡◌, ◌<◌, Some, count_by, is_some, length, map, slice_get};
-ghost use Rattle.m17_replay_run.specs.Tapes.{cell_at, cell_for, packet_by};
+ghost use Rattle.std.specs.Prelude.{◌≡◌, ◌<◌, Some, count_by, is_some, length, slice_get};
+ghost use Rattle.m17_replay_run.specs.Tapes.{cell_for, packet_by};
 
 use m17_control::Modules;
 use m17_directory::{Act, LinkVerdict};
 use m17_floor::Verdict;
+use m17_tape::Tape;
 use std::marker::Model;
 
 /// What each entry of a replay came to that was heard. It has the tapes of the run as they came back, and no list of its
@@ -17,16 +18,15 @@ pub struct Outcomes {
     // The link's tape, whose first cells have the verdicts.
     link: Vec<Option<LinkVerdict>>,
     // The tape of each of them, in the order of letters.
-    modules: Vec<Vec<Option<Verdict>>>,
+    modules: Vec<Tape<Verdict>>,
 }
 
 impl Model for Outcomes {
-    ghost use Rattle.std.specs.Prelude.{map};
     ghost use Rattle.m17_replay_run.specs.Tapes.{IsFilledInOrder, OutcomesKept, outcomes_on};
 
     ghost Value = { OutcomesKept };
 
-    ghost view = { λ o. outcomes_on o.served o.link.items (map (λ tape. tape.items) o.modules.items) };
+    ghost view = { λ o. outcomes_on o.served o.link.items o.modules.items };
 
     ghost invariant = { λ o. IsFilledInOrder o.link.items };
 }
@@ -38,11 +38,10 @@ impl Outcomes {
     pub(crate) fn of(
         served: Modules,
         link: Vec<Option<LinkVerdict>>,
-        modules: Vec<Vec<Option<Verdict>>>,
+        modules: Vec<Tape<Verdict>>,
     ) -> Outcomes
         requires { IsFilledInOrder link.items }
-        ensures { result
-            ≡ outcomes_on served link.items (map (λ tape. tape.items) modules.items) }
+        ensures { result ≡ outcomes_on served link.items modules.items }
     {
         Outcomes {
             served,
@@ -89,25 +88,14 @@ fn count_filled(tape: &[Option<LinkVerdict>]) -> usize
     tape.iter().filter(|cell| cell.is_some()).count()
 }
 
-// What the cell of this number has; nothing where there is no such cell.
-fn cell_of(tape: &[Option<Verdict>], n: usize) -> Option<Verdict>
-    ensures { result ≡ cell_at tape.now n }
-{
-    match tape.get(n) {
-        Some(cell) => *cell,
-        None => None,
-    }
-}
-
 // The verdict on the packet of entry `n`, which came to this.
 fn packet_verdict(
     served: &Modules,
-    tapes: &[Vec<Option<Verdict>>],
+    tapes: &[Tape<Verdict>],
     n: usize,
     verdict: &LinkVerdict,
 ) -> Option<Verdict>
-    ensures { result
-        ≡ packet_by served.now (map (λ tape. tape.items) tapes.now) n verdict.now }
+    ensures { result ≡ packet_by served.now tapes.now n verdict.now }
 {
     match verdict {
         LinkVerdict::Routed {
@@ -121,15 +109,15 @@ fn packet_verdict(
 // What the tape of the module with this letter has for entry `n`; nothing where it is not served.
 fn cell_of_module(
     served: &Modules,
-    tapes: &[Vec<Option<Verdict>>],
+    tapes: &[Tape<Verdict>],
     letter: u8,
     n: usize,
 ) -> Option<Verdict>
-    ensures { result ≡ cell_for served.now (map (λ tape. tape.items) tapes.now) letter n }
+    ensures { result ≡ cell_for served.now tapes.now letter n }
 {
     match served.rank(letter) {
         Some(at) => match tapes.get(at) {
-            Some(tape) => cell_of(tape, n),
+            Some(tape) => tape.get(n),
             None => None,
         },
         None => None,

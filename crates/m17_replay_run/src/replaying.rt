@@ -76,9 +76,8 @@ fn take_apart(served: Modules, returned: Returned<ScriptEar, TallyMouth, Shelf<L
         × IsFilledInOrder tape.items }
     ensures heard { map (λ ear. ear.script) returned.ears.items ≡ result.heard.items ∷ [] }
     ensures mouth { returned.mouths.items ≡ result.mouth ∷ [] }
-    ensures outcomes { map (λ tape. outcomes_on served tape.items
-        (map (λ tape. tape.items) returned.tapes.items)) returned.link_tapes.items
-        ≡ result.outcomes ∷ [] }
+    ensures outcomes { map (λ tape. outcomes_on served tape.items returned.tapes.items)
+        returned.link_tapes.items ≡ result.outcomes ∷ [] }
 {
     let Returned {
         mut ears,

@@ -13,6 +13,7 @@ use m17_house::{laws, replay_plain};
 use m17_plan::Plan;
 use m17_port_memory::TallyMouth;
 use m17_reflect::HouseRefusal;
+use m17_samples::peer;
 use m17_values::{Gram, Heard, Peer};
 use std::alloc::Global;
 use std::process::Abort;
@@ -47,17 +48,6 @@ enum Say {
 
 // A peer, by the last number of its address 10.0.0.x, the moment, and what it says.
 type Row = (u8, u64, Say);
-
-fn peer(number: u8) -> Peer {
-    let mut ip = [0; 16];
-    ip[0] = 10;
-    ip[3] = number;
-    Peer {
-        six: false,
-        ip,
-        port: 17_000,
-    }
-}
 
 pub(crate) fn call(rt: &impl Abort) -> CallAddress {
     let address = encode("AB1CD").ok().expect(rt, "an address");

@@ -7,6 +7,7 @@ use m17_crew::Order;
 use m17_floor::Verdict;
 use m17_lane::{Popper, Pusher};
 use m17_roll::RollSeat;
+use m17_tape::Tape;
 use m17_worker::{LaneOffers, Worker};
 
 /// What came out of workers but their seats, in the order of the modules. Before, these are empty vectors with room.
@@ -21,7 +22,7 @@ pub struct WorkerParts<B> {
     /// The ends of the orders.
     pub orders: Vec<Popper<Order>>,
     /// Each module's verdicts on the packets of the first entries of link 0.
-    pub tapes: Vec<Vec<Option<Verdict>>>,
+    pub tapes: Vec<Tape<Verdict>>,
     /// How many items of each module were left out at full queues; a count stays at 2^64 - 1.
     pub missed: Vec<u64>,
     /// How many packets each module admitted.

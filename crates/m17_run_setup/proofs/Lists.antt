@@ -1,27 +1,14 @@
 -- Lists: what stands at a place of a list that was mapped or grew, and what is taken from the ends of lists.
-use Rattle.std.proofs.Common.{◌≡◌, ℕ, zero, suc, ◌+◌, List, [], ◌∷◌, ◌++◌, map, length, reverse, All, Some, sym, subst, refl, ap, ◌∙◌, append_assoc, append-nil, arith}
+use Rattle.std.proofs.Common.{◌≡◌, ℕ, zero, suc, ◌+◌, List, [], ◌∷◌, ◌++◌, map, length, reverse, All, Some, sym, subst, ap, ◌∙◌, append_assoc, append-nil, arith}
 use Rattle.std.specs.Prelude.{slice_get}
 use Rattle.std.specs.List.{AllByRecursion}
 use Rattle.std.proofs.lemmas.Option.{same_Some, none-some}
-use Rattle.std.proofs.lemmas.List.{reverse-append}
+use Rattle.std.proofs.lemmas.List.{nil_from_length}
 use Rattle.std.proofs.lemmas.List.Elements.{All-from_recursion, recursion_from_All}
+use Rattle.m17_lists.proofs.Lengths.{one_more_is_first_in_reverse}
 use Rattle.m17_run_setup.specs.Bare.{EachFrom}
 
-module _ {A B C : Type 0} where
-  pub map_twice : (f : B → C) (g : A → B) (xs : List A) → map f (map g xs) ≡ map (λ x. f (g x)) xs
-  map_twice f g [] = refl
-  map_twice f g (x ∷ xs) = ap (λ (ys : List C). f (g x) ∷ ys) (map_twice f g xs)
-
 module _ {A B : Type 0} where
-  pub map_snoc : (f : A → B) (xs : List A) (x : A) → map f (xs ++ x ∷ []) ≡ map f xs ++ f x ∷ []
-  map_snoc f [] x = refl
-  map_snoc f (y ∷ xs) x = ap (λ (ys : List B). f y ∷ ys) (map_snoc f xs x)
-
-  pub at_map : (f : A → B) (xs : List A) (i : ℕ) (x : A) → slice_get xs i ≡ Some x → slice_get (map f xs) i ≡ Some (f x)
-  at_map f [] i x e = absurd (none-some x e)
-  at_map f (y ∷ xs) zero x e = ap (λ (z : A). Some (f z)) (same_Some y x e)
-  at_map f (y ∷ xs) (suc i) x e = at_map f xs i x e
-
   -- what holds of two lists at each place holds where each has one more, of which it holds
   pub each_snoc : (R : A → B → Type 0) (xs : List A) (ys : List B) (a : A) (b : B) → length xs ≡ length ys → ((i : ℕ) (x : A) (y : B) → slice_get xs i ≡ Some x → slice_get ys i ≡ Some y → R x y) → R a b → (i : ℕ) (x : A) (y : B) → slice_get (xs ++ a ∷ []) i ≡ Some x → slice_get (ys ++ b ∷ []) i ≡ Some y → R x y
   each_snoc R [] [] a b long h r zero x y ex ey = subst (λ (u : A). R u y) (same_Some a x ex) (subst (λ (v : B). R a v) (same_Some b y ey) r)
@@ -32,17 +19,6 @@ module _ {A B : Type 0} where
   each_snoc R (u ∷ xs) (v ∷ ys) a b long h r (suc i) x y ex ey = each_snoc R xs ys a b (omega arith) (λ j w z ew ez. h (suc j) w z ew ez) r i x y ex ey
 
 module _ {A : Type 0} where
-  pub empty_of : (xs : List A) → length xs ≡ zero → xs ≡ []
-  empty_of [] e = refl
-  empty_of (x ∷ xs) e = absurd (omega arith)
-
-  pub long_snoc : (xs : List A) (x : A) → length (xs ++ x ∷ []) ≡ length xs + 1
-  long_snoc [] x = refl
-  long_snoc (y ∷ xs) x = omega (arith, long_snoc xs x)
-
-  pub rev_snoc : (xs : List A) (x : A) → reverse (xs ++ x ∷ []) ≡ x ∷ reverse xs
-  rev_snoc xs x = reverse-append xs (x ∷ [])
-
   -- P holds of each, with its number
   pub each_at : (P : ℕ → A → Type 0) (k n : ℕ) (xs : List A) → EachFrom P k xs → (i : ℕ) (x : A) → n ≡ k + i → slice_get xs i ≡ Some x → P n x
   each_at P k n [] h i x is e = absurd (none-some x e)
@@ -55,10 +31,6 @@ module _ {A : Type 0} where
   all_at P [] h i x e = absurd (none-some x e)
   all_at P (y ∷ xs) h zero x e = subst P (same_Some y x e) h.0
   all_at P (y ∷ xs) h (suc i) x e = all_at P xs h.1 i x e
-
-  pub all_from : (P : A → Type 0) (xs : List A) → ((i : ℕ) (x : A) → slice_get xs i ≡ Some x → P x) → AllByRecursion P xs
-  all_from P [] h = tt
-  all_from P (x ∷ xs) h = (h zero x refl, all_from P xs (λ i y e. h (suc i) y e))
 
 module _ {A B : Type 0} where
   mapped : (P : B → Type 0) (f : A → B) (xs : List A) → AllByRecursion (λ x. P (f x)) xs → AllByRecursion P (map f xs)
@@ -80,8 +52,8 @@ module _ {A J : Type 0} (f : J → A) where
   pub taken_next : (was mid after : List A) (x : A) (y : J) (made more : List J) → was ≡ mid ++ map f (reverse made) → mid ≡ after ++ x ∷ [] → f y ≡ x → more ≡ made ++ y ∷ [] → was ≡ after ++ map f (reverse more)
   taken_next was mid after x y made more e h is came =
       one_taken was mid after y (reverse made) e (h ∙ ap (λ (z : A). after ++ z ∷ []) (sym is))
-      ∙ sym (ap (λ (l : List J). after ++ map f (reverse l)) came ∙ ap (λ (l : List J). after ++ map f l) (rev_snoc made y))
+      ∙ sym (ap (λ (l : List J). after ++ map f (reverse l)) came ∙ ap (λ (l : List J). after ++ map f l) (one_more_is_first_in_reverse made y))
 
   pub taken_all : (was left : List A) (made back : List J) → was ≡ left ++ map f (reverse made) → length left ≡ zero → back ≡ reverse made → map f back ≡ was
   taken_all was left made back e none is =
-      ap (map f) is ∙ sym (e ∙ ap (λ (l : List A). l ++ map f (reverse made)) (empty_of left none))
+      ap (map f) is ∙ sym (e ∙ ap (λ (l : List A). l ++ map f (reverse made)) (nil_from_length left none))

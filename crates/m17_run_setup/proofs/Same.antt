@@ -1,6 +1,7 @@
 -- The ends that jobs have are those that the lanes were laid with; and jobs have the same ends as without their devices.
 use Rattle.std.proofs.Common.{◌≡◌, ℕ, ◌+◌, List, [], ◌++◌, map, length, All, Option, None, sym, subst, refl, ap, ◌∙◌, length-append, arith}
-use Rattle.std.proofs.lemmas.List.{length-replicate}
+use Rattle.std.proofs.lemmas.List.{length-replicate, nil_from_length}
+use Rattle.std.proofs.lemmas.Simd.{map-map}
 use Rattle.m17_values.specs.declared.member.Member.{Member}
 use Rattle.m17_control.specs.declared.event.Event.{Event}
 use Rattle.m17_control.specs.declared.item.Item.{Item}
@@ -19,7 +20,6 @@ use Rattle.m17_run_setup.specs.Lanes.{ends_in}
 use Rattle.m17_plan.specs.Planned.{module_count}
 use Rattle.m17_run_setup.specs.Site.{AreBare, AreOrdersOf}
 use Rattle.m17_run_setup.specs.Taken.{AreFromLinks, AreFromModules, HasSenderEnds}
-use Rattle.m17_run_setup.proofs.Lists.{empty_of, map_twice}
 
 abbrev all_ends : List (List (PushEnd Event)) → List (PopEnd Event) → List (List (PushEnd Item)) → List (List (PopEnd Item)) → List (PushEnd Direct) → PopEnd Direct → List (PushEnd Member) → List (PopEnd Member) → Ends
 all_ends columns inboxes queues heads doors door notes noted = record {
@@ -56,14 +56,14 @@ module _ {E M B : Type 0} where
       lanes.links.doors.items (map (λ j. j.door) (map bare js))
       lanes.sender.door s.door lanes.sender.notes.items s.notes.items
       lanes.links.notes.items (map (λ j. j.notes) (map bare js))
-      (ap (map (λ column. column.items)) of_links.inboxes ∙ map_twice (λ column. column.items) (λ (j : Receiver E B). j.inboxes) js ∙ sym (map_twice (λ j. j.inboxes.items) bare js))
-      (of_modules.inboxes ∙ sym (map_twice (λ w. w.inbox) bare_worker ws))
-      (ap (map (λ row. row.items)) of_modules.queues ∙ map_twice (λ row. row.items) (λ (w : Worker B). w.offers.queues) ws ∙ sym (map_twice (λ w. w.offers.queues.items) bare_worker ws))
+      (ap (map (λ column. column.items)) of_links.inboxes ∙ map-map (λ column. column.items) (λ (j : Receiver E B). j.inboxes) js ∙ sym (map-map (λ j. j.inboxes.items) bare js))
+      (of_modules.inboxes ∙ sym (map-map (λ w. w.inbox) bare_worker ws))
+      (ap (map (λ row. row.items)) of_modules.queues ∙ map-map (λ row. row.items) (λ (w : Worker B). w.offers.queues) ws ∙ sym (map-map (λ w. w.offers.queues.items) bare_worker ws))
       (sym (ap (λ queues. map (λ row. row.items) queues.items) of_sender.queues))
-      (of_links.doors ∙ sym (map_twice (λ j. j.door) bare js))
+      (of_links.doors ∙ sym (map-map (λ j. j.door) bare js))
       (sym of_sender.door)
       (sym (ap (λ notes. notes.items) of_sender.notes))
-      (of_links.notes ∙ sym (map_twice (λ j. j.notes) bare js)))
+      (of_links.notes ∙ sym (map-map (λ j. j.notes) bare js)))
       laid
 
   -- jobs with their devices have the same ends
@@ -77,28 +77,28 @@ module _ {E M B : Type 0} where
       (map (λ j. j.door) (map bare js)) (map (λ j. j.door) js)
       s.door s.door s.notes.items s.notes.items
       (map (λ j. j.notes) (map bare js)) (map (λ j. j.notes) js)
-      (map_twice (λ j. j.inboxes.items) bare js)
-      (map_twice (λ w. w.inbox) bare_worker ws)
-      (map_twice (λ w. w.offers.queues.items) bare_worker ws)
+      (map-map (λ j. j.inboxes.items) bare js)
+      (map-map (λ w. w.inbox) bare_worker ws)
+      (map-map (λ w. w.offers.queues.items) bare_worker ws)
       refl
-      (map_twice (λ j. j.door) bare js)
+      (map-map (λ j. j.door) bare js)
       refl refl
-      (map_twice (λ j. j.notes) bare js))
+      (map-map (λ j. j.notes) bare js))
       laid
 
 module _ {E B : Type 0} where
   pub same_seats : (js : List (Receiver E B)) (ws : List (Worker B)) → map (λ j. j.seat) (map bare js) ++ map (λ w. w.seat) (map bare_worker ws) ≡ map (λ j. j.seat) js ++ map (λ w. w.seat) ws
   same_seats js ws =
-      ap (λ (l : List RollView). l ++ map (λ w. w.seat) (map bare_worker ws)) (map_twice (λ j. j.seat) bare js)
-      ∙ ap (λ (l : List RollView). map (λ (j : Receiver E B). j.seat) js ++ l) (map_twice (λ w. w.seat) bare_worker ws)
+      ap (λ (l : List RollView). l ++ map (λ w. w.seat) (map bare_worker ws)) (map-map (λ j. j.seat) bare js)
+      ∙ ap (λ (l : List RollView). map (λ (j : Receiver E B). j.seat) js ++ l) (map-map (λ w. w.seat) bare_worker ws)
 
 module _ {A C : Type 0} where
   -- orders of jobs without their devices are those of the jobs, and the other way round
   pub orders_too : (g : C → PopEnd Order) (h : A → C) (qs : List (PushEnd Order)) (xs : List A) → AreOrdersOf g qs (map h xs) → AreOrdersOf (λ a. g (h a)) qs xs
-  orders_too g h qs xs line = subst (IsNewLine 2 qs) (map_twice g h xs) line
+  orders_too g h qs xs line = subst (IsNewLine 2 qs) (map-map g h xs) line
 
   pub orders_bare : (g : C → PopEnd Order) (h : A → C) (qs : List (PushEnd Order)) (xs : List A) → AreOrdersOf (λ a. g (h a)) qs xs → AreOrdersOf g qs (map h xs)
-  orders_bare g h qs xs line = subst (IsNewLine 2 qs) (sym (map_twice g h xs)) line
+  orders_bare g h qs xs line = subst (IsNewLine 2 qs) (sym (map-map g h xs)) line
 
 module _ {M N : Type 0} where
   -- the sender with its mouths
@@ -152,5 +152,5 @@ all_seats places n all mid left xs ys new e h count =
     let long_all = ap length e ∙ length-append mid ys in
     let long_mid = ap length h ∙ length-append left xs in
     let long = ap length new.1 ∙ length-replicate n (new_seat new.0 n places) in
-    let none : left ≡ [] = empty_of left (omega (arith, long_all, long_mid, long, count)) in
+    let none : left ≡ [] = nil_from_length left (omega (arith, long_all, long_mid, long, count)) in
     (new.0, sym (e ∙ ap (λ (l : List RollView). l ++ ys) (h ∙ ap (λ (l : List RollView). l ++ xs) none)) ∙ new.1)

@@ -1,23 +1,19 @@
 -- What holds of each end of new lanes, and of each seat of a new roll.
-use Rattle.std.proofs.Common.{◌≡◌, ℕ, zero, suc, ◌+◌, ◌<◌, List, [], ◌∷◌, ◌++◌, length, replicate, Some, sym, subst, refl, ap, ◌∙◌, arith}
-use Rattle.std.specs.Prelude.{slice_get, slice_index}
+use Rattle.std.proofs.Common.{◌≡◌, ℕ, zero, suc, ◌+◌, List, [], ◌∷◌, ◌++◌, length, replicate, Some, sym, subst, refl, ap, ◌∙◌, arith}
+use Rattle.std.specs.Prelude.{slice_get}
 use Rattle.std.specs.List.{AllByRecursion}
 use Rattle.std.proofs.lemmas.Option.{same_Some, none-some, slice_get_within}
-use Rattle.std.proofs.lemmas.List.{length-map}
+use Rattle.std.proofs.lemmas.List.{length-map, length_push}
 use Rattle.std.proofs.lemmas.List.Elements.{recursion_from_All}
+use Rattle.m17_lists.proofs.Places.{each_place_has_one, what_stands_stays}
 use Rattle.m17_lane.specs.Ends.{PushEnd, PopEnd, new_pusher, new_pushers}
 use Rattle.m17_rows.specs.Rows.{IsNewPusher, IsNewPopper, IsNewRow}
 use Rattle.m17_grid.specs.Columns.{lanes_of, lanes_popped}
 use Rattle.m17_grid.specs.Laid.{IsLaid}
 use Rattle.m17_run_setup.specs.Ends.{IsNewLine, AreNewLines}
-use Rattle.m17_run_setup.proofs.Lists.{all_at, long_snoc}
+use Rattle.m17_run_setup.proofs.Lists.{all_at}
 
 module _ {A : Type 0} where
-  pub at_below : (xs : List A) (i : ℕ) → i < length xs → (x : A) × (slice_get xs i ≡ Some x)
-  at_below [] i lt = absurd (omega arith)
-  at_below (x ∷ xs) zero lt = (x, refl)
-  at_below (x ∷ xs) (suc i) lt = at_below xs i (omega arith)
-
   all_snoc : (P : A → Type 0) (xs : List A) (x : A) → AllByRecursion P xs → P x → AllByRecursion P (xs ++ x ∷ [])
   all_snoc P [] x h p = (p, tt)
   all_snoc P (y ∷ xs) x h p = (h.0, all_snoc P xs x h.1 p)
@@ -27,11 +23,6 @@ module _ {A : Type 0} where
   replicated (suc n) s x zero e = same_Some s x e
   replicated (suc n) s x (suc i) e = replicated n s x i e
 
-  at_front : (xs ys : List A) (i : ℕ) (x : A) → slice_get xs i ≡ Some x → slice_get (xs ++ ys) i ≡ Some x
-  at_front [] ys i x e = absurd (none-some x e)
-  at_front (y ∷ xs) ys zero x e = e
-  at_front (y ∷ xs) ys (suc i) x e = at_front xs ys i x e
-
   at_back : (xs ys : List A) (i n : ℕ) (x : A) → n ≡ length xs + i → slice_get ys i ≡ Some x → slice_get (xs ++ ys) n ≡ Some x
   at_back [] ys i n x is e = let same : i ≡ n = omega arith in subst (λ (k : ℕ). slice_get ys k ≡ Some x) same e
   at_back (y ∷ xs) ys i zero x is e = absurd (omega arith)
@@ -39,15 +30,10 @@ module _ {A : Type 0} where
 
   -- each of the front and of the back of copies
   pub front_same : (xs ys : List A) (n : ℕ) (s : A) → xs ++ ys ≡ replicate n s → (i : ℕ) (x : A) → slice_get xs i ≡ Some x → s ≡ x
-  front_same xs ys n s e i x at = replicated n s x i (sym (ap (λ (l : List A). slice_get l i) e) ∙ at_front xs ys i x at)
+  front_same xs ys n s e i x at = replicated n s x i (sym (ap (λ (l : List A). slice_get l i) e) ∙ what_stands_stays xs ys i x at)
 
   pub back_same : (xs ys : List A) (n : ℕ) (s : A) → xs ++ ys ≡ replicate n s → (i : ℕ) (x : A) → slice_get ys i ≡ Some x → s ≡ x
   back_same xs ys n s e i x at = replicated n s x (length xs + i) (sym (ap (λ (l : List A). slice_get l (length xs + i)) e) ∙ at_back xs ys i (length xs + i) x refl at)
-
-pub index_at : (xs : List ℕ) (m x : ℕ) → slice_get xs m ≡ Some x → slice_index xs m ≡ x
-index_at [] m x e = absurd (none-some x e)
-index_at (y ∷ xs) zero x e = same_Some y x e
-index_at (y ∷ xs) (suc m) x e = index_at xs m x e
 
 module _ {T : Type 0} where
   none_pushed : (p : PopEnd T) (n : ℕ) → AllByRecursion IsNewPusher (new_pushers p n)
@@ -56,7 +42,7 @@ module _ {T : Type 0} where
 
   pub long_pushers : (p : PopEnd T) (n : ℕ) → length (new_pushers p n) ≡ n
   long_pushers p zero = refl
-  long_pushers p (suc n) = omega (arith, long_snoc (new_pushers p n) (new_pusher p n), long_pushers p n)
+  long_pushers p (suc n) = omega (arith, length_push (new_pushers p n) (new_pusher p n), long_pushers p n)
 
   -- a pusher of a new lane of many producers
   pub new_door : (p : PopEnd T) (n : ℕ) (qs : List (PushEnd T)) → qs ≡ new_pushers p n → (i : ℕ) (q : PushEnd T) → slice_get qs i ≡ Some q → IsNewPusher q
@@ -65,7 +51,7 @@ module _ {T : Type 0} where
   -- the popper and the pusher of a new lane of one producer
   pub line_popper : (capacity : ℕ) (qs : List (PushEnd T)) (ps : List (PopEnd T)) → IsNewLine capacity qs ps → (i : ℕ) (p : PopEnd T) → slice_get ps i ≡ Some p → IsNewPopper p
   line_popper capacity qs ps line i p at =
-      let (q, at_q) = at_below qs i (omega (arith, line.count, slice_get_within ps i p at)) in
+      let (q, at_q) = each_place_has_one qs i (omega (arith, line.count, slice_get_within ps i p at)) in
       ap (λ (x : PopEnd T). x.popped) (line.each i q p at_q at).0
 
   abbrev AreLaneEnds : ℕ → PushEnd T → Type 0
@@ -73,7 +59,7 @@ module _ {T : Type 0} where
 
   pub line_pusher : (capacity : ℕ) (qs : List (PushEnd T)) (ps : List (PopEnd T)) → IsNewLine capacity qs ps → (i : ℕ) (q : PushEnd T) → slice_get qs i ≡ Some q → (IsNewPusher q × (q.producers ≡ 1)) × (q.capacity ≡ capacity)
   line_pusher capacity qs ps line i q at =
-      let (p, at_p) = at_below ps i (omega (arith, line.count, slice_get_within qs i q at)) in
+      let (p, at_p) = each_place_has_one ps i (omega (arith, line.count, slice_get_within qs i q at)) in
       let ends = line.each i q p at at_p in (
         ((ap (λ (x : PushEnd T). x.pushed) ends.1, ap (λ (x : PushEnd T). x.refused) ends.1), ap (λ (x : PushEnd T). x.producers) ends.1 ∙ ap (λ (x : PopEnd T). x.producers) ends.0),
         ap (λ (x : PushEnd T). x.capacity) ends.1 ∙ ap (λ (x : PopEnd T). x.capacity) ends.0,
@@ -93,10 +79,10 @@ module _ {T : Type 0} where
   -- a row of queues, and the row of their heads
   pub new_queues : (capacity modules places : ℕ) (rows : List (List (PushEnd T))) (heads : List (List (PopEnd T))) → AreNewLines capacity modules places rows heads → (m : ℕ) (row : List (PushEnd T)) → slice_get rows m ≡ Some row → (head : List (PopEnd T)) × IsNewLine capacity row head × (length head ≡ places)
   new_queues capacity modules places rows heads lines m row at =
-      let (head, at_h) = at_below heads m (omega (arith, lines.count.0, lines.count.1, slice_get_within rows m row at)) in
+      let (head, at_h) = each_place_has_one heads m (omega (arith, lines.count.0, lines.count.1, slice_get_within rows m row at)) in
       let both = lines.each m row head at at_h in (head, both.0, both.1)
 
   pub new_heads : (capacity modules places : ℕ) (rows : List (List (PushEnd T))) (heads : List (List (PopEnd T))) → AreNewLines capacity modules places rows heads → (m : ℕ) (head : List (PopEnd T)) → slice_get heads m ≡ Some head → (row : List (PushEnd T)) × IsNewLine capacity row head × (length head ≡ places)
   new_heads capacity modules places rows heads lines m head at =
-      let (row, at_r) = at_below rows m (omega (arith, lines.count.0, lines.count.1, slice_get_within heads m head at)) in
+      let (row, at_r) = each_place_has_one rows m (omega (arith, lines.count.0, lines.count.1, slice_get_within heads m head at)) in
       let both = lines.each m row head at_r at in (row, both.0, both.1)

@@ -1,6 +1,7 @@
 -- One job more that has its ends.
 use Rattle.std.proofs.Common.{◌≡◌, ℕ, zero, suc, List, [], ◌∷◌, ◌++◌, map, length, reverse, sym, subst, refl, ap, ◌∙◌}
 use Rattle.std.specs.List.{AllByRecursion}
+use Rattle.m17_lists.proofs.Lengths.{one_more_is_first_in_reverse}
 use Rattle.m17_receiver.specs.declared.receiver.Receiver.{Receiver}
 use Rattle.m17_worker.specs.declared.worker.Worker.{Worker}
 use Rattle.m17_plan.specs.declared.plan.Plan.{Plan}
@@ -8,7 +9,7 @@ use Rattle.m17_run_setup.specs.declared.bare_receivers.LinkEnds.{LinkEnds}
 use Rattle.m17_run_setup.specs.declared.bare_workers.ModuleEnds.{ModuleEnds}
 use Rattle.m17_run_setup.specs.Bare.{bare, bare_worker, EachFrom, IsNewReceiver, IsNewWorker}
 use Rattle.m17_run_setup.specs.Taken.{AreTakenFromLinks, AreFromLinks, AreTakenFromModules, AreFromModules}
-use Rattle.m17_run_setup.proofs.Lists.{none_taken, taken_next, taken_all, rev_snoc}
+use Rattle.m17_run_setup.proofs.Lists.{none_taken, taken_next, taken_all}
 
 module _ {E B : Type 0} where
   pub links_none : (ends : LinkEnds) (made : List (Receiver E B)) → made ≡ [] → AreTakenFromLinks ends ends (reverse made)
@@ -41,7 +42,7 @@ module _ {E B : Type 0} where
 
   pub receivers_more : (plan : Plan) (k next : ℕ) (made more : List (Receiver E B)) (j : Receiver E B) → EachFrom (IsNewReceiver plan) k (map bare (reverse made)) → IsNewReceiver plan next (bare j) → k ≡ suc next → more ≡ made ++ j ∷ [] → EachFrom (IsNewReceiver plan) next (map bare (reverse more))
   receivers_more plan k next made more j h new is came =
-      subst (λ (js : List (Receiver E B)). EachFrom (IsNewReceiver plan) next (map bare js)) (sym (ap reverse came ∙ rev_snoc made j))
+      subst (λ (js : List (Receiver E B)). EachFrom (IsNewReceiver plan) next (map bare js)) (sym (ap reverse came ∙ one_more_is_first_in_reverse made j))
       (new, subst (λ (n : ℕ). EachFrom (IsNewReceiver plan) n (map bare (reverse made))) is h)
 
   pub receivers_all : (plan : Plan) (k : ℕ) (made back : List (Receiver E B)) → EachFrom (IsNewReceiver plan) k (map bare (reverse made)) → k ≡ zero → back ≡ reverse made → EachFrom (IsNewReceiver plan) 0 (map bare back)
@@ -77,4 +78,4 @@ module _ {B : Type 0} where
 
   pub workers_more : (plan : Plan) (links : ℕ) (made more : List (Worker B)) (w : Worker B) → AllByRecursion (IsNewWorker plan links) (map bare_worker (reverse made)) → IsNewWorker plan links (bare_worker w) → more ≡ made ++ w ∷ [] → AllByRecursion (IsNewWorker plan links) (map bare_worker (reverse more))
   workers_more plan links made more w h new came =
-      subst (λ (ws : List (Worker B)). AllByRecursion (IsNewWorker plan links) (map bare_worker ws)) (sym (ap reverse came ∙ rev_snoc made w)) (new, h)
+      subst (λ (ws : List (Worker B)). AllByRecursion (IsNewWorker plan links) (map bare_worker ws)) (sym (ap reverse came ∙ one_more_is_first_in_reverse made w)) (new, h)

@@ -37,8 +37,8 @@ pub record IsNewWorker {B : Type 0} (plan : Plan) (links : ℕ) (j : Worker B) :
   pub stands : StandsFor j.module []
   pub patient : j.offers.patient ≡ plan.patient
   pub missed : j.offers.missed ≡ 0
-  pub cells : length j.tape.items ≡ plan.entries
-  pub none : All (λ cell. cell ≡ None) j.tape.items
+  pub cells : length j.tape ≡ plan.entries
+  pub none : All (λ cell. cell ≡ None) j.tape
   pub basket : j.basket ≡ []
   pub book_failed : j.book_failed ≡ false
 

@@ -28,7 +28,7 @@ pub record IsWorkerOf {B : Type 0} (plan : Plan) (links m : ℕ) (j : Worker B) 
   pub limit : j.limit ≡ plan.limit
   pub setup : j.module.setup ≡ setup_at plan m
   pub patient : j.offers.patient ≡ plan.patient
-  pub cells : length j.tape.items ≡ plan.entries
+  pub cells : length j.tape ≡ plan.entries
   pub queues : IsNewRow j.offers.queues.items
   pub count : length j.offers.queues.items ≡ plan.places
   pub missed : j.offers.missed ≡ 0

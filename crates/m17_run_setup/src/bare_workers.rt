@@ -7,13 +7,14 @@ ghost use Rattle.m17_run_setup.specs.Bare.{bare_worker, IsNewWorker};
 ghost use Rattle.m17_plan.specs.Planned.{module_count};
 ghost use Rattle.m17_run_setup.specs.Taken.{AreFromModules, AreTakenFromModules, HaveModules};
 
-use crate::vectors::{empty_cells, room, take_last};
+use crate::vectors::{room, take_last};
 use m17_control::{Event, Item};
 use m17_crew::Order;
 use m17_lane::{Popper, Pusher};
 use m17_module::{Basket, Module};
 use m17_plan::Plan;
 use m17_roll::RollSeat;
+use m17_tape::Tape;
 use m17_values::NoMemory;
 use m17_worker::{LaneOffers, Worker};
 use std::alloc::Global;
@@ -80,7 +81,7 @@ fn bare_worker(
         × (vec_len seats.new + 1 ≡ vec_len seats.old)) }
 {
     let basket = Basket::make(alloc)?;
-    let tape = empty_cells(alloc, plan.entries)?;
+    let tape = Tape::make(alloc, plan.entries)?;
     let letter = take_last(letters);
     let module = Module::make(alloc, plan.places, plan.parrots.has(letter), plan.limit)?;
     Ok(Worker {

@@ -68,7 +68,7 @@ pub(crate) fn lay_marked_line<T: Drop>(
     Ok(Line { pushers, poppers })
 }
 
-/// Makes that many rows of so many lanes that ring this bell, the first that do: the lane at place q of row m has the mark
+/// Makes `rows` rows of `count` lanes that ring this bell, the first that do: the lane at place q of row m has the mark
 /// m * count + q.
 pub(crate) fn lay_marked_lines<T: Drop>(
     alloc: Global,

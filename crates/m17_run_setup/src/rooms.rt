@@ -9,6 +9,7 @@ use m17_directory::LinkVerdict;
 use m17_floor::Verdict;
 use m17_lane::{Popper, Pusher, Trail};
 use m17_roll::RollSeat;
+use m17_tape::Tape;
 use m17_values::{Member, NoMemory};
 use std::alloc::Global;
 
@@ -52,7 +53,7 @@ pub struct ModuleRooms {
     /// For the poppers of the orders.
     pub orders: Vec<Popper<Order>>,
     /// For the tapes.
-    pub tapes: Vec<Vec<Option<Verdict>>>,
+    pub tapes: Vec<Tape<Verdict>>,
     /// For the counts of what was left out.
     pub missed: Vec<u64>,
     /// For the counts of what was admitted.

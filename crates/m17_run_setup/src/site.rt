@@ -99,7 +99,7 @@ pub fn prepare<
     })
 }
 
-// Groups without jobs and orders, with room for so many, and the rooms. It is made before the lanes and the jobs, so that
+// Groups without jobs and orders, with room for those of a run, and the rooms. It is made before the lanes and the jobs, so that
 // little is there where memory runs out.
 fn vacant_staff<
     E: Ear + Drop + Send + 'static,
@@ -125,7 +125,7 @@ fn vacant_staff<
     })
 }
 
-// A group without jobs and orders, with room for so many jobs.
+// A group without jobs and orders, with room for `count` jobs.
 fn vacant<W: Work>(alloc: Global, count: u32) -> Result<Group<W>, NoMemory>
     ensures { IfOk result (λ group. IsVacant count group.jobs group.running) }
 {

@@ -9,10 +9,8 @@ use std::alloc::Global;
 pub(crate) fn room<T>(alloc: Global, count: u32) -> Result<Vec<T>, NoMemory>
     ensures { IfOk result (IsRoom count) }
 {
-    match Vec::with_capacity(alloc, count as usize) {
-        Ok(empty) => Ok(empty),
-        Err(_) => Err(NoMemory),
-    }
+    let empty = Vec::with_capacity(alloc, count as usize)?;
+    Ok(empty)
 }
 
 /// `rows` empty vectors, each with room for `count` items.
@@ -39,7 +37,7 @@ pub(crate) fn empty_cells<T: Drop>(alloc: Global, count: u32) -> Result<Vec<Opti
     Ok(cells)
 }
 
-/// That many rows of so many cells, in which nothing is.
+/// `rows` rows of `count` cells, in which nothing is.
 pub(crate) fn empty_rows<T: Drop>(
     alloc: Global,
     rows: u32,

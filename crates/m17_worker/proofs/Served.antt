@@ -70,7 +70,7 @@ pub record IsSeen {B L : Type 0} (told : B → BookTold L) (events : List Event)
       → option_map_or (λ place. nat_lt place places) (place_of s.event.body) true ≡ true
       → (told k.book).written ≡ Some bytes
       → NoteFits n.module.moment (record { event = s.event; verdict = s.verdict; bye = s.bye; places = places })
-  pub tape : n.tape.items ≡ filled k.tape.items s.event s.verdict
+  pub tape : n.tape ≡ filled k.tape s.event s.verdict
 
 -- what is noted of it, at so many places
 abbrev pub note_of : Seen → ℕ → Note
@@ -143,7 +143,7 @@ served_more told laws events s j k n same there seen h =
           (spelled_more (head_of j) (records_of setup events) n.module.moment (note_of s setup.places)
           (seen.fits setup.places was.0 fits was.1) (h.spelled was.0 was.1));
       taped = subst C (sym seen.tape)
-          (taped_more laws.verdicts setup events s.event s.verdict k.tape.items seen.answer step.verdict h.taped);
+          (taped_more laws.verdicts setup events s.event s.verdict k.tape seen.answer step.verdict h.taped);
     }
 
 -- what was seen of an event, where the last that was done wrote the book and the tape
@@ -163,7 +163,7 @@ pub seen_after : {B L : Type 0} (told : B → BookTold L) (events : List Event) 
     → option_map_or (λ place. nat_lt place places) (place_of s.event.body) true ≡ true
     → (told k.book).written ≡ Some bytes
     → NoteFits mid.module.moment (record { event = s.event; verdict = s.verdict; bye = s.bye; places = places }))
-    → n.tape.items ≡ filled k.tape.items s.event s.verdict
+    → n.tape ≡ filled k.tape s.event s.verdict
     → IsSeen told events s k n
 seen_after {B} told events s k mid n rest step answer offered gave the_bye text noted tape =
     let module_is : n.module ≡ mid.module = ap (λ (w : Worker B). w.module) rest in

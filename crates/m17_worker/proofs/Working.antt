@@ -81,7 +81,7 @@ module _ {B L : Type 0} (told : B → BookTold L) (j n : Worker B) (rest : n ≡
         spelled = λ bytes is.
             let start = told_before (told j.book) (told n.book) (book_text (head_of j) (records_of j.module.setup [])) bytes n.book_failed (begins books text) is in
             subst (IsBookText (head_of j)) (sym (none_recorded j.module.setup)) (header_alone (head_of j) (header start.0 start.1));
-        taped = subst T (sym (ap (λ (w : Worker B). w.tape.items) rest)) (empty_tape j.module.setup j.tape.items fit.unused.tape);
+        taped = subst T (sym (ap (λ (w : Worker B). w.tape) rest)) (empty_tape j.module.setup j.tape fit.unused.tape);
       }
 
   no_events : n.inbox.popped ≡ []
@@ -108,7 +108,7 @@ module _ {B L : Type 0} (told : B → BookTold L) (j n : Worker B) (rest : n ≡
           limit = ap (λ (w : Worker B). w.limit) rest;
           setup = setup_is;
           inbox = inbox_is ∙ ap (λ l. record j.inbox { popped = l }) (sym (ap (λ (q : PopEnd Event). q.popped) inbox_is));
-          cells = ap (λ (w : Worker B). length w.tape.items) rest;
+          cells = ap (λ (w : Worker B). length w.tape) rest;
           basket = ap (λ (w : Worker B). w.basket) rest ∙ fit.unused.basket;
         };
         room = record {

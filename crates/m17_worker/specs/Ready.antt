@@ -19,7 +19,7 @@ pub record IsUnused {B L : Type 0} (told : B → BookTold L) (j : Worker B) : Ty
   pub queues : IsNewRow j.offers.queues.items
   pub missed : j.offers.missed ≡ 0
   pub seat : HasLists [] [] [] j.seat
-  pub tape : All (λ cell. cell ≡ None) j.tape.items
+  pub tape : All (λ cell. cell ≡ None) j.tape
 
 -- The worker's letter is A to Z, there are 1 to 4 links, its module is as made, with the worker's
 -- limit and of at most 256 places, each with a queue; and it is unused.

@@ -55,7 +55,7 @@ pub record IsServing {B : Type 0} (before after : Worker B) : Type 0 where
   pub setup : after.module.setup ≡ before.module.setup
   pub inbox : after.inbox ≡ before.inbox
   pub order : after.order ≡ before.order
-  pub cells : length after.tape.items ≡ length before.tape.items
+  pub cells : length after.tape ≡ length before.tape
 
 -- The tape with the verdict on the event in its cell, where the event is a packet of link 0.
 abbrev pub filled : List (Option Verdict) → Event → Option Verdict → List (Option Verdict)

@@ -29,7 +29,7 @@ pub record HasServed {B L : Type 0} (told : B → BookTold L) (events : List Eve
       k.book_failed (told k.book)
   pub spelled : (bytes : List ℕ) → (told k.book).written ≡ Some bytes →
       IsBookText (head_of j) (records_of j.module.setup events)
-  pub taped : IsTaped j.module.setup events k.tape.items
+  pub taped : IsTaped j.module.setup events k.tape
 
 -- It is the same worker: what it was made with stays, of its inbox it popped events and nothing
 -- else, its tape has as many cells, and nothing is left in its basket.
@@ -39,7 +39,7 @@ pub record IsSameWorker {B : Type 0} (j k : Worker B) : Type 0 where
   pub limit : k.limit ≡ j.limit
   pub setup : k.module.setup ≡ j.module.setup
   pub inbox : k.inbox ≡ record j.inbox { popped = k.inbox.popped }
-  pub cells : length k.tape.items ≡ length j.tape.items
+  pub cells : length k.tape ≡ length j.tape
   pub basket : k.basket ≡ []
 
 -- The worker went: it popped up to the event with which each link had had its Stop, and served all

@@ -14,26 +14,15 @@ use m17_lane::{Popper, Pusher, make_one};
 use m17_module::{Basket, Module};
 use m17_ports::Book;
 use m17_roll::{RollSeat, make};
-use m17_samples::{ab1cd, frame};
-use m17_values::{Member, Peer};
+use m17_samples::{ab1cd, frame, peer};
+use m17_tape::Tape;
+use m17_values::Member;
 use std::alloc::Global;
 use std::process::Abort;
 use std::sync::Wait;
 
 /// For how long a stream holds the floor in the tests' modules, in milliseconds.
 pub(crate) const LIMIT: u64 = 180_000;
-
-pub(crate) fn member(place: u32, generation: u64) -> Member {
-    Member { place, generation }
-}
-
-fn peer() -> Peer {
-    Peer {
-        six: false,
-        ip: [10; 16],
-        port: 17_000,
-    }
-}
 
 pub(crate) fn callsign(rt: &impl Abort) -> CallAddress {
     CallAddress::new(ab1cd()).expect(rt, "a callsign")
@@ -58,7 +47,7 @@ pub(crate) fn event(index: u64, at: u64, body: Body) -> Event {
 pub(crate) fn join(rt: &impl Abort, index: u64, at: u64, member: Member) -> Event {
     let body = Body::Join {
         member,
-        peer: peer(),
+        peer: peer(1),
         callsign: callsign(rt),
         listen: false,
         after: 0,
@@ -155,7 +144,7 @@ pub(crate) fn lay<B: Book + Drop, R: Abort>(
         },
         order,
         seat,
-        tape: must(rt, vec![in alloc; None; 4]),
+        tape: must(rt, Tape::make(alloc, 4)),
         book_failed: false,
     };
     Bench {

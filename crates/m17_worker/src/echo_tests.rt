@@ -1,13 +1,13 @@
 //! A worker of a parrot, which hears of each Tick at once.
 ghost use Rattle.std.specs.Prelude.{None};
 
-use crate::bench::{event, join, lay, let_worker_go, member, run, sends};
+use crate::bench::{event, join, lay, let_worker_go, run, sends};
 use m17_control::{Body, Event, Item, Said};
 use m17_crew::{Order, Work};
 use m17_lane::{Popper, Pusher};
 use m17_port_memory::ListBook;
 use m17_ports::Shelf;
-use m17_samples::frame;
+use m17_samples::{frame, member};
 use std::alloc::Global;
 use std::process::Abort;
 use std::sync::Wait;

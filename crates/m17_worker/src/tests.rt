@@ -4,9 +4,7 @@ ghost use Rattle.std.specs.Prelude.{◌↔◌, IsTrue, None};
 ghost use Rattle.m17_ports.specs.Told.{StartsEmpty};
 ghost use Rattle.m17_book.specs.Records.{IsLow};
 
-use crate::bench::{
-    Bench, LIMIT, callsign, event, join, lay, leaves, let_go, member, must, run, sends,
-};
+use crate::bench::{Bench, LIMIT, callsign, event, join, lay, leaves, let_go, must, run, sends};
 use arrayvec::ArrayVec;
 use m17_book::{Head, Record, write_header, write_record};
 use m17_control::{Body, Event, Item, ModuleLetter, Said, Tag, Why};
@@ -15,7 +13,7 @@ use m17_floor::Verdict;
 use m17_lane::{Popper, Pusher};
 use m17_port_memory::ListBook;
 use m17_ports::{Book, Shelf};
-use m17_samples::frame;
+use m17_samples::{frame, member};
 use m17_values::{Failed, Member};
 use std::alloc::Global;
 use std::process::Abort;
@@ -234,7 +232,9 @@ fn queue_holds<B, R: Wait + Abort>(
 
 // Whether these are the cells of the tape.
 fn tape_holds<B>(bench: &Bench<B>, cells: &[Option<Verdict>; 4]) -> bool {
-    bench.worker.tape.as_slice() == cells.as_slice()
+    let tape = &bench.worker.tape;
+    let seen = [tape.get(0), tape.get(1), tape.get(2), tape.get(3)];
+    seen.as_slice() == cells.as_slice()
 }
 
 // Whether the book failed, and how many events were admitted.

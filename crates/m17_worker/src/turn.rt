@@ -112,7 +112,7 @@ impl<B: Book> Worker<B> {
             (B.told self.old.book).written ≡ Some bytes →
             NoteFits self.old.module.moment
             (record { event = event.now; verdict = verdict; bye = bye.now; places = places }) }
-        ensures tape { self.new.tape.items ≡ filled self.old.tape.items event.now verdict }
+        ensures tape { self.new.tape ≡ filled self.old.tape event.now verdict }
         ensures rest { self.new ≡ record self.old {
           book = self.new.book;
           book_failed = self.new.book_failed;

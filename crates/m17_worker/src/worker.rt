@@ -18,6 +18,7 @@ use m17_module::{Basket, Module};
 use m17_ports::Book;
 use m17_roll::RollSeat;
 use m17_rows::starts;
+use m17_tape::Tape;
 use std::sync::Wait;
 
 /// The job of a module's thread: it takes the events of the module, up to the Stop of each link, and does with each
@@ -51,7 +52,7 @@ pub struct Worker<B> {
     /// Its seat at the roll.
     pub seat: RollSeat,
     /// The verdicts on the packets of link 0, by the index of the entry, as many as it has cells.
-    pub tape: Vec<Option<Verdict>>,
+    pub tape: Tape<Verdict>,
     /// Whether a write of the book failed; it is written no more then.
     pub book_failed: bool,
 }

@@ -9,7 +9,6 @@ use Rattle.m17_plan.specs.declared.plan.Plan.{Plan}
 use Rattle.m17_plan.specs.Planned.{IsPlan}
 use Rattle.m17_replay_run.specs.Tapes.{IsFilledInOrder, OutcomesKept, outcomes_on, packet_on}
 use Rattle.m17_replay_run.proofs.Lists.{head_is, mapped_one}
-use Rattle.m17_replay_run.proofs.TapeSteps.{lists_of}
 use Rattle.m17_replay_run.proofs.Whole.{IsOver, freely_replayed, tape_there, ears_back, mouths_back}
 use Rattle.m17_replay_run.proofs.replaying.replay_over_threads.Goals as goal
 
@@ -96,7 +95,7 @@ returns-in-Ok-reflect-clause-judged g c =
     let tape = tape_there c.args.plan.now script _ headline over in
     let v = mapped_one (λ (t : Vec (Option LinkVerdict) Global). t.items) c.in-Ok-reflect.returned.link_tapes.items tape.0 tape.1 in
     let one_mouth : c.push_reserved-2.new.self.items ≡ c.args.mouth ∷ [] = c.push_reserved-2.ensures.items ∙ ap (λ l. l ++ c.args.mouth ∷ []) c.in-Ok-make_rooms.ensures.no_mouth in
-    let tapes = lists_of c.in-Ok-reflect.returned.tapes.items in
+    let tapes = c.in-Ok-reflect.returned.tapes.items in
     let served = c.patient_plan-patient.result.modules in
     let outcomes : c.take_apart.result.outcomes ≡ outcomes_on served tape.0 tapes =
     head_is c.take_apart.result.outcomes (outcomes_on served tape.0 tapes)

@@ -1,5 +1,5 @@
 use Rattle.std.proofs.Common.{length, map, refl, ap, ◌∙◌, arith}
-use Rattle.m17_run_setup.proofs.Lists.{map_snoc}
+use Rattle.std.proofs.lemmas.List.{map_push}
 use Rattle.m17_run_setup.proofs.RowMarks.{rows_more, row_fits}
 use Rattle.m17_run_setup.proofs.NewLines.{lines_none, lines_more}
 use Rattle.m17_run_setup.proofs.lines.lay_marked_lines.Goals as goal
@@ -22,8 +22,8 @@ loop-row-preserved g c =
           (map (λ row. row.items) now.pushers.items) (map (λ row. row.items) first.new.self.items)
           (map (λ row. row.items) now.poppers.items) (map (λ row. row.items) second.new.self.items) made.line.pushers.items made.line.poppers.items
           now.invariant.lines
-          (ap (map (λ row. row.items)) first.ensures.items ∙ map_snoc (λ row. row.items) now.pushers.items made.line.pushers)
-          (ap (map (λ row. row.items)) second.ensures.items ∙ map_snoc (λ row. row.items) now.poppers.items made.line.poppers)
+          (ap (map (λ row. row.items)) first.ensures.items ∙ map_push (λ row. row.items) now.pushers.items made.line.pushers)
+          (ap (map (λ row. row.items)) second.ensures.items ∙ map_push (λ row. row.items) now.poppers.items made.line.poppers)
           made.ensures.line made.ensures.count;
       pushers = (omega (arith, now.invariant.pushers.0, first.ensures.len), omega (arith, now.invariant.pushers.1, first.ensures.capacity));
       poppers = (omega (arith, now.invariant.poppers.0, second.ensures.len), omega (arith, now.invariant.poppers.1, second.ensures.capacity));

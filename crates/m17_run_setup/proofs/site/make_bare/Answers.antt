@@ -1,10 +1,10 @@
 use Rattle.std.proofs.Common.{◌+◌, ◌∷◌, [], length, map, sym, subst, ap, ◌∙◌, length-append, arith}
 use Rattle.std.proofs.lemmas.List.{length-map, length-replicate}
+use Rattle.std.proofs.lemmas.Simd.{map-map}
 use Rattle.m17_roll.specs.Seat.{AreNew, new_seat}
 use Rattle.m17_run_setup.specs.Bare.{bare, bare_worker}
 use Rattle.m17_run_setup.specs.Ends.{IsNewLine}
 use Rattle.m17_plan.specs.Planned.{module_count}
-use Rattle.m17_run_setup.proofs.Lists.{map_twice}
 use Rattle.m17_run_setup.proofs.Same.{laid_of, same_seats, orders_bare, all_seats}
 use Rattle.m17_run_setup.proofs.Served.{few_modules}
 use Rattle.m17_run_setup.proofs.site.make_bare.Goals as goal
@@ -38,7 +38,7 @@ returns-clause-bare c =
       receivers = receivers.ensures.new;
       receiver_count = omega (arith, length-map js bare, receivers.ensures.count, receivers.receivers.ok.0);
       workers = workers.ensures.new;
-      letters = map_twice (λ w. w.letter) bare_worker ws ∙ workers.ensures.letters ∙ c.in_ok-letters.ensures.letters;
+      letters = map-map (λ w. w.letter) bare_worker ws ∙ workers.ensures.letters ∙ c.in_ok-letters.ensures.letters;
       sender = sender.ensures.new;
       seats = subst (λ seats. AreNew plan.places (links + n) seats) (sym (same_seats js ws))
           (all_seats plan.places (links + n) c.in_ok-seats.seats.items c.bare_workers.new.seats.items c.bare_receivers.new.seats.items

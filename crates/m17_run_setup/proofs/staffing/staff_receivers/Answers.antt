@@ -1,6 +1,7 @@
 use Rattle.std.proofs.Common.{length, map, refl, ap, ◌∙◌, arith}
+use Rattle.std.proofs.lemmas.List.{map_push}
 use Rattle.m17_run_setup.specs.Bare.{bare}
-use Rattle.m17_run_setup.proofs.Lists.{map_snoc, none_taken, taken_next}
+use Rattle.m17_run_setup.proofs.Lists.{none_taken, taken_next}
 use Rattle.m17_run_setup.proofs.staffing.staff_receivers.Goals as goal
 
 pub loop-receiver-init : goal.loop-receiver-init
@@ -22,7 +23,7 @@ loop-receiver-preserved g c =
     let now = c.loop-receiver in let before = now.invariant in let put = c.push_reserved in
     let ear = c.take_last-ear in let trace = c.take_last-trace in let job = c.with_devices in record {
       bare = taken_next bare (map bare c.args.made.items) (map bare now.made.items) (map bare c.pop.new.self.items) (bare c.in-Some.receiver) job.result now.jobs.items put.new.self.items
-          before.bare (ap (map bare) c.in-Some.ensures.items ∙ map_snoc bare c.pop.new.self.items c.in-Some.receiver) job.ensures.bare put.ensures.items;
+          before.bare (ap (map bare) c.in-Some.ensures.items ∙ map_push bare c.pop.new.self.items c.in-Some.receiver) job.ensures.bare put.ensures.items;
       ears = taken_next (λ j. j.ear) c.args.ears.now.items now.ears.items ear.new.from.items ear.result job.result now.jobs.items put.new.self.items
           before.ears ear.ensures.last job.ensures.ear put.ensures.items;
       traces = taken_next (λ j. j.trace) c.args.traces.now.items now.traces.items trace.new.from.items trace.result job.result now.jobs.items put.new.self.items

@@ -1,6 +1,7 @@
 use Rattle.std.proofs.Common.{length, map, refl, ap, ◌∙◌, arith}
+use Rattle.std.proofs.lemmas.List.{map_push}
 use Rattle.m17_run_setup.specs.Bare.{bare_worker}
-use Rattle.m17_run_setup.proofs.Lists.{map_snoc, none_taken, taken_next}
+use Rattle.m17_run_setup.proofs.Lists.{none_taken, taken_next}
 use Rattle.m17_run_setup.proofs.staffing.staff_workers.Goals as goal
 
 pub loop-worker-init : goal.loop-worker-init
@@ -19,7 +20,7 @@ loop-worker-preserved g c =
     let now = c.loop-worker in let before = now.invariant in let put = c.push_reserved in
     let book = c.take_last-book in let job = c.with_book in record {
       bare = taken_next bare_worker (map bare_worker c.args.made.items) (map bare_worker now.made.items) (map bare_worker c.pop.new.self.items) (bare_worker c.in-Some.worker) job.result now.jobs.items put.new.self.items
-          before.bare (ap (map bare_worker) c.in-Some.ensures.items ∙ map_snoc bare_worker c.pop.new.self.items c.in-Some.worker) job.ensures.bare put.ensures.items;
+          before.bare (ap (map bare_worker) c.in-Some.ensures.items ∙ map_push bare_worker c.pop.new.self.items c.in-Some.worker) job.ensures.bare put.ensures.items;
       books = taken_next (λ w. w.book) c.args.books.now.items now.books.items book.new.from.items book.result job.result now.jobs.items put.new.self.items
           before.books book.ensures.last job.ensures.book put.ensures.items;
       book_count = omega (arith, before.book_count, book.ensures.fewer, c.in-Some.ensures.len);

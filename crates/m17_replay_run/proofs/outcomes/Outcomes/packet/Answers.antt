@@ -3,13 +3,13 @@ use Rattle.std.specs.Prelude.{option_and_then}
 use Rattle.std.proofs.lemmas.List.FromFn.{length-map-range_with_len}
 use Rattle.std.proofs.lemmas.Option.{same_Some, slice_get-get_or, slice_get_within}
 use Rattle.m17_replay_run.specs.Tapes.{packet_by, packet_on, verdicts_on, OutcomesKept}
-use Rattle.m17_replay_run.proofs.TapeSteps.{first_cells, lists_of, range_there}
+use Rattle.m17_replay_run.proofs.TapeSteps.{first_cells, range_there}
 use Rattle.m17_replay_run.proofs.outcomes.Outcomes.packet.Goals as goal
 
 pub index-requires : goal.index-requires
 index-requires c =
     let link = c.self.inside.link.items in
-    let packet = packet_on c.self.inside.served (lists_of c.self.inside.modules.items) (verdicts_on link) in
+    let packet = packet_on c.self.inside.served c.self.inside.modules.items (verdicts_on link) in
     let below : c.args.n < length (verdicts_on link) = omega (arith, length-map-range_with_len packet 0 (length (verdicts_on link)), ap (λ (o : OutcomesKept). length o.packets) c.self.view_is, c.requires.heard) in
     let it = first_cells link c.self.invariant c.args.n below in
     omega (arith, slice_get_within link c.args.n (Some it.0) it.1, c.self.inside.link.ok.0)
@@ -17,7 +17,7 @@ index-requires c =
 pub unreachable-requires : goal.unreachable-requires
 unreachable-requires c =
     let link = c.self.inside.link.items in
-    let packet = packet_on c.self.inside.served (lists_of c.self.inside.modules.items) (verdicts_on link) in
+    let packet = packet_on c.self.inside.served c.self.inside.modules.items (verdicts_on link) in
     let below : c.args.n < length (verdicts_on link) = omega (arith, length-map-range_with_len packet 0 (length (verdicts_on link)), ap (λ (o : OutcomesKept). length o.packets) c.self.view_is, c.requires.heard) in
     let it = first_cells link c.self.invariant c.args.n below in
     let cell = c.index.result.now in
@@ -28,7 +28,7 @@ pub returns : goal.returns
 returns c =
     let link = c.self.inside.link.items in
     let served = c.self.inside.served in
-    let tapes = lists_of c.self.inside.modules.items in
+    let tapes = c.self.inside.modules.items in
     let verdicts = verdicts_on link in
     let below : c.args.n < length verdicts = omega (arith, length-map-range_with_len (packet_on served tapes verdicts) 0 (length verdicts), ap (λ (o : OutcomesKept). length o.packets) c.self.view_is, c.requires.heard) in
     let it = first_cells link c.self.invariant c.args.n below in
@@ -39,4 +39,4 @@ returns c =
     ∙ range_there (packet_on served tapes verdicts) c.args.n (length verdicts) below
     ∙ ap Some (ap (option_and_then (packet_by served tapes c.args.n)) it.2
     ∙ ap (packet_by served tapes c.args.n) same
-    ∙ sym (c.packet_verdict.ensures ∙ ap (λ l. packet_by served (lists_of l) c.args.n c.in-Some.verdict) c.deref.ensures.value))
+    ∙ sym (c.packet_verdict.ensures ∙ ap (λ l. packet_by served l c.args.n c.in-Some.verdict) c.deref.ensures.value))
