@@ -15,5 +15,6 @@ pub mod BridgeRuns
 mod RuledRuns
 pub mod Runnable
 pub mod Boards
+pub mod Shelves
 pub mod Codes
 pub mod Dropped

@@ -1,12 +1,12 @@
 -- What is told of a run of the program whose streams and devices its caller doesn't see.
-use Rattle.std.specs.Prelude.{◌≡◌, ◌≢◌, ◌⊎◌, ◌↔◌, ℕ, List, reverse, All, Option, None, Some}
+use Rattle.std.specs.Prelude.{◌≡◌, ◌≢◌, ◌⊎◌, ◌↔◌, ℕ, List, reverse, All, Option, None, Some, IfSome}
 use Rattle.std.specs.List.{AllZip}
 use Rattle.m17_disk.specs.Writing.{EndsAs, IsWritten}
 use Rattle.m17_disk.specs.declared.writer.Writer.{Writer}
 use Rattle.m17_net.specs.Devices.{BookKept, IsBegun, file_book_told}
 use Rattle.m17_reflect.specs.declared.returned.HouseRefusal.{HouseRefusal}
 use Rattle.m17_reflect.specs.Run as reflect
-use Rattle.m17_ports.specs.Book.{BookTold}
+use Rattle.m17_ports.specs.Book.{BookTold, shelf_told}
 use Rattle.m17_ports.specs.Ports.{PortsTold}
 use Rattle.m17_talk.specs.Devices.{DevicesTold}
 use Rattle.m17_bridge.specs.CrossDevices as bridge
@@ -14,6 +14,19 @@ use Rattle.m17_app.specs.declared.status.Status.{Status}
 use Rattle.m17_app.specs.declared.status.Status.TheVariants.{NoMemory}
 use Rattle.m17_app.specs.Commands.{RunsWords}
 use Rattle.m17_app.specs.Status.{Streams, Count, Tells}
+
+-- What is told of a book that may be missing is what such a one tells: one that isn't there has written nothing, and never
+-- failed.
+abbrev pub IsOfShelf : {B : Type 0} → BookTold (Option B) → Type 0
+IsOfShelf {B} told = (book : Option (BookTold B)) × (told ≡ shelf_told book)
+
+-- The same of the book of a talk, and of the traces and books of a reflector that ran or refused to.
+pub record AreOfShelves {E M B : Type 0} (talk : Option (DevicesTold E M (Option B)))
+    (house : Option (reflect.Devices E M (Option B) × reflect.Handed))
+    (refused : Option (reflect.Devices E M (Option B) × HouseRefusal)) : Type 0 where
+  pub in_talk : IfSome talk (λ d. IsOfShelf d.book)
+  pub in_house : IfSome house (λ h. All IsOfShelf h.0.traces × All IsOfShelf h.0.books)
+  pub in_refused : IfSome refused (λ h. All IsOfShelf h.0.traces × All IsOfShelf h.0.books)
 
 -- A run of these words ended with this status. The ports told `first` before it and `last` after it, and `crew` is the
 -- number of starts that the crew had refused before it and after it. E, M and B are the kinds of the labels of its
@@ -27,6 +40,7 @@ pub record HasRun (E M B : Type 0) (words : List (List ℕ)) (status : Status)
   pub refused : Option (reflect.Devices E M (Option B) × HouseRefusal)
   pub bridge : Option (bridge.DevicesTold E M)
   pub board : Option (BookTold B)
+  pub shelves : AreOfShelves talk house refused
   pub ran : RunsWords words status before after (record {
     before = first;
     after = last;

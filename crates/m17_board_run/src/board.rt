@@ -20,15 +20,21 @@ pub struct Board<B: Book + Drop, R: Drop> {
     pub(crate) last: Vec<u64>,
     pub(crate) quit: Pusher<Order>,
     pub(crate) order: Popper<Order>,
-    pub(crate) glances: Vec<Glance>,
-    pub(crate) traces: Vec<Kept<B, R>>,
-    pub(crate) books: Vec<Kept<B, R>>,
-    pub(crate) traces_back: Vec<Shelf<B>>,
-    pub(crate) books_back: Vec<Shelf<B>>,
-    pub(crate) posters_back: Vec<Poster>,
+    pub(crate) plain: Vec<Kept<B, R>>,
+    pub(crate) posting: Vec<Kept<B, R>>,
+    pub(crate) back: Back<B>,
 }
 
-/// A board for so many links and modules, 1 to 4 and 1 to 26. `NoMemory` where there is none for it.
+// Room for what comes back.
+#[derive(Drop)]
+pub(crate) struct Back<B> {
+    pub(crate) traces: Vec<Shelf<B>>,
+    pub(crate) books: Vec<Shelf<B>>,
+    pub(crate) posters: Vec<Poster>,
+    pub(crate) glances: Vec<Glance>,
+}
+
+/// A board for this number of links, 1 to 4, and of modules, 1 to 26. `NoMemory` where there is none for it.
 pub fn make_board<B: Book + Drop, R: Drop>(
     alloc: Global,
     links: u32,
@@ -46,16 +52,18 @@ pub fn make_board<B: Book + Drop, R: Drop>(
         last: zeros(alloc, modules)?,
         quit,
         order,
-        glances: room(alloc, modules)?,
-        traces: room(alloc, links)?,
-        books: room(alloc, modules)?,
-        traces_back: room(alloc, links)?,
-        books_back: room(alloc, modules)?,
-        posters_back: room(alloc, modules)?,
+        plain: room(alloc, links)?,
+        posting: room(alloc, modules)?,
+        back: Back {
+            traces: room(alloc, links)?,
+            books: room(alloc, modules)?,
+            posters: room(alloc, modules)?,
+            glances: room(alloc, modules)?,
+        },
     })
 }
 
-// An empty vector with room for so many.
+// An empty vector with room for `count` items.
 fn room<T>(alloc: Global, count: u32) -> Result<Vec<T>, NoMemory>
     ensures empty { IfOk result (λ v. v.items ≡ []) }
     ensures room { IfOk result (λ v. count ≤ vec_capacity v) }
@@ -66,7 +74,7 @@ fn room<T>(alloc: Global, count: u32) -> Result<Vec<T>, NoMemory>
     }
 }
 
-// So many zeros: no line was written of any module.
+// `count` zeros: no line was written of any module.
 fn zeros(alloc: Global, count: u32) -> Result<Vec<u64>, NoMemory>
     ensures { IfOk result (λ v. v.items ≡ replicate count 0) }
 {

@@ -1,5 +1,5 @@
 //! The reflector with a live board: the books of its modules post what is written to them, and a watch in a thread of its own
-//! writes a line for each change while they do. When the reflector has ended, the watch is told to quit, and the board
+//! writes what they posted, ten times in a second. When the reflector has ended, the watch is told to quit, and the board
 //! ends with a line of all that was posted for each module whose last line says less.
 //! It promises that the headline holds of that run as of any other, with books that say at which poster they post; that the
 //! devices come back without the board; and that the lines show what stands whole in the bytes of the books, module by

@@ -1,5 +1,5 @@
 //! The run itself.
-ghost use Rattle.std.specs.Prelude.{◌≡◌, ◌<◌, ◌≤◌, Bool, true, All, None, IfErr, IfOk, MatchResult, length, vec_len};
+ghost use Rattle.std.specs.Prelude.{◌≡◌, ◌<◌, ◌≤◌, Bool, true, All, None, Some, IfErr, IfOk, MatchResult, length, vec_len};
 ghost use Rattle.std.specs.List.{AllZip};
 ghost use Rattle.m17_ports.specs.Told.{StartsEmpty};
 ghost use Rattle.m17_ports.specs.Ports.{next_number};
@@ -9,17 +9,17 @@ ghost use Rattle.m17_board.specs.Ends.{AreOfOneBoard};
 ghost use Rattle.m17_board_watch.specs.Ending.{IsFresh};
 ghost use Rattle.m17_board_watch.specs.Shows.{WatchDid};
 ghost use Rattle.m17_board_watch.specs.Written.{ShowsBoard};
-ghost use Rattle.m17_reflect.specs.Views.{IsRefusedFor};
-ghost use Rattle.m17_board_run.specs.Board.{IsMade};
+ghost use Rattle.m17_reflect.specs.Views.{IsRefusedFor, kinds_refused};
+ghost use Rattle.m17_reflect.specs.declared.returned.HouseRefusal.TheVariants as refusals;
+ghost use Rattle.m17_board_run.specs.Board.{HasRoom, IsMade};
 ghost use Rattle.m17_board_run.specs.Boarded.{RanOnBoard, RefusedAsWere};
 ghost use Rattle.m17_board_run.specs.Kept.{told_of_shelf};
 ghost use Rattle.m17_board_run.specs.Putting.{IsBack, IsPosting, posters_of};
-ghost use Rattle.m17_board_run.specs.Returning.{HasRoom, IsOff, IsOffRefused};
+ghost use Rattle.m17_board_run.specs.Returning.{IsOff, IsOffRefused};
 
-use crate::board::Board;
+use crate::board::{Back, Board};
 use crate::kept::{Kept, KeptLabel};
 use crate::putting::{keep_plain, keep_posting, plain_back, posting_back};
-use m17_board::{Glance, Poster};
 use m17_board_watch::Watch;
 use m17_crew::{Crew, Order, Running};
 use m17_lane::Pusher;
@@ -52,18 +52,9 @@ pub struct RefusedOnBoard<E, M, B> {
     pub lines: Option<B>,
 }
 
-// Room for what comes back.
-#[derive(Drop)]
-struct Back<B> {
-    traces: Vec<Shelf<B>>,
-    books: Vec<Shelf<B>>,
-    posters: Vec<Poster>,
-    glances: Vec<Glance>,
-}
-
 /// Runs the reflector of this plan over these devices as `reflect` does, with a board: its books post, and a watch, which is
-/// started before all other jobs and ends after them, writes a line for each change to `lines`. The board is made for as
-/// many links and modules.
+/// started before all other jobs and ends after them, writes to `lines` what changed of a module, ten times a second at most.
+/// The board is made for as many links and modules.
 ///
 /// Where the crew refuses the watch, or the reflector refuses to run, all devices come back as they were. The watch is joined
 /// in any case but the first, and its book comes back, in which nothing was written. `Crew` comes only where the crew's count
@@ -128,12 +119,9 @@ where
         last,
         quit,
         order,
-        glances,
-        traces: plain,
-        books: posting,
-        traces_back,
-        books_back,
-        posters_back,
+        plain,
+        posting,
+        back,
     } = board;
     let watch = Watch {
         modules: plan.modules,
@@ -145,22 +133,7 @@ where
         clock: *rt,
     };
     let Ok(watching) = crew.start(rt, alloc, watch) else {
-        return Err(RefusedOnBoard {
-            refused: Refused {
-                why: HouseRefusal::Crew,
-                ears,
-                mouths,
-                traces,
-                books,
-            },
-            lines: None,
-        });
-    };
-    let back = Back {
-        traces: traces_back,
-        books: books_back,
-        posters: posters_back,
-        glances,
+        return Err(unwatched(ears, mouths, traces, books));
     };
     let traces = keep_plain(traces, plain);
     let books = keep_posting(rt, books, posters, posting);
@@ -168,13 +141,35 @@ where
     let watch = end_watch(rt, watching, quit);
     match ran {
         Ok(house) => Ok(end_run(rt, alloc, house, watch, back)),
-        Err(refused) => {
-            let (refused, lines) = hand_back(rt, alloc, refused, watch, back);
-            Err(RefusedOnBoard {
-                refused,
-                lines: Some(lines),
-            })
-        }
+        Err(refused) => Err(hand_back(rt, alloc, refused, watch, back)),
+    }
+}
+
+// What comes back where the crew refused the watch.
+fn unwatched<E, M, B>(
+    ears: Vec<E>,
+    mouths: Vec<M>,
+    traces: Vec<Shelf<B>>,
+    books: Vec<Shelf<B>>,
+) -> RefusedOnBoard<E, M, B>
+    ensures same { kinds_refused result.refused ≡ record {
+      ears = ears.items;
+      mouths = mouths.items;
+      traces = traces.items;
+      books = books.items;
+    } }
+    ensures why { result.refused.why ≡ refusals.Crew }
+    ensures lines { result.lines ≡ None }
+{
+    RefusedOnBoard {
+        refused: Refused {
+            why: HouseRefusal::Crew,
+            ears,
+            mouths,
+            traces,
+            books,
+        },
+        lines: None,
     }
 }
 
@@ -249,17 +244,18 @@ fn hand_back<E: Drop, M: Drop, B: Book + Drop, R: Wait + Drop>(
     refused: Refused<E, M, Kept<B, R>>,
     watch: Watch<B, R>,
     back: Back<B>,
-) -> (Refused<E, M, Shelf<B>>, B)
+) -> RefusedOnBoard<E, M, B>
     requires posting { All IsPosting refused.books.items }
     requires board { AreOfOneBoard (posters_of refused.books.items) watch.eyes.items }
     requires each { vec_len refused.books ≡ length (letters_of watch.modules) }
     requires numbers { vec_len watch.last ≡ length (letters_of watch.modules) }
     requires room { HasRoom (vec_len refused.traces) (vec_len refused.books) back }
-    ensures off { IsOffRefused refused result.0 }
+    ensures off { IsOffRefused refused result.refused }
     // Of what the watch was before, as a job, all lines show what was posted.
-    ensures shows { (j : Watch B R) → WatchDid B.told j watch → IsFresh j → (failed : Bool)
+    ensures shows { (j : Watch B R) → WatchDid B.told j watch → IsFresh j
+        → (lines : B) × (result.lines ≡ Some lines) × (failed : Bool)
         × ShowsBoard watch.modules (posters_of refused.books.items) failed
-        (B.told j.book) (B.told result.1) }
+        (B.told j.book) (B.told lines) }
 {
     let Back {
         traces,
@@ -277,12 +273,14 @@ fn hand_back<E: Drop, M: Drop, B: Book + Drop, R: Wait + Drop>(
     } = refused;
     let (books, posters) = posting_back(posting, books, posters);
     let (lines, _) = watch.end(rt, alloc, posters, &mut glances);
-    let refused = Refused {
-        why,
-        ears,
-        mouths,
-        traces: plain_back(kept, traces),
-        books,
-    };
-    (refused, lines)
+    RefusedOnBoard {
+        refused: Refused {
+            why,
+            ears,
+            mouths,
+            traces: plain_back(kept, traces),
+            books,
+        },
+        lines: Some(lines),
+    }
 }

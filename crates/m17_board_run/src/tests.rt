@@ -13,8 +13,8 @@ use m17_plan::Plan;
 use m17_port_memory::{ListBook, ListMouth, ScriptEar};
 use m17_ports::Shelf;
 use m17_reflect::HouseRefusal;
-use m17_samples::{ab1cd, frame, n0call};
-use m17_values::{Gram, Heard, Peer};
+use m17_samples::{ab1cd, frame, n0call, said};
+use m17_values::Heard;
 use std::alloc::Global;
 use std::process::Abort;
 use std::sync::Wait;
@@ -40,25 +40,6 @@ fn must_not<T: Drop, E, R: Abort>(rt: &R, made: Result<T, E>) -> E
     ensures { made ≡ Err result }
 {
     made.err().expect(rt, "not made")
-}
-
-fn peer(number: u8) -> Peer {
-    let mut ip = [0; 16];
-    ip[0] = 10;
-    ip[3] = number;
-    Peer {
-        six: false,
-        ip,
-        port: 17_000,
-    }
-}
-
-fn said(number: u8, at: u64, bytes: &[u8]) -> Heard {
-    Heard::Datagram {
-        from: peer(number),
-        at,
-        bytes: Gram::of(bytes),
-    }
 }
 
 fn packet(at: u64, number: u16) -> Heard {

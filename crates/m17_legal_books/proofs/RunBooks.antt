@@ -1,5 +1,5 @@
 -- The books of a run whose count didn't rise are legal.
-use Rattle.std.proofs.Common.{◌≡◌, ℕ, zero, suc, ◌<◌, ◌≤◌, ◌++◌, Bool, true, false, List, [], ◌∷◌, length, Option, None, Some, sym, refl, ap, ◌∙◌, arith}
+use Rattle.std.proofs.Common.{◌≡◌, ℕ, ◌≤◌, ◌++◌, Bool, true, false, List, Option, None, Some, sym, refl, ap, ◌∙◌, arith}
 use Rattle.std.proofs.lemmas.Option.{same_Some, none-some, slice_get_within}
 use Rattle.m17_io.specs.Faults.{HasRisen}
 use Rattle.m17_ports.specs.Book.{BookTold, HasText}
@@ -11,14 +11,7 @@ use Rattle.m17_reflect.specs.Run.{Run}
 use Rattle.m17_reflect.specs.Trails.{events_of}
 use Rattle.m17_reflect.specs.Headline.{Headline}
 use Rattle.m17_legal_books.specs.Laws.{HaveLegalBook}
-use Rattle.std.specs.Prelude.{slice_get}
-
-module _ {A : Type 0} where
-  -- there is an item at each place below the length
-  pub at_below : (xs : List A) (i : ℕ) → i < length xs → (x : A) × (slice_get xs i ≡ Some x)
-  at_below [] i lt = absurd (omega arith)
-  at_below (x ∷ xs) zero lt = (x, refl)
-  at_below (x ∷ xs) (suc i) lt = at_below xs i (omega arith)
+use Rattle.m17_lists.proofs.Places.{each_place_has_one}
 
 -- what a new book tells is all that was written to it
 told_is : (before after : Option (List ℕ)) (text bytes : List ℕ) → StartsEmpty before → after ≡ told_then before text → after ≡ Some bytes → bytes ≡ text
@@ -39,7 +32,7 @@ books_of_runs_are_legal legal run headline few m before after bytes at_b at_a ne
     let written = headline.carried_out.judged.written in
     let trails = headline.carried_out.trails in
     let inside = slice_get_within run.after.books m after at_a in
-    let (trail, at_trail) = at_below run.handed.trails m (omega (arith, written.book_count, trails.count)) in
+    let (trail, at_trail) = each_place_has_one run.handed.trails m (omega (arith, written.book_count, trails.count)) in
     let (failed, has, told) = written.books m trail before after at_trail at_b at_a in
     record {
       trail = trail;

@@ -3,6 +3,7 @@ use Rattle.std.proofs.Common.{◌≡◌, ℕ, zero, suc, ◌<◌, List, [], ◌�
 use Rattle.std.specs.List.{AllZip}
 use Rattle.std.specs.Prelude.{slice_get}
 use Rattle.std.proofs.lemmas.Option.{none-some, same_Some, slice_get_within}
+use Rattle.m17_lists.proofs.Places.{each_place_has_one}
 use Rattle.m17_io.specs.Faults.{HasRisen}
 use Rattle.m17_gate.specs.declared.gate.GateLabel.{GateLabel}
 use Rattle.m17_ports.specs.Book.{BookTold}
@@ -10,7 +11,6 @@ use Rattle.m17_board.specs.Ends.{PostEnd}
 use Rattle.m17_board_run.specs.Kept.{posting_each, posting_told}
 use Rattle.m17_board_run.specs.declared.kept.KeptLabel.{KeptLabel}
 use Rattle.m17_legal_books.specs.Laws.{BooksByRulesAreLegal, BooksOfRunsAreLegal, BooksOfServeAreLegal, BooksOnBoardAreLegal}
-use Rattle.m17_legal_books.proofs.RunBooks.{at_below}
 use Rattle.m17_reflect.specs.Run.{Run}
 use Rattle.m17_serve.specs.Boards.{run_on_board, IsPosted}
 use Rattle.m17_serve.specs.Gates.{behind_gates}
@@ -24,7 +24,7 @@ pub books_of_serve_are_legal : {E M B : Type 0} → BooksOfRunsAreLegal E M (Opt
 books_of_serve_are_legal {E} {M} {B} legal order run devices handed serves servable m book bytes at is none =
     let told : Run E M (Option B) = run_told order serves.new devices handed in
     let inside : m < length devices.books = slice_get_within devices.books m book at in
-    let (was, at_new) = at_below serves.new.books m (omega (arith, inside, serves.headline.carried_out.judged.written.book_count, serves.are_new.books.count_is)) in
+    let (was, at_new) = each_place_has_one serves.new.books m (omega (arith, inside, serves.headline.carried_out.judged.written.book_count, serves.are_new.books.count_is)) in
     let new = serves.are_new.books.each m was at_new in
     legal told serves.headline (omega (arith, servable.plan.at_most)) m was book bytes at_new at new.written is (stands was.faults book.faults new.faults none)
 
@@ -32,7 +32,7 @@ pub books_by_rules_are_legal : {E M B : Type 0} → BooksOfRunsAreLegal (GateLab
 books_by_rules_are_legal {E} {M} {B} legal rules order run devices handed serves servable m book bytes at is none =
     let told : Run (GateLabel E) M (Option B) = run_told order (behind_gates rules serves.new) (behind_gates rules devices) handed in
     let inside : m < length devices.books = slice_get_within devices.books m book at in
-    let (was, at_new) = at_below serves.new.books m (omega (arith, inside, serves.headline.carried_out.judged.written.book_count, serves.are_new.books.count_is)) in
+    let (was, at_new) = each_place_has_one serves.new.books m (omega (arith, inside, serves.headline.carried_out.judged.written.book_count, serves.are_new.books.count_is)) in
     let new = serves.are_new.books.each m was at_new in
     legal told serves.headline (omega (arith, servable.plan.at_most)) m was book bytes at_new at new.written is (stands was.faults book.faults new.faults none)
 
@@ -67,7 +67,7 @@ books_on_board_are_legal {E} {X} {M} {B} legal seen books_seen order name around
     let counted = sym (long_posting serves.posters (seen devices).books (long ∙ sym (ap length (books_seen devices)))) ∙ serves.headline.carried_out.judged.written.book_count in
     let inside : m < length devices.books = slice_get_within devices.books m book at in
     let all : length devices.books ≡ length serves.new.books = sym (ap length (books_seen devices)) ∙ counted ∙ sym serves.are_new.books.count_is in
-    let (was, at_new) = at_below serves.new.books m (omega (arith, inside, all)) in
+    let (was, at_new) = each_place_has_one serves.new.books m (omega (arith, inside, all)) in
     let new = serves.are_new.books.each m was at_new in
     let before = posting_at serves.posters (seen serves.new).books m was (long ∙ all ∙ sym (ap length (books_seen serves.new)))
     (subst (λ (l : List (BookTold (Option B))). slice_get l m ≡ Some was) (sym (books_seen serves.new)) at_new) in

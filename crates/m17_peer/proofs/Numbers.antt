@@ -41,7 +41,7 @@ one_more bytes i value byte h few e low high r =
       value_is = ap (λ x. x * 10 + (byte - 48)) r.value_is ∙ ap (λ x. digits_value 10 (take i bytes) * 10 + x) (sym d) ∙ sym (digits_value_more 10 bytes i h);
     }
 
-len_decimal : (n : ℕ) → n < 2 ^ 16 → length (decimal n) ≤ 5
+pub len_decimal : (n : ℕ) → n < 2 ^ 16 → length (decimal n) ≤ 5
 len_decimal n h = length-decimal-le 5 n (lit< tt) (omega arith) (omega arith)
 
 not_less : (bytes : List ℕ) (i n : ℕ) (rest : List ℕ) → n < 2 ^ 16 → bytes ≡ decimal n ++ rest → Stops bytes i → i < length (decimal n) → ⊥

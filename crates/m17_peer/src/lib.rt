@@ -3,6 +3,7 @@
 //! `text` gives. Names of hosts, and where the texts stand, are left to others.
 #![tactic(auto)]
 
+pub mod laws;
 mod reading;
 mod rest;
 mod writing;

@@ -1,4 +1,4 @@
-//! The command with a board: the same run, whose books post, and a line for each change while it goes on.
+//! The command with a board: the same run, whose books post, and lines that say what was posted while it goes on.
 ghost use Rattle.std.specs.Prelude.{◌≡◌, ◌≤◌, IfOk, IfSome, length, vec_len, None};
 ghost use Rattle.m17_control.specs.Modules.{letters_of};
 ghost use Rattle.m17_print.specs.Endings.{Grows};
@@ -40,8 +40,8 @@ pub struct Boarded<E, M, B> {
 }
 
 /// Runs the reflector as `serve` does, with a board: after all else the ports are asked for a book of this name, and a
-/// watch, which is started before all other threads, writes a line to it for each change of a module, until the reflector has
-/// ended; then a last line for each module whose last line says less. A book of lines that failed is told as a failed book is.
+/// watch, which is started before all other threads, looks ten times in a second and writes a line to it for each module in
+/// which something happened since, until the reflector has ended; then a last line for each module whose last line says less. A book of lines that failed is told as a failed book is.
 /// Want of memory comes before anything was heard; the watch may have been started then, and is joined.
 pub fn serve_on_board<
     R: Threads + Wait + Clock + Copy + Drop + Send + 'static,

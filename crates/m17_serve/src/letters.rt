@@ -7,7 +7,7 @@ use m17_control::Modules;
 use m17_values::NoMemory;
 use std::alloc::Global;
 
-// An empty vector with room for so many.
+// An empty vector with room for `count` items.
 pub(crate) fn room<T>(alloc: Global, count: usize) -> Result<Vec<T>, NoMemory>
     ensures empty { IfOk result (λ v. v.items ≡ []) }
     ensures room { IfOk result (λ v. count ≤ vec_capacity v) }

@@ -3,7 +3,7 @@
 //! and what was left out. It promises what was asked and in which order; that the reflector of the words ran over new
 //! devices, which come back, and that the headline holds of that run; its lines; and that a failure is told exactly where
 //! the ports, the crew or the sink failed. Want of memory comes before anything was heard. With a board a last book is
-//! asked for, to which a watch writes a line for each change while the reflector runs: what its lines show is promised too.
+//! asked for, to which a watch writes what happens while the reflector runs: what its lines show is promised too.
 //! How the reflector runs is left to `m17_reflect`, and to `m17_board_run` with a board, what the words say to `m17_words`,
 //! and the last line of the run to the program.
 #![tactic(auto)]

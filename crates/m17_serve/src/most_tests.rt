@@ -2,8 +2,8 @@
 //! its traces and books. A body that finds none for more than some number is proved.
 ghost use Rattle.m17_serve.specs.Served.{IsServable};
 
-use crate::bench::must;
-use crate::{ServeEnding, serve};
+use crate::bench::{must, said_rules};
+use crate::{ServeEnding, serve, serve_by_rules};
 use m17_callsign::{Address, CallAddress};
 use m17_control::Modules;
 use m17_crew::StdCrew;
@@ -67,21 +67,29 @@ fn books(rt: &impl Abort, alloc: Global) -> Vec<ListBook> {
     books
 }
 
-// How it ended, and how many bytes were printed.
+// How it ended, by no rules where it has gates, and how many bytes were printed.
 fn run<R: Threads + Wait + Abort + Copy + Send + 'static>(
     rt: &R,
     alloc: Global,
+    gates: bool,
 ) -> (ServeEnding, usize) {
     let order = order(rt, alloc);
     let mut ports = ScriptPorts::new(links(rt, alloc), books(rt, alloc), Vec::new(alloc));
     let mut sink = must(rt, BytesSink::make(alloc, 1_000, Vec::new(alloc)));
     let mut crew = StdCrew::new();
-    let served = serve(rt, alloc, &order, &mut ports, &mut crew, &mut sink);
+    let served = if gates {
+        let rules = said_rules(rt, alloc, "");
+        serve_by_rules(rt, alloc, &order, &rules, &mut ports, &mut crew, &mut sink)
+    } else {
+        serve(rt, alloc, &order, &mut ports, &mut crew, &mut sink)
+    };
     (served.ending, sink.bytes().len())
 }
 
 // A line of 22 bytes for each module.
 #[test]
 fn a_reflector_has_4_links_26_modules_and_256_places(rt: HostRuntime) {
-    assert!(rt; run(&rt, rt.alloc()) == (ServeEnding::Finished, 26 * 22));
+    for gates in [false, true] {
+        assert!(rt; run(&rt, rt.alloc(), gates) == (ServeEnding::Finished, 26 * 22));
+    }
 }

@@ -43,7 +43,7 @@ fn book_name(alloc: Global, folder: &str, letter: u8) -> Result<String, AllocErr
     Ok(name)
 }
 
-// The names of the traces of so many links.
+// The names of the traces of `links` links.
 pub(crate) fn trace_names(
     alloc: Global,
     folder: &str,

@@ -29,7 +29,7 @@ pub(crate) struct Opened<E, M, B> {
     pub books: Vec<Shelf<B>>,
 }
 
-// Room for the devices of so many links and modules.
+// Room for the devices of this number of links and of modules.
 pub(crate) fn make_rooms<E: Drop, M: Drop, B: Drop>(
     alloc: Global,
     links: usize,
@@ -180,7 +180,7 @@ pub(crate) fn open<P: Ports>(
     }
 }
 
-// When links end that serve for so many seconds.
+// When links end that serve for `seconds` seconds.
 fn until_of(seconds: Option<u64>) -> Option<u64>
     requires { IfSome seconds (λ seconds. seconds ≤ 1000000) }
     ensures { result ≡ until_of seconds }

@@ -2,3 +2,4 @@ pub mod Simple
 pub mod Named
 pub mod Parrots
 pub mod OneCommand
+pub mod Unnamed

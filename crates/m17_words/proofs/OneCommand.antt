@@ -2,6 +2,7 @@
 use Rattle.std.proofs.Common.{◌≡◌, ℕ, ◌*◌, Bool, true, false, List, [], ◌∷◌, Option, None, Some, sym, ap, subst, ap₂, refl, ◌∙◌, rules}
 use Rattle.std.specs.Prelude.{IsTrue, map, string_bytes}
 use Rattle.m17_callsign.specs.Laws.{EachAddressHasOneCallsign}
+use Rattle.m17_peer.specs.Laws.{EachTextIsOfOnePeer}
 use Rattle.m17_words.specs.declared.order.ServeOrder.{ServeOrder}
 use Rattle.clap.specs.Words.{Row, Text}
 use Rattle.m17_control.specs.declared.modules.Modules.{Modules}
@@ -57,10 +58,10 @@ same_binds : (found : Option (List Text)) (o o' : ServeOrder) → found ≡ Some
 same_binds found o o' a b = let e : Some (map string_bytes o'.binds.items) ≡ Some (map string_bytes o.binds.items) = sym b ∙ a in cc
 
 -- the values of a word are those of one command
-one_given : SetsAreTheirLetters → EachAddressHasOneCallsign → (word : FirstWord) (found : List Row) (given other : Command) → IsGiven word found given → IsGiven word found other → SameCommand given other
-one_given law calls Judge found given other a b = subst (λ (given : Command). SameCommand given other) (sym a) b
-one_given law calls Show found given other a b = subst (λ (given : Command). SameCommand given other) (sym a) b
-one_given law calls Replay found (command.Replay c m p n s l) (command.Replay c' m' p' n' s' l') a b =
+one_given : SetsAreTheirLetters → EachAddressHasOneCallsign → EachTextIsOfOnePeer → (word : FirstWord) (found : List Row) (given other : Command) → IsGiven word found given → IsGiven word found other → SameCommand given other
+one_given law calls peers Judge found given other a b = subst (λ (given : Command). SameCommand given other) (sym a) b
+one_given law calls peers Show found given other a b = subst (λ (given : Command). SameCommand given other) (sym a) b
+one_given law calls peers Replay found (command.Replay c m p n s l) (command.Replay c' m' p' n' s' l') a b =
     let call : c' ≡ c = calls.one_address _ _ _ b.call_is a.call_is in
     let modules : m' ≡ m = same_modules law _ m m' a.modules_are b.modules_are in
     let parrots : p' ≡ p = same_parrots law _ m m' p p' a.parrots_are b.parrots_are in
@@ -68,26 +69,26 @@ one_given law calls Replay found (command.Replay c m p n s l) (command.Replay c'
     let summaries : s' ≡ s = one_truth s' s (λ h. a.summary_is.1 (b.summary_is.0 h)) (λ h. b.summary_is.1 (a.summary_is.0 h)) in
     let limits : l' ≡ l = one_limit _ l l' a.limit_is b.limit_is in
     cc
-one_given law calls Replay found (command.Replay c m p n s l) _ a b = absurd b
-one_given law calls Replay found _ other a b = absurd a
-one_given law calls Make found (command.Make seed count) (command.Make seed' count') a b =
+one_given law calls peers Replay found (command.Replay c m p n s l) _ a b = absurd b
+one_given law calls peers Replay found _ other a b = absurd a
+one_given law calls peers Make found (command.Make seed count) (command.Make seed' count') a b =
     ap₂ command.Make (b.seed_is.value ∙ sym a.seed_is.value) (b.count_is.value ∙ sym a.count_is.value)
-one_given law calls Make found (command.Make seed count) _ a b = absurd b
-one_given law calls Make found _ other a b = absurd a
-one_given law calls Check found given other a b = subst (λ (given : Command). SameCommand given other) (sym a) b
-one_given law calls Migrate found given other a b = subst (λ (given : Command). SameCommand given other) (sym a) b
-one_given law calls Talk found (command.Talk o) (command.Talk o') a b = record {
+one_given law calls peers Make found (command.Make seed count) _ a b = absurd b
+one_given law calls peers Make found _ other a b = absurd a
+one_given law calls peers Check found given other a b = subst (λ (given : Command). SameCommand given other) (sym a) b
+one_given law calls peers Migrate found given other a b = subst (λ (given : Command). SameCommand given other) (sym a) b
+one_given law calls peers Talk found (command.Talk o) (command.Talk o') a b = record {
   call = calls.one_address _ _ _ b.call_is a.call_is;
   letter = one_letter _ o.letter o'.letter a.module_is b.module_is;
   listen = one_truth o'.listen o.listen (λ h. a.listen_is.1 (b.listen_is.0 h)) (λ h. b.listen_is.1 (a.listen_is.0 h));
   bind = b.bind_is ∙ sym a.bind_is;
-  to = sym b.to_is.text_is ∙ a.to_is.text_is;
+  to = peers o'.to o.to _ b.to_is a.to_is;
   stay = b.stay_is.value ∙ sym a.stay_is.value;
   book = b.book_is ∙ sym a.book_is;
 }
-one_given law calls Talk found (command.Talk o) _ a b = absurd b
-one_given law calls Talk found _ other a b = absurd a
-one_given law calls Serve found (command.Serve o) (command.Serve o') a b = record {
+one_given law calls peers Talk found (command.Talk o) _ a b = absurd b
+one_given law calls peers Talk found _ other a b = absurd a
+one_given law calls peers Serve found (command.Serve o) (command.Serve o') a b = record {
   call = calls.one_address _ _ _ b.call_is a.call_is;
   modules = same_modules law _ o.modules o'.modules a.modules_are b.modules_are;
   parrots = same_parrots law _ o.modules o'.modules o.parrots o'.parrots a.parrots_are b.parrots_are;
@@ -99,24 +100,24 @@ one_given law calls Serve found (command.Serve o) (command.Serve o') a b = recor
   rules = one_truth o'.rules o.rules (λ h. a.rules_are.1 (b.rules_are.0 h)) (λ h. b.rules_are.1 (a.rules_are.0 h));
   board = b.board_is ∙ sym a.board_is;
 }
-one_given law calls Serve found (command.Serve o) _ a b = absurd b
-one_given law calls Serve found _ other a b = absurd a
-one_given law calls Bridge found (command.Bridge o) (command.Bridge o') a b = record {
+one_given law calls peers Serve found (command.Serve o) _ a b = absurd b
+one_given law calls peers Serve found _ other a b = absurd a
+one_given law calls peers Bridge found (command.Bridge o) (command.Bridge o') a b = record {
   call = calls.one_address _ _ _ b.call_is a.call_is;
   near = b.near_is ∙ sym a.near_is;
-  near_peer = sym b.near_peer_is.text_is ∙ a.near_peer_is.text_is;
+  near_peer = peers o'.near_peer o.near_peer _ b.near_peer_is a.near_peer_is;
   near_letter = one_letter _ o.near_letter o'.near_letter a.near_module_is b.near_module_is;
   far = b.far_is ∙ sym a.far_is;
-  far_peer = sym b.far_peer_is.text_is ∙ a.far_peer_is.text_is;
+  far_peer = peers o'.far_peer o.far_peer _ b.far_peer_is a.far_peer_is;
   far_letter = one_letter _ o.far_letter o'.far_letter a.far_module_is b.far_module_is;
   seconds = one_number _ _ _ o.seconds o'.seconds a.seconds_are b.seconds_are;
 }
-one_given law calls Bridge found (command.Bridge o) _ a b = absurd b
-one_given law calls Bridge found _ other a b = absurd a
+one_given law calls peers Bridge found (command.Bridge o) _ a b = absurd b
+one_given law calls peers Bridge found _ other a b = absurd a
 
-pub one_command : SetsAreTheirLetters → EachAddressHasOneCallsign → OneCommand
-one_command law calls [] given other h h' = absurd h
-one_command law calls (first ∷ words) given other h h' =
+pub one_command : SetsAreTheirLetters → EachAddressHasOneCallsign → EachTextIsOfOnePeer → OneCommand
+one_command law calls peers [] given other h h' = absurd h
+one_command law calls peers (first ∷ words) given other h h' =
     let a = gives words given h.1 in
     let b = values_of (first_of given) words other ((sym (h.0 ∙ word_is given) ∙ h'.0), h'.1) in
-    one_given law calls (first_of given) _ given other a.1 b.1
+    one_given law calls peers (first_of given) _ given other a.1 b.1

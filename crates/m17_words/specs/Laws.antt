@@ -2,7 +2,6 @@
 use Rattle.std.specs.Prelude.{◌≡◌, List, map, string_bytes}
 use Rattle.std.specs.Option.{option_map}
 use Rattle.clap.specs.Words.{Text}
-use Rattle.m17_peer.specs.Text.{text_of}
 use Rattle.m17_words.specs.declared.order.TalkOrder.{TalkOrder}
 use Rattle.m17_words.specs.declared.order.ServeOrder.{ServeOrder}
 use Rattle.m17_words.specs.declared.order.BridgeOrder.{BridgeOrder}
@@ -10,23 +9,23 @@ use Rattle.m17_words.specs.declared.command.Command.{Command}
 use Rattle.m17_words.specs.declared.command.Command.TheVariants.{Judge, Show, Replay, Make, Check, Migrate, Talk, Serve, Bridge}
 use Rattle.m17_words.specs.Words.{Names}
 
--- the orders are one: each value is the same, and of each text and of the peer what it spells
+-- the orders are one: each value is the same, and of each text what it spells
 pub record SameOrder (o o' : TalkOrder) : Type 0 where
   pub call : o'.call ≡ o.call
   pub letter : o'.letter ≡ o.letter
   pub listen : o'.listen ≡ o.listen
   pub bind : string_bytes o'.bind ≡ string_bytes o.bind
-  pub to : text_of o'.to ≡ text_of o.to
+  pub to : o'.to ≡ o.to
   pub stay : o'.stay ≡ o.stay
   pub book : option_map string_bytes o'.book ≡ option_map string_bytes o.book
 
 pub record SameBridge (o o' : BridgeOrder) : Type 0 where
   pub call : o'.call ≡ o.call
   pub near : string_bytes o'.near ≡ string_bytes o.near
-  pub near_peer : text_of o'.near_peer ≡ text_of o.near_peer
+  pub near_peer : o'.near_peer ≡ o.near_peer
   pub near_letter : o'.near_letter ≡ o.near_letter
   pub far : string_bytes o'.far ≡ string_bytes o.far
-  pub far_peer : text_of o'.far_peer ≡ text_of o.far_peer
+  pub far_peer : o'.far_peer ≡ o.far_peer
   pub far_letter : o'.far_letter ≡ o.far_letter
   pub seconds : o'.seconds ≡ o.seconds
 

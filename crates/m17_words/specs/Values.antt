@@ -23,6 +23,10 @@ IsNumberIfAny least most (Some text) (Some number) = IsNumber least most text nu
 abbrev pub IsLimit : List ℕ → ℕ → Type 0
 IsLimit text limit = (seconds : ℕ) × IsNumber 0 86400 text seconds × (limit ≡ 1000 * seconds)
 
+-- the seconds of the limit where the words name none
+abbrev pub limit_unnamed : ℕ
+limit_unnamed = 180
+
 -- The text names these modules: letters from A to Z, each once.
 pub record NamesModules (text : List ℕ) (modules : Modules) : Type 0 where
   pub is_text : IsModulesText text

@@ -1,5 +1,5 @@
 -- The words of the command line, and what they ask for.
-use Rattle.std.specs.Prelude.{◌≡◌, ℕ, Bool, Some, ◌-◌, ◌^◌, ◌<◌, ◌≤◌, List, [], ◌∷◌, codes, map, string_bytes, vec_len}
+use Rattle.std.specs.Prelude.{◌≡◌, ℕ, Bool, Some, ◌-◌, ◌^◌, ◌<◌, ◌≤◌, List, [], ◌∷◌, codes, decimal, map, string_bytes, vec_len}
 use Rattle.std.specs.Option.{option_map}
 use Rattle.clap.specs.Words.{Row, Text}
 use Rattle.m17_callsign.specs.Callsign.{IsCallsignOf}
@@ -11,7 +11,7 @@ use Rattle.m17_words.specs.declared.order.BridgeOrder.{BridgeOrder}
 use Rattle.m17_words.specs.declared.command.Command.{Command}
 use Rattle.m17_words.specs.declared.command.Command.TheVariants.{Judge, Show, Replay, Make, Check, Migrate, Talk, Serve, Bridge}
 use Rattle.m17_words.specs.Tables.{judge_table, show_table, replay_table, make_table, check_table, migrate_table, talk_table, serve_table, bridge_table, Takes, found, text_of, text_or, texts_of}
-use Rattle.m17_words.specs.Values.{IsLimit, IsNumber, IsNumberIfAny, NamesLetter, NamesModules, NamesParrots, IsFlagged}
+use Rattle.m17_words.specs.Values.{IsLimit, IsNumber, IsNumberIfAny, NamesLetter, NamesModules, NamesParrots, IsFlagged, limit_unnamed}
 
 -- the word that names a command
 abbrev pub word_of : Command → Text
@@ -42,7 +42,7 @@ pub record IsReplay (found : List Row) (o : ReplayOptions) : Type 0 where
   pub parrots_are : NamesParrots (text_of found (codes "parrots")) o.modules o.parrots
   pub places_are : IsNumber 1 256 (text_or found (codes "places") (codes "64")) o.places
   pub summary_is : IsFlagged (text_of found (codes "summary")) o.summary
-  pub limit_is : IsLimit (text_or found (codes "limit") (codes "180")) o.limit
+  pub limit_is : IsLimit (text_or found (codes "limit") (decimal limit_unnamed)) o.limit
 
 abbrev pub options : ℕ → Modules → Modules → ℕ → Bool → ℕ → ReplayOptions
 options call modules parrots places summary limit = record {
@@ -95,7 +95,7 @@ pub record IsServe (found : List Row) (order : ServeOrder) : Type 0 where
   pub binds_are : texts_of found (codes "bind") ≡ Some (map string_bytes order.binds.items)
   pub some_bind : 0 < vec_len order.binds
   pub few_binds : vec_len order.binds ≤ 4
-  pub limit_is : IsLimit (text_or found (codes "limit") (codes "180")) order.limit
+  pub limit_is : IsLimit (text_or found (codes "limit") (decimal limit_unnamed)) order.limit
   pub rules_are : IsFlagged (text_of found (codes "rules")) order.rules
   pub board_is : option_map string_bytes order.board ≡ text_of found (codes "board")
 

@@ -8,4 +8,5 @@ pub fn words_name_one_command()
 {
     m17_control::laws::sets_are_their_letters();
     m17_callsign::laws::each_address_has_one_callsign();
+    m17_peer::laws::each_text_is_of_one_peer();
 }

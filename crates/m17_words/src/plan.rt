@@ -12,6 +12,9 @@ use m17_control::Modules;
 /// The most places of a reflector.
 const PLACES_MAX: u64 = 256;
 
+/// The limit on talking where the words name none, in seconds.
+const LIMIT_UNNAMED: &str = "180";
+
 // How a reflector is run, in a replay and where it serves.
 #[derive(Clone, Copy)]
 pub(crate) struct Plan {
@@ -32,7 +35,7 @@ pub(crate) fn plan_of<'a>(matches: &ArgMatches<'a>, call: &'a str) -> Option<Pla
     let modules = values::modules(text_or(matches, "modules", "ABC"))?;
     let parrots = values::parrots(text_of(matches, "parrots"), &modules)?;
     let places = values::number(text_or(matches, "places", "64"), 1, PLACES_MAX)?;
-    let limit = values::limit(text_or(matches, "limit", "180"))?;
+    let limit = values::limit(text_or(matches, "limit", LIMIT_UNNAMED))?;
     Some(Plan {
         call,
         modules,

@@ -34,7 +34,7 @@ pub(crate) fn serve_of(alloc: Global, matches: &ArgMatches) -> Result<Command, W
     }
 }
 
-// A run of the reflector with this plan, for so many seconds, and the texts that were found.
+// A run of the reflector with this plan, for `seconds` seconds where they are named, and the texts that were found.
 fn serve_with(
     alloc: Global,
     matches: &ArgMatches,

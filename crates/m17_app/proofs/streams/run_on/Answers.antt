@@ -3,6 +3,7 @@ use Rattle.m17_app.specs.declared.status.Status.TheVariants.{NoMemory}
 use Rattle.m17_app.specs.Status.{Streams, streams}
 use Rattle.m17_app.proofs.Boards.{no_board, none_back}
 use Rattle.m17_app.proofs.Codes.{crew_failed, ports_failed, refused_code}
+use Rattle.m17_app.proofs.Shelves.{of_shelves}
 use Rattle.m17_app.proofs.streams.run_on.Goals as goal
 
 -- streams that tell nothing
@@ -28,7 +29,7 @@ returns-clause-unasked g c seventy unnamed =
 pub returns-clause-ran : goal.returns-clause-ran
 returns-clause-ran g c =
     let told = c.run.ensures.runs in
-    (told.0, told.1, record { before = _; after = _; talk = _; house = _; refused = _; bridge = _; board = _; ran = told.2 })
+    (told.0, told.1, record { before = _; after = _; talk = _; house = _; refused = _; bridge = _; board = _; shelves = of_shelves g.Q.Ear.Ear.told g.Q.Mouth.Mouth.told g.Q.Book.Book.told c.run.result; ran = told.2 })
 
 pub returns-in_default-clause-ran : goal.returns-in_default-clause-ran
 returns-in_default-clause-ran g c = (
@@ -42,6 +43,7 @@ returns-in_default-clause-ran g c = (
     refused = None;
     bridge = None;
     board = None;
+    shelves = record { in_talk = tt; in_house = tt; in_refused = tt };
     ran = inr (inr (refl, refl, record { ports = refl; talk = refl; bridge = refl; serve = record { crew = refl; house = refl; refused = refl; board = refl } }));
   },
 )
@@ -58,6 +60,7 @@ returns-in_default-make-clause-ran g c = (
     refused = None;
     bridge = None;
     board = None;
+    shelves = record { in_talk = tt; in_house = tt; in_refused = tt };
     ran = inr (inr (refl, refl, record { ports = refl; talk = refl; bridge = refl; serve = record { crew = refl; house = refl; refused = refl; board = refl } }));
   },
 )

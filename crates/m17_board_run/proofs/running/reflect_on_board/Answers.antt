@@ -3,6 +3,8 @@ use Rattle.std.proofs.lemmas.List.{length-map}
 use Rattle.std.proofs.lemmas.Option.{same_Some, none-some}
 use Rattle.m17_control.specs.Modules.{letters_of}
 use Rattle.m17_plan.specs.Planned.{module_count}
+use Rattle.m17_reflect.specs.declared.returned.HouseRefusal.{HouseRefusal}
+use Rattle.m17_reflect.specs.Views.{IsRefusedFor}
 use Rattle.m17_board_run.specs.Putting.{IsPosting, plain_of, posters_of}
 use Rattle.m17_board_run.proofs.Books.{fresh_over, length_over, length_plain, plain_all}
 use Rattle.m17_board_run.proofs.Runs.{came_of, ended_board, ended_numbers, for_ever, headline_off, is_fresh, none_posted, refused_off, shelves_by, shown_by}
@@ -68,10 +70,10 @@ end_run-requires-clause-room g c =
     c.keep_posting-books.ensures.posting (omega (arith, c.requires.mouths, c.args.mouths.ok.0, c.args.ears.ok.0)) (omega (arith, c.requires.traces, c.args.traces.ok.0, c.args.ears.ok.0))
     (omega (arith, c.requires.books, c.args.books.ok.0)) c.in-Ok-ran.ensures.headline in
     record {
-      traces = (c.requires.board.traces_back.0, omega (arith, back.1.trace_count, c.requires.traces, c.args.traces.ok.0, c.in-Ok-ran.house.traces.ok.0, c.requires.board.traces_back.1));
-      books = (c.requires.board.books_back.0, omega (arith, back.1.book_count, c.requires.books, c.args.books.ok.0, c.in-Ok-ran.house.books.ok.0, c.requires.board.books_back.1));
-      posters = (c.requires.board.posters_back.0, omega (arith, back.1.book_count, c.requires.books, c.args.books.ok.0, c.in-Ok-ran.house.books.ok.0, c.requires.board.posters_back.1));
-      glances = (c.requires.board.glances.0, omega (arith, back.1.book_count, c.requires.books, c.args.books.ok.0, c.in-Ok-ran.house.books.ok.0, c.requires.board.glances.1));
+      traces = (c.requires.board.back.traces.0, omega (arith, back.1.trace_count, c.requires.traces, c.args.traces.ok.0, c.in-Ok-ran.house.traces.ok.0, c.requires.board.back.traces.1));
+      books = (c.requires.board.back.books.0, omega (arith, back.1.book_count, c.requires.books, c.args.books.ok.0, c.in-Ok-ran.house.books.ok.0, c.requires.board.back.books.1));
+      posters = (c.requires.board.back.posters.0, omega (arith, back.1.book_count, c.requires.books, c.args.books.ok.0, c.in-Ok-ran.house.books.ok.0, c.requires.board.back.posters.1));
+      glances = (c.requires.board.back.glances.0, omega (arith, back.1.book_count, c.requires.books, c.args.books.ok.0, c.in-Ok-ran.house.books.ok.0, c.requires.board.back.glances.1));
     }
 
 pub returns-in-Ok-ran-clause-ran : goal.returns-in-Ok-ran-clause-ran
@@ -94,55 +96,69 @@ returns-in-Ok-ran-clause-ran g c =
           (c.end_run.ensures.shows c.in-Ok.watching c.end_watch-watch.ensures (is_fresh c.in-Ok.watching (module_count c.args.plan.now) (ap (λ w. w.failed) c.in-Ok.ensures.job) (ap (λ w. w.last.items) c.in-Ok.ensures.job ∙ c.requires.board.last)));
     }
 
-pub hand_back-refused-requires-clause-posting : goal.hand_back-refused-requires-clause-posting
-hand_back-refused-requires-clause-posting g c =
+pub hand_back-requires-clause-posting : goal.hand_back-requires-clause-posting
+hand_back-requires-clause-posting g c =
     subst (All IsPosting) (sym c.in-Err.ensures.refused.3) c.keep_posting-books.ensures.posting
 
-pub hand_back-refused-requires-clause-board : goal.hand_back-refused-requires-clause-board
-hand_back-refused-requires-clause-board g c =
+pub hand_back-requires-clause-board : goal.hand_back-requires-clause-board
+hand_back-requires-clause-board g c =
     ended_as_made g.B.Book.told c.ends_stay.ensures c.in-Ok.watching c.end_watch-watch.result c.args.board.posters.items (posters_of c.in-Err.refused.books.items) c.args.board.eyes.items
     c.end_watch-watch.ensures (ap (λ w. w.eyes.items) c.in-Ok.ensures.job) c.requires.board.ends (ap posters_of c.in-Err.ensures.refused.3 ∙ c.keep_posting-books.ensures.posters)
 
-pub hand_back-refused-requires-clause-each : goal.hand_back-refused-requires-clause-each
-hand_back-refused-requires-clause-each g c =
+pub hand_back-requires-clause-each : goal.hand_back-requires-clause-each
+hand_back-requires-clause-each g c =
     let books = ap length c.in-Err.ensures.refused.3 ∙ length_over c.keep_posting-books.result.items c.args.books.items c.keep_posting-books.ensures.shelves in
     (omega (arith, books, c.requires.books, c.args.books.ok.0, c.in-Err.refused.books.ok.0)) ∙ sym (ap (λ m. length (letters_of m)) (c.end_watch-watch.ensures.modules_are ∙ ap (λ w. w.modules) c.in-Ok.ensures.job))
 
-pub hand_back-refused-requires-clause-numbers : goal.hand_back-refused-requires-clause-numbers
-hand_back-refused-requires-clause-numbers g c =
+pub hand_back-requires-clause-numbers : goal.hand_back-requires-clause-numbers
+hand_back-requires-clause-numbers g c =
     let long = ended_numbers g.B.Book.told c.numbers_of_lines_rise.ensures c.in-Ok.watching c.end_watch-watch.result (module_count c.args.plan.now) c.end_watch-watch.ensures (ap (λ w. w.failed) c.in-Ok.ensures.job)
     (ap (λ w. w.last.items) c.in-Ok.ensures.job ∙ c.requires.board.last) in
     (omega (arith, long, c.end_watch-watch.result.last.ok.0)) ∙ sym (ap (λ m. length (letters_of m)) (c.end_watch-watch.ensures.modules_are ∙ ap (λ w. w.modules) c.in-Ok.ensures.job))
 
-pub hand_back-refused-requires-clause-room : goal.hand_back-refused-requires-clause-room
-hand_back-refused-requires-clause-room g c =
+pub hand_back-requires-clause-room : goal.hand_back-requires-clause-room
+hand_back-requires-clause-room g c =
     let same = c.in-Err.ensures.refused in
     let traces = ap length same.2 ∙ length_plain c.keep_plain-traces.result.items c.args.traces.items c.keep_plain-traces.ensures in
     let books = ap length same.3 ∙ length_over c.keep_posting-books.result.items c.args.books.items c.keep_posting-books.ensures.shelves in
     record {
-      traces = (c.requires.board.traces_back.0, omega (arith, traces, c.requires.traces, c.args.traces.ok.0, c.in-Err.refused.traces.ok.0, c.requires.board.traces_back.1));
-      books = (c.requires.board.books_back.0, omega (arith, books, c.requires.books, c.args.books.ok.0, c.in-Err.refused.books.ok.0, c.requires.board.books_back.1));
-      posters = (c.requires.board.posters_back.0, omega (arith, books, c.requires.books, c.args.books.ok.0, c.in-Err.refused.books.ok.0, c.requires.board.posters_back.1));
-      glances = (c.requires.board.glances.0, omega (arith, books, c.requires.books, c.args.books.ok.0, c.in-Err.refused.books.ok.0, c.requires.board.glances.1));
+      traces = (c.requires.board.back.traces.0, omega (arith, traces, c.requires.traces, c.args.traces.ok.0, c.in-Err.refused.traces.ok.0, c.requires.board.back.traces.1));
+      books = (c.requires.board.back.books.0, omega (arith, books, c.requires.books, c.args.books.ok.0, c.in-Err.refused.books.ok.0, c.requires.board.back.books.1));
+      posters = (c.requires.board.back.posters.0, omega (arith, books, c.requires.books, c.args.books.ok.0, c.in-Err.refused.books.ok.0, c.requires.board.back.posters.1));
+      glances = (c.requires.board.back.glances.0, omega (arith, books, c.requires.books, c.args.books.ok.0, c.in-Err.refused.books.ok.0, c.requires.board.back.glances.1));
     }
 
 pub returns-in-Err-clause-refused : goal.returns-in-Err-clause-refused
 returns-in-Err-clause-refused g c =
-    let shows = c.hand_back-refused.ensures.shows c.in-Ok.watching c.end_watch-watch.ensures (is_fresh c.in-Ok.watching (module_count c.args.plan.now) (ap (λ w. w.failed) c.in-Ok.ensures.job) (ap (λ w. w.last.items) c.in-Ok.ensures.job ∙ c.requires.board.last)) in
+    let shows = c.hand_back.ensures.shows c.in-Ok.watching c.end_watch-watch.ensures (is_fresh c.in-Ok.watching (module_count c.args.plan.now) (ap (λ w. w.failed) c.in-Ok.ensures.job) (ap (λ w. w.last.items) c.in-Ok.ensures.job ∙ c.requires.board.last)) in
     let posters = ap posters_of c.in-Err.ensures.refused.3 ∙ c.keep_posting-books.ensures.posters in
-    let same = unwritten c.end_watch-watch.result.modules (posters_of c.in-Err.refused.books.items) shows.0 (g.B.Book.told c.in-Ok.watching.book) (g.B.Book.told c.hand_back-refused.result.1)
-    (subst (All (λ p. p.posted ≡ [])) (sym posters) (none_posted 0 c.args.board.posters.items c.args.board.eyes.items c.requires.board.new.1)) shows.1 in
+    let same = unwritten c.end_watch-watch.result.modules (posters_of c.in-Err.refused.books.items) shows.2 (g.B.Book.told c.in-Ok.watching.book) (g.B.Book.told shows.0)
+    (subst (All (λ p. p.posted ≡ [])) (sym posters) (none_posted 0 c.args.board.posters.items c.args.board.eyes.items c.requires.board.new.1)) shows.3 in
     record {
       same = refused_off (record { ears = c.args.ears.items; mouths = c.args.mouths.items; traces = c.args.traces.items; books = c.args.books.items })
-          c.keep_plain-traces.result.items c.keep_posting-books.result.items c.in-Err.refused c.hand_back-refused.result.0 c.keep_plain-traces.ensures c.keep_posting-books.ensures.shelves
-          c.in-Err.ensures.refused c.hand_back-refused.ensures.off;
-      no_watch = λ none. absurd (none-some c.hand_back-refused.result.1 (sym none));
-      unwritten = λ b is. ap g.B.Book.told (sym (same_Some c.hand_back-refused.result.1 b is)) ∙ same ∙ ap g.B.Book.told (ap (λ w. w.book) c.in-Ok.ensures.job);
+          c.keep_plain-traces.result.items c.keep_posting-books.result.items c.in-Err.refused c.hand_back.result.refused c.keep_plain-traces.ensures c.keep_posting-books.ensures.shelves
+          c.in-Err.ensures.refused c.hand_back.ensures.off;
+      no_watch = λ none. absurd (none-some shows.0 (sym none ∙ shows.1));
+      unwritten = λ b is. ap g.B.Book.told (sym (same_Some shows.0 b (sym shows.1 ∙ is))) ∙ same ∙ ap g.B.Book.told (ap (λ w. w.book) c.in-Ok.ensures.job);
     }
+
+pub returns-in-Err-clause-first : goal.returns-in-Err-clause-first
+returns-in-Err-clause-first g c none =
+    let shows = c.hand_back.ensures.shows c.in-Ok.watching c.end_watch-watch.ensures (is_fresh c.in-Ok.watching (module_count c.args.plan.now) (ap (λ w. w.failed) c.in-Ok.ensures.job) (ap (λ w. w.last.items) c.in-Ok.ensures.job ∙ c.requires.board.last)) in
+    absurd (none-some shows.0 (sym none ∙ shows.1))
 
 pub returns-in-Err-clause-cause : goal.returns-in-Err-clause-cause
 returns-in-Err-clause-cause g c =
-    refused_since c.in-Err.refused.why c.hand_back-refused.result.0.why _ _ _ c.in-Ok.ensures.cause.no_fault c.hand_back-refused.ensures.off.why c.in-Err.ensures.cause
+    refused_since c.in-Err.refused.why c.hand_back.result.refused.why _ _ _ c.in-Ok.ensures.cause.no_fault c.hand_back.ensures.off.why c.in-Err.ensures.cause
+
+pub returns-in_default-clause-refused : goal.returns-in_default-clause-refused
+returns-in_default-clause-refused g c = record {
+  same = c.unwatched.ensures.same;
+  no_watch = λ _. c.unwatched.ensures.why;
+  unwritten = λ b is. absurd (none-some b (sym c.unwatched.ensures.lines ∙ is));
+}
 
 pub returns-in_default-clause-cause : goal.returns-in_default-clause-cause
-returns-in_default-clause-cause g c = refused_by_crew (g.C.Crew.refusals c.args.crew.now) (g.C.Crew.refusals c.start.new.self) c.in_default.ensures.cause.failed
+returns-in_default-clause-cause g c =
+    subst (λ (w : HouseRefusal). IsRefusedFor w (g.C.Crew.refusals c.args.crew.now) (g.C.Crew.refusals c.start.new.self)) (sym c.unwatched.ensures.why)
+    (refused_by_crew (g.C.Crew.refusals c.args.crew.now) (g.C.Crew.refusals c.start.new.self) c.in_default.ensures.cause.failed)
