@@ -7,7 +7,7 @@ use m17_callsign::CallAddress;
 use m17_client::Client;
 use m17_control::ModuleLetter;
 use m17_port_memory::{ListMouth, ScriptEar};
-use m17_samples::{ab1cd, frame};
+use m17_samples::{ab1cd, frame, peer};
 use m17_stream::write;
 use m17_values::{Gram, Heard, Peer};
 use std::alloc::Global;
@@ -64,18 +64,6 @@ pub(crate) fn must<T, E: Drop, R: Abort>(rt: &R, made: Result<T, E>) -> T
     ensures { made ≡ Ok result }
 {
     made.ok().expect(rt, "made")
-}
-
-/// The peer 10.0.0.`last`.
-fn peer(last: u8) -> Peer {
-    let mut ip = [0; 16];
-    ip[0] = 10;
-    ip[3] = last;
-    Peer {
-        six: false,
-        ip,
-        port: 17_000,
-    }
 }
 
 /// The reflector of a side: 10.0.0.9:17000 or 10.0.0.7:17000.

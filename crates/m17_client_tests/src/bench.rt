@@ -4,7 +4,7 @@ ghost use Rattle.std.specs.Prelude.{◌≡◌, Ok};
 use m17_callsign::CallAddress;
 use m17_control::ModuleLetter;
 use m17_port_memory::{ListBook, ListMouth, ScriptEar};
-use m17_samples::{ab1cd, frame};
+use m17_samples::{ab1cd, frame, peer};
 use m17_stream::write;
 use m17_values::{Gram, Heard, Peer};
 use std::alloc::Global;
@@ -70,18 +70,6 @@ pub(crate) fn callsign(rt: &impl Abort) -> CallAddress {
 /// Module A.
 pub(crate) fn module_a(rt: &impl Abort) -> ModuleLetter {
     ModuleLetter::new(b'A').expect(rt, "a module")
-}
-
-/// The peer 10.0.0.`last`.
-fn peer(last: u8) -> Peer {
-    let mut ip = [0; 16];
-    ip[0] = 10;
-    ip[3] = last;
-    Peer {
-        six: false,
-        ip,
-        port: 17_000,
-    }
 }
 
 /// The reflector, 10.0.0.9:17000.

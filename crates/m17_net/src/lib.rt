@@ -32,6 +32,10 @@ pub use timer::Timer;
 pub use wire::Wire;
 
 #[cfg(test)]
+mod bench;
+#[cfg(test)]
+mod ear_tests;
+#[cfg(test)]
 mod system_tests;
 #[cfg(test)]
 mod tests;

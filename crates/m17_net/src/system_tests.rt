@@ -1,6 +1,6 @@
 //! The devices of the system: sockets over the loopback, and files.
+use crate::bench::must;
 use crate::ports::sockets;
-use crate::tests::must;
 use crate::{FileBook, LateFile, UdpEar, UdpMouth, UdpPorts, peer_at};
 use m17_disk::{Hand, Unsettled, settle};
 use m17_ports::{Book, Ear, Mouth, Ports};

@@ -47,7 +47,7 @@ pub trait Wire {
         ensures unsent { TellsError result (unsent self.old) (unsent self.new) }
         ensures same_waits { waits self.new ≡ waits self.old };
 
-    /// From now on a call of `take` is to wait for so many milliseconds at the most.
+    /// From now on a call of `take` is to wait for `ms` milliseconds at the most.
     fn wait_at_most(&mut self, ms: u64)
         ensures told { waits self.new ≡ told_then (waits self.old) (ms ∷ []) }
         ensures nothing_taken { taken self.new ≡ taken self.old }

@@ -4,26 +4,11 @@ use crate::seen::{QUIET, Seen, both, drain};
 use m17_callsign::{CallAddress, encode};
 use m17_control::{Body, Control, Event, ModuleLetter, Modules, Refusal, Why, write};
 use m17_directory::*;
-use m17_samples::frame;
+use m17_samples::{frame, member, peer};
 use m17_stream::StreamPacket;
 use m17_values::{Gram, Heard, Member, Peer};
 use std::alloc::Global;
 use std::process::Abort;
-
-fn peer(host: u8) -> Peer {
-    let mut ip = [0; 16];
-    ip[0] = 10;
-    ip[3] = host;
-    Peer {
-        six: false,
-        ip,
-        port: 17_000,
-    }
-}
-
-pub(crate) fn member(place: u32, generation: u64) -> Member {
-    Member { place, generation }
-}
 
 pub(crate) fn letter(rt: &impl Abort, byte: u8) -> ModuleLetter {
     ModuleLetter::new(byte).expect(rt, "a module")

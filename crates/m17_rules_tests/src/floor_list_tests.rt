@@ -7,6 +7,7 @@ use m17_floor::Verdict::{
 };
 use m17_floor::{Act, ActKind, Floor, Last, Verdict, plain};
 use m17_lsd::Lsd;
+use m17_samples::member;
 use m17_stream::{FRAME_NUMBERS, StreamPacket};
 use m17_values::Member;
 use std::alloc::Global;
@@ -17,10 +18,6 @@ const PLACES: u32 = 2;
 /// What was made; the test ends where it was not.
 pub(crate) fn must<T, E: Drop>(rt: &impl Abort, made: Result<T, E>) -> T {
     made.ok().expect(rt, "made")
-}
-
-fn member(place: u32, generation: u64) -> Member {
-    Member { place, generation }
 }
 
 fn packet(sid: u16, number: u16, last: bool) -> StreamPacket {

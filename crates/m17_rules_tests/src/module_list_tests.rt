@@ -1,9 +1,10 @@
 use crate::floor_list_tests::must;
-use crate::module_tests::{event, join, leave, made, member, sends, tick};
+use crate::module_tests::{event, join, leave, made, sends, tick};
 use crate::plain_echo::Looked;
 use m17_control::{Body, Control, Event, Item, Said, Why};
 use m17_floor::{Act, ActKind, Verdict, plain};
 use m17_module::{Basket, Module};
+use m17_samples::member;
 use m17_stream::StreamPacket;
 use m17_values::Member;
 use std::alloc::Global;

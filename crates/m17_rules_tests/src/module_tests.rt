@@ -8,14 +8,11 @@ use m17_control::{Body, Event, Item, Said, Tag, Why};
 use m17_floor::Verdict;
 use m17_lsd::Lsd;
 use m17_module::{Basket, Module};
+use m17_samples::member;
 use m17_stream::StreamPacket;
 use m17_values::{Member, Peer};
 use std::alloc::Global;
 use std::process::Abort;
-
-pub(crate) fn member(place: u32, generation: u64) -> Member {
-    Member { place, generation }
-}
 
 fn peer(k: Member) -> Peer {
     let mut ip = [0; 16];

@@ -1,8 +1,9 @@
 ghost use Rattle.std.specs.Prelude.{◌≡◌, [], None, IsSome};
 
-use crate::directory_tests::{call, conn, letter, member};
+use crate::directory_tests::{call, conn, letter};
 use m17_control::{Body, Control, Event, Modules, Why};
 use m17_directory::{Act, Directory, Dispatch, LinkVerdict, Post};
+use m17_samples::member;
 use m17_values::{Heard, Member, Peer};
 use std::alloc::Global;
 use std::process::Abort;

@@ -9,8 +9,8 @@ use m17_plan::Plan;
 use m17_port_memory::{ListBook, ListMouth};
 use m17_ports::{Book, Ear};
 use m17_reflect::{Refused, Returned};
-use m17_samples::ab1cd;
-use m17_values::{Gram, Heard, Peer};
+use m17_samples::{ab1cd, said};
+use m17_values::Heard;
 use std::alloc::Global;
 use std::process::Abort;
 
@@ -146,25 +146,6 @@ pub(crate) fn two_mouths<R: Abort>(rt: &R, alloc: Global, room: usize) -> Vec<Li
     let one = must(rt, ListMouth::make(alloc, room, Vec::new(alloc)));
     let two = must(rt, ListMouth::make(alloc, room, Vec::new(alloc)));
     must(rt, Vec::from_array(alloc, [one, two]))
-}
-
-pub(crate) fn peer(number: u8) -> Peer {
-    let mut ip = [0; 16];
-    ip[0] = 10;
-    ip[3] = number;
-    Peer {
-        six: false,
-        ip,
-        port: 17_000,
-    }
-}
-
-pub(crate) fn said(number: u8, at: u64, bytes: &[u8]) -> Heard {
-    Heard::Datagram {
-        from: peer(number),
-        at,
-        bytes: Gram::of(bytes),
-    }
 }
 
 pub(crate) fn conn(rt: &impl Abort, number: u8, at: u64, letter: u8) -> Heard {

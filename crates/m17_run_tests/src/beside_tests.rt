@@ -3,8 +3,7 @@
 //! devices wait for one another.
 
 use crate::bench::{
-    a_book, a_mouth, conn, disc, must, one_book, one_ear, pair_of_books, plan, said, two_books,
-    two_ears,
+    a_book, a_mouth, conn, disc, must, one_book, one_ear, pair_of_books, plan, two_books, two_ears,
 };
 use crate::meeting::{
     Awaiting, MeetingBook, MeetingEar, MeetingMouth, counts_of, new_count, pair_of_counts,
@@ -12,7 +11,7 @@ use crate::meeting::{
 use m17_crew::StdCrew;
 use m17_port_memory::{ListBook, ListMouth, ScriptEar};
 use m17_reflect::{Returned, reflect};
-use m17_samples::frame;
+use m17_samples::{frame, said};
 use m17_values::Heard;
 use std::alloc::Global;
 use std::process::Abort;
@@ -231,6 +230,30 @@ fn said_while_heard(rt: HostRuntime) {
     let ear = MeetingEar::new(askers(&rt, rt.alloc()), of_ear);
     let mouth = MeetingMouth::new(of_mouth, 0);
     let done = run_link(&rt, rt.alloc(), 80, false, ear, mouth);
+    assert!(rt; !done.lost && !done.book_failed);
+    drop(done);
+}
+
+// Two peers are in a module, and the first says frames, each of which is heard once the mouth has said the one before.
+fn frames_in_turn(rt: &impl Abort, alloc: Global) -> Vec<Awaiting> {
+    let mut entries = Vec::new(alloc);
+    must(rt, entries.push((0, conn(rt, 1, 0, b'A'))));
+    must(rt, entries.push((1, conn(rt, 2, 0, b'A'))));
+    for at in 0..4u16 {
+        let bytes = m17_stream::write(&frame(7, at, at == 3));
+        must(rt, entries.push((u64::from(at) + 2, said(1, 0, &bytes))));
+    }
+    must(rt, entries.push((6, Heard::End)));
+    entries
+}
+
+// A frame wakes the worker of its module, which dozes where time alone passes.
+#[test]
+fn each_frame_is_said_before_the_next_is_heard(rt: HostRuntime) {
+    let (of_ear, of_mouth) = pair_of_counts(&rt, rt.alloc());
+    let ear = MeetingEar::new(frames_in_turn(&rt, rt.alloc()), of_ear);
+    let mouth = MeetingMouth::new(of_mouth, 0);
+    let done = run_link(&rt, rt.alloc(), 4, false, ear, mouth);
     assert!(rt; !done.lost && !done.book_failed);
     drop(done);
 }

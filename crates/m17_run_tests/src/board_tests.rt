@@ -3,13 +3,13 @@ ghost use Rattle.std.specs.Prelude.{◌≡◌, All, vec_len};
 ghost use Rattle.m17_ports.specs.Told.{StartsEmpty};
 ghost use Rattle.m17_board_run.specs.Kept.{told_of_shelf};
 
-use crate::bench::{a_mouth, conn, must, one_ear, plan, said};
+use crate::bench::{a_mouth, conn, must, one_ear, plan};
 use crate::meeting::{MeetingBook, pair_of_counts};
 use m17_board_run::{OnBoard, make_board, reflect_on_board};
 use m17_crew::StdCrew;
 use m17_port_memory::{ListMouth, ScriptEar};
 use m17_ports::{Book, Shelf};
-use m17_samples::frame;
+use m17_samples::{frame, said};
 use m17_values::Heard;
 use std::alloc::Global;
 use std::process::Abort;

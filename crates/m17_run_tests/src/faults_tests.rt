@@ -1,12 +1,12 @@
 //! Runs with an ear that fails now and then, and with a book or a trace that is torn in the middle of a write: what each
 //! peer is told is the same, and the file keeps what was written before.
 
-use crate::bench::{a_mouth, must, one_book, one_ear, peer, plan, said};
+use crate::bench::{a_mouth, must, one_book, one_ear, plan};
 use m17_crew::StdCrew;
 use m17_faulty_memory::{FaultyEar, TornBook};
 use m17_port_memory::{ListMouth, ScriptEar};
 use m17_reflect::{Returned, reflect};
-use m17_samples::frame;
+use m17_samples::{frame, peer, said};
 use m17_values::{Gram, Heard, Peer};
 use std::alloc::Global;
 use std::process::Abort;

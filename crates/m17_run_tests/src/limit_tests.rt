@@ -1,13 +1,14 @@
 //! A stuck key over threads: what the limit on talking makes of it, and that the book is legal under the limit that it
 //! names.
-use crate::bench::{a_book, a_mouth, conn, must, one_ear, plan, said};
+use crate::bench::{a_book, a_mouth, conn, must, one_ear, plan};
 use m17_book::{Head, Record, Report, check, read_book};
 use m17_crew::StdCrew;
 use m17_floor::Verdict;
 use m17_memory::BytesSource;
 use m17_port_memory::{ListBook, ListMouth, ScriptEar};
 use m17_reflect::{Returned, reflect};
-use m17_samples::frame;
+use m17_samples::{frame, said};
+use m17_tape::Tape;
 use m17_values::{Heard, Member};
 use std::alloc::Global;
 use std::process::Abort;
@@ -73,12 +74,12 @@ fn run<R: Threads + Wait + Abort + Copy + Send + 'static>(
 }
 
 // Whether the cells behind those of the two CONNs have the verdicts of the rows.
-fn are_judged(tapes: &Vec<Vec<Option<Verdict>>>) -> bool {
+fn are_judged(tapes: &Vec<Tape<Verdict>>) -> bool {
     let Some(cells) = tapes.first() else {
         return false;
     };
     KEYS.iter().enumerate().all(|(row, (_, _, _, verdict))| {
-        cells.get(row.saturating_add(2)).copied() == Some(Some(*verdict))
+        cells.get(row.saturating_add(2)) == Some(*verdict)
     })
 }
 

@@ -10,6 +10,7 @@ use m17_module::{Basket, Module};
 use m17_receiver::Receiver;
 use m17_roll::RollSeat;
 use m17_run_end::{ReceiverParts, WorkerParts, part_receivers, part_workers};
+use m17_tape::Tape;
 use m17_worker::{LaneOffers, Worker};
 use std::alloc::Global;
 use std::process::Abort;
@@ -91,7 +92,7 @@ fn worker<R: Abort>(
         },
         order: popper(rt, alloc),
         seat,
-        tape: Vec::new(alloc),
+        tape: must(rt, Tape::make(alloc, 0)),
         book_failed: letter == b'B',
     }
 }

@@ -1,13 +1,12 @@
 //! What no clause says of a run: that it goes and ends where there are threads and memory, and that it says its datagrams.
 use crate::bench::{
-    Ran, conn, disc, must, must_not, pair_of_books, peer, plan, said, three_books, two_ears,
-    two_mouths,
+    Ran, conn, disc, must, must_not, pair_of_books, plan, three_books, two_ears, two_mouths,
 };
 use m17_crew::{Crew, RefusingCrew, StdCrew};
 use m17_port_memory::{ListBook, ListMouth, ScriptEar};
 use m17_ports::Ear;
 use m17_reflect::{HouseRefusal, Refused, Returned, reflect};
-use m17_samples::frame;
+use m17_samples::{frame, peer, said};
 use m17_values::{Heard, Peer};
 use std::alloc::Global;
 use std::process::Abort;

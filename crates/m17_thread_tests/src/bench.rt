@@ -13,8 +13,8 @@ use m17_values::{Member, Peer};
 use std::alloc::Global;
 use std::process::Abort;
 
-/// So many places, one queue each: a bit more than a group of 64 words of 64 marks.
-pub(crate) const QUEUES: u32 = 4_160;
+/// So many places, one queue each: two words more than a group of 64 words of 64 marks.
+pub(crate) const QUEUES: u32 = 4_224;
 
 /// A sender, and the other ends of its lanes.
 #[derive(Drop)]
@@ -47,7 +47,7 @@ fn lay_queues<R: Abort>(
     alloc: Global,
     bell: &Bell,
 ) -> (Vec<Pusher<Item>>, Vec<Popper<Item>>)
-    ensures count { length result.1.items ≡ 4160 }
+    ensures count { length result.1.items ≡ 4224 }
     ensures new { IsNewPopRow result.1.items }
 {
     let mut pushers = Vec::new(alloc);
@@ -62,7 +62,7 @@ fn lay_queues<R: Abort>(
 
 // A cell for each queue, in which no Hello is held back.
 fn empty_cells<R: Abort>(rt: &R, alloc: Global) -> Vec<Option<Item>>
-    ensures count { length result.items ≡ 4160 }
+    ensures count { length result.items ≡ 4224 }
     ensures none { All (λ cell. cell ≡ None) result.items }
 {
     let mut cells = Vec::new(alloc);

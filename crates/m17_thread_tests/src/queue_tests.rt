@@ -58,9 +58,10 @@ fn comes_to<R: Wait + Clock>(rt: &R, handed: &Arc<AtomicU64, Global>, wanted: u6
     false
 }
 
-// Where something is pushed: in the first word and in the last one of the first group, and in that of the second, where the
-// last queue still has something when the first was found empty.
-const PLACES: [u32; 6] = [0, 4_095, 4_096, 4_159, 4_159, 4_159];
+// Where something is pushed: in the first word, which is soon empty; in the one behind it, which has more when the later ones
+// are empty, the last too, whose number in its group is the same; in the last word of the first group; and in both words of
+// the second.
+const PLACES: [u32; 9] = [0, 64, 64, 64, 64, 4_095, 4_096, 4_159, 4_160];
 
 fn push_pings<R: Wait>(rt: &R, queues: &mut Vec<Pusher<Item>>) {
     for place in PLACES.iter() {
@@ -111,7 +112,7 @@ fn send_beside<R: Threads + Wait + Clock + Abort + Sync>(rt: &R, alloc: Global) 
     push_pings(rt, &mut queues);
     let (came, sent) = thread::join(
         rt,
-        move || stop_then(rt, orders, count, 6),
+        move || stop_then(rt, orders, count, 9),
         move || -> Sender<CountingMouth>
             requires { IsReady sender }
         { send(rt, sender) },
@@ -122,5 +123,5 @@ fn send_beside<R: Threads + Wait + Clock + Abort + Sync>(rt: &R, alloc: Global) 
 
 #[test]
 fn an_item_beyond_queue_4096_is_said_before_the_stop_order_comes(rt: HostRuntime) {
-    assert!(rt; send_beside(&rt, rt.alloc()) == (true, 6));
+    assert!(rt; send_beside(&rt, rt.alloc()) == (true, 9));
 }

@@ -1,6 +1,6 @@
 use Rattle.std.proofs.Common.{refl, sym, ◌++◌, take, drop}
 use Rattle.m17_net.proofs.Prefixes.{take-within}
-use Rattle.m17_net.proofs.tests.ScriptedWire.take.Goals as goal
+use Rattle.m17_net.proofs.bench.ScriptedWire.take.Goals as goal
 
 pub returns-in-Gives-clause-taken : goal.returns-in-Gives-clause-taken
 returns-in-Gives-clause-taken c =
