@@ -1,46 +1,25 @@
 -- Ends that are taken back, pair by pair, the last first.
 use Rattle.std.proofs.Common.{◌≡◌, List, [], ◌∷◌, ◌++◌, map, length, reverse, refl, sym, ap, ◌∙◌, subst, arith, append_assoc, append-nil, length-append}
 use Rattle.std.specs.List.{AllZip}
-use Rattle.std.proofs.lemmas.List.{reverse-append}
+use Rattle.std.proofs.lemmas.List.{reverse-append, same_from_push}
+use Rattle.m17_lists.proofs.Pairs.{last_stands_beside_last}
 use Rattle.m17_board.specs.declared.glance.Glance.{Glance}
 use Rattle.m17_board.specs.Glance.{glance_of}
 use Rattle.m17_board.specs.Ends.{PostEnd, EyeEnd, IsPair, SawFirstParts}
 
-abbrev hd : {A : Type 0} → A → List A → A
-hd d [] = d
-hd d (x ∷ xs) = x
-
-abbrev tl : {A : Type 0} → List A → List A
-tl [] = []
-tl (x ∷ xs) = xs
-
 nothing_there : {A : Type 0} (xs : List A) (x : A) → [] ≡ xs ++ x ∷ [] → ⊥
 nothing_there xs x e = let n = ap length e ∙ length-append xs (x ∷ []) in omega arith
 
-snoc_inj : {A : Type 0} (xs ys : List A) (x y : A) → xs ++ x ∷ [] ≡ ys ++ y ∷ [] → (xs ≡ ys) × (x ≡ y)
-snoc_inj [] [] x y e = (refl, ap (hd x) e)
-snoc_inj [] (b ∷ ys) x y e = absurd (nothing_there ys y (ap tl e))
-snoc_inj (a ∷ xs) [] x y e = absurd (nothing_there xs x (sym (ap tl e)))
-snoc_inj (a ∷ xs) (b ∷ ys) x y e = let t = snoc_inj xs ys x y (ap tl e) in ((λ i. ap (hd a) e i ∷ t.0 i), t.1)
-
--- the last of one list stands with the last of the other
-split_last : {A B : Type 0} (R : A → B → Type 0) (xs : List A) (x : A) (zs : List B) → AllZip R (xs ++ x ∷ []) zs → (ys : List B) × (y : B) × (zs ≡ ys ++ y ∷ []) × AllZip R xs ys × R x y
-split_last R [] x [] h = absurd h
-split_last R [] x (z ∷ []) h = ([], z, refl, tt, h.0)
-split_last R [] x (z ∷ y ∷ zs) h = absurd h.1
-split_last R (a ∷ xs) x [] h = absurd h
-split_last R (a ∷ xs) x (z ∷ zs) h = let t = split_last R xs x zs h.1 in (z ∷ t.0, t.1, ap (λ l. z ∷ l) t.2, (h.0, t.3), t.4)
-
 pub some_left : (left rest : List PostEnd) (p : PostEnd) (eyes : List EyeEnd) → left ≡ rest ++ p ∷ [] → AllZip IsPair left eyes → eyes ≡ [] → ⊥
 some_left left rest p eyes is h none =
-    let t = split_last IsPair rest p eyes (subst (λ (l : List PostEnd). AllZip IsPair l eyes) is h) in
+    let t = last_stands_beside_last IsPair rest p eyes (subst (λ (l : List PostEnd). AllZip IsPair l eyes) is h) in
     nothing_there t.0 t.1 (sym none ∙ t.2)
 
 pub last_pair : (left rest : List PostEnd) (p : PostEnd) (eyes others : List EyeEnd) (e : EyeEnd) → left ≡ rest ++ p ∷ [] → eyes ≡ others ++ e ∷ [] → AllZip IsPair left eyes
     → AllZip IsPair rest others × IsPair p e
 last_pair left rest p eyes others e is here h =
-    let t = split_last IsPair rest p eyes (subst (λ (l : List PostEnd). AllZip IsPair l eyes) is h) in
-    let same = snoc_inj t.0 others t.1 e (sym t.2 ∙ here) in
+    let t = last_stands_beside_last IsPair rest p eyes (subst (λ (l : List PostEnd). AllZip IsPair l eyes) is h) in
+    let same = same_from_push t.0 others t.1 e (sym t.2 ∙ here) in
     (subst (λ (l : List EyeEnd). AllZip IsPair rest l) same.0 t.3, subst (IsPair p) same.1 t.4)
 
 -- so far the ends behind those that are left are taken back

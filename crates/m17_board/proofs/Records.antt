@@ -1,11 +1,14 @@
 -- What is shown of one record more.
-use Rattle.std.proofs.Common.{◌≡◌, ℕ, zero, suc, ◌+◌, ◌-◌, ◌<◌, ◌≤◌, Bool, true, false, true≢false, cond, List, [], ◌∷◌, ◌++◌, length, drop, Option, None, Some, slice_get, count_by, find, refl, sym, ap, ◌∙◌, arith}
+use Rattle.std.proofs.Common.{◌≡◌, ℕ, suc, ◌+◌, ◌-◌, ◌<◌, ◌≤◌, Bool, true, false, true≢false, cond, List, [], ◌∷◌, ◌++◌, length, drop, Option, None, Some, slice_get, count_by, find, refl, sym, ap, ◌∙◌, arith}
 use Rattle.std.specs.Prelude.{option_and_then}
 use Rattle.std.specs.Option.{option_map_or}
 use Rattle.std.proofs.lemmas.List.{drop-append-le}
 use Rattle.std.proofs.lemmas.List.Sums.{sum_by-append, count_by-le-length}
 use Rattle.m17_lookup.specs.Lookup.{last_below}
 use Rattle.m17_lookup.proofs.LastBelow.{last_below_zero, last_below_suc, last_below_same, last_below_lt}
+use Rattle.m17_lists.proofs.Lengths.{one_more_is_one_longer}
+use Rattle.m17_lists.proofs.Places.{places_before_stay, one_more_stands_at_the_end}
+use Rattle.m17_lists.proofs.Sums.{count_of_one}
 use Rattle.m17_book.specs.declared.record.Record.{Record}
 use Rattle.m17_book.specs.declared.record.Record.TheVariants.{Join, Leave, Packet}
 use Rattle.m17_board.specs.declared.sight.Sight.{Sight}
@@ -13,39 +16,19 @@ use Rattle.m17_board.specs.declared.sight.Talk.{Talk}
 use Rattle.m17_values.specs.declared.member.Member.{Member}
 use Rattle.m17_board.specs.Glance.{is_admitted, is_admitted_at, is_leave_of, moment_of, unless_left, talk_by, talk_of, last_moment, sight_of, talk_after}
 
-before : {A : Type 0} (xs ys : List A) (m : ℕ) → m < length xs → slice_get (xs ++ ys) m ≡ slice_get xs m
-before [] ys m h = absurd (omega arith)
-before (x ∷ xs) ys zero h = refl
-before (x ∷ xs) ys (suc m) h = before xs ys m (omega arith)
-
-at_end : {A : Type 0} (xs : List A) (y : A) → slice_get (xs ++ y ∷ []) (length xs) ≡ Some y
-at_end [] y = refl
-at_end (x ∷ xs) y = at_end xs y
-
 past_end : {A : Type 0} (xs : List A) (y : A) → drop (suc (length xs)) (xs ++ y ∷ []) ≡ []
 past_end [] y = refl
 past_end (x ∷ xs) y = past_end xs y
 
-one_longer : {A : Type 0} (xs : List A) (y : A) → length (xs ++ y ∷ []) ≡ suc (length xs)
-one_longer [] y = refl
-one_longer (x ∷ xs) y = ap suc (one_longer xs y)
-
-count_one : {A : Type 0} (p : A → Bool) (y : A) → count_by p (y ∷ []) ≡ cond (p y) 1 0
-count_one p y = go (p y)
-  where
-    go : (b : Bool) → 0 + cond b 1 0 ≡ cond b 1 0
-    go true = refl
-    go false = refl
-
 count_more : {A : Type 0} (p : A → Bool) (xs : List A) (y : A) → count_by p (xs ++ y ∷ []) ≡ count_by p xs + cond (p y) 1 0
-count_more p xs y = sum_by-append (λ x. cond (p x) 1 0) xs (y ∷ []) ∙ ap (λ (c : ℕ). count_by p xs + c) (count_one p y)
+count_more p xs y = sum_by-append (λ x. cond (p x) 1 0) xs (y ∷ []) ∙ ap (λ (c : ℕ). count_by p xs + c) (count_of_one p y)
 
 -- the last admitted record, with one record more
 last_more : (rs : List Record) (r : Record) → last_below (is_admitted_at (rs ++ r ∷ [])) (length (rs ++ r ∷ [])) ≡ cond (is_admitted r) (Some (length rs)) (last_below (is_admitted_at rs) (length rs))
 last_more rs r =
-    let here : is_admitted_at (rs ++ r ∷ []) (length rs) ≡ is_admitted r = ap (λ (o : Option Record). option_map_or is_admitted o false) (at_end rs r) in
-    let there = last_below_same (is_admitted_at (rs ++ r ∷ [])) (is_admitted_at rs) (length rs) (λ m h. ap (λ (o : Option Record). option_map_or is_admitted o false) (before rs (r ∷ []) m h)) in
-    ap (last_below (is_admitted_at (rs ++ r ∷ []))) (one_longer rs r) ∙ last_below_suc (is_admitted_at (rs ++ r ∷ [])) (length rs)
+    let here : is_admitted_at (rs ++ r ∷ []) (length rs) ≡ is_admitted r = ap (λ (o : Option Record). option_map_or is_admitted o false) (one_more_stands_at_the_end rs r) in
+    let there = last_below_same (is_admitted_at (rs ++ r ∷ [])) (is_admitted_at rs) (length rs) (λ m h. ap (λ (o : Option Record). option_map_or is_admitted o false) (places_before_stay rs (r ∷ []) m h)) in
+    ap (last_below (is_admitted_at (rs ++ r ∷ []))) (one_more_is_one_longer rs r) ∙ last_below_suc (is_admitted_at (rs ++ r ∷ [])) (length rs)
     ∙ (λ i. cond (here i) (Some (length rs)) (there i))
 
 -- the talk of the record at a position
@@ -104,7 +87,7 @@ older rs r None e h = none_after r e
 older rs r (Some n) e h =
     let lt = h n refl in
     let le : suc n ≤ length rs = omega arith in
-    (λ i. option_and_then (talk_by (drop-append-le (suc n) rs (r ∷ []) le i)) (before rs (r ∷ []) n lt i)) ∙ grows_in (drop (suc n) rs) (slice_get rs n) r e
+    (λ i. option_and_then (talk_by (drop-append-le (suc n) rs (r ∷ []) le i)) (places_before_stay rs (r ∷ []) n lt i)) ∙ grows_in (drop (suc n) rs) (slice_get rs n) r e
 
 opened : (r : Record) (o : Option Talk) → is_admitted r ≡ true → talk_by [] r ≡ talk_after o r
 opened (Join tag moment m listen callsign) o e = absurd (true≢false (sym e))
@@ -117,14 +100,14 @@ talk_more rs r = ap (option_and_then (talk_at (rs ++ r ∷ []))) (last_more rs r
   where
     go : (b : Bool) → is_admitted r ≡ b
         → option_and_then (talk_at (rs ++ r ∷ [])) (cond b (Some (length rs)) (last_below (is_admitted_at rs) (length rs))) ≡ talk_after (option_and_then (talk_at rs) (last_below (is_admitted_at rs) (length rs))) r
-    go true e = (λ i. option_and_then (talk_by (past_end rs r i)) (at_end rs r i)) ∙ opened r (option_and_then (talk_at rs) (last_below (is_admitted_at rs) (length rs))) e
+    go true e = (λ i. option_and_then (talk_by (past_end rs r i)) (one_more_stands_at_the_end rs r i)) ∙ opened r (option_and_then (talk_at rs) (last_below (is_admitted_at rs) (length rs))) e
     go false e = older rs r (last_below (is_admitted_at rs) (length rs)) e (λ n found. last_below_lt (is_admitted_at rs) (length rs) n found)
 
 moment_more : (rs : List Record) (r : Record) → last_moment (rs ++ r ∷ []) ≡ moment_of r
 moment_more rs r =
-    let longer = one_longer rs r in
+    let longer = one_more_is_one_longer rs r in
     let back : length (rs ++ r ∷ []) - 1 ≡ length rs = omega arith in
-    ap (λ (n : ℕ). option_map_or moment_of (slice_get (rs ++ r ∷ []) n) 0) back ∙ ap (λ (o : Option Record). option_map_or moment_of o 0) (at_end rs r)
+    ap (λ (n : ℕ). option_map_or moment_of (slice_get (rs ++ r ∷ []) n) 0) back ∙ ap (λ (o : Option Record). option_map_or moment_of o 0) (one_more_stands_at_the_end rs r)
 
 pub talk_none : talk_of [] ≡ None
 talk_none = ap (option_and_then (talk_at [])) (last_below_zero (is_admitted_at []))
@@ -140,7 +123,7 @@ sight_more rs r s n is records admitted moment talks = λ i. record {
 }
   where
     more : length rs + 1 ≡ length (rs ++ r ∷ [])
-    more = let longer = one_longer rs r in omega arith
+    more = let longer = one_more_is_one_longer rs r in omega arith
 
 pub first_sight : record { records = 0; admitted = 0; moment = 0; talk = None } ≡ sight_of []
 first_sight = λ i. record { records = 0; admitted = 0; moment = 0; talk = sym talk_none i }

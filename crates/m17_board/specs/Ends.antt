@@ -60,6 +60,6 @@ NewPairs from [] (e ∷ es) = ⊥
 NewPairs from (p ∷ ps) [] = ⊥
 NewPairs from (p ∷ ps) (e ∷ es) = IsNewPair from p e × NewPairs (suc from) ps es
 
--- The board has so many modules, numbered from 0, and nothing was posted or seen.
+-- The board has this number of modules, numbered from 0, and nothing was posted or seen.
 abbrev pub AreNew : ℕ → List PostEnd → List EyeEnd → Type 0
 AreNew modules posters eyes = (length posters ≡ modules) × NewPairs 0 posters eyes

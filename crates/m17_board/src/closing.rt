@@ -24,9 +24,7 @@ pub fn close<R: Wait>(
     ensures glances { IfOk result (λ r. r.items ≡ map (λ p. glance_of p.posted) posters.items) }
     ensures seen { IfOk result (λ _. AllZip SawFirstParts posters.items eyes.items) }
 {
-    let Ok(mut into) = Vec::with_capacity(alloc, posters.len()) else {
-        return Err(NoMemory);
-    };
+    let mut into = Vec::with_capacity(alloc, posters.len())?;
     close_into(rt, posters, eyes, &mut into);
     Ok(into)
 }

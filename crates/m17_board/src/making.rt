@@ -7,24 +7,13 @@ use crate::poster::Poster;
 use crate::rule::{Cell, Tells};
 use crate::sight::Sight;
 use m17_values::{Address, NoMemory};
-use std::alloc::{AllocError, Global};
+use std::alloc::Global;
 use std::sync::Arc;
 
 /// The posters and the eyes of a new board, one for each module, in the same order. `modules` is 1 to 26. `NoMemory` where
 /// there is none for it.
 pub fn make(alloc: Global, modules: u32) -> Result<(Vec<Poster>, Vec<Eye>), NoMemory>
     requires { (1 ≤ modules) × (modules ≤ 26) }
-    ensures new { IfOk result (λ r. AreNew modules r.0.items r.1.items) }
-    ensures board { IfOk result (λ r. AreOfOneBoard r.0.items r.1.items) }
-{
-    let Ok(board) = make_all(alloc, modules) else {
-        return Err(NoMemory);
-    };
-    Ok(board)
-}
-
-// The same, with the kit's own word for want of memory.
-fn make_all(alloc: Global, modules: u32) -> Result<(Vec<Poster>, Vec<Eye>), AllocError>
     ensures new { IfOk result (λ r. AreNew modules r.0.items r.1.items) }
     ensures board { IfOk result (λ r. AreOfOneBoard r.0.items r.1.items) }
 {
@@ -39,7 +28,7 @@ fn make_all(alloc: Global, modules: u32) -> Result<(Vec<Poster>, Vec<Eye>), Allo
 }
 
 // The ends of one module, over a cell of their own.
-fn make_pair(alloc: Global, number: u32) -> Result<(Poster, Eye), AllocError>
+fn make_pair(alloc: Global, number: u32) -> Result<(Poster, Eye), NoMemory>
     ensures { IfOk result (λ r. IsNewPair number r.0 r.1) }
 {
     let Some(nobody) = Address::new(0) else {

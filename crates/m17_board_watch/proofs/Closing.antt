@@ -4,6 +4,8 @@ use Rattle.std.specs.List.{AllZip, range_with_len}
 use Rattle.std.proofs.lemmas.Option.{same_Some, none-some, slice_get_within}
 use Rattle.std.proofs.lemmas.List.{get_or-set_same}
 use Rattle.std.proofs.lemmas.List.Elements.{All-contains, filter-append}
+use Rattle.m17_lists.proofs.Ranges.{range_ends_in_its_last}
+use Rattle.m17_lists.proofs.Places.{mapped_stands_there}
 use Rattle.m17_ports.specs.Book.{BookTold}
 use Rattle.m17_ports.specs.Laws.{BooksAreWrittenInTurn}
 use Rattle.m17_control.specs.Modules.{serves, letters_of, letters_before}
@@ -18,26 +20,17 @@ use Rattle.m17_board_watch.specs.Ending.{IsFresh, TellsIn, GoesOn, HasLast}
 use Rattle.m17_board_watch.specs.declared.watch.Watch.{Watch}
 use Rattle.m17_board_watch.proofs.Lines.{written, retell, lines_of, tell_first, index_set}
 
-get_map : {A B : Type 0} (f : A → B) (xs : List A) (i : ℕ) (x : A) → slice_get xs i ≡ Some x → slice_get (map f xs) i ≡ Some (f x)
-get_map f [] i x at = absurd (none-some x at)
-get_map f (y ∷ xs) zero x at = let e = same_Some y x at in (λ i. Some (f (e i)))
-get_map f (y ∷ xs) (suc i) x at = get_map f xs i x at
-
 map_get : {A B : Type 0} (f : A → B) (xs : List A) (i : ℕ) (y : B) → slice_get (map f xs) i ≡ Some y → (x : A) × (slice_get xs i ≡ Some x) × (y ≡ f x)
 map_get f [] i y at = absurd (none-some y at)
 map_get f (x ∷ xs) zero y at = (x, refl, sym (same_Some (f x) y at))
 map_get f (x ∷ xs) (suc i) y at = map_get f xs i y at
 
 -- letters up to a letter
-range_snoc : (a n : ℕ) → range_with_len a (suc n) ≡ range_with_len a n ++ (a + n) ∷ []
-range_snoc a zero = ap (λ (x : ℕ). x ∷ []) (let e : a ≡ a + 0 = omega arith in e)
-range_snoc a (suc n) = ap (λ (l : List ℕ). a ∷ l) (range_snoc (a + 1) n ∙ ap (λ (x : ℕ). range_with_len (a + 1) n ++ x ∷ []) (let e : a + 1 + n ≡ a + suc n = omega arith in e))
-
 pub before_suc : (m : Modules) (l : ℕ) → 65 ≤ l → letters_before m (suc l) ≡ letters_before m l ++ filter (serves m) (l ∷ [])
 before_suc m l h =
     let e : suc l - 65 ≡ suc (l - 65) = omega arith in
     let f : 65 + (l - 65) ≡ l = omega arith in
-    ap (λ (n : ℕ). filter (serves m) (range_with_len 65 n)) e ∙ ap (filter (serves m)) (range_snoc 65 (l - 65))
+    ap (λ (n : ℕ). filter (serves m) (range_with_len 65 n)) e ∙ ap (filter (serves m)) (range_ends_in_its_last 65 (l - 65))
     ∙ filter-append (serves m) (range_with_len 65 (l - 65)) ((65 + (l - 65)) ∷ []) ∙ ap (λ (x : ℕ). letters_before m l ++ filter (serves m) (x ∷ [])) f
 
 one_letter : (m : Modules) (l : ℕ) (b : Bool) → serves m l ≡ b → length (filter (serves m) (l ∷ [])) ≡ cond b 1 0
@@ -168,7 +161,7 @@ module _ (posters : List PostEnd) (eyes : List EyeEnd) (glances : List Glance) (
     each : HasLast glances to.last (length glances) → (place : ℕ) (poster : PostEnd) → slice_get posters place ≡ Some poster → poster.posted ≢ []
         → (line : BoardLine) × Contains lines line × (line.place ≡ place) × (line.glance ≡ glance_of poster.posted)
     each last place poster at some =
-        let is : slice_get glances place ≡ Some (glance_of poster.posted) = ap (λ (l : List Glance). slice_get l place) all ∙ get_map (λ (p : PostEnd). glance_of p.posted) posters place poster at in
+        let is : slice_get glances place ≡ Some (glance_of poster.posted) = ap (λ (l : List Glance). slice_get l place) all ∙ mapped_stands_there (λ (p : PostEnd). glance_of p.posted) posters place poster at in
         let most : length poster.posted ≤ slice_index to.last place = last place (glance_of poster.posted) (slice_get_within glances place _ is) is in
         ⊎_elim
         (λ (e : slice_index to.last place ≡ slice_index from.last place). absurd (some (none_longer poster.posted (omega (arith, most, e, zero_before place)))))

@@ -1,6 +1,5 @@
 -- How looks and orders come one after another.
 use Rattle.std.proofs.Common.{◌≡◌, ◌≢◌, ◌⊎◌, ℕ, ◌≤◌, true, List, [], ◌∷◌, ◌++◌, slice_index, refl, sym, ap, ◌∙◌, subst, inl, inr, append_assoc}
-use Rattle.std.specs.List.{All}
 use Rattle.std.proofs.lemmas.List.Elements.{All-append}
 use Rattle.m17_ports.specs.Book.{BookTold}
 use Rattle.m17_control.specs.declared.modules.Modules.{Modules}

@@ -1,11 +1,11 @@
 -- Bytes are the book of one module and one list of records, or are refused as one for one reason.
-use Rattle.std.proofs.Common.{◌≡◌, ◌⊎◌, ℕ, ◌<◌, ◌≤◌, ◌^◌, Option, None, Some, List, [], ◌∷◌, ◌++◌, length, take, drop, inl, inr, refl, sym, ap, subst, ◌∙◌, arith, append_assoc, length-append}
+use Rattle.std.proofs.Common.{◌≡◌, ◌⊎◌, ℕ, ◌<◌, ◌≤◌, ◌^◌, None, Some, List, [], ◌++◌, length, drop, inl, inr, refl, sym, ap, subst, ◌∙◌, arith, append_assoc, length-append}
 use Rattle.std.proofs.lemmas.Bool.{cases_lt}
 use Rattle.std.proofs.lemmas.List.{append-nil, drop_at}
 use Rattle.std.proofs.lemmas.List.Elements.{All-drop}
 use Rattle.m17_fields.specs.Fields.{IsBytes, Fields64AreExact}
 use Rattle.m17_fields.specs.Reading.{HasOneReading}
-use Rattle.m17_book.specs.Book.{TellsFlaw, BookHeaderFlaw, HasBookForm, StopsBook, LacksBookForm, IsBook, RefusesBook}
+use Rattle.m17_book.specs.Book.{BookHeaderFlaw, HasBookForm, StopsBook, LacksBookForm, IsBook, RefusesBook}
 use Rattle.m17_book.specs.Flaws.{RecordFlaw}
 use Rattle.m17_book.specs.Laws.{IsClear, IsExactForm, BookKept, BooksOfAreExact}
 use Rattle.m17_book.specs.Limits.{SpellsEach}

@@ -15,8 +15,8 @@ use Rattle.m17_book.specs.Parsed.{BeginsWith, IsAddress}
 pub take_one : (b : List ℕ) (i : ℕ) → i < length b → take (i + 1) b ≡ take i b ++ get_or b i 0 ∷ []
 take_one b i h = grind (arith, common_steps)
 
-IsBytes-part : (n k : ℕ) (b : List ℕ) → IsBytes b → IsBytes (take k (drop n b))
-IsBytes-part n k b h = All-take (λ byte. byte < 2 ^ 8) k (drop n b) (All-drop (λ byte. byte < 2 ^ 8) n b h)
+pub part_bytes : (n k : ℕ) (b : List ℕ) → IsBytes b → IsBytes (take k (drop n b))
+part_bytes n k b h = All-take (λ byte. byte < 2 ^ 8) k (drop n b) (All-drop (λ byte. byte < 2 ^ 8) n b h)
 
 datagram_bytes : (b ip bytes : List ℕ) (size at port len : ℕ) (six : Bool) → 10 + size + 2 + 1 + len ≤ length b → kind_of b ≡ 1
     → family_bytes six ip ≡ (get_or b 9 0 ∷ []) ++ take size (drop 10 b) → be_64 at ≡ take 8 (drop 1 b)
@@ -89,7 +89,7 @@ begins : (b ip bytes : List ℕ) (size at port len : ℕ) (six : Bool) → Stand
     → BeginsWith SpellsEntry b (Datagram (record { six = six; ip = ip; port = port }) at bytes) (10 + size + 2 + 1 + len)
 begins b ip bytes size at port len six s family short =
     let text = text_is b bytes (10 + size + 2 + 1) len s.within s.low s.bytes_are in
-    let all : IsBytes bytes = subst IsBytes (sym text.0) (IsBytes-part (10 + size + 2 + 1) len b s.all) in
+    let all : IsBytes bytes = subst IsBytes (sym text.0) (part_bytes (10 + size + 2 + 1) len b s.all) in
     record {
       some = omega arith;
       within = s.within;

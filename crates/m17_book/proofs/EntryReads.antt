@@ -1,10 +1,11 @@
 -- Bytes begin with an entry, or with a flaw of one.
 use Rattle.std.proofs.Common.{◌≡◌, ◌⊎◌, ℕ, ◌+◌, ◌<◌, ◌≤◌, ◌^◌, List, [], ◌∷◌, ◌++◌, length, take, drop, get_or, slice_range, inl, inr, refl, sym, ap, ◌∙◌, arith, length-append}
 use Rattle.std.proofs.lemmas.Bool.{cases_lt, cases_eq}
-use Rattle.std.proofs.lemmas.List.{length-take-le, length-drop, take_at, drop_at, take_all, drop_all}
-use Rattle.std.proofs.lemmas.List.Elements.{All-take, All-drop, All-append}
+use Rattle.std.proofs.lemmas.List.{take_at, drop_at, take_all, drop_all}
+use Rattle.std.proofs.lemmas.List.Elements.{All-append}
 use Rattle.std.proofs.lemmas.Grind.{common_steps}
 use Rattle.std.proofs.Math.Seq.{take-add}
+use Rattle.m17_lists.proofs.Parts.{part_is_as_long}
 use Rattle.m17_fields.specs.Fields.{be_64, IsBytes, Fields16AreExact, Fields64AreExact}
 use Rattle.m17_values.specs.declared.heard.Heard.{Heard}
 use Rattle.m17_values.specs.declared.heard.Heard.TheVariants.{Quiet, Fault}
@@ -15,7 +16,7 @@ use Rattle.m17_book.specs.Records.{zeros_12}
 use Rattle.m17_book.specs.Flaws.{kind_of, AreAllowed, EntryFlaw, Family, Length_4, Length_6, IsInEntry, entry_field_at, entry_field_size, IsAllowedInEntry, IsShortEntry}
 use Rattle.m17_book.specs.declared.refusal.Flaw.{Flaw}
 use Rattle.m17_book.specs.declared.refusal.Flaw.TheVariants as flaws
-use Rattle.m17_book.proofs.Entry.{take_one, begins_datagram}
+use Rattle.m17_book.proofs.Entry.{take_one, begins_datagram, part_bytes}
 
 -- the bytes begin with an entry, or with a flaw
 abbrev pub Begins : List ℕ → Type 0
@@ -41,13 +42,6 @@ short b kind four six =
 
 is_kind : (b : List ℕ) (k : ℕ) → kind_of b ≡ k → 1 ≤ k → k ≤ 3 → IsKind (kind_of b)
 is_kind b k e low high = (omega arith, omega arith)
-
--- a field of so many bytes of the input
-part_bytes : (n k : ℕ) (b : List ℕ) → IsBytes b → IsBytes (take k (drop n b))
-part_bytes n k b h = All-take (λ byte. byte < 2 ^ 8) k (drop n b) (All-drop (λ byte. byte < 2 ^ 8) n b h)
-
-long_part : (n k : ℕ) (b : List ℕ) → n + k ≤ length b → length (take k (drop n b)) ≡ k
-long_part n k b h = length-take-le k (drop n b) (omega (arith, length-drop n b))
 
 zeros_bytes : IsBytes zeros_12
 zeros_bytes = grind (arith, common_steps)
@@ -77,8 +71,8 @@ whole_datagram : Fields16AreExact → Fields64AreExact → (b ip : List ℕ) (si
     → get_or b (10 + size + 2) 0 ≤ 64 → 10 + size + 2 + 1 + get_or b (10 + size + 2) 0 ≤ length b → Begins b
 whole_datagram law16 law64 b ip size bytes kind family all_ip address low within =
     let len = get_or b (10 + size + 2) 0 in
-    let at = law64.each_bytes (take 8 (drop 1 b)) (long_part 1 8 b (omega arith)) (part_bytes 1 8 b bytes) in
-    let port = law16.each_bytes (take 2 (drop (10 + size) b)) (long_part (10 + size) 2 b (omega arith)) (part_bytes (10 + size) 2 b bytes) in
+    let at = law64.each_bytes (take 8 (drop 1 b)) (part_is_as_long 1 8 b (omega arith)) (part_bytes 1 8 b bytes) in
+    let port = law16.each_bytes (take 2 (drop (10 + size) b)) (part_is_as_long (10 + size) 2 b (omega arith)) (part_bytes (10 + size) 2 b bytes) in
     let text = take 64 (slice_range b (10 + size + 2 + 1) (10 + size + 2 + 1 + len)) in
     let found = begins_datagram b ip text size at.0 port.0 len family (record {
       all = bytes;
@@ -136,7 +130,7 @@ reads_4 law16 law64 b bytes kind four long =
           )
           | inr within ↦ let field = take 4 (drop 10 b) in
               whole_datagram law16 law64 b (field ++ zeros_12) 4 bytes kind (inl (four, refl)) (All-append (λ byte. byte < 2 ^ 8) field zeros_12 (part_bytes 10 4 b bytes) zeros_bytes)
-              (address_4 field (long_part 10 4 b (omega arith))) low (omega arith)
+              (address_4 field (part_is_as_long 10 4 b (omega arith))) low (omega arith)
         ]
       ]
     ]
@@ -181,7 +175,7 @@ reads_6 law16 law64 b bytes kind six long =
           )
           | inr within ↦ let field = take 16 (drop 10 b) in
               whole_datagram law16 law64 b field 16 bytes kind (inr (six, refl)) (part_bytes 10 16 b bytes)
-              (address_6 field (long_part 10 16 b (omega arith))) low (omega arith)
+              (address_6 field (part_is_as_long 10 16 b (omega arith))) low (omega arith)
         ]
       ]
     ]
@@ -236,7 +230,7 @@ reads_quiet law b bytes kind some = elim (cases_lt (length b) 9) [
       no_fields b (length b) 2 kind (λ e. omega arith),
     ),
   )
-  | inr there ↦ let at = law.each_bytes (take 8 (drop 1 b)) (long_part 1 8 b there) (part_bytes 1 8 b bytes) in
+  | inr there ↦ let at = law.each_bytes (take 8 (drop 1 b)) (part_is_as_long 1 8 b there) (part_bytes 1 8 b bytes) in
       inl (Quiet at.0, 9, record { some = omega arith; within = there; spelled = (at.1, quiet_bytes b at.0 kind there at.2) })
 ]
 

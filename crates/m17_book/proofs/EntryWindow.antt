@@ -6,7 +6,7 @@ use Rattle.m17_book.specs.Flaws.{kind_of, IsFirstBad, EntryFlaw, EntryField, Fam
 use Rattle.m17_book.specs.Steps.{tell}
 use Rattle.m17_book.specs.declared.refusal.Flaw.{Flaw}
 use Rattle.m17_book.specs.declared.refusal.Flaw.TheVariants as flaws
-use Rattle.m17_book.proofs.Window.{Same, IsWindow, same_front, same_back, known_kind}
+use Rattle.m17_book.proofs.Window.{Same, IsWindow, same_front, same_back, known_kind, same_kind}
 
 in_entry : (field : EntryField) (a b : List ℕ) (n : ℕ) → Same a b n → entry_field_at field < n → IsInEntry field a → IsInEntry field b
 in_entry Family a b n s w h = sym (s.at 0 (omega arith)) ∙ h
@@ -51,9 +51,6 @@ cut_by_kind b long h (inr (inr three)) = h.2.fault three
 -- 97 bytes have a whole entry, or a flaw that is no cut
 pub no_cut : (b : List ℕ) → 97 ≤ length b → EntryFlaw b flaws.Cut → ⊥
 no_cut b long h = cut_by_kind b long h (known_kind (kind_of b) h.1)
-
-same_kind : (b more : List ℕ) → 0 < length b → kind_of b ≡ kind_of (b ++ more)
-same_kind b more h = (same_front b more).at 0 h
 
 long_entry : (b more : List ℕ) (flaw : Flaw) → 97 ≤ length b → EntryFlaw b flaw → EntryFlaw (b ++ more) flaw
 long_entry b more flaws.Cut long h = absurd (no_cut b long h)

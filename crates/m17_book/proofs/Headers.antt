@@ -4,7 +4,7 @@ use Rattle.std.proofs.lemmas.Bool.{cases_lt}
 use Rattle.std.proofs.lemmas.List.{take-append-drop, length-take-le, length-append}
 use Rattle.std.proofs.lemmas.List.Elements.{All-take, All-drop}
 use Rattle.m17_control.specs.Forms.{IsModule}
-use Rattle.m17_fields.specs.Fields.{be_64, IsBytes, Fields64AreExact}
+use Rattle.m17_fields.specs.Fields.{IsBytes, Fields64AreExact}
 use Rattle.m17_book.specs.Book.{TellsFlaw, MagicFlaw, LetterFlaw, BookHeaderFlaw}
 use Rattle.m17_book.specs.Versions.{book_magic, book_header, limit_bytes, header_size, FitsLimit, FitsHeader}
 use Rattle.m17_book.specs.declared.head.Head.{Head}

@@ -20,7 +20,6 @@ use Rattle.std.proofs.lemmas.Bool.{cases_lt}
 use Rattle.std.proofs.lemmas.List.{nil_from_length}
 use Rattle.m17_book.specs.declared.head.Head.{Head}
 use Rattle.m17_book.specs.declared.version.Version.TheVariants.{Two}
-use Rattle.m17_book.specs.Versions.{book_header, FitsHeader}
 
 one_more : (records : List Record) (next : Record) → length (records ++ next ∷ []) ≡ length records + 1
 one_more records next = omega (arith, length-append records (next ∷ []))

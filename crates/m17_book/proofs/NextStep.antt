@@ -1,5 +1,5 @@
 -- One step of a reader: what the held bytes say, said of what is to come.
-use Rattle.std.proofs.Common.{◌≡◌, ◌⊎◌, ℕ, ◌+◌, ◌<◌, ◌≤◌, ◌^◌, List, [], ◌∷◌, ◌++◌, length, take, drop, get_or, Option, Some, Ok, inl, inr, refl, sym, ap, subst, ◌∙◌, arith, append_assoc}
+use Rattle.std.proofs.Common.{◌≡◌, ◌⊎◌, ℕ, ◌+◌, ◌<◌, ◌≤◌, ◌^◌, List, [], ◌++◌, length, take, drop, Option, Some, Ok, inl, inr, refl, sym, ap, subst, ◌∙◌, arith, append_assoc}
 use Rattle.std.proofs.lemmas.List.{take-append-drop, length-take-le, nil_from_length}
 use Rattle.m17_book.specs.Limits.{told}
 use Rattle.m17_book.specs.Ahead.{IsAhead}

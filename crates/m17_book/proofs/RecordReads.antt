@@ -1,10 +1,9 @@
 -- Bytes begin with a record, or with a flaw of one.
-use Rattle.std.proofs.Common.{◌≡◌, ◌⊎◌, ℕ, ◌+◌, ◌<◌, ◌≤◌, ◌^◌, List, [], ◌∷◌, ◌++◌, length, take, drop, get_or, inl, inr, refl, sym, ap, subst, ◌∙◌, arith}
+use Rattle.std.proofs.Common.{◌≡◌, ◌⊎◌, ℕ, ◌<◌, ◌≤◌, List, [], ◌∷◌, ◌++◌, length, take, drop, get_or, inl, inr, refl, sym, ap, subst, ◌∙◌, arith}
 use Rattle.std.proofs.lemmas.Bool.{cases_lt, cases_eq, cases_Bool, false≢true}
-use Rattle.std.proofs.lemmas.List.{length-take-le, length-drop}
-use Rattle.std.proofs.lemmas.List.Elements.{All-take, All-drop}
 use Rattle.std.proofs.Math.Seq.{take-add}
 use Rattle.std.specs.Prelude.{is_some}
+use Rattle.m17_lists.proofs.Parts.{part_is_as_long}
 use Rattle.m17_callsign.specs.Callsign.{HasCallsign}
 use Rattle.m17_callsign.specs.Letters.{callsign_of}
 use Rattle.m17_fields.specs.Fields.{be_32, be_64, IsBytes}
@@ -21,7 +20,7 @@ use Rattle.m17_book.specs.declared.record.Record.TheVariants as records
 use Rattle.m17_book.specs.declared.refusal.Flaw.{Flaw}
 use Rattle.m17_book.specs.declared.refusal.Flaw.TheVariants as flaws
 use Rattle.m17_book.proofs.Begun.{begins_join, begins_packet, head_and_byte}
-use Rattle.m17_book.proofs.Entry.{take_one}
+use Rattle.m17_book.proofs.Entry.{take_one, part_bytes}
 use Rattle.m17_book.proofs.RecordClear.{FieldLaws, joins_within}
 use Rattle.m17_book.proofs.Sound.{bad_field, sound_kind, sound_link, sound_head, sound_join, sound_verdict, sound_value, short_join, short_leave, short_packet, short_head}
 use Rattle.m17_book.proofs.VerdictReads.{reads_value}
@@ -30,19 +29,13 @@ use Rattle.m17_book.specs.Versions.{highest_verdict, MayJoin}
 use Rattle.m17_book.specs.declared.version.Version.TheVariants.{One, Two}
 use Rattle.m17_book.specs.declared.version.Version.{Version}
 
-long_part : (n k : ℕ) (b : List ℕ) → n + k ≤ length b → length (take k (drop n b)) ≡ k
-long_part n k b h = length-take-le k (drop n b) (omega (arith, length-drop n b))
-
-part_bytes : (n k : ℕ) (b : List ℕ) → IsBytes b → IsBytes (take k (drop n b))
-part_bytes n k b h = All-take (λ byte. byte < 2 ^ 8) k (drop n b) (All-drop (λ byte. byte < 2 ^ 8) n b h)
-
 -- the head of bytes that have room for it
 whole_head : FieldLaws → (b : List ℕ) (place : ℕ) → IsBytes b → 30 ≤ length b → get_or b 1 0 < 4 → place < 256 → be_32 place ≡ take 4 (drop 18 b)
     → (head : Common) × HasHead b head
 whole_head law b place bytes long link low is =
-    let index = law.of_64.each_bytes (take 8 (drop 2 b)) (long_part 2 8 b (omega arith)) (part_bytes 2 8 b bytes) in
-    let moment = law.of_64.each_bytes (take 8 (drop 10 b)) (long_part 10 8 b (omega arith)) (part_bytes 10 8 b bytes) in
-    let generation = law.of_64.each_bytes (take 8 (drop 22 b)) (long_part 22 8 b (omega arith)) (part_bytes 22 8 b bytes) in
+    let index = law.of_64.each_bytes (take 8 (drop 2 b)) (part_is_as_long 2 8 b (omega arith)) (part_bytes 2 8 b bytes) in
+    let moment = law.of_64.each_bytes (take 8 (drop 10 b)) (part_is_as_long 10 8 b (omega arith)) (part_bytes 10 8 b bytes) in
+    let generation = law.of_64.each_bytes (take 8 (drop 22 b)) (part_is_as_long 22 8 b (omega arith)) (part_bytes 22 8 b bytes) in
     let first = kind_of b ∷ get_or b 1 0 ∷ [] in
     let t₂ : take 2 b ≡ first = take_one b 1 (omega arith) ∙ ap (λ xs. xs ++ get_or b 1 0 ∷ []) (take_one b 0 (omega arith)) in
     let t₁₀ : take 10 b ≡ first ++ be_64 index.0 = take-add 2 8 b ∙ ap (λ xs. xs ++ take 8 (drop 2 b)) t₂ ∙ ap (λ xs. first ++ xs) (sym index.2) in
@@ -108,7 +101,7 @@ module _ (version : Version) where
       | inr high ↦ inr (flaws.Field 1, bad_field version b Link known tt l₂ (sound_kind version b 1 (omega arith)) (λ low. omega (arith, low, high)))
       | inl link ↦ elim (cases_lt (length b) 22) [
         | inl cut ↦ inr (flaws.Cut, (some, known, short_head b (omega arith), sound_link version b (length b) cut link))
-        | inr l₂₂ ↦ let place = law.of_32.each_bytes (take 4 (drop 18 b)) (long_part 18 4 b l₂₂) (part_bytes 18 4 b bytes) in
+        | inr l₂₂ ↦ let place = law.of_32.each_bytes (take 4 (drop 18 b)) (part_is_as_long 18 4 b l₂₂) (part_bytes 18 4 b bytes) in
             elim (cases_lt place.0 256) [
               | inr high ↦ inr (
                 flaws.Field 18,
@@ -131,7 +124,7 @@ module _ (version : Version) where
       | inr high ↦ inr (flaws.Field 30, bad_field version b Listen known kind l₃₁ (sound_head version b 30 (omega arith) h.link h.place) (λ low. omega (arith, low, high)))
       | inl low ↦ elim (cases_lt (length b) 37) [
         | inl cut ↦ inr (flaws.Cut, (omega (arith, h.within), known, short_join b kind cut, sound_join version b (length b) cut kind h.link h.place low))
-        | inr l₃₇ ↦ let call = law.of_48.each_bytes (take 6 (drop 31 b)) (long_part 31 6 b l₃₇) (part_bytes 31 6 b bytes) in
+        | inr l₃₇ ↦ let call = law.of_48.each_bytes (take 6 (drop 31 b)) (part_is_as_long 31 6 b l₃₇) (part_bytes 31 6 b bytes) in
             elim (may_join version law call.0) [
               | inl good ↦ inl (_, _, begins_join version b head call.0 h kind l₃₇ low good call.2)
               | inr bad ↦ inr (
@@ -188,7 +181,7 @@ module _ (version : Version) where
         | inl high ↦ inr (flaws.Field 30, bad_field version b Verdict_ known kind l₃₁ (sound_head version b 30 (omega arith) h.link h.place) (λ r. omega (arith, r.1, high)))
         | inr high ↦ elim (cases_lt (length b) 43) [
           | inl cut ↦ inr (flaws.Cut, (omega (arith, h.within), known, short_packet b kind (omega arith), sound_verdict version b (length b) cut kind h.link h.place (low, high)))
-          | inr l₄₃ ↦ elim (reads_value law (get_or b 30 0) (take 12 (drop 31 b)) low (omega (arith, high, highest_low version)) (part_bytes 31 12 b bytes) (long_part 31 12 b l₄₃)) [
+          | inr l₄₃ ↦ elim (reads_value law (get_or b 30 0) (take 12 (drop 31 b)) low (omega (arith, high, highest_low version)) (part_bytes 31 12 b bytes) (part_is_as_long 31 12 b l₄₃)) [
             | inl found ↦ reads_stream exact law b head bytes h kind known l₄₃ (low, high) (found.0, found.1.0, found.1.1, found.1.2)
             | inr none ↦ inr (
               flaws.Field 31,

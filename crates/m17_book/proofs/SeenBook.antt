@@ -1,5 +1,5 @@
 -- A book that is checked while it is read.
-use Rattle.std.proofs.Common.{◌≡◌, ◌⊎◌, ℕ, ◌+◌, ◌-◌, ◌^◌, ◌<◌, ◌≤◌, List, [], ◌∷◌, ◌++◌, length, Option, None, Some, Result, Ok, Err, IsErr, OnErr, IfOk, IfErr, inl, inr, refl, ap, sym, subst, ◌∙◌, arith, length-append}
+use Rattle.std.proofs.Common.{◌≡◌, ◌⊎◌, ℕ, ◌+◌, ◌-◌, ◌^◌, ◌<◌, ◌≤◌, List, [], ◌∷◌, ◌++◌, length, Option, None, Some, Result, Ok, Err, IsErr, OnErr, IfOk, IfErr, inl, inr, ap, sym, subst, ◌∙◌, arith, length-append}
 use Rattle.m17_floor.specs.LegalLaws.{LaterActsChangeNoBreach, BreachesAreInTheList}
 use Rattle.m17_book.specs.Checks.{IsFirstBreachOf, TellsOfBook, TellsBook}
 use Rattle.m17_book.specs.Checked.{Checking, HasChecked, ChecksNext}

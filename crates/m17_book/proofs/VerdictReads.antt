@@ -1,10 +1,10 @@
 -- The 12 bytes of a verdict's value are those of a verdict, or of none.
-use Rattle.std.proofs.Common.{◌≡◌, ◌≢◌, ◌⊎◌, ℕ, ◌+◌, ◌<◌, ◌≤◌, ◌^◌, List, ◌++◌, length, take, drop, inl, inr, refl, sym, ap, subst, ◌∙◌, arith}
-use Rattle.std.proofs.lemmas.Bool.{cases_lt, cases_eq, cases_Bool, false≢true}
-use Rattle.std.proofs.lemmas.List.{take-append-drop, take_all, length-drop, length-take-le, take_at}
-use Rattle.std.proofs.lemmas.List.Elements.{All-take, All-drop}
-use Rattle.std.proofs.lemmas.Slice.Eq.{bytes_eq-Decides}
-use Rattle.std.specs.Str.{bytes_eq}
+use Rattle.std.proofs.Common.{◌≡◌, ◌⊎◌, ℕ, ◌+◌, ◌<◌, ◌≤◌, ◌^◌, List, ◌++◌, length, take, drop, inl, inr, refl, sym, ap, subst, ◌∙◌, arith}
+use Rattle.std.proofs.lemmas.Bool.{cases_lt, cases_eq}
+use Rattle.std.proofs.lemmas.List.{take-append-drop, take_all, length-drop, take_at}
+use Rattle.m17_lists.proofs.Tests.{same_bytes_or_others}
+use Rattle.m17_lists.proofs.Parts.{part_is_as_long}
+use Rattle.m17_book.proofs.Entry.{part_bytes}
 use Rattle.m17_fields.specs.Fields.{be_16, be_32, be_64, IsBytes}
 use Rattle.m17_floor.specs.declared.verdict.Verdict.{Verdict}
 use Rattle.m17_floor.specs.declared.verdict.Verdict.TheVariants.{Opened, Continued, Busy, Repeat, Late, AfterEnd, TimedOut, NotMember, ListenOnly}
@@ -12,12 +12,6 @@ use Rattle.m17_book.specs.Records.{FitsVerdict, value_bytes, verdict_code, zeros
 use Rattle.m17_book.specs.Parsed.{IsValueOf}
 use Rattle.m17_book.proofs.RecordClear.{FieldLaws, holder_of, verdict_at, with_code}
 use Rattle.m17_book.proofs.Values.{no_late}
-
--- the same bytes, or others
-same_or_other : (a b : List ℕ) → (a ≡ b) ⊎ (a ≢ b)
-same_or_other a b =
-    let decides = bytes_eq-Decides a b in
-    elim (cases_Bool (bytes_eq a b)) [ inl same ↦ inl (decides.0 same) | inr other ↦ inr (λ e. false≢true (sym other ∙ decides.1 e)) ]
 
 -- the bytes are those of a verdict with this code, or of none
 abbrev pub ReadsValue : ℕ → List ℕ → Type 0
@@ -36,16 +30,10 @@ plain_value ListenOnly b l = refl
 
 -- a verdict that has no value
 plain : (code : ℕ) (value : List ℕ) (v : Verdict) → code ≡ verdict_code v → (code ≡ 3 → ⊥) → (code ≡ 5 → ⊥) → FitsVerdict v → ReadsValue code value
-plain code value v is b l fits = elim (same_or_other value zeros_12) [
+plain code value v is b l fits = elim (same_bytes_or_others value zeros_12) [
   | inl zeros ↦ inl (v, (fits, sym is, plain_value v (λ e. b (is ∙ e)) (λ e. l (is ∙ e)) ∙ sym zeros))
   | inr other ↦ inr (λ w h. other (sym h.2 ∙ plain_value w (λ e. b (sym h.1 ∙ e)) (λ e. l (sym h.1 ∙ e))))
 ]
-
-long_part : (n k : ℕ) (b : List ℕ) → n + k ≤ length b → length (take k (drop n b)) ≡ k
-long_part n k b h = length-take-le k (drop n b) (omega (arith, length-drop n b))
-
-part_bytes : (n k : ℕ) (b : List ℕ) → IsBytes b → IsBytes (take k (drop n b))
-part_bytes n k b h = All-take (λ byte. byte < 2 ^ 8) k (drop n b) (All-drop (λ byte. byte < 2 ^ 8) n b h)
 
 -- two parts of twelve bytes
 two_parts : (n k : ℕ) (value : List ℕ) → length value ≡ n + k → take n value ++ take k (drop n value) ≡ value
@@ -62,8 +50,8 @@ no_busy law value place fits is high v h =
 
 reads_busy : FieldLaws → (value : List ℕ) → IsBytes value → length value ≡ 12 → ReadsValue 3 value
 reads_busy law value bytes long =
-    let place = law.of_32.each_bytes (take 4 (drop 0 value)) (long_part 0 4 value (omega arith)) (part_bytes 0 4 value bytes) in
-    let generation = law.of_64.each_bytes (take 8 (drop 4 value)) (long_part 4 8 value (omega arith)) (part_bytes 4 8 value bytes) in
+    let place = law.of_32.each_bytes (take 4 (drop 0 value)) (part_is_as_long 0 4 value (omega arith)) (part_bytes 0 4 value bytes) in
+    let generation = law.of_64.each_bytes (take 8 (drop 4 value)) (part_is_as_long 4 8 value (omega arith)) (part_bytes 4 8 value bytes) in
     elim (cases_lt place.0 256) [
       | inl low ↦ inl (
         Busy (record { place = place.0; generation = generation.0 }),
@@ -78,8 +66,8 @@ reads_busy law value bytes long =
 
 reads_late : FieldLaws → (value : List ℕ) → IsBytes value → length value ≡ 12 → ReadsValue 5 value
 reads_late law value bytes long =
-    let last = law.of_16.each_bytes (take 2 (drop 10 value)) (long_part 10 2 value (omega arith)) (part_bytes 10 2 value bytes) in
-    elim (same_or_other (take 10 value) zeros_10) [
+    let last = law.of_16.each_bytes (take 2 (drop 10 value)) (part_is_as_long 10 2 value (omega arith)) (part_bytes 10 2 value bytes) in
+    elim (same_bytes_or_others (take 10 value) zeros_10) [
       | inr other ↦ inr (no_late law.of_16 value last.0 last.1 last.2 (λ zeros. absurd (other zeros)))
       | inl zeros ↦ elim (cases_lt last.0 32768) [
         | inr high ↦ inr (no_late law.of_16 value last.0 last.1 last.2 (λ _. high))

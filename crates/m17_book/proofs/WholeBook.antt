@@ -2,6 +2,7 @@
 use Rattle.std.proofs.Common.{◌≡◌, ◌⊎◌, ℕ, ◌+◌, ◌-◌, ◌^◌, ◌<◌, List, [], ◌++◌, length, Option, None, Some, Result, Ok, Err, IfErr, IsErr, inl, inr, refl, sym, ap, subst, ◌∙◌, arith, append_assoc, length-append}
 use Rattle.std.proofs.lemmas.List.{append-nil}
 use Rattle.std.proofs.lemmas.Bool.{false≢true}
+use Rattle.m17_book.proofs.Within.{told_more}
 use Rattle.m17_book.specs.Answers.{IsOutside}
 use Rattle.m17_book.specs.Book.{TellsFlaw, BookHeaderFlaw, IsBook, LacksBookForm, RefusesBook}
 use Rattle.m17_book.specs.Flaws.{RecordFlaw}
@@ -23,9 +24,6 @@ use Rattle.m17_book.specs.declared.version.Version.{Version}
 most_low : (version : Version) → most_book_bytes version < 2 ^ 64 - 1
 most_low One = omega arith
 most_low Two = omega arith
-
-told_more : (n k : ℕ) → told (told n + k) ≡ told (n + k)
-told_more n k = omega arith
 
 -- the header of a book of version 1 says its letter alone
 pub header_is : (head : Head) → FitsHeader One head → head ≡ header_of head.module

@@ -49,7 +49,7 @@ short_below b s (inl k) = omega (arith, s.join k)
 short_below b s (inr (inl k)) = omega (arith, s.leave k)
 short_below b s (inr (inr k)) = s.packet k
 
-same_kind : (b more : List ℕ) → 0 < length b → kind_of b ≡ kind_of (b ++ more)
+pub same_kind : (b more : List ℕ) → 0 < length b → kind_of b ≡ kind_of (b ++ more)
 same_kind b more h = (same_front b more).at 0 h
 
 -- what a cursor holds of what is to come: 97 bytes of it at least, or all

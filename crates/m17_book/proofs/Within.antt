@@ -1,5 +1,5 @@
 -- A reader of a book from record to record.
-use Rattle.std.proofs.Common.{◌≡◌, ◌⊎◌, ℕ, ◌+◌, List, [], ◌∷◌, ◌++◌, length, Option, None, Some, MatchOption, IfSome, IsSome, is_some, false, Result, Ok, Err, inl, inr, refl, sym, ap, subst, ◌∙◌, arith, length-append, append_assoc}
+use Rattle.std.proofs.Common.{◌≡◌, ◌⊎◌, ℕ, ◌+◌, List, [], ◌∷◌, ◌++◌, length, Option, None, Some, MatchOption, IsSome, is_some, false, Result, Ok, Err, inl, inr, refl, sym, ap, subst, ◌∙◌, arith, length-append, append_assoc}
 use Rattle.std.proofs.lemmas.List.{append-nil}
 use Rattle.std.proofs.lemmas.Bool.{false≢true}
 use Rattle.m17_book.specs.Limits.{told, SpellsEach}
@@ -15,7 +15,7 @@ use Rattle.m17_book.specs.declared.record.Record.{Record}
 use Rattle.m17_book.specs.declared.refusal.Flaw.{Flaw}
 use Rattle.m17_book.specs.declared.refusal.FormRefusal.{FormRefusal}
 use Rattle.m17_book.specs.declared.refusal.FormRefusal.TheVariants.{Cut, Kind, Field, Large, ReadFault, NoMemory}
-use Rattle.m17_book.specs.Versions.{book_header, header_size, FitsHeader}
+use Rattle.m17_book.specs.Versions.{book_header, FitsHeader}
 use Rattle.m17_book.specs.declared.head.Head.{Head}
 use Rattle.m17_book.specs.declared.version.Version.TheVariants.{Two}
 
@@ -26,7 +26,7 @@ spells_more Spells [] value a b h s = (b, [], s, refl, ap (λ xs. xs ++ b) h ∙
 spells_more Spells (v ∷ vs) value a b h s =
     (h.0, h.1 ++ b, h.2, spells_more Spells vs value h.1 b h.3 s, ap (λ xs. xs ++ b) h.4 ∙ append_assoc h.0 h.1 b)
 
-told_more : (n k : ℕ) → told (told n + k) ≡ told (n + k)
+pub told_more : (n k : ℕ) → told (told n + k) ≡ told (n + k)
 told_more n k = omega arith
 
 told_twice : (n : ℕ) → told (told n) ≡ told n

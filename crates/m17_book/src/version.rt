@@ -2,12 +2,9 @@ ghost use Rattle.std.specs.Prelude.{◌≡◌, ◌≤◌, ◌-◌, ◌↔◌, Is
 ghost use Rattle.m17_fields.specs.Fields.{field_at};
 ghost use Rattle.m17_book.specs.Versions.{book_magic, header_size, highest_verdict, most_book_bytes, limit_bytes, FitsLimit, MayJoin};
 
-use m17_callsign::CallAddress;
+use m17_callsign::{CallAddress, END_OF_CALLSIGNS};
 use m17_fields::get_64;
 use m17_values::Address;
-
-/// 40^9: the first address above those of stations.
-const END_OF_STATIONS: u64 = 262_144_000_000_000;
 
 /// Where the limit begins in a header that has one.
 pub(crate) const LIMIT_AT: usize = 9;
@@ -80,7 +77,7 @@ impl Version {
         ensures same { IfSome result (λ call. call ≡ address) }
     {
         match self {
-            Version::One if address.value() >= END_OF_STATIONS => None,
+            Version::One if address.value() >= END_OF_CALLSIGNS => None,
             _ => CallAddress::new(address),
         }
     }

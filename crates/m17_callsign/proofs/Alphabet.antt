@@ -1,8 +1,9 @@
 -- The forty letters and their indexes, by trying each.
-use Rattle.std.proofs.Common.{ℕ, zero, suc, ◌≡◌, ◌≢◌, ◌+◌, ◌-◌, ◌<◌, ◌≤◌, ◌⊎◌, inl, inr, Bool, true, false, ◌&&◌, ◌||◌, eqb, leb, get_or, refl, ap, sym, ◌∙◌, subst, arith, eqb-true, ltb-true, ltb}
+use Rattle.std.proofs.Common.{ℕ, zero, suc, ◌≡◌, ◌≢◌, ◌+◌, ◌-◌, ◌<◌, ◌≤◌, ◌⊎◌, inl, inr, Bool, true, ◌&&◌, ◌||◌, eqb, leb, get_or, refl, ap, sym, ◌∙◌, subst, arith, eqb-true, ltb-true, ltb}
 use Rattle.std.proofs.lemmas.List.{get_or_default}
 use Rattle.std.proofs.lemmas.Bool.{cases_eq}
 use Rattle.std.proofs.lemmas.Bool.Decides.{nat_tests}
+use Rattle.m17_lists.proofs.Tests.{both_are_true}
 use Rattle.m17_callsign.specs.Callsign.{alphabet, IsLetter, index_of}
 
 -- the test passes at each number below n
@@ -10,14 +11,10 @@ abbrev passes_below : (ℕ → Bool) → ℕ → Bool
 passes_below p zero = true
 passes_below p (suc n) = p n && passes_below p n
 
-both_true : (a b : Bool) → a && b ≡ true → (a ≡ true) × (b ≡ true)
-both_true true b h = (refl, h)
-both_true false b h = cc
-
 passes_at : (p : ℕ → Bool) (n k : ℕ) → passes_below p n ≡ true → k < n → p k ≡ true
 passes_at p zero k h lt = absurd (omega arith)
 passes_at p (suc n) k h lt =
-    let both = both_true (p n) (passes_below p n) h in
+    let both = both_are_true (p n) (passes_below p n) h in
     elim (cases_eq k n) [ inl e ↦ subst (λ (i : ℕ). p i ≡ true) (sym e) both.0 | inr ne ↦ passes_at p n k both.1 (omega arith) ]
 
 -- the letter at an index

@@ -5,7 +5,7 @@ use std::marker::Model;
 
 /// 40^9: the first address above those of callsigns of nine letters or fewer. The address of a group is this and the
 /// sum of its letters.
-pub(crate) const END_OF_CALLSIGNS: u64 = 262_144_000_000_000;
+pub const END_OF_CALLSIGNS: u64 = 262_144_000_000_000;
 
 /// 40^9 + 40^8: the first address above those of groups, which have eight letters or fewer.
 const END_OF_GROUPS: u64 = 268_697_600_000_000;

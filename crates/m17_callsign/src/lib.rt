@@ -13,7 +13,7 @@ mod letters;
 mod refusal;
 
 pub use bytes::{from_bytes, to_bytes};
-pub use call_address::CallAddress;
+pub use call_address::{CallAddress, END_OF_CALLSIGNS};
 pub use call_text::{CallText, text};
 pub use encoding::encode;
 pub use m17_values::Address;

@@ -1,6 +1,7 @@
 -- How a run of `check` comes to its end.
-use Rattle.std.proofs.Common.{◌≡◌, ◌⊎◌, ℕ, List, [], ◌++◌, take, drop, Option, Some, Ok, Err, inl, inr, refl, ap, sym, subst, ◌∙◌}
-use Rattle.std.proofs.lemmas.List.{append-nil, take-append-drop}
+use Rattle.std.proofs.Common.{◌≡◌, ◌⊎◌, ℕ, List, [], take, drop, Option, Ok, Err, inl, inr, refl, ap, sym, subst, ◌∙◌}
+use Rattle.std.proofs.lemmas.List.{take-append-drop}
+use Rattle.m17_lists.proofs.Parts.{nothing_more_is_as_before}
 use Rattle.m17_book.specs.Answers.{IsOutside}
 use Rattle.m17_book.specs.Book.{RefusesBook}
 use Rattle.m17_book.specs.declared.refusal.FormRefusal.{FormRefusal}
@@ -52,12 +53,8 @@ grown (Refused place reason) line first old new same prints = absurd prints
 grown ReadFailed line first old new same prints = absurd prints
 grown WriteFailed line first old new same prints = λ before e. let part = prints.2 before (same ∙ e) in (take part.0 line, part.1)
 
--- a run that ended without a line
-unwritten : (first written : Option (List ℕ)) (before : List ℕ) → written ≡ first → first ≡ Some before → written ≡ Some (before ++ [])
-unwritten first written before same e = same ∙ e ∙ ap Some (sym (append-nil before))
-
 pub ended : (result : TextEnding CheckReason) (bytes : List ℕ) (left first written : Option (List ℕ)) → written ≡ first → HasJudged (Err result) bytes left → Comes SaysCheck PrintsCheck result bytes left first written
 ended Finished bytes left first written same judged = absurd judged
-ended (Refused place reason) bytes left first written same judged = record { said = judged; printed = λ before e. ([], unwritten first written before same e, refl) }
-ended ReadFailed bytes left first written same judged = record { said = tt; printed = λ before e. ([], unwritten first written before same e, refl) }
-ended WriteFailed bytes left first written same judged = record { said = tt; printed = λ before e. ([], unwritten first written before same e, inl refl) }
+ended (Refused place reason) bytes left first written same judged = record { said = judged; printed = λ before e. ([], nothing_more_is_as_before first written before same e, refl) }
+ended ReadFailed bytes left first written same judged = record { said = tt; printed = λ before e. ([], nothing_more_is_as_before first written before same e, refl) }
+ended WriteFailed bytes left first written same judged = record { said = tt; printed = λ before e. ([], nothing_more_is_as_before first written before same e, inl refl) }

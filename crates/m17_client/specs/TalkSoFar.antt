@@ -37,7 +37,7 @@ due_now p script = if is_connected p.client.state
     (filter (λ due. nat_le due.0 (ms_since p.connected_at p.client)) script)
     else []
 
--- It is time to leave, with a script of so many packets.
+-- It is time to leave, with a script of this number of packets.
 pub record IsTimeNow (p : Progress) (packets stay : ℕ) : Type 0 where
   pub connected : is_connected p.client.state ≡ true
   pub all_sent : p.sent ≡ packets

@@ -267,7 +267,7 @@ impl Client {
         None
     }
 
-    // Closes the client where so many milliseconds have gone by since this moment.
+    // Closes the client where `wait` milliseconds have gone by since this moment.
     fn close_after(&mut self, since: u64, wait: u64, why: Ending)
         requires { 0 < wait }
         ensures late { since + wait ≤ self.old.moment

@@ -91,7 +91,7 @@ impl Progress {
         }
     }
 
-    /// Whether it is time to leave, with a script of so many packets.
+    /// Whether it is time to leave, with a script of `packets` packets.
     pub(crate) fn is_time_to_leave(&self, packets: usize, stay: u64) -> bool
         ensures { IsTrue result ↔ IsTimeNow self.now packets stay }
     {

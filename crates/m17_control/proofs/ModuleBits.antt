@@ -1,25 +1,15 @@
 -- Sets of modules are equal where their letters are.
-use Rattle.std.proofs.Common.{◌≡◌, ℕ, zero, suc, ◌+◌, ◌-◌, ◌*◌, ◌/◌, ◌%◌, ◌^◌, ◌<◌, ◌≤◌, Bool, true, false, ◌==◌, bit_or, refl, sym, ap, subst, ◌∙◌, arith}
+use Rattle.std.proofs.Common.{◌≡◌, ℕ, ◌+◌, ◌-◌, ◌*◌, ◌%◌, ◌^◌, ◌<◌, ◌≤◌, ◌==◌, bit_or, sym, ap, subst, ◌∙◌, arith}
 use Rattle.std.specs.Int.{bit_at}
-use Rattle.std.proofs.lemmas.Nat.Bits.{bit_at-lt, bit_at-suc, bit_at_lowest}
+use Rattle.std.proofs.lemmas.Nat.Bits.{bit_at-lt, same_from_bits_below}
 use Rattle.std.proofs.lemmas.Bool.Decides.{nat_tests}
-use Rattle.std.proofs.lemmas.Bool.{false≢true}
 use Rattle.std.proofs.lemmas.Nat.{or_lt}
 use Rattle.std.proofs.Math.Nat.{mod-le}
 use Rattle.std.proofs.Math.Pow.{pow-lt}
 use Rattle.m17_control.specs.declared.modules.Modules.{Modules}
-use Rattle.m17_control.specs.Modules.{serves, IsSet}
+use Rattle.m17_control.specs.Modules.{IsSet}
 use Rattle.m17_control.specs.Laws.{SetsAreTheirLetters}
 use Rattle.m17_control.proofs.ModuleSets.{serves_is}
-
--- numbers of so many bits are equal where these are
-same_bits : (k a b : ℕ) → a < 2 ^ k → b < 2 ^ k → ((i : ℕ) → i < k → bit_at a i ≡ bit_at b i) → a ≡ b
-same_bits zero a b small few each = omega (arith, small, few)
-same_bits (suc k) a b small few each =
-    let low : a % 2 ≡ b % 2 = sym (bit_at_lowest a) ∙ each 0 (omega arith) ∙ bit_at_lowest b in
-    let high : a / 2 ≡ b / 2 = same_bits k (a / 2) (b / 2) (omega (arith, small)) (omega (arith, few))
-    (λ i less. sym (bit_at-suc a i) ∙ each (suc i) (omega arith) ∙ bit_at-suc b i) in
-    omega (arith, low, high)
 
 -- a bit is told by whether it is 1
 same_bit : (x y : ℕ) → x < 2 → y < 2 → (x == 1) ≡ (y == 1) → x ≡ y
@@ -34,7 +24,7 @@ of_bits m n e = ap with_bits e
 
 pub sets-are-their-letters : SetsAreTheirLetters
 sets-are-their-letters m n small few same =
-    of_bits m n (same_bits 26 m.0 n.0 small few (λ i less.
+    of_bits m n (same_from_bits_below 26 m.0 n.0 small few (λ i less.
     same_bit (bit_at m.0 i) (bit_at n.0 i) (bit_at-lt m.0 i) (bit_at-lt n.0 i)
     (ap (λ j. bit_at m.0 j == 1) (omega arith) ∙ sym (serves_is m (65 + i) (omega arith) (omega (arith, less)))
     ∙ same (65 + i) ∙ serves_is n (65 + i) (omega arith) (omega (arith, less))

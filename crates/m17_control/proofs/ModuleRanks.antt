@@ -1,5 +1,5 @@
 -- How many letters of a set stand before one: the bits below its bit.
-use Rattle.std.proofs.Common.{◌≡◌, ℕ, zero, suc, ◌+◌, ◌-◌, ◌*◌, ◌/◌, ◌%◌, ◌^◌, ◌<◌, ◌≤◌, Bool, cond, ◌==◌, List, [], ◌∷◌, ◌++◌, length, filter, bit_and, refl, ap, sym, ◌∙◌, arith}
+use Rattle.std.proofs.Common.{◌≡◌, ℕ, zero, suc, ◌+◌, ◌-◌, ◌*◌, ◌/◌, ◌%◌, ◌^◌, ◌<◌, ◌≤◌, Bool, cond, ◌==◌, List, [], ◌∷◌, length, filter, bit_and, refl, ap, sym, ◌∙◌, arith}
 use Rattle.std.specs.Int.{bit_at}
 use Rattle.std.specs.Int.RustNames.{count_ones}
 use Rattle.std.specs.List.{range_with_len}
@@ -7,15 +7,10 @@ use Rattle.std.proofs.lemmas.List.{length-append}
 use Rattle.std.proofs.lemmas.List.Elements.{filter-append}
 use Rattle.std.proofs.lemmas.Nat.{mod-pow-add, ones_cat, mod_below, pow_pos, and_mask, one_shl}
 use Rattle.std.proofs.lemmas.Nat.Bits.{bit_at-lt}
+use Rattle.m17_lists.proofs.Ranges.{range_ends_in_its_last}
 use Rattle.m17_control.specs.Modules.{serves, letters_before}
 use Rattle.m17_control.specs.declared.modules.Modules.{Modules}
 use Rattle.m17_control.proofs.ModuleSets.{serves_is}
-
-range_more : (from n : ℕ) → range_with_len from (suc n) ≡ range_with_len from n ++ (from + n) ∷ []
-range_more from zero = let e : from ≡ from + 0 = omega arith in ap (λ m. m ∷ []) e
-range_more from (suc n) =
-    let e : from + 1 + n ≡ from + suc n = omega arith in
-    ap (λ xs. from ∷ xs) (range_more (from + 1) n ∙ ap (λ m. range_with_len (from + 1) n ++ m ∷ []) e)
 
 one_counts : (p : ℕ → Bool) (x b : ℕ) → p x ≡ (b == 1) → b < 2 → length (filter p (x ∷ [])) ≡ b
 one_counts p x zero is low = ap (λ (u : Bool). length (cond u (x ∷ []) [])) is
@@ -25,7 +20,7 @@ one_counts p x (suc (suc b)) is low = absurd (omega arith)
 letters_more : (m : Modules) (k : ℕ) → k < 26 → length (filter (serves m) (range_with_len 65 (suc k))) ≡ length (filter (serves m) (range_with_len 65 k)) + bit_at m.0 k
 letters_more m k low =
     let here : 65 + k - 65 ≡ k = omega arith in
-    ap (λ (xs : List ℕ). length (filter (serves m) xs)) (range_more 65 k)
+    ap (λ (xs : List ℕ). length (filter (serves m) xs)) (range_ends_in_its_last 65 k)
     ∙ ap (λ (xs : List ℕ). length xs) (filter-append (serves m) (range_with_len 65 k) ((65 + k) ∷ []))
     ∙ length-append (filter (serves m) (range_with_len 65 k)) (filter (serves m) ((65 + k) ∷ []))
     ∙ ap (λ (n : ℕ). length (filter (serves m) (range_with_len 65 k)) + n)

@@ -4,8 +4,7 @@ use Rattle.std.proofs.lemmas.Bool.{cases_eq, cases_lt, cases_Bool, false≢true}
 use Rattle.std.specs.Prelude.{is_some}
 use Rattle.std.proofs.lemmas.List.{length-take, length-drop, take_all}
 use Rattle.std.proofs.lemmas.List.Elements.{All-take, All-drop}
-use Rattle.std.proofs.lemmas.Slice.Eq.{bytes_eq-Decides}
-use Rattle.std.specs.Str.{bytes_eq}
+use Rattle.m17_lists.proofs.Tests.{same_bytes_or_others}
 use Rattle.m17_callsign.specs.AddressBytes.{address_bytes}
 use Rattle.m17_callsign.specs.Letters.{callsign_of}
 use Rattle.m17_stream.specs.declared.packet.StreamRefusal.{StreamRefusal}
@@ -27,12 +26,6 @@ use Rattle.m17_control.proofs.Refused.{HasOneStream, not_both, one_packet, one_r
 
 abbrev Reads : List ℕ → Type 0
 Reads b = ((p : Packet) × Spells p b) ⊎ ((refusal : Refusal) × Refuses b refusal)
-
--- the same bytes, or others
-same_or_other : (a b : List ℕ) → (a ≡ b) ⊎ (a ≢ b)
-same_or_other a b =
-    let decides = bytes_eq-Decides a b in
-    elim (cases_Bool (bytes_eq a b)) [ inl same ↦ inl (decides.0 same) | inr other ↦ inr (λ e. false≢true (sym other ∙ decides.1 e)) ]
 
 -- the From of bytes that have room for it
 has_from : AddressLaws → (b : List ℕ) → IsBytes b → HasMagic b → (length b ≡ 10) ⊎ (length b ≡ 11) → 10 ≤ length b → (a : ℕ) × HasFrom b a
@@ -87,11 +80,11 @@ no_length n n₁ n₂ n₃ n₄ (inr (inr (inr e))) = n₄ e
 read_bare : (b : List ℕ) → length b ≡ 4 → Reads b
 read_bare b long =
     let whole : b ≡ take 4 b = sym (take_all 4 b (omega arith)) in
-    elim (same_or_other (take 4 b) (codes "ACKN")) [
+    elim (same_bytes_or_others (take 4 b) (codes "ACKN")) [
       | inl e ↦ inl (packets.Control Ackn, whole ∙ e)
-      | inr ne ↦ elim (same_or_other (take 4 b) (codes "NACK")) [
+      | inr ne ↦ elim (same_bytes_or_others (take 4 b) (codes "NACK")) [
         | inl e ↦ inl (packets.Control Nack, whole ∙ e)
-        | inr ne' ↦ elim (same_or_other (take 4 b) (codes "DISC")) [
+        | inr ne' ↦ elim (same_bytes_or_others (take 4 b) (codes "DISC")) [
           | inl e ↦ inl (packets.Control (Disc None), whole ∙ e)
           | inr ne'' ↦ inr (Magic (take 4 b), (inl long, refl, no_bare_magic b long ne ne' ne''))
         ]
@@ -106,13 +99,13 @@ read_from law b h long magic make =
 
 read_with_from : AddressLaws → (b : List ℕ) → IsBytes b → length b ≡ 10 → Reads b
 read_with_from law b h long =
-    elim (same_or_other (take 4 b) (codes "PING")) [
+    elim (same_bytes_or_others (take 4 b) (codes "PING")) [
       | inl e ↦ read_from law b h long (inr (inl (long, inl e)))
           (λ a good from. (packets.Control (Ping a), (good, of_from (codes "PING") (address_bytes a) b long e from.field)))
-      | inr ne ↦ elim (same_or_other (take 4 b) (codes "PONG")) [
+      | inr ne ↦ elim (same_bytes_or_others (take 4 b) (codes "PONG")) [
         | inl e ↦ read_from law b h long (inr (inl (long, inr (inl e))))
             (λ a good from. (packets.Control (Pong a), (good, of_from (codes "PONG") (address_bytes a) b long e from.field)))
-        | inr ne' ↦ elim (same_or_other (take 4 b) (codes "DISC")) [
+        | inr ne' ↦ elim (same_bytes_or_others (take 4 b) (codes "DISC")) [
           | inl e ↦ read_from law b h long (inr (inl (long, inr (inr e))))
               (λ a good from. (packets.Control (Disc (Some a)), (good, of_from (codes "DISC") (address_bytes a) b long e from.field)))
           | inr ne'' ↦ inr (Magic (take 4 b), (inr (inl long), refl, no_from_magic b long ne ne' ne''))
@@ -135,13 +128,13 @@ read_module law b h long magic make =
 
 read_with_module : AddressLaws → (b : List ℕ) → IsBytes b → length b ≡ 11 → Reads b
 read_with_module law b h long =
-    elim (same_or_other (take 4 b) (codes "CONN")) [
+    elim (same_bytes_or_others (take 4 b) (codes "CONN")) [
       | inl e ↦ read_module law b h long (inr (inr (inl (long, inl e))))
           (λ a good from letter. (
             packets.Control (Conn a (get_or b 10 0)),
             (good, letter, of_module (codes "CONN") (address_bytes a) b (get_or b 10 0) long e from.field refl),
           ))
-      | inr ne ↦ elim (same_or_other (take 4 b) (codes "LSTN")) [
+      | inr ne ↦ elim (same_bytes_or_others (take 4 b) (codes "LSTN")) [
         | inl e ↦ read_module law b h long (inr (inr (inl (long, inr e))))
             (λ a good from letter. (
               packets.Control (Lstn a (get_or b 10 0)),

@@ -129,14 +129,8 @@ fn make<B: Drop, R: Drop>(
 
 // A flag that isn't set.
 fn make_flags(alloc: Global) -> Result<Flags, NoMemory> {
-    let Ok(first) = Arc::new(alloc, AtomicBool::new(false)) else {
-        return Err(NoMemory);
-    };
-    let Ok(second) = Arc::try_clone(&first) else {
-        return Err(NoMemory);
-    };
-    let Ok(third) = Arc::try_clone(&first) else {
-        return Err(NoMemory);
-    };
+    let first = Arc::new(alloc, AtomicBool::new(false))?;
+    let second = Arc::try_clone(&first)?;
+    let third = Arc::try_clone(&first)?;
     Ok((first, second, third))
 }

@@ -46,16 +46,14 @@ impl TornBook {
         ensures made { IfOk result (λ book. book ≡ new_book room fails.items) }
         ensures no_room { room ≡ 0 → IsOk result }
     {
-        match Vec::with_capacity(alloc, room) {
-            Ok(bytes) => Ok(TornBook {
-                bytes,
-                room,
-                fails,
-                next_call: 0,
-                faults: 0,
-            }),
-            Err(_) => Err(NoMemory),
-        }
+        let bytes = Vec::with_capacity(alloc, room)?;
+        Ok(TornBook {
+            bytes,
+            room,
+            fails,
+            next_call: 0,
+            faults: 0,
+        })
     }
 
     /// The bytes written.

@@ -42,10 +42,8 @@ impl<E: Ear + Drop> Gate<E> {
     pub fn make(alloc: Global, inner: E, rules: &Rules) -> Result<Gate<E>, NoMemory>
         ensures { IfOk result (λ gate. gate ≡ record { inner = inner; rules = rules.now }) }
     {
-        match QuickRules::make(alloc, rules) {
-            Ok(rules) => Ok(Gate::with(inner, rules)),
-            Err(NoMemory) => Err(NoMemory),
-        }
+        let rules = QuickRules::make(alloc, rules)?;
+        Ok(Gate::with(inner, rules))
     }
 
     /// The same where the rules were made for a gate already: it takes no memory, and cannot fail.

@@ -58,10 +58,8 @@ impl QuickRules {
             src: 0,
             allows: may_talk(&rules, 0),
         };
-        match vec![in alloc; nobody; ANSWERS] {
-            Ok(answers) => Ok(QuickRules { rules, answers }),
-            Err(_) => Err(NoMemory),
-        }
+        let answers = vec![in alloc; nobody; ANSWERS]?;
+        Ok(QuickRules { rules, answers })
     }
 
     /// Whether the bytes ask what the rules deny. Of a stream packet whose sender may speak only

@@ -65,10 +65,8 @@ fn read_with<S: Source>(alloc: Global, s: &mut S, room: &mut [u8]) -> Result<Rul
 fn room_of(alloc: Global, size: usize) -> Result<Vec<u8>, NoMemory>
     ensures { IfOk result (λ room. vec_len room ≡ size) }
 {
-    match vec![in alloc; 0u8; size] {
-        Ok(room) => Ok(room),
-        Err(_) => Err(NoMemory),
-    }
+    let room = vec![in alloc; 0u8; size]?;
+    Ok(room)
 }
 
 /// Fills the room from the source, and answers how many bytes came.

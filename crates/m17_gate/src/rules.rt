@@ -47,20 +47,16 @@ impl Rules {
             Option<Pattern>,
             Option<Letters>,
         ) = (None, None, None, None, None);
-        match self.list.push(rule) {
-            Ok(()) => Ok(()),
-            Err(_) => Err(NoMemory),
-        }
+        self.list.push(rule)?;
+        Ok(())
     }
 
     /// The same rules.
     pub(crate) fn copy(&self, alloc: Global) -> Result<Rules, NoMemory>
         ensures { IfOk result (λ rules. rules ≡ self.now) }
     {
-        match self.list.to_vec(alloc) {
-            Ok(list) => Ok(Rules { list }),
-            Err(_) => Err(NoMemory),
-        }
+        let list = self.list.to_vec(alloc)?;
+        Ok(Rules { list })
     }
 
     /// Whether this is allowed: as the first rule that fits says, and where none fits.

@@ -12,8 +12,8 @@ use Rattle.m17_grid.specs.Columns.{each_with, row_at, lanes_of, IsGrid}
 use Rattle.m17_grid.specs.Laid.{IsLaid}
 use Rattle.m17_grid.proofs.Returns.{all_long, longer_than}
 use Rattle.m17_grid.proofs.Stands.{each_count, last_row, other_rows, new_count, dealt, grids}
-use Rattle.m17_grid.proofs.Moves.{map_read}
 use Rattle.std.proofs.lemmas.List.{map-set}
+use Rattle.std.proofs.Math.ListN.{get_or-map}
 
 module _ {A : Type 0} where
   at_snoc : (l : List A) (a b : A) (j : ℕ) → slice_get (l ++ a ∷ []) j ≡ Some b → (slice_get l j ≡ Some b) ⊎ ((j ≡ length l) × (a ≡ b))
@@ -122,7 +122,7 @@ module _ {T : Type 0} where
 
   pub same_put : {V : Type 0} (items : V → List (PushEnd T)) (vs : List V) (ps : List (PopEnd T)) (i m : ℕ) (x : T) (was is : V) → was ≡ get_or vs i was → items is ≡ push_each (only m x) 0 (items was) → RowsPush T → IsGrid (map items vs) ps → IsGrid (map items (set vs i is)) ps
   same_put items vs ps i m x was is at pushed law h =
-      let there : items was ≡ get_or (map items vs) i (items was) = ap items at ∙ sym (map_read items vs i was) in
+      let there : items was ≡ get_or (map items vs) i (items was) = ap items at ∙ sym (get_or-map items vs i was) in
       let kept : IsSameRow (items was) (items is) = ap (map as_new) pushed ∙ law.kept (only m x) 0 (items was) in
       subst (λ (cs : List (List (PushEnd T))). IsGrid cs ps) (sym (map-set items vs i is))
       (grids.stays (map items vs) (set (map items vs) i (items is)) ps ps (put_zip (map items vs) i (items was) (items is) there kept) refl h)

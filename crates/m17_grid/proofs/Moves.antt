@@ -2,6 +2,8 @@
 use Rattle.std.proofs.Common.{◌≡◌, ℕ, zero, suc, ◌<◌, List, [], ◌∷◌, ◌++◌, map, length, set, get_or, drop, sym, subst, refl, ap, ◌∙◌, arith}
 use Rattle.std.proofs.lemmas.List.{map-set, length-map}
 use Rattle.std.specs.List.{AllZip}
+use Rattle.std.proofs.Math.ListN.{get_or-map}
+use Rattle.m17_lists.proofs.Lengths.{same_cons}
 use Rattle.m17_grid.specs.Columns.{each_with}
 
 module _ {A : Type 0} where
@@ -13,15 +15,6 @@ module _ {A : Type 0} where
 
   pub not_empty : (x : A) (xs : List A) → x ∷ xs ≡ [] → ⊥
   not_empty x xs e = let h : length (x ∷ xs) ≡ 0 = ap length e in omega arith
-
-  pub cons_both : (x y : A) (xs ys : List A) → x ≡ y → xs ≡ ys → x ∷ xs ≡ y ∷ ys
-  cons_both x y xs ys e d = λ i. e i ∷ d i
-
-module _ {A B : Type 0} (f : A → B) where
-  pub map_read : (xs : List A) (m : ℕ) (d : A) → get_or (map f xs) m (f d) ≡ f (get_or xs m d)
-  map_read [] m d = refl
-  map_read (x ∷ xs) zero d = refl
-  map_read (x ∷ xs) (suc m) d = map_read xs m d
 
 module _ {A : Type 0} where
   -- the first k columns have given their last items to the row, and the others are as they were
@@ -56,7 +49,7 @@ module _ {A : Type 0} where
   taken_all (suc k) (b ∷ now) [] old h is = absurd h
   taken_all (suc k) (b ∷ now) (y ∷ row) [] h is = absurd h
   taken_all (suc k) (b ∷ now) (y ∷ row) (o ∷ old) h is =
-      cons_both o (b ++ y ∷ []) old (each_with now row) h.0 (taken_all k now row old h.1 (omega arith))
+      same_cons h.0 (taken_all k now row old h.1 (omega arith))
 
   -- the first k columns are as they were, and the others have one item more, of those that left the row
   abbrev pub Dealt : ℕ → List (List A) → List (List A) → List A → Type 0
@@ -73,7 +66,7 @@ module _ {A : Type 0} where
   dealt_step k [] old gone d x h = absurd h
   dealt_step k (c ∷ now) [] gone d x h = absurd h
   dealt_step zero (c ∷ now) (o ∷ old) gone d x h =
-      cons_both (c ++ x ∷ []) (o ++ x ∷ []) now (each_with old gone) (ap (λ (l : List A). l ++ x ∷ []) h.0) h.1
+      same_cons (ap (λ (l : List A). l ++ x ∷ []) h.0) h.1
   dealt_step (suc k) (c ∷ now) (o ∷ old) gone d x h = (h.0, dealt_step k now old gone d x h.1)
 
 module _ {V : Type 0} (R : V → V → Type 0) where
@@ -106,14 +99,14 @@ module _ {V A : Type 0} (items : V → List A) where
   took cols old k n row more was is x next h lt at left came =
       let long : length (map items cols) ≡ length cols = length-map cols items in
       let step : Taken (suc k) (set (map items cols) k (items is)) (row ++ x ∷ []) (map items old) =
-      taken_step k (map items cols) row (map items old) (items is) (items was) x h (omega arith) (map_read items cols k was ∙ ap items (sym at) ∙ left) in
+      taken_step k (map items cols) row (map items old) (items is) (items was) x h (omega arith) (get_or-map items cols k was ∙ ap items (sym at) ∙ left) in
       subst (λ (j : ℕ). Taken j (map items (set cols k is)) more (map items old)) (sym next)
       (subst (λ (l : List A). Taken (suc k) (map items (set cols k is)) l (map items old)) (sym came)
       (subst (λ (l : List (List A)). Taken (suc k) l (row ++ x ∷ []) (map items old)) (sym (map-set items cols k is)) step))
 
   pub same_items : (cols old : List V) (k : ℕ) (row : List A) (was : V) → Taken k (map items cols) row (map items old) → was ≡ get_or cols k was → items was ≡ items (get_or old k was)
   same_items cols old k row was h at =
-      ap items at ∙ sym (map_read items cols k was) ∙ taken_read k (map items cols) row (map items old) (items was) h ∙ map_read items old k was
+      ap items at ∙ sym (get_or-map items cols k was) ∙ taken_read k (map items cols) row (map items old) (items was) h ∙ get_or-map items old k was
 
   pub dealt_at_first : (old : List V) (n : ℕ) → n ≡ length old → Dealt n (map items old) (map items old) []
   dealt_at_first old n e = subst (λ (j : ℕ). Dealt j (map items old) (map items old) []) (length-map old items ∙ sym e) (dealt_none (map items old))
@@ -122,7 +115,7 @@ module _ {V A : Type 0} (items : V → List A) where
   dealt_one cols old j k m gone was is x next same h at came =
       let here : was ≡ get_or cols k was = at ∙ ap (λ (i : ℕ). get_or cols i was) same in
       let step = dealt_step k (map items cols) old gone (items was) x (subst (λ (i : ℕ). Dealt i (map items cols) old gone) next h) in
-      let put : get_or (map items cols) k (items was) ++ x ∷ [] ≡ items is = ap (λ (l : List A). l ++ x ∷ []) (map_read items cols k was ∙ ap items (sym here)) ∙ sym came in
+      let put : get_or (map items cols) k (items was) ++ x ∷ [] ≡ items is = ap (λ (l : List A). l ++ x ∷ []) (get_or-map items cols k was ∙ ap items (sym here)) ∙ sym came in
       subst (λ (i : ℕ). Dealt k (map items (set cols i is)) old (x ∷ gone)) (sym same)
       (subst (λ (l : List (List A)). Dealt k l old (x ∷ gone)) (sym (map-set items cols k is))
       (subst (λ (l : List A). Dealt k (set (map items cols) k l) old (x ∷ gone)) put step))

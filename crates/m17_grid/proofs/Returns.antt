@@ -2,19 +2,16 @@
 use Rattle.std.proofs.Common.{◌≡◌, ℕ, zero, suc, ◌+◌, ◌<◌, List, [], ◌∷◌, ◌++◌, map, length, All, take, reverse, Option, Some, sym, subst, refl, ap, ◌∙◌, append_assoc, append-nil, length-append, arith}
 use Rattle.std.proofs.lemmas.Option.{same_Some, none-some, slice_get_within, get_or_from_slice_get}
 use Rattle.std.proofs.lemmas.List.Elements.{All-from_recursion, recursion_from_All}
-use Rattle.std.proofs.lemmas.List.{reverse-append, length-map, map-append}
+use Rattle.std.proofs.lemmas.List.{reverse-append, length-map, map-append, same_from_push}
 use Rattle.std.specs.Prelude.{slice_get}
 use Rattle.std.specs.List.{AllByRecursion, cons_option}
+use Rattle.m17_lists.proofs.Lengths.{same_cons}
 use Rattle.m17_lane.specs.Ends.{PushEnd, PopEnd, TrailEnd, AreOf}
 use Rattle.m17_grid.specs.Columns.{each_with, row_at, lanes_of, lanes_popped, IsGrid}
 use Rattle.m17_grid.specs.Trails.{IsTrailOf, IsTrailOfOne, AreTrails, AreTrailsOfOnes}
-use Rattle.m17_grid.proofs.Moves.{heads, tails, not_empty, cons_both}
+use Rattle.m17_grid.proofs.Moves.{heads, tails, not_empty}
 
 module _ {A : Type 0} where
-  pub empty_of : (xs : List A) → length xs ≡ 0 → xs ≡ []
-  empty_of [] e = refl
-  empty_of (x ∷ xs) e = absurd (omega arith)
-
   -- the item behind the first k, and those
   pub last_of_take : (k : ℕ) (col c : List A) (x : A) → k < length col → c ++ x ∷ [] ≡ take (suc k) col → (c ≡ take k col) × (slice_get col k ≡ Some x)
   last_of_take k [] c x lt e = absurd (omega arith)
@@ -27,7 +24,7 @@ module _ {A : Type 0} where
   last_of_take (suc k) (a ∷ b ∷ bs) (y ∷ c) x lt e =
       let front = heads x y a (c ++ x ∷ []) (b ∷ take k bs) e in
       let rest = last_of_take k (b ∷ bs) c x (omega arith) (tails y a (c ++ x ∷ []) (b ∷ take k bs) e) in
-      (cons_both y a c (take k (b ∷ bs)) front rest.0, rest.1)
+      (same_cons front rest.0, rest.1)
 
   pub row_more : (m : ℕ) (col : List A) (cols : List (List A)) (x : A) → slice_get col m ≡ Some x → row_at m (col ∷ cols) ≡ x ∷ row_at m cols
   row_more m col cols x e = ap (λ (o : Option A). cons_option o (row_at m cols)) e
@@ -42,13 +39,13 @@ module _ {A : Type 0} where
   shrunk k (col ∷ cols) (c ∷ now) (x ∷ row) long is row_is e =
       let first = last_of_take k col c x long.0 (sym (heads c (take (suc k) col) (c ++ x ∷ []) (map (take (suc k)) cols) (each_with now row) e)) in
       let rest = shrunk k cols now row long.1 (omega arith) (omega arith) (tails (take (suc k) col) (c ++ x ∷ []) (map (take (suc k)) cols) (each_with now row) e) in (
-        cons_both c (take k col) now (map (take k) cols) first.0 rest.0,
+        same_cons first.0 rest.0,
         ap (λ (l : List A). x ∷ l) rest.1 ∙ sym (row_more k col cols x first.1),
       )
 
   pub take_whole : (cols : List (List A)) (n : ℕ) → AllByRecursion (λ col. length col ≡ n) cols → cols ≡ map (take n) cols
   take_whole [] n h = refl
-  take_whole (col ∷ cols) n h = cons_both col (take n col) cols (map (take n) cols) (whole col n h.0) (take_whole cols n h.1)
+  take_whole (col ∷ cols) n h = same_cons (whole col n h.0) (take_whole cols n h.1)
     where
       whole : (xs : List A) (m : ℕ) → length xs ≡ m → xs ≡ take m xs
       whole [] zero e = refl
@@ -61,18 +58,6 @@ module _ {A : Type 0} where
   some_left k [] h = tt
   some_left k ([] ∷ cols) h = absurd (omega (arith, h.0))
   some_left k ((a ∷ rest_of) ∷ cols) h = (omega arith, some_left k cols h.1)
-
-  pub snoc_parts : (xs ys : List A) (x y : A) → xs ++ x ∷ [] ≡ ys ++ y ∷ [] → (xs ≡ ys) × (x ≡ y)
-  snoc_parts [] [] x y e = (refl, heads x x y [] [] e)
-  snoc_parts [] (b ∷ ys) x y e = absurd (
-      let h : 0 ≡ length (ys ++ y ∷ []) = ap length (tails x b [] (ys ++ y ∷ []) e) in
-      let g = length-append ys (y ∷ []) in omega arith)
-  snoc_parts (a ∷ xs) [] x y e = absurd (
-      let h : length (xs ++ x ∷ []) ≡ 0 = ap length (tails a y (xs ++ x ∷ []) [] e) in
-      let g = length-append xs (x ∷ []) in omega arith)
-  snoc_parts (a ∷ xs) (b ∷ ys) x y e =
-      let rest = snoc_parts xs ys x y (tails a b (xs ++ x ∷ []) (ys ++ y ∷ []) e) in
-      (cons_both a b xs ys (heads a a b (xs ++ x ∷ []) (ys ++ y ∷ []) e) rest.0, rest.1)
 
 module _ {T : Type 0} where
   -- the end of this popper's lane
@@ -102,7 +87,7 @@ module _ {T : Type 0} where
 
   -- the last ends of a row of lanes of one producer are of one lane
   pub last_lane : (qs restq : List (PushEnd T)) (ps restp : List (PopEnd T)) (q : PushEnd T) (p : PopEnd T) → lanes_of qs ≡ lanes_popped ps → qs ≡ restq ++ q ∷ [] → ps ≡ restp ++ p ∷ [] → (lanes_of restq ≡ lanes_popped restp) × (q.lane ≡ p.lane)
-  last_lane qs restq ps restp q p h isq isp = snoc_parts (lanes_of restq) (lanes_popped restp) q.lane p.lane
+  last_lane qs restq ps restp q p h isq isp = same_from_push (lanes_of restq) (lanes_popped restp) q.lane p.lane
       (sym (map-append (λ (x : PushEnd T). x.lane) restq (q ∷ [])) ∙ sym (ap lanes_of isq) ∙ h ∙ ap lanes_popped isp
       ∙ map-append (λ (x : PopEnd T). x.lane) restp (p ∷ []))
 

@@ -5,6 +5,7 @@ use Rattle.std.proofs.lemmas.List.{map-append}
 use Rattle.std.proofs.lemmas.List.Elements.{All-push, All-replicate, All-from_recursion, recursion_from_All}
 use Rattle.std.specs.Prelude.{slice_get}
 use Rattle.std.specs.List.{AllZip, AllByRecursion, cons_option, range_with_len}
+use Rattle.m17_lists.proofs.Places.{each_place_has_one}
 use Rattle.m17_lane.specs.Ends.{PushEnd, PopEnd, AreOf, logs_of, new_pushers, new_pusher}
 use Rattle.m17_rows.specs.Rows.{pushes, push_each, as_new, as_new_popper, IsSameRow, IsSamePopRow}
 use Rattle.m17_grid.specs.Columns.{each_with, row_at, push_grid, lanes_of, lanes_popped, IsGrid}
@@ -43,14 +44,9 @@ module _ {A : Type 0} where
       ap (λ (o : Option A). cons_option o (row_at m (each_with cols row))) (inside c x m h.0)
       ∙ ap (λ (l : List A). cons_option (slice_get c m) l) (other_rows cols row m h.1 (omega arith))
 
-  there : (c : List A) (m : ℕ) → m < length c → (x : A) × (slice_get c m ≡ Some x)
-  there [] m lt = absurd (omega arith)
-  there (y ∷ c) zero lt = (y, refl)
-  there (y ∷ c) (suc m) lt = there c m (omega arith)
-
   row_count : (cols : List (List A)) (m : ℕ) → AllByRecursion (λ c. m < length c) cols → length (row_at m cols) ≡ length cols
   row_count [] m h = refl
-  row_count (c ∷ cols) m h = let (x, at) = there c m h.0 in ap length (row_more m c cols x at) ∙ ap suc (row_count cols m h.1)
+  row_count (c ∷ cols) m h = let (x, at) = each_place_has_one c m h.0 in ap length (row_more m c cols x at) ∙ ap suc (row_count cols m h.1)
 
 module _ {T : Type 0} where
   lanes_dealt : (cols : List (List (PushEnd T))) (poppers : List (PopEnd T)) (row : List (PushEnd T)) (p : PopEnd T) → AllByRecursion (λ c. lanes_of c ≡ lanes_popped poppers) cols → AreOf p.lane row → length row ≡ length cols → AllByRecursion (λ c. lanes_of c ≡ lanes_popped (poppers ++ p ∷ [])) (each_with cols row)
@@ -138,7 +134,7 @@ module _ {T : Type 0} where
   row_pushed : (f : ℕ → ℕ → List T) (k : ℕ) (cols : List (List (PushEnd T))) (m : ℕ) → AllByRecursion (λ c. m < length c) cols → row_at m (push_grid f k cols) ≡ push_each (λ i. f i m) k (row_at m cols)
   row_pushed f k [] m h = refl
   row_pushed f k (c ∷ cols) m h =
-      let (q, at) = there c m h.0 in
+      let (q, at) = each_place_has_one c m h.0 in
       row_more m (push_each (f k) 0 c) (push_grid f (suc k) cols) (pushes q (f k m)) (end_pushed (f k) 0 c m m q (omega arith) at)
       ∙ ap (λ (l : List (PushEnd T)). pushes q (f k m) ∷ l) (row_pushed f (suc k) cols m h.1)
       ∙ sym (ap (λ (l : List (PushEnd T)). push_each (λ i. f i m) k l) (row_more m c cols q at))

@@ -36,12 +36,8 @@ pub fn lay<T: Drop>(
         × (producers ≤ vec_capacity shell)) laid.shells.items) }
 {
     let mut columns = empty_columns(alloc, producers, lanes)?;
-    let Ok(mut poppers) = Vec::with_capacity(alloc, lanes as usize) else {
-        return Err(NoMemory);
-    };
-    let Ok(mut shells) = Vec::with_capacity(alloc, lanes as usize) else {
-        return Err(NoMemory);
-    };
+    let mut poppers = Vec::with_capacity(alloc, lanes as usize)?;
+    let mut shells = Vec::with_capacity(alloc, lanes as usize)?;
     for _laid in 0..lanes {
         let (mut row, popper) = make(alloc, producers, capacity)?;
         deal(&mut columns, &mut row);
@@ -61,13 +57,9 @@ fn empty_columns<T: Drop>(alloc: Global, count: u32, room: u32) -> Result<Vec<Ve
     ensures empty { IfOk result (λ columns. All (λ column. (column.items ≡ [])
         × (vec_capacity column ≡ room)) columns.items) }
 {
-    let Ok(mut columns) = Vec::with_capacity(alloc, count as usize) else {
-        return Err(NoMemory);
-    };
+    let mut columns = Vec::with_capacity(alloc, count as usize)?;
     for _made in 0..count {
-        let Ok(column) = Vec::with_capacity(alloc, room as usize) else {
-            return Err(NoMemory);
-        };
+        let column = Vec::with_capacity(alloc, room as usize)?;
         columns.push_reserved(column);
     }
     Ok(columns)

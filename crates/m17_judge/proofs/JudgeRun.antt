@@ -8,7 +8,8 @@ use Rattle.m17_floor.specs.Laws.{LaterActsChangeNoVerdict}
 use Rattle.m17_print.specs.Endings.{Comes}
 use Rattle.m17_print.specs.Texts.{IsTextOf}
 use Rattle.m17_print.specs.declared.ending.TextEnding.TheVariants.{Finished, Refused, ReadFailed, WriteFailed}
-use Rattle.m17_print.proofs.TextsOfLines.{slice_get_longer, no_lines, same_lines, one_more_line, cut_line}
+use Rattle.m17_lists.proofs.Places.{what_stands_stays}
+use Rattle.m17_print.proofs.TextsOfLines.{no_lines, same_lines, one_more_line, cut_line}
 use Rattle.m17_judge.specs.declared.reason.JudgeReason.TheVariants.{Cut}
 use Rattle.m17_io.specs.Fill.{IsFilled, IsCutShort}
 use Rattle.m17_judge.specs.Judge.{joins, judge_setup, talkers, acts_with, IsRecordLine, HasRecordLine, IsTextOfRecords, SaysJudge, PrintsJudge}
@@ -47,7 +48,7 @@ line_longer : LaterActsChangeNoVerdict → (acts more : List Act) (n : ℕ) (byt
 line_longer law acts more n bytes line (inl j) = inl (record {
   packet = j.packet;
   spelled = j.spelled;
-  act = slice_get_longer acts more (talkers + n) _ j.act;
+  act = what_stands_stays acts more (talkers + n) _ j.act;
   verdict = j.verdict;
   ruled = law judge_setup acts more (talkers + n) (slice_get_within acts (talkers + n) _ j.act) ∙ j.ruled;
   text = j.text;
@@ -55,7 +56,7 @@ line_longer law acts more n bytes line (inl j) = inl (record {
 line_longer law acts more n bytes line (inr t) = inr (record {
   refusal = t.refusal;
   refused = t.refused;
-  act = slice_get_longer acts more (talkers + n) _ t.act;
+  act = what_stands_stays acts more (talkers + n) _ t.act;
   text = t.text;
 })
 

@@ -1,8 +1,7 @@
 -- The table of talkers goes on standing for the acts, one more at a time.
-use Rattle.std.proofs.Common.{◌≡◌, ◌≢◌, ℕ, ◌<◌, ◌⊎◌, List, [], ◌∷◌, ◌++◌, length, max, slice_get, slice_set, get_or, Option, Some, refl, sym, ap, subst, ◌∙◌, arith, inl, inr}
-use Rattle.std.proofs.lemmas.Option.{slice_get_within, get_or_from_slice_get, slice_get-get_or, slice_get_read}
-use Rattle.std.proofs.lemmas.List.{get_or-set_other, get_or-set_same, length-set}
-use Rattle.std.proofs.lemmas.Bool.{cases_eq}
+use Rattle.std.proofs.Common.{◌≡◌, ℕ, ◌<◌, List, [], ◌∷◌, ◌++◌, length, max, slice_get, slice_set, get_or, Option, Some, refl, sym, ap, subst, ◌∙◌, inl, inr}
+use Rattle.std.proofs.lemmas.Option.{slice_get_read}
+use Rattle.m17_lists.proofs.Places.{written_or_as_before}
 use Rattle.m17_values.specs.declared.member.Member.{Member}
 use Rattle.m17_stream.specs.declared.packet.StreamPacket.{StreamPacket}
 use Rattle.m17_floor.specs.declared.act.Act.{Act}
@@ -17,23 +16,13 @@ use Rattle.m17_judge.specs.Judge.{judge_setup, talker, talkers}
 use Rattle.m17_judge.specs.Table.{TableKept, TableStandsFor}
 use Rattle.m17_judge.proofs.Joins.{moment_more}
 
--- after a write at one place, what stands at a place is what was written, or what stood there at another place
-set_cases : {X : Type 0} (xs : List X) (at : ℕ) (y : X) (t : ℕ) (x : X) → at < length xs → slice_get (slice_set xs at y) t ≡ Some x → ((t ≡ at) × (x ≡ y)) ⊎ ((t ≢ at) × (slice_get xs t ≡ Some x))
-set_cases xs at y t x within e =
-    let inside : t < length (slice_set xs at y) = slice_get_within (slice_set xs at y) t x e in
-    let found = sym (get_or_from_slice_get (slice_set xs at y) t x x e) in
-    elim (cases_eq t at) [
-      | inl same ↦ inl (same, found ∙ ap (λ (k : ℕ). get_or (slice_set xs at y) k x) same ∙ get_or-set_same xs at y x within)
-      | inr other ↦ inr (other, slice_get-get_or xs t x (omega (arith, length-set xs at y)) ∙ ap Some (sym (get_or-set_other xs at t y x other) ∙ sym found))
-    ]
-
 -- a talker's packet that was judged
 pub judged_more : (acts : List Act) (act : Act) (t : ℕ) (verdict : Verdict) (kept : TableKept) (floor' : FloorState) (own' : Option Frame)
     → t < length kept.owns → TableStandsFor acts kept → IsJudged judge_setup acts act (talker t) verdict floor' own'
     → TableStandsFor (acts ++ act ∷ []) (record { floor = floor'; owns = slice_set kept.owns t own'; moment = max kept.moment act.at })
 judged_more acts act t verdict kept floor' own' within stands judged = record {
   floor_stands = judged.floor_stands;
-  each_stands = λ k own at_place. elim (set_cases kept.owns t own' k own within at_place) [
+  each_stands = λ k own at_place. elim (written_or_as_before kept.owns t own' k own within at_place) [
     | inl p ↦ subst (λ (m : ℕ). OwnStandsFor judge_setup (acts ++ act ∷ []) (talker m) own) (sym p.0) (p.1 ∙ judged.own_stands)
     | inr p ↦ judged.others_stand (talker k) own (λ same. p.0 (ap (λ (m : Member). m.place) same)) (stands.each_stands k own p.1)
   ];

@@ -104,10 +104,7 @@ pub fn judge<S: Input<K>, K: Sink>(
     // Want of memory comes before the devices are touched.
     ensures untouched { OnErr result ((input.new ≡ input.old) × (out.new ≡ out.old)) }
 {
-    let mut table = match Table::make(alloc) {
-        Ok(table) => table,
-        Err(no_memory) => return Err(no_memory),
-    };
+    let mut table = Table::make(alloc)?;
     match judge_records(&mut table, input, out) {
         Some(ending) => Ok(ending),
         None => Ok(look_past(input, out)),

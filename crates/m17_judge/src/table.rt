@@ -42,10 +42,7 @@ impl Table {
         ensures { IfOk result (λ table. TableStandsFor (joins talkers) table) }
     {
         laws::who_joins_may_speak();
-        let owns = match fresh(alloc) {
-            Ok(owns) => owns,
-            Err(no_memory) => return Err(no_memory),
-        };
+        let owns = fresh(alloc)?;
         Ok(Table {
             floor: Floor::new(TALK_LIMIT_MS),
             owns,
@@ -90,14 +87,9 @@ fn fresh(alloc: Global) -> Result<Vec<Last>, NoMemory>
     ensures at_first { IfOk result (λ owns. (t : ℕ) (own : Option Frame)
         → slice_get owns.items t ≡ Some own → StandsAtFirst own) }
 {
-    let mut owns = match Vec::with_capacity(alloc, TALKERS) {
-        Ok(owns) => owns,
-        Err(_) => return Err(NoMemory),
-    };
+    let mut owns = Vec::with_capacity(alloc, TALKERS)?;
     for _talker in 0..TALKERS {
-        if owns.push(Last::new()).is_err() {
-            return Err(NoMemory);
-        }
+        owns.push(Last::new())?;
     }
     Ok(owns)
 }

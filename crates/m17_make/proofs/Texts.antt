@@ -1,11 +1,10 @@
 -- The text of an evening: entry by entry, its parts, its length, and that it is a trace.
 use Rattle.std.proofs.Common.{◌≡◌, ℕ, zero, suc, ◌+◌, ◌-◌, ◌*◌, ◌^◌, ◌<◌, ◌≤◌, List, [], ◌∷◌, ◌++◌, length, map, take, min, nat_lt, refl, sym, ap, ap₂, ◌∙◌, arith, subst, append_assoc, append-nil, add-zero, length-append, Option, Some}
 use Rattle.std.specs.List.{flat_map, range_with_len, sum_by}
-use Rattle.std.proofs.Math.Seq.{take-append-add}
-use Rattle.std.proofs.lemmas.List.{take_min, take-append-le}
 use Rattle.std.proofs.lemmas.List.Sums.{sum_by-cons}
 use Rattle.std.proofs.lemmas.List.FromFn.{map-range_with_len_more, length-map-range_with_len}
 use Rattle.std.proofs.lemmas.List.Concat.{flat_map-append}
+use Rattle.m17_lists.proofs.Parts.{front_goes_into}
 use Rattle.m17_io.specs.Sink.{AppendsPrefix}
 use Rattle.m17_values.specs.declared.heard.Heard.{Heard}
 use Rattle.m17_book.specs.Limits.{SpellsEach}
@@ -54,16 +53,12 @@ make_text_begins seed j (suc k) =
 
 -- ---- a write that failed
 
-part_of : (a b rest : List ℕ) (n : ℕ) → take (length a + min n (length b)) ((a ++ b) ++ rest) ≡ a ++ take n b
-part_of a b rest n = ap (take (length a + min n (length b))) (append_assoc a b rest) ∙ take-append-add a (b ++ rest) (min n (length b))
-    ∙ ap (λ (bytes : List ℕ). a ++ bytes) (take-append-le (min n (length b)) b rest (omega arith) ∙ take_min n b)
-
 part_of_text : (seed count n : ℕ) (before a b : List ℕ) (after : Option (List ℕ)) → IsBeginning (a ++ b) (make_text seed count)
     → after ≡ Some ((before ++ a) ++ take n b) → AppendsPrefix before (make_text seed count) after
 part_of_text seed count n before a b after begins e = (
   length a + min n (length b),
   e ∙ ap Some (append_assoc before a (take n b)
-      ∙ ap (λ (bytes : List ℕ). before ++ bytes) (sym (ap (take (length a + min n (length b))) begins.whole ∙ part_of a b begins.rest n))),
+      ∙ ap (λ (bytes : List ℕ). before ++ bytes) (sym (ap (take (length a + min n (length b))) begins.whole ∙ front_goes_into a b begins.rest n))),
 )
 
 -- what stands written once j entries are made

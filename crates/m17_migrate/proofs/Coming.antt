@@ -1,6 +1,7 @@
 -- How a run of `migrate` comes to its end.
-use Rattle.std.proofs.Common.{◌≡◌, ◌⊎◌, ℕ, List, [], ◌++◌, take, drop, Option, Some, inl, inr, refl, ap, sym, subst, ◌∙◌}
-use Rattle.std.proofs.lemmas.List.{append-nil, take-append-drop}
+use Rattle.std.proofs.Common.{◌≡◌, ◌⊎◌, ℕ, List, [], ◌++◌, take, drop, Option, Some, inl, inr, refl, sym, subst, ◌∙◌}
+use Rattle.std.proofs.lemmas.List.{take-append-drop}
+use Rattle.m17_lists.proofs.Parts.{nothing_more_is_as_before}
 use Rattle.m17_io.specs.Sink.{AppendsPrefix}
 use Rattle.m17_book.specs.Answers.{IsOutside}
 use Rattle.m17_book.specs.Book.{IsBook, RefusesBook}
@@ -51,13 +52,10 @@ failed letter records bytes left first mid last same book fails = record {
       );
 }
 
-unwritten : (first written : Option (List ℕ)) (before : List ℕ) → written ≡ first → first ≡ Some before → written ≡ Some (before ++ [])
-unwritten first written before same e = same ∙ e ∙ ap Some (sym (append-nil before))
-
 -- a run that ended before anything was written
 pub ended : (result : TextEnding MigrateReason) (bytes : List ℕ) (left first written : Option (List ℕ)) → written ≡ first → EndsUnread bytes result
     → Comes SaysMigrate PrintsMigrate result bytes left first written
 ended Finished bytes left first written same ends = absurd ends
-ended (Refused place reason) bytes left first written same ends = record { said = ends; printed = λ before e. ([], unwritten first written before same e, refl) }
-ended ReadFailed bytes left first written same ends = record { said = tt; printed = λ before e. ([], unwritten first written before same e, refl) }
-ended WriteFailed bytes left first written same ends = record { said = tt; printed = λ before e. ([], unwritten first written before same e, inl refl) }
+ended (Refused place reason) bytes left first written same ends = record { said = ends; printed = λ before e. ([], nothing_more_is_as_before first written before same e, refl) }
+ended ReadFailed bytes left first written same ends = record { said = tt; printed = λ before e. ([], nothing_more_is_as_before first written before same e, refl) }
+ended WriteFailed bytes left first written same ends = record { said = tt; printed = λ before e. ([], nothing_more_is_as_before first written before same e, inl refl) }

@@ -1,25 +1,20 @@
 -- What stands written while records are written, and once one write failed.
-use Rattle.std.proofs.Common.{◌≡◌, ℕ, ◌+◌, ◌<◌, List, [], ◌∷◌, ◌++◌, length, take, drop, get_or, min, All, Option, Some, Result, Ok, Err, OnOk, OnErr, refl, sym, ap, subst, ◌∙◌, arith, append_assoc, append-nil}
+use Rattle.std.proofs.Common.{◌≡◌, ℕ, ◌+◌, ◌<◌, List, [], ◌∷◌, ◌++◌, length, take, drop, get_or, min, All, Option, Some, Result, Ok, Err, OnOk, OnErr, refl, sym, ap, subst, ◌∙◌, append_assoc, append-nil}
 use Rattle.std.specs.List.{flat_map}
-use Rattle.std.proofs.Math.Seq.{take-append-add}
-use Rattle.std.proofs.lemmas.List.{take_min, take-append-le, take-append-drop, take_more}
+use Rattle.std.proofs.lemmas.List.{take-append-drop, take_more}
 use Rattle.std.proofs.lemmas.List.Concat.{flat_map-append}
 use Rattle.std.proofs.lemmas.List.Elements.{All-get_or}
+use Rattle.m17_lists.proofs.Parts.{front_goes_into}
 use Rattle.m17_io.specs.Sink.{AppendsPrefix}
 use Rattle.m17_book.specs.Records.{IsWritable, record_bytes}
 use Rattle.m17_book.specs.declared.record.Record.{Record}
-
--- a first part of a middle piece, behind what stands before it
-part_of : (a b rest : List ℕ) (n : ℕ) → take (length a + min n (length b)) ((a ++ b) ++ rest) ≡ a ++ take n b
-part_of a b rest n = ap (take (length a + min n (length b))) (append_assoc a b rest) ∙ take-append-add a (b ++ rest) (min n (length b))
-    ∙ ap (λ (bytes : List ℕ). a ++ bytes) (take-append-le (min n (length b)) b rest (omega arith) ∙ take_min n b)
 
 -- a write of the middle piece failed
 pub part_written : (before a b rest all : List ℕ) (after : Option (List ℕ)) → all ≡ (a ++ b) ++ rest → AppendsPrefix (before ++ a) b after → AppendsPrefix before all after
 part_written before a b rest all after whole part = (
   length a + min part.0 (length b),
   part.1 ∙ ap Some (append_assoc before a (take part.0 b)
-      ∙ ap (λ (bytes : List ℕ). before ++ bytes) (sym (ap (take (length a + min part.0 (length b))) whole ∙ part_of a b rest part.0))),
+      ∙ ap (λ (bytes : List ℕ). before ++ bytes) (sym (ap (take (length a + min part.0 (length b))) whole ∙ front_goes_into a b rest part.0))),
 )
 
 -- the bytes of the first records, and of one more

@@ -2,15 +2,13 @@
 use Rattle.std.proofs.Common.{◌≡◌, ◌≢◌, ◌≤◌, inl, inr, zero, suc, List, [], ◌∷◌, ◌++◌, Contains, refl, sym, ap, subst, ◌∙◌, arith}
 use Rattle.std.specs.List.{All}
 use Rattle.std.proofs.lemmas.List.Elements.{Contains-append_left, Contains-append_right, Contains-append_cases}
+use Rattle.m17_lists.proofs.Contents.{nothing_is_in_none}
 use Rattle.m17_values.specs.declared.heard.Heard.{Heard}
 use Rattle.m17_values.specs.declared.heard.Heard.TheVariants.{End, Fault}
 use Rattle.m17_io.specs.Faults.{HasRisen}
 use Rattle.m17_ports.specs.Told.{told_then}
 use Rattle.m17_ports.specs.Ear.{EarTold, EndsPastCount, HasHeard}
 use Rattle.m17_ports.proofs.Telling.{ears-tell-on, told-in-turn, nothing-more}
-
-none_there : {A : Type 0} (x : A) → Contains [] x → ⊥
-none_there x h = let lt = h.1 in omega arith
 
 alone : {A : Type 0} (y x : A) (h : Contains (y ∷ []) x) → y ≡ x
 alone y x (zero, lt, e) = e
@@ -20,7 +18,7 @@ pub hear-nothing : {L : Type 0} (ear : EarTold L) → HasHeard ear [] ear
 hear-nothing ear = record {
   told = λ below. sym (nothing-more ear.heard);
   counted = omega arith;
-  fault = λ there. absurd (none_there Fault there);
+  fault = λ there. absurd (nothing_is_in_none Fault there);
   no_fault = λ none. refl;
   same_device = refl;
 }

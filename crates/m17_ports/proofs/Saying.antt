@@ -41,9 +41,6 @@ went_both (true ∷ bs) more (x ∷ xs) second e =
     ap (λ (l : List Datagram). x ∷ l) (went_both bs more xs second (omega arith))
 went_both (false ∷ bs) more (x ∷ xs) second e = went_both bs more xs second (omega arith)
 
-lengths : {A : Type 0} (xs ys : List A) → length (xs ++ ys) ≡ length xs + length ys
-lengths xs ys = length-append xs ys
-
 lost_both : (went more : List Bool) → count_by not (went ++ more) ≡ count_by not went + count_by not more
 lost_both went more = sum_by-append (λ b. cond (not b) 1 0) went more
 
@@ -93,7 +90,7 @@ say-in-turn a b c first second h k =
     let which = went_both h.went k.went first second h.each in
     let many = lost_both h.went k.went in record {
       went = h.went ++ k.went;
-      each = omega (arith, h.each, k.each, lengths h.went k.went, lengths first second);
+      each = omega (arith, h.each, k.each, length-append h.went k.went, length-append first second);
       told = k.told ∙ ap (λ (t : Option (List Datagram)). told_then t (items_where_true k.went second)) h.told
           ∙ told-in-turn a.said (items_where_true h.went first) (items_where_true k.went second)
           ∙ ap (told_then a.said) (sym which);

@@ -1,8 +1,9 @@
 -- A text that is a line for each item: none, one more, the same lines, a first part, and that there is one.
 use Rattle.std.proofs.Common.{◌≡◌, ℕ, suc, ◌+◌, ◌<◌, List, [], ◌∷◌, ◌++◌, length, take, drop, slice_get, Some, unwrap_or, refl, sym, ap, subst, ◌∙◌, arith, append_assoc, inl, inr, length-append}
-use Rattle.std.proofs.lemmas.Option.{slice_get_within, get_or_from_slice_get, slice_get-get_or}
-use Rattle.std.proofs.lemmas.List.{append-nil, length_push, get_or_append_left, get_or_at, flat_map_more, take-append-drop}
+use Rattle.std.proofs.lemmas.Option.{slice_get-get_or}
+use Rattle.std.proofs.lemmas.List.{append-nil, length_push, get_or_at, flat_map_more, take-append-drop}
 use Rattle.std.proofs.lemmas.Bool.{cases_lt}
+use Rattle.m17_lists.proofs.Places.{what_stands_stays}
 use Rattle.m17_print.specs.Texts.{joined_lines, IsTextOf, BeginsTextOf}
 
 -- what stands after so many in a list
@@ -11,14 +12,6 @@ pub slice_get_after : {X : Type 0} (xs : List X) (y : X) (ys : List X) (n : ℕ)
 slice_get_after xs y ys n size =
     slice_get-get_or (xs ++ y ∷ ys) n y (omega (arith, length-append xs (y ∷ ys)))
     ∙ ap Some (get_or_at xs y ys y n size)
-
--- what stands in a list stands there in a longer one
-pub slice_get_longer : {X : Type 0} (xs ys : List X) (i : ℕ) (x : X) → slice_get xs i ≡ Some x
-    → slice_get (xs ++ ys) i ≡ Some x
-slice_get_longer xs ys i x e =
-    let inside = slice_get_within xs i x e in
-    slice_get-get_or (xs ++ ys) i x (omega (arith, length-append xs ys))
-    ∙ ap Some (get_or_append_left xs ys x i inside ∙ get_or_from_slice_get xs i x x e)
 
 -- no line yet
 pub no_lines : (has_line : ℕ → List ℕ → Type 0) → IsTextOf has_line 0 []
@@ -47,7 +40,7 @@ one_more_line has_line count text line is newest = record {
   lines_count = length_push is.lines line ∙ ap (λ n. n + 1) is.lines_count;
   each = λ n below. elim (cases_lt n count) [
     | inl earlier ↦
-        let old = is.each n earlier in (old.0, slice_get_longer is.lines (line ∷ []) n old.0 old.1, old.2)
+        let old = is.each n earlier in (old.0, what_stands_stays is.lines (line ∷ []) n old.0 old.1, old.2)
     | inr later ↦
         let same : count ≡ n = omega arith in (
           line,

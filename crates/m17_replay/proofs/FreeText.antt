@@ -4,6 +4,7 @@ use Rattle.std.specs.List.{flat_map, range_with_len}
 use Rattle.std.proofs.lemmas.List.{length-map}
 use Rattle.std.proofs.lemmas.List.Sums.{sum_by-cons}
 use Rattle.std.proofs.lemmas.Option.{slice_get-map}
+use Rattle.m17_lists.proofs.Ranges.{same_at_each_number}
 use Rattle.m17_values.specs.declared.heard.Heard.{Heard}
 use Rattle.m17_values.specs.declared.peer.Peer.{Peer}
 use Rattle.m17_book.specs.Laws.{TracesAreExact}
@@ -122,13 +123,6 @@ count_le : (b : Bool) (n : ℕ) → cond b n (n - 1) ≤ n
 count_le true n = omega arith
 count_le false n = omega arith
 
--- over all positions heard
-flat_range : {X : Type 0} (f g : ℕ → List X) (from n : ℕ) → ((i : ℕ) → i < from + n → f i ≡ g i) → flat_map f (range_with_len from n) ≡ flat_map g (range_with_len from n)
-flat_range f g from zero h = refl
-flat_range f g from (suc n) h =
-    ap (λ xs. xs ++ flat_map f (range_with_len (from + 1) n)) (h from (omega arith))
-    ∙ ap (λ xs. g from ++ xs) (flat_range f g (from + 1) n (λ i l. h i (omega arith)))
-
 flat_each : {A X : Type 0} (f g : A → List X) (xs : List A) → ((x : A) → f x ≡ g x) → flat_map f xs ≡ flat_map g xs
 flat_each f g [] h = refl
 flat_each f g (x ∷ xs) h = ap (λ us. us ++ flat_map f xs) (h x) ∙ ap (λ us. g x ++ us) (flat_each f g xs h)
@@ -173,7 +167,7 @@ module _ (plan : Plan) (one other : List Entry) (alike : ComeToTheSame plan one 
   lines_same : lines_text plan one ≡ lines_text plan other
   unfolding lines_text
   lines_same =
-      flat_range (line_of plan one) (line_of plan other) 0 (heard_count one) (λ i l. line_same i (within i l))
+      same_at_each_number (line_of plan one) (line_of plan other) 0 (heard_count one) (λ i l. line_same i (within i l))
       ∙ ap (λ m. flat_map (line_of plan other) (range_with_len 0 m)) (count_same one other alike.same)
 
   kinds_same : (place : ℕ) → count_at place (map (outcome_of plan one) (range_with_len 0 (heard_count one))) ≡ count_at place (map (outcome_of plan other) (range_with_len 0 (heard_count other)))

@@ -1,9 +1,10 @@
 -- The link of a trace was lost exactly where 16 faults in a row stand in it.
-use Rattle.std.proofs.Common.{◌≡◌, ◌⊎◌, ℕ, zero, suc, ◌+◌, ◌-◌, ◌<◌, ◌≤◌, true, false, leb, List, [], ◌∷◌, ◌++◌, length, take, drop, get_or, slice_get, replicate, Some, inl, inr, refl, ap, sym, subst, ◌∙◌, append_assoc, length-append, length-drop, arith}
+use Rattle.std.proofs.Common.{◌≡◌, ◌⊎◌, ℕ, zero, suc, ◌+◌, ◌-◌, ◌<◌, ◌≤◌, true, false, leb, List, [], ◌∷◌, ◌++◌, length, take, drop, get_or, slice_get, Some, inl, inr, refl, ap, sym, subst, ◌∙◌, append_assoc, length-append, length-drop, arith}
 use Rattle.std.specs.List.{list_all, range_with_len}
 use Rattle.std.proofs.lemmas.Bool.{and_parts, or_cases, cases_Bool, cases_lt, false≢true, both_ways, leb-true}
-use Rattle.std.proofs.lemmas.List.{append-nil, length-replicate, take-append-drop}
+use Rattle.std.proofs.lemmas.List.{append-nil, length-replicate, take-append-drop, nil_from_length}
 use Rattle.std.proofs.lemmas.Option.{none-some, same_Some, slice_get-get_or, slice_get_within}
+use Rattle.m17_lists.proofs.Places.{all_alike_are_copies, each_copy_is_it, places_before_stay, places_behind_follow, dropped_moves_places}
 use Rattle.m17_values.specs.declared.heard.Heard.{Heard}
 use Rattle.m17_values.specs.declared.heard.Heard.TheVariants as heard
 use Rattle.m17_book.specs.Book.{IsTrace}
@@ -18,41 +19,6 @@ use Rattle.m17_replay.specs.Laws.{HasSixteenFaults, LostBySixteenFaults}
 use Rattle.m17_replay.specs.Replay.{is_lost}
 use Rattle.m17_replay.specs.Run.{is_fault_heard}
 use Rattle.m17_replay.proofs.HeardLemmas.{length_says, says_at, says_fault}
-
--- lists by their positions
-get_drop : {A : Type 0} (xs : List A) (k i j : ℕ) → j ≡ k + i → slice_get (drop k xs) i ≡ slice_get xs j
-get_drop xs zero i j is = ap (slice_get xs) (let e : i ≡ j = omega arith in e)
-get_drop [] (suc k) i j is = refl
-get_drop (x ∷ xs) (suc k) i zero is = absurd (omega arith)
-get_drop (x ∷ xs) (suc k) i (suc j) is = get_drop xs k i j (omega arith)
-
-pub get_before : {A : Type 0} (xs ys : List A) (n : ℕ) → n < length xs → slice_get (xs ++ ys) n ≡ slice_get xs n
-get_before [] ys n below = absurd (omega arith)
-get_before (x ∷ xs) ys zero below = refl
-get_before (x ∷ xs) ys (suc n) below = get_before xs ys n (omega arith)
-
-get_behind : {A : Type 0} (xs ys : List A) (i j : ℕ) → j ≡ length xs + i → slice_get (xs ++ ys) j ≡ slice_get ys i
-get_behind [] ys i j is = ap (slice_get ys) (let e : j ≡ i = omega arith in e)
-get_behind (x ∷ xs) ys i zero is = absurd (omega arith)
-get_behind (x ∷ xs) ys i (suc j) is = get_behind xs ys i j (omega arith)
-
-all_faults : (xs : List Heard) (m : ℕ) → length xs ≡ m → ((i : ℕ) → i < m → slice_get xs i ≡ Some heard.Fault) → xs ≡ replicate m heard.Fault
-all_faults [] zero size each = refl
-all_faults [] (suc m) size each = absurd (omega arith)
-all_faults (x ∷ xs) zero size each = absurd (omega arith)
-all_faults (x ∷ xs) (suc m) size each =
-    let first : x ≡ heard.Fault = same_Some x heard.Fault (each zero (omega arith)) in
-    let more : xs ≡ replicate m heard.Fault = all_faults xs m (omega arith) (λ i below. each (suc i) (omega arith)) in
-    ap (λ (h : Heard). h ∷ xs) first ∙ ap (λ (hs : List Heard). heard.Fault ∷ hs) more
-
-in_faults : (m i : ℕ) → i < m → slice_get (replicate m heard.Fault) i ≡ Some heard.Fault
-in_faults zero i below = absurd (omega arith)
-in_faults (suc m) zero below = refl
-in_faults (suc m) (suc i) below = in_faults m i (omega arith)
-
-nil_of : {A : Type 0} (xs : List A) → length xs ≡ 0 → xs ≡ []
-nil_of [] none = refl
-nil_of (x ∷ xs) none = absurd (omega arith)
 
 -- what was heard, by what it says
 is_the_fault : (h : Heard) → is_fault_heard h ≡ true → h ≡ heard.Fault
@@ -135,8 +101,8 @@ module _ (plan : Plan) (heards : List Heard) (entries : List Entry) (r : IsRepla
       let k = suc r.ends.last - most_faults in
       let long : length (drop k r.front) ≡ most_faults = omega (arith, length-drop k r.front, size, r.ends.is_last, row.0) in
       let faults : drop k r.front ≡ sixteen_faults =
-      all_faults (drop k r.front) most_faults long
-      (λ i below. get_drop r.front k i (k + i) refl ∙ fault_at (k + i) (omega (arith, size, r.ends.is_last, row.0)) (row_at entries k most_faults (k + i) row.1 (omega arith) (omega arith))) in
+      all_alike_are_copies heard.Fault (drop k r.front) most_faults long
+      (λ i below. dropped_moves_places r.front k i (k + i) refl ∙ fault_at (k + i) (omega (arith, size, r.ends.is_last, row.0)) (row_at entries k most_faults (k + i) row.1 (omega arith) (omega arith))) in
       (take k r.front, r.rest, r.heard_is ∙ ap (λ (hs : List Heard). hs ++ r.rest) (sym (take-append-drop k r.front) ∙ ap (λ (hs : List Heard). take k r.front ++ hs) faults))
 
   -- and one that was not, its end
@@ -159,12 +125,12 @@ module _ (plan : Plan) (heards : List Heard) (entries : List Entry) (r : IsRepla
         let is_the_end : h ≡ heard.End = says_end h (notice_at entries n) (says_at r.front entries n h r.says at) is in
         let lists : trace.1 ++ heard.End ∷ [] ≡ r.front ++ r.rest = sym trace.4 ∙ r.heard_is in
         let there : slice_get (trace.1 ++ heard.End ∷ []) n ≡ Some heard.End =
-        ap (λ (hs : List Heard). slice_get hs n) lists ∙ get_before r.front r.rest n inside ∙ at ∙ ap Some is_the_end in
+        ap (λ (hs : List Heard). slice_get hs n) lists ∙ places_before_stay r.front r.rest n inside ∙ at ∙ ap Some is_the_end in
         let at_end : length trace.1 ≤ n = elim (cases_lt n (length trace.1)) [
-          | inl below ↦ absurd (no_end trace.1 trace.3.0 n trace.3.1 (sym (get_before trace.1 (heard.End ∷ []) n below) ∙ there))
+          | inl below ↦ absurd (no_end trace.1 trace.3.0 n trace.3.1 (sym (places_before_stay trace.1 (heard.End ∷ []) n below) ∙ there))
           | inr not_below ↦ not_below
         ] in
-        nil_of r.rest (omega (arith, at_end, size, r.ends.is_last, ap length lists, length-append trace.1 (heard.End ∷ []), length-append r.front r.rest))
+        nil_from_length r.rest (omega (arith, at_end, size, r.ends.is_last, ap length lists, length-append trace.1 (heard.End ∷ []), length-append r.front r.rest))
 
     not_otherwise : FaultsEndIt → HasSixteenFaults heards → is_fault (notice_at entries r.ends.last) ≡ false → ⊥
     not_otherwise law has is_not =
@@ -174,9 +140,9 @@ module _ (plan : Plan) (heards : List Heard) (entries : List Entry) (r : IsRepla
         let p = length has.0 + 15 in
         let there : slice_get (has.0 ++ sixteen_faults ++ has.1) p ≡ Some heard.Fault =
         ap (λ (hs : List Heard). slice_get hs p) (append_assoc has.0 sixteen_faults has.1)
-        ∙ get_behind has.0 (sixteen_faults ++ has.1) 15 p refl
-        ∙ get_before sixteen_faults has.1 15 (omega (arith, length-replicate 16 heard.Fault))
-        ∙ in_faults 16 15 (omega arith) in
+        ∙ places_behind_follow has.0 (sixteen_faults ++ has.1) 15 p refl
+        ∙ places_before_stay sixteen_faults has.1 15 (omega (arith, length-replicate 16 heard.Fault))
+        ∙ each_copy_is_it heard.Fault 16 15 (omega arith) in
         let within : p < length entries = omega (arith, slice_get_within (has.0 ++ sixteen_faults ++ has.1) p heard.Fault there, length_says (has.0 ++ sixteen_faults ++ has.1) entries says) in
         let fault : is_fault (notice_at entries p) ≡ true =
         says_fault heard.Fault (notice_at entries p) (says_at (has.0 ++ sixteen_faults ++ has.1) entries p heard.Fault says there) in

@@ -3,13 +3,15 @@ use Rattle.std.proofs.Common.{◌≡◌, ◌≢◌, ◌⊎◌, ◌||◌, ◌&&�
 use Rattle.std.specs.List.{list_all, range_with_len}
 use Rattle.std.proofs.lemmas.Bool.{cases_Bool, cases_lt, both_ways, le-leb}
 use Rattle.std.proofs.lemmas.Option.{same_Some, slice_get-get_or}
+use Rattle.m17_lists.proofs.Places.{places_before_stay}
+use Rattle.m17_lists.proofs.Tests.{or_true_is_true}
 use Rattle.m17_values.specs.declared.heard.Heard.{Heard}
 use Rattle.m17_values.specs.declared.heard.Heard.TheVariants as heard
 use Rattle.m17_directory.specs.Entries.{Entry, Says, SaysEach, notice_at, ends_at, is_end, is_fault, most_faults}
 use Rattle.m17_directory.specs.Laws.{EndsOnce}
 use Rattle.m17_replay.specs.Run.{is_end_heard, is_fault_heard}
 use Rattle.m17_replay.proofs.HeardLemmas.{length_says, says_at, says_end, says_fault}
-use Rattle.m17_replay.proofs.Lost.{get_before, row_at, row_of}
+use Rattle.m17_replay.proofs.Lost.{row_at, row_of}
 
 -- a row of faults
 row_made : (entries : List Entry) (a m : ℕ) → ((i : ℕ) → a ≤ i → i < a + m → is_fault (notice_at entries i) ≡ true) → list_all (λ k. is_fault (notice_at entries k)) (range_with_len a m) ≡ true
@@ -18,17 +20,13 @@ row_made entries a (suc m) each =
     ap (λ b. b && list_all (λ k. is_fault (notice_at entries k)) (range_with_len (a + 1) m)) (each a (omega arith) (omega arith))
     ∙ row_made entries (a + 1) m (λ i from below. each i (omega arith) (omega arith))
 
-or_true : (b : Bool) → (b || true) ≡ true
-or_true true = refl
-or_true false = refl
-
 ends_by : (entries : List Entry) (n : ℕ) → (is_end (notice_at entries n) ≡ true) ⊎ ((most_faults ≤ suc n) × (list_all (λ k. is_fault (notice_at entries k)) (range_with_len (suc n - most_faults) most_faults) ≡ true)) → ends_at entries n ≡ true
 unfolding ends_at
 ends_by entries n (inl end) = ap (λ b. b || (leb most_faults (suc n) && list_all (λ k. is_fault (notice_at entries k)) (range_with_len (suc n - most_faults) most_faults))) end
 ends_by entries n (inr row) =
     ap (λ b. is_end (notice_at entries n) || (b && list_all (λ k. is_fault (notice_at entries k)) (range_with_len (suc n - most_faults) most_faults))) (le-leb most_faults (suc n) row.0)
     ∙ ap (λ b. is_end (notice_at entries n) || b) row.1
-    ∙ or_true (is_end (notice_at entries n))
+    ∙ or_true_is_true (is_end (notice_at entries n))
 
 -- The first n of these did not end the link, and so many faults came last in a row.
 pub record IsOn (heards : List Heard) (n faults : ℕ) : Type 0 where
@@ -53,7 +51,7 @@ module _ (heards front rest : List Heard) (entries : List Entry) (is : heards �
       let inside : i < length front = omega (arith, length_says front entries says) in
       let h = get_or front i heard.Fault in
       let at = slice_get-get_or front i heard.Fault inside in
-      (h, ap (λ (hs : List Heard). slice_get hs i) is ∙ get_before front rest i inside ∙ at, says_at front entries i h says at)
+      (h, ap (λ (hs : List Heard). slice_get hs i) is ∙ places_before_stay front rest i inside ∙ at, says_at front entries i h says at)
 
   fault_is : (i : ℕ) (b : Bool) → i < length entries → ((h : Heard) → slice_get heards i ≡ Some h → is_fault_heard h ≡ b) → is_fault (notice_at entries i) ≡ b
   fault_is i b below told =

@@ -1,17 +1,12 @@
 -- What is written, text after text, and the counts of the sink's faults.
-use Rattle.std.proofs.Common.{◌≡◌, ℕ, zero, suc, ◌+◌, List, [], ◌∷◌, ◌++◌, length, take, Option, Some, Result, Ok, Err, refl, sym, ap, subst, ◌∙◌, arith, inl, inr, append_assoc}
+use Rattle.std.proofs.Common.{◌≡◌, ℕ, ◌+◌, List, [], ◌++◌, length, take, Option, Some, Result, Ok, Err, refl, sym, ap, subst, ◌∙◌, arith, inl, inr, append_assoc}
 use Rattle.std.proofs.lemmas.List.{append-nil, take_all, take-append-le}
 use Rattle.std.proofs.lemmas.Bool.{cases_lt}
+use Rattle.m17_lists.proofs.Parts.{front_goes_past}
 use Rattle.m17_io.specs.Faults.{HasCause}
 use Rattle.m17_io.specs.Sink.{AppendsPrefix}
 use Rattle.m17_print.specs.Endings.{Grows}
 use Rattle.m17_replay.specs.Run.{Writes}
-
--- so many of two texts that all of the first is among them
-take_past : (n k : ℕ) (a b : List ℕ) → k ≡ length a + n → take k (a ++ b) ≡ a ++ take n b
-take_past n k [] b e = let same : k ≡ n = omega arith in ap (λ m. take m b) same
-take_past n zero (x ∷ a) b e = absurd (omega arith)
-take_past n (suc k) (x ∷ a) b e = ap (λ xs. x ∷ xs) (take_past n k a b (omega arith))
 
 -- a first part of a text is a first part of a longer one
 pub part_of_longer : (before a b : List ℕ) (written : Option (List ℕ)) → AppendsPrefix before a written → AppendsPrefix before (a ++ b) written
@@ -24,7 +19,7 @@ part_of_longer before a b written part = elim (cases_lt part.0 (length a)) [
 pub whole_and_part : (before a b : List ℕ) (written : Option (List ℕ)) → AppendsPrefix (before ++ a) b written → AppendsPrefix before (a ++ b) written
 whole_and_part before a b written part = (
   length a + part.0,
-  part.1 ∙ ap Some (append_assoc before a (take part.0 b)) ∙ ap (λ xs. Some (before ++ xs)) (sym (take_past part.0 (length a + part.0) a b refl)),
+  part.1 ∙ ap Some (append_assoc before a (take part.0 b)) ∙ ap (λ xs. Some (before ++ xs)) (sym (front_goes_past part.0 (length a + part.0) a b refl)),
 )
 
 -- nothing is written yet

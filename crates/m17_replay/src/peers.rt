@@ -21,10 +21,10 @@ fn name_sender(named: &mut BTreeSet<Peer>, one: &Heard) -> Result<(), NoMemory>
     ensures { OnOk result (named.new.keys ≡ with_heard one.now named.old.keys) }
 {
     match one {
-        Heard::Datagram { from, .. } => match named.insert(*from) {
-            Ok(_) => Ok(()),
-            Err(_) => Err(NoMemory),
-        },
+        Heard::Datagram { from, .. } => {
+            named.insert(*from)?;
+            Ok(())
+        }
         _ => Ok(()),
     }
 }
@@ -36,10 +36,7 @@ fn name_peers(alloc: Global, heard: &[Heard]) -> Result<BTreeSet<Peer>, NoMemory
 {
     let mut named = BTreeSet::new(alloc);
     for one in heard {
-        match name_sender(&mut named, one) {
-            Ok(()) => {}
-            Err(no_memory) => return Err(no_memory),
-        }
+        name_sender(&mut named, one)?;
     }
     Ok(named)
 }
@@ -48,10 +45,8 @@ fn name_peers(alloc: Global, heard: &[Heard]) -> Result<BTreeSet<Peer>, NoMemory
 fn list_peers(alloc: Global, named: &BTreeSet<Peer>) -> Result<Vec<Peer>, NoMemory>
     ensures { IfOk result (λ peers. peers.items ≡ named.now.keys) }
 {
-    match named.iter().copied().collect(alloc) {
-        Ok(peers) => Ok(peers),
-        Err(_) => Err(NoMemory),
-    }
+    let peers = named.iter().copied().collect(alloc)?;
+    Ok(peers)
 }
 
 // The peers that datagrams came from, each once, in their order, where a summary is asked for, and else nobody.
@@ -66,8 +61,6 @@ pub(crate) fn name_peers_for(
     if !summary {
         return Ok(Vec::new(alloc));
     }
-    match name_peers(alloc, heard) {
-        Ok(named) => list_peers(alloc, &named),
-        Err(no_memory) => Err(no_memory),
-    }
+    let named = name_peers(alloc, heard)?;
+    list_peers(alloc, &named)
 }

@@ -150,6 +150,21 @@ fn nothing_is_printed_of_an_empty_trace_and_of_what_is_none(rt: HostRuntime) -> 
     Ok(())
 }
 
+// The entry behind a million is refused by its place, and not told as want of memory.
+#[test]
+fn a_trace_of_too_many_entries_is_large(rt: HostRuntime) -> Result<(), Fail> {
+    let alloc = rt.alloc();
+    let plan = plan(256, "ABC")?;
+    let faults = vec![in alloc; 3u8; 1_000_001]?;
+    let mut bytes = b"M17TRACE".to_vec(alloc)?;
+    bytes.extend_from_slice(&faults)?;
+    let ending = ReplayEnding::Refused {
+        place: 1_000_008,
+        reason: TraceReason::Large,
+    };
+    expect(&rt, alloc, &plan, &bytes, ending, "")
+}
+
 #[test]
 fn each_entry_has_its_line(rt: HostRuntime) -> Result<(), Fail> {
     let alloc = rt.alloc();

@@ -10,7 +10,7 @@ use crate::rule::{
 };
 use atomic_table::{Seat, Table};
 use m17_values::{Member, NoMemory};
-use std::alloc::{AllocError, Global};
+use std::alloc::Global;
 use std::marker::{Brand, Model};
 use std::sync::Arc;
 
@@ -176,18 +176,6 @@ impl RollSeat {
 /// one seat; each thread takes one. `NoMemory` where there is none for the words, the seats or their count.
 pub fn make(alloc: Global, places: u32, seats: u32) -> Result<Vec<RollSeat>, NoMemory>
     requires places { (0 < places) × (places ≤ 256) }
-    requires seats { 0 < seats }
-    ensures { IfOk result (λ v. AreNew places seats v.items) }
-{
-    let Ok(all) = make_all(alloc, places, seats) else {
-        return Err(NoMemory);
-    };
-    Ok(all)
-}
-
-// The same, with the kit's own word for want of memory.
-fn make_all(alloc: Global, places: u32, seats: u32) -> Result<Vec<RollSeat>, AllocError>
-    requires places { 0 < places }
     requires seats { 0 < seats }
     ensures { IfOk result (λ v. AreNew places seats v.items) }
 {

@@ -1,6 +1,7 @@
 -- One thing at one place of a row, and nothing at the others.
-use Rattle.std.proofs.Common.{◌≡◌, ◌≢◌, ℕ, zero, suc, cond, List, [], ◌∷◌, map, set, get_or, sym, refl, ap, ◌∙◌, eq-eqb, ne_eqb}
+use Rattle.std.proofs.Common.{◌≡◌, ◌≢◌, ℕ, cond, List, [], ◌∷◌, map, set, get_or, sym, ap, ◌∙◌, eq-eqb, ne_eqb}
 use Rattle.std.proofs.lemmas.List.{map-set, set-get_or}
+use Rattle.std.proofs.Math.ListN.{get_or-map}
 use Rattle.m17_rows.specs.Rows.{only}
 use Rattle.m17_rows.specs.Grids.{only_in}
 
@@ -18,13 +19,8 @@ module _ {T : Type 0} where
   in_else m q x i j isnt = ap (λ b. cond b (only q x j) []) (ne_eqb i m isnt)
 
 module _ {A B : Type 0} (f : A → B) where
-  pub map_read : (xs : List A) (m : ℕ) (d : A) → get_or (map f xs) m (f d) ≡ f (get_or xs m d)
-  map_read [] m d = refl
-  map_read (x ∷ xs) zero d = refl
-  map_read (x ∷ xs) (suc m) d = map_read xs m d
-
   -- what f shows of a place stays
   pub map_kept : (xs : List A) (m : ℕ) (was is : A) → was ≡ get_or xs m was → f is ≡ f was → map f (set xs m is) ≡ map f xs
   map_kept xs m was is at e =
-      let there : f was ≡ get_or (map f xs) m (f was) = ap f at ∙ sym (map_read xs m was) in
+      let there : f was ≡ get_or (map f xs) m (f was) = ap f at ∙ sym (get_or-map f xs m was) in
       map-set f xs m is ∙ ap (λ (y : B). set (map f xs) m y) (e ∙ there) ∙ set-get_or (map f xs) m (f was)

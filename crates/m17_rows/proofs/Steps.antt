@@ -3,10 +3,11 @@ use Rattle.std.proofs.Common.{◌≡◌, ◌≢◌, ℕ, zero, suc, ◌<◌, ◌
 use Rattle.std.proofs.lemmas.Option.{slice_get-get_or}
 use Rattle.std.proofs.lemmas.List.{length-map, map-set, set-get_or}
 use Rattle.std.specs.Prelude.{slice_get}
+use Rattle.std.proofs.Math.ListN.{get_or-map}
 use Rattle.m17_lane.specs.Ends.{PushEnd, PopEnd, pushed_to, refused_by, popped_from}
 use Rattle.m17_rows.specs.Rows.{pushes, grows, pops, push_each, grow_each, pop_each, only, nowhere, IsNewPopper}
 use Rattle.m17_rows.specs.Grids.{pop_grid, only_in}
-use Rattle.m17_rows.proofs.Places.{map_read, map_kept}
+use Rattle.m17_rows.proofs.Places.{map_kept}
 use Rattle.m17_rows.proofs.Pushes.{placed as push_placed}
 use Rattle.m17_rows.proofs.Pops.{placed as pop_placed}
 use Rattle.m17_rows.proofs.Grown.{placed as grow_placed, here, none_here}
@@ -58,7 +59,7 @@ module _ {T : Type 0} where
       → MatchOption r (map items (set grid m is) ≡ map items grid) (λ x. map items (set grid m is) ≡ pop_grid (only_in m q x) 0 (map items grid))
   popped_in items None grid m q was is lt at e = map_kept items grid m was is at e
   popped_in items (Some x) grid m q was is lt at e =
-      let there : items was ≡ get_or (map items grid) m (items was) = ap items at ∙ sym (map_read items grid m was) in
+      let there : items was ≡ get_or (map items grid) m (items was) = ap items at ∙ sym (get_or-map items grid m was) in
       let long : length (map items grid) ≡ length grid = length-map grid items in
       map-set items grid m is ∙ ap (λ (l : List (PopEnd T)). set (map items grid) m l) e
       ∙ ap (λ (l : List (PopEnd T)). set (map items grid) m (pop_each (only q x) 0 l)) there

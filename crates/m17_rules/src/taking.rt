@@ -43,10 +43,8 @@ pub fn take_rules<S: Input<K>, K: Sink>(
 fn room_of(alloc: Global, size: usize) -> Result<Vec<u8>, NoMemory>
     ensures { IfOk result (λ room. vec_len room ≡ size) }
 {
-    match vec![in alloc; 0u8; size] {
-        Ok(room) => Ok(room),
-        Err(_) => Err(NoMemory),
-    }
+    let room = vec![in alloc; 0u8; size]?;
+    Ok(room)
 }
 
 // The same with room for one byte more than a text of rules may have.

@@ -107,10 +107,8 @@ impl Hint {
 }
 
 fn clear_words(alloc: Global, count: u32) -> Result<Vec<u64>, NoMemory> {
-    match Vec::from_elem(alloc, 0u64, count as usize) {
-        Ok(words) => Ok(words),
-        Err(_) => Err(NoMemory),
-    }
+    let words = Vec::from_elem(alloc, 0u64, count as usize)?;
+    Ok(words)
 }
 
 fn set_bits(words: &mut Vec<u64>, word: usize, bits: u64) {

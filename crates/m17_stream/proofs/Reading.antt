@@ -1,12 +1,13 @@
 -- Each byte list is one packet, or is refused for one reason.
 use Rattle.std.proofs.Common.{◌≡◌, ◌⊎◌, ℕ, ◌+◌, ◌%◌, ◌<◌, ◌≤◌, ◌^◌, leb, List, length, take, drop, inl, inr, refl, sym, ap, ◌∙◌, arith}
 use Rattle.std.proofs.lemmas.Bool.{cases_eq, cases_Bool, false≢true}
-use Rattle.std.proofs.lemmas.List.{length-take, length-drop}
+use Rattle.std.proofs.lemmas.List.{length-drop}
 use Rattle.std.proofs.lemmas.List.Elements.{All-take, All-drop}
 use Rattle.std.proofs.lemmas.Nat.{mod_below}
 use Rattle.std.proofs.lemmas.Slice.Eq.{bytes_eq-Decides}
 use Rattle.m17_fields.specs.Fields.{be_16, field_at, IsBytes, Fields16AreExact}
 use Rattle.std.specs.Str.{bytes_eq}
+use Rattle.m17_lists.proofs.Parts.{part_is_as_long}
 use Rattle.m17_crc.specs.Crc.{crc_of}
 use Rattle.m17_lsd.specs.declared.lsd.Lsd.{Lsd}
 use Rattle.m17_lsd.specs.Lsd.{FitsFields, lsd_bytes}
@@ -21,9 +22,6 @@ use Rattle.m17_stream.proofs.Packets.{CrcFits, one_spelling, not_both, one_refus
 
 IsBytes-part : (n k : ℕ) (b : List ℕ) → IsBytes b → IsBytes (take k (drop n b))
 IsBytes-part n k b h = All-take (λ byte. byte < 2 ^ 8) k (drop n b) (All-drop (λ byte. byte < 2 ^ 8) n b h)
-
-length-part : (n k : ℕ) (b : List ℕ) → n + k ≤ length b → length (take k (drop n b)) ≡ k
-length-part n k b h = simp (length-take, length-drop) (omega arith)
 
 -- the packet in 54 bytes with this link setup data, this stream id and this field of the frame
 packet_in : Lsd → ℕ → ℕ → List ℕ → StreamPacket
@@ -41,7 +39,7 @@ abbrev NumberAt : ℕ → List ℕ → Type 0
 NumberAt place b = (number : ℕ) × (number < 2 ^ 16) × (be_16 number ≡ field_at place 2 b)
 
 number_at : Fields16AreExact → (place : ℕ) (b : List ℕ) → place + 2 ≤ length b → IsBytes b → NumberAt place b
-number_at two place b long h = two.each_bytes (field_at place 2 b) (length-part place 2 b long) (IsBytes-part place 2 b h)
+number_at two place b long h = two.each_bytes (field_at place 2 b) (part_is_as_long place 2 b long) (IsBytes-part place 2 b h)
 
 packet_in_fields : (l : Lsd) (b : List ℕ) (sid : NumberAt 4 b) (field : NumberAt 34 b) → IsBytes b → FitsFields l → lsd_bytes l ≡ field_at 6 28 b
     → HasFields (packet_in l sid.0 field.0 b) b
@@ -63,7 +61,7 @@ Reads b = ((p : StreamPacket) × SpellsStream p b) ⊎ ((refusal : StreamRefusal
 -- after the length and the magic: the CRC decides
 read_crc : Fields16AreExact → Each28BytesAreLinkSetupData → (b : List ℕ) → length b ≡ 54 → IsBytes b → take 4 b ≡ magic → Reads b
 read_crc two each b long h m =
-    let lsd = each (field_at 6 28 b) (length-part 6 28 b (omega arith)) (IsBytes-part 6 28 b h) in
+    let lsd = each (field_at 6 28 b) (part_is_as_long 6 28 b (omega arith)) (IsBytes-part 6 28 b h) in
     let sid = number_at two 4 b (omega arith) h in
     let field = number_at two 34 b (omega arith) h in
     let crc = two.each_bytes (drop 52 b) (simp length-drop (omega arith)) (All-drop (λ byte. byte < 2 ^ 8) 52 b h) in

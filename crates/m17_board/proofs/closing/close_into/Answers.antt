@@ -1,10 +1,7 @@
-use Rattle.std.proofs.Common.{◌≡◌, List, [], ◌∷◌, length, refl, ap, ◌∙◌, arith}
+use Rattle.std.proofs.Common.{length, ap, ◌∙◌, arith}
+use Rattle.std.proofs.lemmas.List.{nil_from_length}
 use Rattle.m17_board.proofs.Pairs.{closed_none, closed_more, last_pair, closed_glances, closed_saw}
 use Rattle.m17_board.proofs.closing.close_into.Goals as goal
-
-none_left : {A : Type 0} (xs : List A) → length xs ≡ 0 → xs ≡ []
-none_left [] h = refl
-none_left (x ∷ xs) h = absurd (omega arith)
 
 pub loop-poster-init : goal.loop-poster-init
 loop-poster-init g c =
@@ -26,8 +23,8 @@ loop-poster-preserved g c = (
 
 pub returns-clause-glances : goal.returns-clause-glances
 returns-clause-glances g c =
-    c.reverse.ensures.items ∙ closed_glances _ _ _ _ _ c.loop-poster.invariant.0 (none_left c.loop-poster.posters.items (omega (arith, c.loop-poster.posters.ok.0, c.in_default.ensures.cases.0)))
+    c.reverse.ensures.items ∙ closed_glances _ _ _ _ _ c.loop-poster.invariant.0 (nil_from_length c.loop-poster.posters.items (omega (arith, c.loop-poster.posters.ok.0, c.in_default.ensures.cases.0)))
 
 pub returns-clause-seen : goal.returns-clause-seen
 returns-clause-seen g c =
-    closed_saw _ _ _ _ _ c.loop-poster.invariant.0 (none_left c.loop-poster.posters.items (omega (arith, c.loop-poster.posters.ok.0, c.in_default.ensures.cases.0)))
+    closed_saw _ _ _ _ _ c.loop-poster.invariant.0 (nil_from_length c.loop-poster.posters.items (omega (arith, c.loop-poster.posters.ok.0, c.in_default.ensures.cases.0)))

@@ -1,4 +1,4 @@
-use Rattle.std.proofs.Common.{◌≡◌, ◌++◌, Some, sym, subst, ap, ◌∙◌}
+use Rattle.std.proofs.Common.{◌++◌, sym, subst, ap, ◌∙◌}
 use Rattle.m17_book.specs.Book.{IsBook, RefusesBook}
 use Rattle.m17_book.specs.Laws.{BookKept}
 use Rattle.m17_book.specs.Walk.{spot, IsHeaderOf}

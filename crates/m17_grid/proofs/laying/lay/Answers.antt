@@ -10,15 +10,15 @@ loop-laid-init g c =
     let made = c.in_ok-columns in let cols = map (λ column. column.items) made.columns.items in
     let none = shown_empty (λ column. column.items) made.columns.items (recursion_from_All (λ column. column.items ≡ []) made.columns.items
     (All-weaker (λ column. (column.items ≡ []) × (vec_capacity column ≡ c.args.lanes)) (λ column. column.items ≡ []) (λ column both. both.0) made.columns.items made.ensures.empty)) in
-    let shells = ap length c.in-Ok-with_capacity.ensures.items in record {
-      laid = subst (λ ps. IsLaid c.args.producers c.args.capacity cols ps) (sym c.in-Ok.ensures.items)
+    let shells = ap length c.in_ok-shells.ensures.items in record {
+      laid = subst (λ ps. IsLaid c.args.producers c.args.capacity cols ps) (sym c.in_ok-poppers.ensures.items)
           (laid_none c.args.producers c.args.capacity cols
           (omega (arith, made.ensures.count, made.columns.ok.0, length-map made.columns.items (λ column. column.items))) none);
       columns = All-weaker (λ column. (column.items ≡ []) × (vec_capacity column ≡ c.args.lanes)) (λ column. (vec_len column ≡ 0) × (vec_capacity column ≡ c.args.lanes))
           (λ column both. let e = ap length both.0 in (omega (arith, column.ok.0), both.1)) made.columns.items made.ensures.empty;
-      poppers = (c.in-Ok.ensures.len, c.in-Ok.ensures.exact);
+      poppers = (c.in_ok-poppers.ensures.len, c.in_ok-poppers.ensures.exact);
       shells = λ k d lt. absurd (omega arith);
-      shell_count = (c.in-Ok-with_capacity.ensures.len, c.in-Ok-with_capacity.ensures.exact);
+      shell_count = (c.in_ok-shells.ensures.len, c.in_ok-shells.ensures.exact);
     }
 
 pub loop-laid-preserved : goal.loop-laid-preserved

@@ -1,8 +1,8 @@
 use Rattle.std.proofs.Common.{◌≡◌, ◌≤◌, [], map, length, All, vec_len, vec_capacity, sym, subst, refl, ap, ◌∙◌, arith}
-use Rattle.std.proofs.lemmas.List.{length-map}
+use Rattle.std.proofs.lemmas.List.{length-map, nil_from_length}
 use Rattle.m17_lane.specs.Ends.{logs_of, refused_of}
 use Rattle.m17_grid.specs.Trails.{AreTrails}
-use Rattle.m17_grid.proofs.Returns.{empty_of, take_whole, all_long, back_none, back_more, back_all, taking, some_ends}
+use Rattle.m17_grid.proofs.Returns.{take_whole, all_long, back_none, back_more, back_all, taking, some_ends}
 use Rattle.m17_grid.proofs.trails.finish_each.Goals as goal
 
 pub loop-popper-init : goal.loop-popper-init
@@ -71,6 +71,6 @@ loop-popper-preserved g c =
 pub returns-clause-trails : goal.returns-clause-trails
 returns-clause-trails g c =
     let now = c.loop-popper in let cols = map (λ column. column.items) c.args.columns.now.items in
-    let none = empty_of now.poppers.items (omega (arith, now.poppers.ok.0, c.in_default.ensures.cases.0)) in
+    let none = nil_from_length now.poppers.items (omega (arith, now.poppers.ok.0, c.in_default.ensures.cases.0)) in
     subst (λ ts. AreTrails cols c.args.poppers.now.items ts) (sym c.reverse.ensures.items)
     (back_all cols c.args.poppers.now.items now.poppers.items now.trails.items now.invariant.back none)

@@ -1,8 +1,8 @@
 use Rattle.std.proofs.Common.{◌≡◌, length, Some, sym, subst, refl, ap, arith}
-use Rattle.std.proofs.lemmas.List.{length-map}
+use Rattle.std.proofs.lemmas.List.{length-map, nil_from_length}
 use Rattle.std.proofs.lemmas.List.Elements.{All-pop}
 use Rattle.m17_grid.specs.Trails.{AreTrailsOfOnes}
-use Rattle.m17_grid.proofs.Returns.{empty_of, ones_none, ones_more, ones_all, last_lane}
+use Rattle.m17_grid.proofs.Returns.{ones_none, ones_more, ones_all, last_lane}
 use Rattle.m17_grid.proofs.trails.finish_row.Goals as goal
 
 pub loop-popper-init : goal.loop-popper-init
@@ -42,8 +42,8 @@ loop-popper-preserved g c =
 pub returns-clause-trails : goal.returns-clause-trails
 returns-clause-trails g c =
     let now = c.loop-popper in let before = now.invariant in
-    let nop = empty_of now.poppers.items (omega (arith, now.poppers.ok.0, c.in_default.ensures.cases.0)) in
+    let nop = nil_from_length now.poppers.items (omega (arith, now.poppers.ok.0, c.in_default.ensures.cases.0)) in
     let same = ap length before.lanes in
-    let noq = empty_of now.pushers.items (omega (arith, same, length-map now.pushers.items (λ q. q.lane), length-map now.poppers.items (λ p. p.lane), now.poppers.ok.0, c.in_default.ensures.cases.0)) in
+    let noq = nil_from_length now.pushers.items (omega (arith, same, length-map now.pushers.items (λ q. q.lane), length-map now.poppers.items (λ p. p.lane), now.poppers.ok.0, c.in_default.ensures.cases.0)) in
     subst (λ ts. AreTrailsOfOnes c.args.pushers.now.items c.args.poppers.now.items ts) (sym c.reverse.ensures.items)
     (ones_all c.args.pushers.now.items now.pushers.items c.args.poppers.now.items now.poppers.items now.trails.items before.back noq nop)

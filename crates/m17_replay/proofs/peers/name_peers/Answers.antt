@@ -11,7 +11,7 @@ loop-one-init c = λ entries says. c.new-named.ensures.empty ∙ sym (none_named
 pub loop-one-preserved : goal.loop-one-preserved
 loop-one-preserved c = λ entries says.
     let at = slice_get_read c.args.heard.now (length c.args.heard.now) c.loop-one.one-index c.one-item.result refl c.loop-one-test.true c.one-item.is in
-    c.in-Ok.ensures ∙ ap (with_heard c.one-item.result) (c.loop-one.invariant entries says) ∙ sym (named_more c.args.heard.now entries c.loop-one.one-index c.one-item.result says at)
+    c.in_ok-name_sender.ensures ∙ ap (with_heard c.one-item.result) (c.loop-one.invariant entries says) ∙ sym (named_more c.args.heard.now entries c.loop-one.one-index c.one-item.result says at)
 
 pub returns : goal.returns
 returns c = λ entries says.

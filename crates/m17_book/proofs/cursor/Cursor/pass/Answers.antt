@@ -1,9 +1,9 @@
 use Rattle.std.proofs.Common.{ℕ, arith}
 use Rattle.std.proofs.lemmas.List.{length-take, length-drop}
-use Rattle.m17_book.proofs.Held.{consumed}
+use Rattle.m17_lists.proofs.Held.{taken_leaves_the_rest}
 use Rattle.m17_book.proofs.cursor.Cursor.pass.Goals as goal
 
 pub returns-clause-held : goal.returns-clause-held
 returns-clause-held c =
     let reader = c.args.self.now in
-    consumed reader.bytes reader.start reader.end c.args.count (omega (arith, length-take {A = ℕ}, length-drop {A = ℕ}))
+    taken_leaves_the_rest reader.bytes reader.start reader.end c.args.count (omega (arith, length-take {A = ℕ}, length-drop {A = ℕ}))

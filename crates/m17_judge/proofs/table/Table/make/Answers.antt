@@ -6,7 +6,7 @@ use Rattle.m17_judge.proofs.table.Table.make.Goals as goal
 pub returns : goal.returns
 returns c = record {
   floor_stands = c.new.ensures.stands judge_setup (joins talkers) refl (no_packet-joins talkers);
-  each_stands = λ t own at_place. c.in-Ok.ensures.at_first t own at_place judge_setup (joins talkers) (talker t) (no_packet-joins talkers);
+  each_stands = λ t own at_place. c.in_ok-owns.ensures.at_first t own at_place judge_setup (joins talkers) (talker t) (no_packet-joins talkers);
   all_may_speak = λ t below. speakers-joins c.who_joins_may_speak.ensures.joined c.who_joins_may_speak.ensures.others talkers le_talkers t below;
   moment_is = sym (moment-joins talkers);
 }

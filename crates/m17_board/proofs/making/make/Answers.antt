@@ -1,7 +1,7 @@
 use Rattle.std.proofs.Common.{List, subst, sym, arith}
 use Rattle.m17_board.specs.Ends.{PostEnd, EyeEnd, NewPairs}
 use Rattle.m17_board.proofs.Made.{one_more, are_pairs}
-use Rattle.m17_board.proofs.making.make_all.Goals as goal
+use Rattle.m17_board.proofs.making.make.Goals as goal
 
 pub loop-number-preserved : goal.loop-number-preserved
 loop-number-preserved c =

@@ -2,7 +2,7 @@ use Rattle.std.proofs.Common.{rules, refl, sym, subst, ◌≡◌, ℕ, replicate
 use Rattle.std.specs.Arc.{arc_value}
 use Rattle.m17_roll.proofs.Dealing.{none_taken, many, other_seated, last_seated, last_viewed}
 use Rattle.m17_roll.proofs.Seats.{begins, splitting}
-use Rattle.m17_roll.proofs.seat.make_all.Goals as goal
+use Rattle.m17_roll.proofs.seat.make.Goals as goal
 
 pub of_words-requires : goal.of_words-requires
 of_words-requires c =

@@ -1,6 +1,6 @@
 use Rattle.std.proofs.Common.{◌≡◌, vec_len, vec_capacity}
 use Rattle.m17_board.specs.Ends.{NewPairs}
-use Rattle.m17_board.proofs.making.make_all.Given as goal
+use Rattle.m17_board.proofs.making.make.Given as goal
 
 abbrev pub invariant-loop-number : goal.invariant-loop-number
 invariant-loop-number l =

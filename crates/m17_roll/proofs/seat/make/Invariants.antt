@@ -1,6 +1,6 @@
 use Rattle.std.proofs.Common.{◌≡◌, ◌-◌, ◌<◌, vec_len, vec_capacity}
 use Rattle.m17_roll.proofs.Dealing.{IsDealt}
-use Rattle.m17_roll.proofs.seat.make_all.Given as goal
+use Rattle.m17_roll.proofs.seat.make.Given as goal
 
 abbrev pub invariant-loop-table : goal.invariant-loop-table
 invariant-loop-table l =
