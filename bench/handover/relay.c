@@ -3,7 +3,10 @@
  * copy into a queue for each listener and marks the queue, and a sender takes one of each marked queue in turn. A queue is a
  * ring of one producer and one consumer, whose steps are sequentially consistent; who finds nothing tries a while and then
  * sleeps on a futex until it is woken. The talker has 32 datagrams under way at the most, so none is lost.
- * It prints the datagrams that were sent to listeners in a second, and the processor time of the relay for each, in us. */
+ * It prints the datagrams that were sent to listeners in a second, and the processor time of the relay for each, in us.
+ * `relay 1|3|4 LISTENERS SECONDS paced` has the talker send 25 a second, and prints the middle and the 99th of a hundred of the
+ * times from a datagram's leaving to the kernel's receipt of a copy, in us. With 4 in place of 3 the receiver wakes the sender
+ * before it hands a datagram to the worker, so that it wakes while the worker works. */
 #define _GNU_SOURCE
 #include <arpa/inet.h>
 #include <linux/futex.h>
@@ -19,9 +22,9 @@
 #include <time.h>
 #include <unistd.h>
 
-enum { PACKET = 54, ITEM = 120, MOST = 256, INBOX = 256, QUEUE = 64, UNDER_WAY = 32, ROUNDS = 7 };
+enum { PACKET = 54, ITEM = 120, MOST = 256, INBOX = 256, QUEUE = 64, UNDER_WAY = 32, ROUNDS = 7, PACE_MS = 40 };
 
-static int server, listener[MOST], listeners;
+static int server, listener[MOST], listeners, early;
 static struct sockaddr_in server_at, listener_at[MOST];
 static atomic_int stopped;
 static atomic_ulong sent, used_us;
@@ -114,6 +117,8 @@ static void *receives(void *none)
     uint8_t item[ITEM] = { 0 };
     while (!atomic_load(&stopped))
         if (recv(server, item, PACKET, 0) == PACKET) {
+            if (early)
+                ring_bell(&sender_bell);
             while (!push(&inbox, item) && !atomic_load(&stopped))
                 sched_yield();
             ring_bell(&worker_bell);
@@ -225,15 +230,63 @@ static unsigned long talk(double seconds)
     return all;
 }
 
+/* When the kernel received the next datagram, in seconds; 0 where there is none. */
+static double received(int s, uint8_t *bytes)
+{
+    char room[128];
+    struct iovec part = { bytes, PACKET };
+    struct msghdr m = { .msg_iov = &part, .msg_iovlen = 1, .msg_control = room, .msg_controllen = sizeof room };
+    struct timespec at;
+    if (recvmsg(s, &m, MSG_DONTWAIT) != PACKET)
+        return 0;
+    memcpy(&at, CMSG_DATA(CMSG_FIRSTHDR(&m)), sizeof at);
+    return at.tv_sec + at.tv_nsec / 1e9;
+}
+
+static int by_size(const void *a, const void *b)
+{
+    double x = *(const double *)a, y = *(const double *)b;
+    return (x > y) - (x < y);
+}
+
+static double wall(void)
+{
+    struct timespec t;
+    clock_gettime(CLOCK_REALTIME, &t);
+    return t.tv_sec + t.tv_nsec / 1e9;
+}
+
+/* The talker and all listeners where it talks in real time. */
+static void talk_paced(double seconds)
+{
+    uint8_t bytes[PACKET] = { 'M', '1', '7', ' ' };
+    int talker = socket(AF_INET, SOCK_DGRAM, 0), on = 1;
+    unsigned long many = seconds * 1000 / PACE_MS, count = 0;
+    double *late = calloc(many * listeners + 1, sizeof *late);
+    for (int i = 0; i < listeners; i++)
+        setsockopt(listener[i], SOL_SOCKET, SO_TIMESTAMPNS, &on, sizeof on);
+    for (unsigned long n = 0; n < many; n++) {
+        double left = wall(), at;
+        sendto(talker, bytes, PACKET, 0, (struct sockaddr *)&server_at, sizeof server_at);
+        usleep(PACE_MS * 1000);
+        for (int i = 0; i < listeners; i++)
+            while ((at = received(listener[i], bytes)) > 0 && count < many * listeners)
+                late[count++] = (at - left) * 1e6;
+    }
+    qsort(late, count, sizeof *late, by_size);
+    printf("%.1f %.1f\n", late[count / 2], late[count - count / 100 - (count > 0)]);
+}
+
 int main(int argc, char **argv)
 {
     void *(*jobs[])(void *) = { receives, works, sends }, *(*alone[])(void *) = { in_one };
-    int three = argc == 4 && atoi(argv[1]) == 3, count = three ? 3 : 1;
+    int three = argc >= 4 && atoi(argv[1]) > 1, count = three ? 3 : 1, paced = argc == 5;
     pthread_t thread[3];
-    double seconds = argc == 4 ? atof(argv[3]) : 0;
-    listeners = argc == 4 ? atoi(argv[2]) : 0;
+    double seconds = argc >= 4 ? atof(argv[3]) : 0;
+    early = argc >= 4 && atoi(argv[1]) == 4;
+    listeners = argc >= 4 ? atoi(argv[2]) : 0;
     if (listeners < 1 || listeners > MOST || seconds <= 0)
-        return fprintf(stderr, "usage: relay 1|3 LISTENERS SECONDS\n"), 2;
+        return fprintf(stderr, "usage: relay 1|3|4 LISTENERS SECONDS [paced]\n"), 2;
     server = bound(&server_at);
     make(&inbox, INBOX);
     for (int i = 0; i < listeners; i++) {
@@ -242,10 +295,15 @@ int main(int argc, char **argv)
     }
     for (int i = 0; i < count; i++)
         pthread_create(&thread[i], 0, (three ? jobs : alone)[i], 0);
-    unsigned long all = talk(seconds);
+    unsigned long all = 0;
+    if (paced)
+        talk_paced(seconds);
+    else
+        all = talk(seconds);
     atomic_store(&stopped, 1);
     for (int i = 0; i < count; i++)
         pthread_join(thread[i], 0);
-    printf("%.0f %.3f\n", all / seconds, all ? (double)atomic_load(&used_us) / all : 0);
+    if (!paced)
+        printf("%.0f %.3f\n", all / seconds, all ? (double)atomic_load(&used_us) / all : 0);
     return 0;
 }
