@@ -95,7 +95,7 @@ impl<O: Outlet + Drop> Sink for BufferedSink<O> {
     }
 }
 
-// Takes so many bytes away from the front.
+// Takes `count` bytes away from the front.
 fn drop_front(bytes: &mut Vec<u8>, count: usize)
     requires { count ≤ length bytes.old.items }
     ensures items { bytes.new.items ≡ drop count bytes.old.items }

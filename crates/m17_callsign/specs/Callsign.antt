@@ -45,7 +45,7 @@ sum_of text = sum_by (share_of text) (range_with_len 0 (length text))
 abbrev pub last_letter : List ℕ → ℕ
 last_letter text = slice_index text (length text - 1)
 
--- The text is letters of the alphabet, at least one and at most so many, and the last is no space.
+-- The text is letters of the alphabet, at least one and at most `most`, and the last is no space.
 pub record AreLetters (most : ℕ) (text : List ℕ) : Type 0 where
   pub not_empty : 0 < length text
   pub not_long : length text ≤ most

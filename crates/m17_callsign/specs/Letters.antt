@@ -3,7 +3,8 @@
 use Rattle.std.specs.Prelude.{ℕ, zero, suc, ◌-◌, ◌/◌, ◌%◌, ◌==◌, nat_lt, ◌&&◌, List, [], ◌∷◌, Option, Some, None, slice_index, if◌then◌else◌}
 use Rattle.m17_callsign.specs.Callsign.{alphabet, group_sign, end_of_callsigns, end_of_groups}
 
--- at most so many letters: the sum in the base of 40, the first letter least, up to its last digit that isn't 0
+-- the letters of a sum, as far as there is room: the sum in the base of 40, the first letter least, up to its last digit that
+-- isn't 0
 unfoldable pub letters_of : ℕ → ℕ → List ℕ
 letters_of zero sum = []
 letters_of (suc room) sum =

@@ -6,7 +6,7 @@ pub enum CallRefusal {
     /// The text has no byte.
     #[error("a callsign has at least one letter")]
     Empty,
-    /// The text has more than 9 bytes: so many.
+    /// The text has more than 9 bytes; this is their number.
     #[error("a callsign has at most 9 letters, and this has {0} bytes")]
     Long(usize),
     /// The byte at this place, from 0, is neither a letter of the alphabet nor the `#` of a group, which stands at

@@ -69,7 +69,7 @@ fn faults_with(h: &Heard, faults: u32) -> u32
     }
 }
 
-// Whether the link ends by what was heard, the last of so many failures in a row.
+// Whether the link ends by what was heard, behind `faults` failures in a row, this one among them.
 fn ends_by(h: &Heard, faults: u32) -> bool
     ensures { (notice : Notice) → Says h.now notice →
         result ≡ (is_end notice || nat_le 16 faults) }

@@ -26,7 +26,7 @@ use m17_values::{Heard, Member, NoMemory, Peer};
 use std::alloc::Global;
 use std::marker::Model;
 
-/// A module is told of the time where the link's moment passes a multiple of so many milliseconds.
+/// A module is told of the time where the link's moment passes a multiple of this, in milliseconds.
 pub(crate) const TICK_MS: u64 = 20;
 
 // Who is known, the request that waits for a claim, and who departs.

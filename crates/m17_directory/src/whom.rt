@@ -5,7 +5,7 @@ ghost use Rattle.m17_directory.specs.Entries.{is_peer};
 use crate::Known;
 use m17_values::Peer;
 
-/// A peer that was not heard for so many milliseconds leaves.
+/// How long a peer may be silent, in milliseconds, before it leaves.
 pub(crate) const SILENCE_MS: u64 = 30_000;
 
 // Which of those that are known leave.

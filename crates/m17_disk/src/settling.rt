@@ -87,7 +87,7 @@ fn both(one: Result<(), Unsettled>, other: Result<(), Unsettled>) -> Result<(), 
 
 impl<B: Book + Drop + Send + 'static> Hand<B> {
     /// Brings the thread to its end, when nothing is handed over any more, and gives its job, done. None where it doesn't
-    /// come to its end within so many rests of a millisecond, of which it takes as many as it needs; it is left behind
+    /// come to its end within `rests` rests of a millisecond, of which it takes as many as it needs; it is left behind
     /// then.
     pub fn end<R: Threads + Wait + Clock>(self, rt: &R, rests: &mut u32) -> Option<Writer<B>>
         ensures { IfSome result (λ k. WriterDid B.told self k) }

@@ -44,7 +44,7 @@ abbrev pub answers_of : List ℕ → List Heard → ℕ → List Heard
 answers_of fails inner zero = []
 answers_of fails inner (suc n) = answers_of fails inner n ++ answer_at fails inner n ∷ []
 
--- What is told of so many answers, and so many Ends behind them, where the inner ear tells what it said.
+-- What is told of this number of calls, and of the Ends behind them, where the inner ear tells what it said.
 abbrev pub answers_told : List ℕ → ℕ → ℕ → Option (List Heard) → Option (List Heard)
 answers_told fails calls ends inner =
     option_map (λ said. answers_of fails said calls ++ replicate ends End) inner

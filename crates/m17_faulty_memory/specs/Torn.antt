@@ -40,7 +40,8 @@ fails_to_write book = record book {
   faults = next_number book.faults;
 }
 
--- A book after a call that failed and appended so many of its bytes, all where there are fewer, and none past the room.
+-- A book after a call that failed and appended the first `most` of its bytes, all where there are fewer, and none past the
+-- room.
 abbrev pub tears : TornKept → ℕ → List ℕ → TornKept
 tears book most bytes = record book {
   written = book.written ++ take (min most (book.room - length book.written)) bytes;

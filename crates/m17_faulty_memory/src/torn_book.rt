@@ -38,7 +38,7 @@ impl Model for TornBook {
 impl TornBook {
     ghost use Rattle.m17_faulty_memory.specs.Torn.{TornKept, new_book, faulted};
 
-    /// A book with room for so many bytes, with nothing written. `fails` lists calls of `write` that are to fail: their
+    /// A book with room for `room` bytes, with nothing written. `fails` lists calls of `write` that are to fail: their
     /// numbers, from 0, each with how many of its bytes it appends before; of two entries with one number the first
     /// holds. A write that would pass the room and is not listed fails too, and appends nothing. `NoMemory` where there
     /// is none for the room, and never for a room of 0.
@@ -105,7 +105,7 @@ impl Book for TornBook {
         ensures prefix { OnErr result ((n : ℕ)
             × (Some self.new.written ≡ told_then (Some self.old.written) (take n bytes.now))) }
 
-        // A call that is listed appends so many of its bytes, as far as there is room, and fails.
+        // A call that is listed appends the listed number of its bytes, as far as there is room, and fails.
         ensures torn { (most : ℕ) → torn_at self.old.fails self.old.next_call ≡ Some most
             → IsErr result × (self.new ≡ tears self.old most bytes.now) }
 
@@ -135,7 +135,7 @@ impl Book for TornBook {
     }
 }
 
-// The first bytes, so many at most.
+// The first bytes, `most` at most.
 fn first(bytes: &[u8], most: usize) -> &[u8]
     ensures { result.now ≡ take most bytes.now }
 {

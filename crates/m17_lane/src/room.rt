@@ -18,7 +18,7 @@ use std::sync::atomic::{AtomicBool, Ordering};
 pub struct Room {
     count: EventCount,
     wanted: AtomicBool,
-    // Producers are woken once the queue holds at most so many items.
+    // How many items the queue may hold when producers are woken.
     low: usize,
 }
 

@@ -6,13 +6,13 @@ use m17_values::{Member, NoMemory};
 use std::alloc::Global;
 use std::marker::Model;
 
-/// A recording holds so many frames at most: half a minute of voice.
+/// How many frames a recording holds at most: half a minute of voice.
 pub const MOST_FRAMES: usize = 750;
 
-/// The first frame of a recording is due so many milliseconds after its close.
+/// How many milliseconds after its close the first frame of a recording is due.
 pub const FIRST_AFTER_MS: u64 = 1_000;
 
-/// Each further frame is due so many milliseconds after the one before.
+/// How many milliseconds after the one before each further frame is due.
 pub const FRAME_EVERY_MS: u64 = 40;
 
 /// What became of a frame that was to be kept.

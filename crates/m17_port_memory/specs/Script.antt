@@ -34,7 +34,7 @@ pub record IsAnswered (old : ScriptKept) (answer : Heard) (new : ScriptKept) : T
   pub after : (new ≡ record old { calls = old.calls + 1 })
       ⊎ (EndsPastCount (Some (heard_of old.script old.calls)) × (answer ≡ End) × (new ≡ old))
 
--- so many Ends
+-- an ear without a script says Ends alone
 all_ends : (n : ℕ) → heard_of [] n ≡ replicate n End
 all_ends zero = refl
 all_ends (suc n) = ap (λ (ends : List Heard). End ∷ ends) (all_ends n)

@@ -39,7 +39,7 @@ impl Model for ListBook {
 impl ListBook {
     ghost use Rattle.m17_port_memory.specs.Kept.{WrittenKept, new_book};
 
-    /// A book with room for so many bytes, with nothing written. `fails` lists the numbers of calls of `write`, from 0,
+    /// A book with room for `room` bytes, with nothing written. `fails` lists the numbers of calls of `write`, from 0,
     /// that are to fail; a write that would pass the room fails too. `NoMemory` where there is none for the room, and
     /// never for a room of 0.
     pub fn make(alloc: Global, room: usize, fails: Vec<u64>) -> Result<ListBook, NoMemory>

@@ -45,7 +45,7 @@ impl Model for ListMouth {
 impl ListMouth {
     ghost use Rattle.m17_port_memory.specs.Kept.{SaidKept, new_mouth};
 
-    /// A mouth with room for so many datagrams of at most 64 bytes, with nothing said. `fails` lists the numbers of
+    /// A mouth with room for `room` datagrams of at most 64 bytes, with nothing said. `fails` lists the numbers of
     /// calls of `say`, from 0, that are to fail; a call that would pass the room, or 64 bytes, fails too. `NoMemory`
     /// where there is none for the room, and never for a room of 0.
     pub fn make(alloc: Global, room: usize, fails: Vec<u64>) -> Result<ListMouth, NoMemory>

@@ -18,7 +18,7 @@ abbrev pub FollowsScript : List Heard → List Heard → Type 0
 FollowsScript script heard = ((n : ℕ) × (heard ≡ take n script))
     ⊎ ((n : ℕ) × (heard ≡ script ++ replicate n End))
 
--- What is told ends in so many Ends that they are counted no further: 2^64 - 1 or more.
+-- What is told ends in as many Ends as are counted, 2^64 - 1, or more.
 abbrev pub EndsPastCount : Option (List Heard) → Type 0
 EndsPastCount told =
     (front : List Heard) × (n : ℕ) × (2 ^ 64 - 1 ≤ n) × (told ≡ Some (front ++ replicate n End))

@@ -15,7 +15,7 @@ pub record EndView : Type 0 where
   pub given : List Member
   pub refused : List (List ℕ)
 
--- These are all the seats of one roll: as many as were made, each of this roll with so many places.
+-- These are all the seats of one roll: as many as were made, each of this roll with this number of places.
 pub record AreAll (roll : TableId) (places : ℕ) (seats : List RollView) : Type 0 where
   pub some_seat : 0 < length seats
   pub each : All (IsSeatOf roll (length seats) places) seats

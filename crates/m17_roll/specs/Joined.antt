@@ -6,7 +6,7 @@ use Rattle.m17_roll.specs.Run.{count_at}
 use Rattle.m17_roll.specs.Seat.{RollView}
 use Rattle.m17_roll.specs.Closing.{EndView, claims_of, gifts_of}
 
--- so many seats of all were joined
+-- the seats of a roll that were joined so far
 pub record GatheredView : Type 0 where
   pub roll : TableId
   pub seats : ℕ

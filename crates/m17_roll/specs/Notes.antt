@@ -3,7 +3,7 @@ use Rattle.std.specs.Prelude.{ℕ, ◌+◌, ◌-◌, List, [], ◌∷◌, ◌++�
 use Rattle.m17_roll.specs.declared.rule.Notes.{Notes}
 use Rattle.m17_roll.specs.Sightings.{sighting, member}
 
--- a seat that has done nothing, of a roll with so many places, which is so many seats
+-- a seat that has done nothing, of a roll with this number of places, which is in this number of parts
 abbrev pub newcomer : ℕ → ℕ → Notes
 newcomer places parts = record {
   places = places;

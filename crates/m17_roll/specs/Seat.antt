@@ -31,11 +31,11 @@ new_seat roll seats places = record {
   seen = [];
 }
 
--- These are new seats of one roll, as many as it has, with so many places.
+-- These are new seats of one roll, as many as it has, with this number of places.
 abbrev pub AreNew : ℕ → ℕ → List RollView → Type 0
 AreNew places seats all = (roll : TableId) × (all ≡ replicate seats (new_seat roll seats places))
 
--- the seat is of this roll, which has so many seats and places
+-- the seat is of this roll, which has this number of seats and of places
 abbrev pub IsSeatOf : TableId → ℕ → ℕ → RollView → Type 0
 IsSeatOf roll seats places s = (s.roll ≡ roll) × (s.seats ≡ seats) × (s.places ≡ places)
 
@@ -69,9 +69,9 @@ with_miss s x = record s { missed = s.missed ++ x ∷ [] }
 abbrev pub with_refused : RollView → List ℕ → RollView
 with_refused s askers = record s { refused = s.refused ++ askers }
 
--- The seat claimed the member. It saw every lower place taken, in at most two looks each, and then
--- found the member's place free for a generation that isn't its last, later than any that this seat
--- had claimed there.
+-- The seat claimed the member. It saw every lower place taken, in at most twice as many looks as there
+-- are of them, and then found the member's place free for a generation that isn't its last, later than
+-- any that this seat had claimed there.
 pub record IsClaim (old : RollView) (m : Member) (new : RollView) : Type 0 where
   pub looks : List Sighting
   pub few : length looks ≤ 2 * m.place
@@ -81,8 +81,8 @@ pub record IsClaim (old : RollView) (m : Member) (new : RollView) : Type 0 where
   pub not_last : m.generation < 2 ^ 63 - 1
   pub newer : IsNewAt old.claimed m.place m.generation
 
--- The seat refused the asker. It saw every place of the roll taken in this call, in at most two
--- looks each.
+-- The seat refused the asker. It saw every place of the roll taken in this call, in at most twice as
+-- many looks as there are places.
 pub record IsRefusal (old : RollView) (asker : ℕ) (new : RollView) : Type 0 where
   pub looks : List Sighting
   pub few : length looks ≤ 2 * old.places

@@ -8,7 +8,7 @@ abbrev pub noted : {T : Type 0} → ℕ → List (Note T) → Option T
 noted n [] = None
 noted n (note ∷ notes) = if note.index == n then Some note.what else noted n notes
 
--- so many cells: each has what is noted of it
+-- this number of cells: each has what is noted of it
 abbrev pub cells_of : {T : Type 0} → ℕ → List (Note T) → List (Option T)
 cells_of cells notes = map (λ n. noted n notes) (range_with_len 0 cells)
 
@@ -18,7 +18,7 @@ AreRising low high [] = Unit {0}
 AreRising low high (note ∷ notes) =
     (low ≤ note.index) × (note.index < high) × AreRising (suc note.index) high notes
 
--- the notes of so many cells, with room for one of each
+-- the notes of this number of cells, with room for one of each
 pub record IsTape {T : Type 0} (cells capacity : ℕ) (notes : List (Note T)) : Type 0 where
   pub room : cells ≤ capacity
   pub order : AreRising 0 cells notes

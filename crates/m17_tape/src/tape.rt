@@ -25,16 +25,14 @@ impl<T> Model for Tape<T> {
 }
 
 impl<T> Tape<T> {
-    /// So many cells, in which nothing is. It reserves room for what may come and touches none of it; there may be no
+    /// `cells` cells, in which nothing is. It reserves room for what may come and touches none of it; there may be no
     /// memory.
     pub fn make(alloc: Global, cells: u32) -> Result<Tape<T>, NoMemory>
         ensures count { IfOk result (λ tape. length tape ≡ cells) }
         ensures none { IfOk result (λ tape. All (λ cell. cell ≡ None) tape) }
     {
-        match Vec::with_capacity(alloc, cells as usize) {
-            Ok(notes) => Ok(Tape { cells, notes }),
-            Err(_) => Err(NoMemory),
-        }
+        let notes = Vec::with_capacity(alloc, cells as usize)?;
+        Ok(Tape { cells, notes })
     }
 }
 

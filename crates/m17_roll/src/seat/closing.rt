@@ -48,7 +48,7 @@ impl RollEnd {
     }
 }
 
-// Seats that were joined, so many of all.
+// The seats that were joined so far.
 #[derive(Drop)]
 struct Gathering {
     table: Arc<Words, Global>,
