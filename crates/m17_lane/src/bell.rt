@@ -7,8 +7,8 @@ use std::alloc::Global;
 use std::sync::atomic::{AtomicBool, Ordering};
 use std::sync::{Arc, Wait};
 
-/// Where a consumer sleeps while all its lanes are empty, and what a push rings. Several lanes may share one bell, so
-/// that one thread can wait for all of them.
+/// Where a consumer sleeps while all its lanes are empty, and what a push rings, or a `Pusher::rouse` for pushes that don't.
+/// Several lanes may share one bell, so that one thread can wait for all of them.
 ///
 /// A consumer of several lanes waits in three steps, in this order: it announces that it will sleep, tries each of its
 /// lanes once more, and sleeps only where each was empty. `Announced` says why none of the three may be left out.
@@ -101,8 +101,8 @@ impl Bell {
         self.rung.marks.take(word)
     }
 
-    /// Sleeps until a lane with a mark is pushed to, and not at all where one was pushed to since its mark was taken. It
-    /// may return without a push. A push on a lane of this bell without a mark does not end it for sure.
+    /// Sleeps until a push on a lane with a mark rings, or somebody rouses it, and not at all where one was pushed to since its
+    /// mark was taken. It may return without a push. A push on a lane of this bell without a mark does not end it for sure.
     pub fn rest<R: Wait>(&self, rt: &R) {
         let announced = self.announce();
         if !self.rung.marks.any() {
@@ -110,7 +110,7 @@ impl Bell {
         }
     }
 
-    /// Says that this thread will sleep until a push on a lane of this bell. Try each lane after it, then `sleep`; to go
+    /// Says that this thread will sleep until a push on a lane of this bell rings. Try each lane after it, then `sleep`; to go
     /// on in place of sleeping, drop what it answers.
     pub fn announce(&self) -> Announced<'_> {
         self.announce_as(false)
@@ -141,9 +141,9 @@ impl Bell {
         }
     }
 
-    // Wakes who sleeps on the bell, after a push. The first push behind an announcement wakes, by a system call where
-    // somebody sleeps; for those that follow it is one read of a word, also while the one that was woken has not come to
-    // run yet. It wakes for a push on any lane of the bell.
+    // Wakes who sleeps on the bell, after a push or where it is roused. The first call behind an announcement wakes, by a
+    // system call where somebody sleeps; for those that follow it is one read of a word, also while the one that was woken has
+    // not come to run yet. It wakes for a push on any lane of the bell.
     pub(crate) fn ring(&self) {
         let announced = &self.rung.announced;
         if announced.load(Ordering::SeqCst) && announced.swap(false, Ordering::SeqCst) {
@@ -155,17 +155,17 @@ impl Bell {
 /// An announced sleep on a bell.
 ///
 /// No push is missed: a push puts its item into the queue first and then looks whether a sleep is announced (one that can
-/// wait leaves a doze, as `can_wait` in `lane.rt` says). Where the announcement comes before that look, the push ends the
-/// sleep, also one that has not begun, or finds that another push took the announcement and ends it. Where it comes after,
-/// the item is in the queue when the lanes are tried. The sleep is counted before it is announced, so who takes the
-/// announcement finds somebody to wake. A lane that was tried before the announcement tells nothing: its item could come in
-/// between, and the thread would sleep on it.
+/// wait leaves a doze, as `is_left_asleep` in `lane.rt` says, and behind one that doesn't ring it is for `Pusher::rouse`
+/// to look). Where the announcement comes before that look, the push ends the sleep, also one that has not begun, or finds
+/// that another push took the announcement and ends it. Where it comes after, the item is in the queue when the lanes are
+/// tried. The sleep is counted before it is announced, so who takes the announcement finds somebody to wake. A lane that
+/// was tried before the announcement tells nothing: its item could come in between, and the thread would sleep on it.
 pub struct Announced<'a> {
     key: Key<'a>,
 }
 
 impl Announced<'_> {
-    /// Sleeps until a push on a lane of the bell since the announcement. It may return without one.
+    /// Sleeps until a push on a lane of the bell rings, or has since the announcement. It may return without one.
     pub fn sleep<R: Wait>(self, rt: &R) {
         let Announced { key } = self;
         key.wait(rt);

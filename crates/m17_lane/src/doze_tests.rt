@@ -1,4 +1,5 @@
-//! What no clause says of a doze: which pushes end it, and that nothing is left behind.
+//! What no clause says of who is woken: which pushes end a doze, that nothing is left behind by it, and which pushes wake
+//! nobody.
 ghost use Rattle.std.specs.Prelude.{◌<◌};
 
 use super::tests::must;
@@ -10,20 +11,26 @@ use std::thread;
 use std::thread::Threads;
 use std::time::{Clock, Duration};
 
-// The consumer of a lane with this room dozes, and so many items are pushed quietly: whether it dozed behind each but
-// the last, and behind the last.
-fn dozes_behind<R: Abort + Wait>(rt: &R, alloc: Global, capacity: u32, enough: u32) -> (bool, bool)
+// The consumer of a lane with this room dozes, and `count` items are pushed quietly, which may lie until `enough` are there:
+// whether it dozed behind each but the last, and behind the last.
+fn dozes_behind<R: Abort + Wait>(
+    rt: &R,
+    alloc: Global,
+    capacity: u32,
+    enough: usize,
+    count: u32,
+) -> (bool, bool)
     requires { 0 < capacity }
 {
     let (mut pusher, popper) = must(rt, make_one(alloc, capacity));
     let bell = &popper.lane.filled;
     let announced = bell.announce_doze();
     let mut each = true;
-    for item in 1..enough {
-        pusher.push_quietly(rt, item);
+    for item in 1..count {
+        pusher.push_quietly(rt, item, enough);
         each = each && bell.is_dozed_on();
     }
-    pusher.push_quietly(rt, enough);
+    pusher.push_quietly(rt, count, enough);
     let last = bell.is_dozed_on();
     announced.sleep(rt);
     (each, last)
@@ -31,9 +38,20 @@ fn dozes_behind<R: Abort + Wait>(rt: &R, alloc: Global, capacity: u32, enough: u
 
 #[test]
 fn a_doze_ends_once_enough_quiet_items_are_there(rt: HostRuntime) {
-    for (capacity, enough) in [(64, 8), (16, 8), (9, 5), (2, 1), (1, 1)] {
-        let dozes = dozes_behind(&rt, rt.alloc(), capacity, enough);
+    let few = [(64, 8, 8), (16, 8, 8), (9, 8, 5), (2, 8, 1), (1, 8, 1)];
+    for (capacity, enough, count) in few {
+        let dozes = dozes_behind(&rt, rt.alloc(), capacity, enough, count);
         assert!(rt; dozes == (true, false), "a lane of {capacity}");
+    }
+    let other = [
+        (64, 3, 3),
+        (64, 0, 1),
+        (256, usize::MAX, 128),
+        (9, usize::MAX, 5),
+    ];
+    for (capacity, enough, count) in other {
+        let dozes = dozes_behind(&rt, rt.alloc(), capacity, enough, count);
+        assert!(rt; dozes == (true, false), "a lane of {capacity}, {count}");
     }
 }
 
@@ -42,7 +60,7 @@ fn any_other_push_ends_a_doze(rt: HostRuntime) {
     let (mut pusher, popper) = must(&rt, make_one(rt.alloc(), 64));
     let bell = &popper.lane.filled;
     let announced = bell.announce_doze();
-    pusher.push_quietly(&rt, 1u8);
+    pusher.push_quietly(&rt, 1u8, 8);
     let quietly = bell.is_dozed_on();
     pusher.push_waiting(&rt, 2);
     let waiting = bell.is_dozed_on();
@@ -60,18 +78,64 @@ fn a_quiet_push_ends_a_sleep(rt: HostRuntime) {
     let (mut pusher, popper) = must(&rt, make_one(rt.alloc(), 64));
     drop(popper.lane.filled.announce_doze());
     let announced = popper.lane.filled.announce();
-    pusher.push_quietly(&rt, 1u8);
+    pusher.push_quietly(&rt, 1u8, 8);
     announced.sleep(&rt);
 }
 
 // It would sleep for ever, were it not roused.
 #[test]
-fn who_sleeps_is_roused_before_a_push(rt: HostRuntime) {
+fn who_sleeps_is_roused(rt: HostRuntime) {
     let (pusher, mut popper) = must(&rt, make_one::<u8>(rt.alloc(), 64));
     let announced = popper.lane.filled.announce();
     pusher.rouse();
     announced.sleep(&rt);
     assert!(rt; popper.try_pop(&rt).is_none());
+}
+
+// The consumer of two lanes sleeps on behind an unrung push to each, until it is roused by one of them. Both set their marks.
+#[test]
+fn unrung_pushes_wake_nobody_before_a_rouse(rt: HostRuntime) {
+    let bell = must(&rt, Bell::make_marked(rt.alloc(), 2));
+    let (mut first, _popper) = must(&rt, make_one_marked(rt.alloc(), &bell, 0, 4));
+    let (mut second, _popper) = must(&rt, make_one_marked(rt.alloc(), &bell, 1, 4));
+    let announced = bell.announce_doze();
+    first.push_unrung(&rt, 1u8);
+    let pushed = second.try_push_unrung(&rt, 2u8);
+    let unrung = bell.is_dozed_on();
+    first.rouse();
+    let roused = !bell.is_dozed_on();
+    announced.sleep(&rt);
+    let taken = [bell.marked_words(0), bell.take_marks(0)];
+    assert!(rt; pushed.is_ok() && unrung && roused && taken == [0b1, 0b11]);
+}
+
+// Pushes two numbers unrung to a lane that holds one.
+fn push_two_unrung<R: Wait>(rt: &R, end: Pusher<u32>) {
+    let mut end = end;
+    end.push_unrung(rt, 1);
+    end.push_unrung(rt, 2);
+}
+
+// Takes two numbers, once its sleep has ended.
+fn take_two_behind<R: Wait>(rt: &R, announced: Announced<'_>, end: Popper<u32>) -> [u32; 2] {
+    let mut end = end;
+    announced.sleep(rt);
+    [end.pop_waiting(rt), end.pop_waiting(rt)]
+}
+
+// Who waits for room wakes the consumer before it sleeps: else both would sleep for ever.
+#[test]
+fn who_waits_for_room_rings_first(rt: HostRuntime) {
+    let bell = must(&rt, Bell::make(rt.alloc()));
+    let (pusher, popper) = must(&rt, make_one_with(rt.alloc(), &bell, 1));
+    let announced = bell.announce();
+    let lend = &rt;
+    let (_, taken) = thread::join(
+        lend,
+        move || push_two_unrung(lend, pusher),
+        move || take_two_behind(lend, announced, popper),
+    );
+    assert!(rt; taken == [1, 2]);
 }
 
 // A quiet push sets its mark, so that who looks for marks finds the item.
@@ -80,7 +144,7 @@ fn a_quiet_push_sets_its_mark(rt: HostRuntime) {
     let bell = must(&rt, Bell::make_marked(rt.alloc(), 4));
     let (mut pusher, _popper) = must(&rt, make_one_marked(rt.alloc(), &bell, 2, 64));
     let announced = bell.announce_doze();
-    pusher.push_quietly(&rt, 1u8);
+    pusher.push_quietly(&rt, 1u8, 8);
     let dozes = bell.is_dozed_on();
     let taken = [bell.marked_words(0), bell.take_marks(0)];
     drop(announced);
@@ -94,7 +158,7 @@ const LAST: u32 = u32::MAX;
 fn push_numbers_quietly<R: Wait + Clock>(rt: &R, end: Pusher<u32>, count: u32) {
     let mut end = end;
     for i in 0..count {
-        end.push_quietly(rt, i);
+        end.push_quietly(rt, i, 8);
         if i % 16 == 3 {
             thread::sleep(rt, Duration::from_millis(1));
         }

@@ -15,17 +15,19 @@ pub struct Lane<T> {
     pub line: Line<T>,
     pub filled: Bell,
     pub room: Room,
-    /// So many items that can wait wake a consumer that dozes.
-    pub enough: usize,
+    /// Half of what the queue holds: as many items wake a consumer that dozes, though each of them can wait.
+    pub half: usize,
 }
 
-/// How soon the consumer is to have what is pushed.
+/// When a push wakes the consumer.
 #[derive(Clone, Copy)]
 pub enum Haste {
     /// At once.
     Now,
-    /// Where it dozes, once enough such items are there.
-    Later,
+    /// Where it dozes, only once this number of items is in the queue, or half of what the queue holds.
+    Later(usize),
+    /// Not at all: who pushes rouses it later.
+    Never,
 }
 
 /// How a consumer sleeps.
@@ -37,8 +39,8 @@ pub enum Rest {
     Doze,
 }
 
-/// One try to push. After the item is in the queue it rings the consumer, unless the item can wait, and never before: see
-/// `Announced`.
+/// One try to push. After the item is in the queue it rings the consumer, unless that is to be left asleep, and never before:
+/// see `Announced`.
 pub fn put<T, R: Wait>(
     rt: &R,
     lane: &Lane<T>,
@@ -58,30 +60,38 @@ pub fn put<T, R: Wait>(
     let answer = lane.line.push_as::<Puts, R>(rt, pass, item);
     if answer.is_ok() {
         lane.filled.set_mark();
-        if !can_wait(rt, lane, pass, haste) {
+        if !is_left_asleep(rt, lane, pass, haste) {
             lane.filled.ring();
         }
     }
     answer
 }
 
-// Whether the consumer may be left asleep after a push. Each push counts the items once its own is in, so the last of
-// several sees them all, and the one that finds enough rings. Fewer of them stay while the consumer dozes, and each of
+// Whether the consumer is left asleep after a push. Each push that can wait counts the items once its own is in, so the last
+// of several sees them all, and the one that finds enough rings. Fewer of them stay while the consumer dozes, and each of
 // these can wait, or its push is still to ring: the next push that finds enough, or can't wait, takes them along.
-fn can_wait<T, R: Wait>(rt: &R, lane: &Lane<T>, pass: &mut Pass<T, Hand<T>>, haste: Haste) -> bool
+fn is_left_asleep<T, R: Wait>(
+    rt: &R,
+    lane: &Lane<T>,
+    pass: &mut Pass<T, Hand<T>>,
+    haste: Haste,
+) -> bool
     requires pass { IsPassOf lane.now.line pass.old }
     ensures pass { IsSamePass pass.old pass.new }
     ensures view { view pass.new ≡ view pass.old }
 {
     match haste {
         Haste::Now => false,
-        Haste::Later => {
-            lane.filled.is_dozed_on() && lane.line.len_as::<Gets, R>(rt, pass) < lane.enough
+        Haste::Later(enough) => {
+            lane.filled.is_dozed_on()
+                && lane.line.len_as::<Gets, R>(rt, pass) < enough.min(lane.half)
         }
+        Haste::Never => true,
     }
 }
 
-/// One try to push, and where the queue is full a sleep until there is room: see `Room`.
+/// One try to push, and where the queue is full a sleep until there is room: see `Room`. It rings before it sleeps, so that
+/// nothing that was pushed and not rung for, to this queue or to another of the bell, waits with it.
 pub fn put_or_rest<T, R: Wait>(
     rt: &R,
     lane: &Lane<T>,
@@ -99,6 +109,7 @@ pub fn put_or_rest<T, R: Wait>(
     let wanted = lane.room.want();
     let answer = put(rt, lane, pass, item, haste);
     if answer.is_err() {
+        lane.filled.ring();
         wanted.sleep(rt);
     }
     answer
@@ -122,7 +133,7 @@ pub fn get<T, R: Wait>(rt: &R, lane: &Lane<T>, pass: &mut Pass<T, Hand<T>>) -> O
 }
 
 /// One try to pop, and where the queue is empty a sleep until a push on a lane of the bell, or a doze. No push is missed,
-/// by the reason that `Announced` gives, and of a doze `can_wait`.
+/// by the reason that `Announced` gives, and of a doze `is_left_asleep`.
 pub fn get_or_rest<T, R: Wait>(
     rt: &R,
     lane: &Lane<T>,

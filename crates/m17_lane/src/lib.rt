@@ -4,7 +4,8 @@
 //! which it pushed them, what was popped is the first part of that order, and what came back from a full lane is known
 //! too. A wait sleeps until the other end rings (`Bell`), and an end whose partner is awake makes no system call. A bell
 //! of very many lanes has marks, which tell its consumer where to look. An item that can wait (`push_quietly`) doesn't wake
-//! a consumer that dozes (`pop_dozing`), until some are there.
+//! a consumer that dozes (`pop_dozing`), until some are there. Who pushes many items at once may push them unrung
+//! (`push_unrung`, `try_push_unrung`) and then rouse the consumer once (`rouse`).
 //! That a wait ends, and what lane a thread waits on, is left to the crates above: no proof sees it.
 //! The rule that each step keeps is `IsLane` in `specs/Rule.antt`; the words of the contracts stand in `specs/Ends.antt`
 //! and `specs/Orders.antt`.
@@ -26,6 +27,8 @@ mod rule;
 #[cfg(test)]
 mod tests;
 mod trail;
+#[cfg(test)]
+mod waking_tests;
 
 pub use bell::{Announced, Bell};
 pub use making::{make, make_marked, make_one, make_one_marked, make_one_with, make_with};

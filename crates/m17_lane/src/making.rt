@@ -16,9 +16,6 @@ use m17_values::NoMemory;
 use std::alloc::Global;
 use std::sync::Arc;
 
-/// So many items that can wait wake a consumer that dozes, in a lane that holds twice as many or more.
-const ENOUGH: u32 = 8;
-
 /// A lane for that many producers, which holds that many items, with a bell of its own: the pushers, numbered from 0 on
 /// in the order of the answer, and the popper. `NoMemory` where there is none for it; nothing else is refused.
 pub fn make<T: Drop>(
@@ -69,11 +66,6 @@ pub fn make_marked<T: Drop>(
     make_for(alloc, bell.share_marked(mark)?, producers, capacity)
 }
 
-// How many items that can wait wake a consumer that dozes.
-fn enough_for(capacity: u32) -> usize {
-    capacity.div_ceil(2).min(ENOUGH) as usize
-}
-
 // A lane whose pushes ring this bell, and set its mark where it has one.
 fn make_for<T: Drop>(
     alloc: Global,
@@ -94,7 +86,7 @@ fn make_for<T: Drop>(
         line,
         filled,
         room,
-        enough: enough_for(capacity),
+        half: capacity.div_ceil(2) as usize,
     };
     let lane = Arc::new(alloc, lane)?;
     let pushers = hire_all(alloc, &lane, &mut pass, producers)?;

@@ -13,13 +13,13 @@ const WORD_BITS: u32 = 64;
 /// marks that are set among thousands by a few reads.
 ///
 /// No push is missed. A push puts its item into the queue, then sets the mark, then the bit of the mark's word, and then
-/// rings; the consumer takes in the opposite order, the bits of the words, then the marks, and then pops. So a push whose
-/// mark is set before the consumer takes that word of marks has its item in the queue when the consumer pops. A push whose
-/// mark is set after sets the bit of the word after that too, which is after the consumer took it: there it stands for the
-/// next turn, or for `any`, which is asked once a sleep is announced. And where `any` was asked before the bit was set,
-/// the push rings after the announcement, and ends the sleep. A push that finds its mark set sets nothing: the mark is
-/// taken behind that look, and the item is in the queue when the consumer pops. Where another producer of the lane set it
-/// and not yet the bit of the word, that one does, and rings.
+/// rings, or is rung for later; the consumer takes in the opposite order, the bits of the words, then the marks, and then
+/// pops. So a push whose mark is set before the consumer takes that word of marks has its item in the queue when the
+/// consumer pops. A push whose mark is set after sets the bit of the word after that too, which is after the consumer took
+/// it: there it stands for the next turn, or for `any`, which is asked once a sleep is announced. And where `any` was asked
+/// before the bit was set, the ring comes after the announcement, and ends the sleep. A push that finds its mark set sets
+/// nothing: the mark is taken behind that look, and the item is in the queue when the consumer pops. Where another producer
+/// of the lane set it and not yet the bit of the word, that one does, and its ring follows.
 #[derive(Drop)]
 pub(crate) struct Marks {
     of_lanes: Vec<AtomicU64>,

@@ -67,9 +67,9 @@ impl<T> Popper<T> {
         self.pop(rt, Rest::Sleep)
     }
 
-    /// `pop_waiting` for a consumer that need not have at once what is pushed quietly: such items wake it only once eight
-    /// are there (see `Pusher::push_quietly`), and any other push does at once. It may wait for ever though items are
-    /// there, where all were pushed quietly and are too few: a producer is to end with another push.
+    /// `pop_waiting` for a consumer that need not have at once what is pushed quietly: such items wake it only once
+    /// enough are there (see `Pusher::push_quietly`), and any other push that rings does at once. It may wait for ever though
+    /// items are there, where all were pushed quietly and are too few: a producer is to end with another push.
     pub fn pop_dozing<R: Wait>(&mut self, rt: &R) -> T
         ensures { self.new ≡ popped_from self.old result }
     {
@@ -111,7 +111,7 @@ impl<T> Popper<T> {
         None
     }
 
-    fn pop_or_rest<R: Wait>(&mut self, rt: &R, rest: Rest) -> Option<T>
+    pub(crate) fn pop_or_rest<R: Wait>(&mut self, rt: &R, rest: Rest) -> Option<T>
         ensures { MatchOption result (self.new ≡ self.old)
             (λ x. self.new ≡ popped_from self.old x) }
     {

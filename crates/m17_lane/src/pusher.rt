@@ -51,13 +51,18 @@ impl<T> Pusher<T> {
         ensures full { IfErr result (λ _. self.old.producers ≡ 1
             → self.old.capacity ≤ length self.old.pushed) }
     {
-        match self.offer(rt, item, Haste::Now) {
-            Ok(()) => Ok(()),
-            Err(back) => {
-                self.note(&back);
-                Err(back)
-            }
-        }
+        self.try_once(rt, item, Haste::Now)
+    }
+
+    /// `try_push` that wakes nobody: a consumer that sleeps is left asleep until it is roused (`rouse`), or another push on a
+    /// lane of its bell wakes it. So who pushes to many lanes of one bell wakes their consumer once.
+    pub fn try_push_unrung<R: Wait>(&mut self, rt: &R, item: T) -> Result<(), T>
+        ensures pushed { MatchResult result (λ _. self.new ≡ pushed_to self.old item)
+            (λ back. (back ≡ item) × (self.new ≡ refused_by self.old item)) }
+        ensures full { IfErr result (λ _. self.old.producers ≡ 1
+            → self.old.capacity ≤ length self.old.pushed) }
+    {
+        self.try_once(rt, item, Haste::Never)
     }
 
     /// Pushes `item`, and waits while the lane is full: a short while awake, and then asleep until the consumer has made
@@ -69,18 +74,41 @@ impl<T> Pusher<T> {
         self.push(rt, item, Haste::Now);
     }
 
-    /// `push_waiting` of an item that can wait: a consumer that dozes (`Popper::pop_dozing`) is left asleep by it while
-    /// fewer than eight items are in the lane, or fewer than half of what it holds where that is less.
-    pub fn push_quietly<R: Wait>(&mut self, rt: &R, item: T)
+    /// `push_waiting` that wakes nobody, as with `try_push_unrung`. Before it sleeps at a full lane it wakes the consumer.
+    pub fn push_unrung<R: Wait>(&mut self, rt: &R, item: T)
         ensures { self.new ≡ pushed_to self.old item }
     {
-        self.push(rt, item, Haste::Later);
+        self.push(rt, item, Haste::Never);
     }
 
-    /// Wakes the consumer where it sleeps, before something comes that another thread is still to push: so it wakes while
-    /// that is made ready, and not after it. Nothing is pushed. The consumer may find nothing, and sleeps again then.
+    /// `push_waiting` of an item that can wait: a consumer that dozes (`Popper::pop_dozing`) is left asleep by it while
+    /// fewer than `enough` items are in the lane, or fewer than half of what it holds where that is less.
+    pub fn push_quietly<R: Wait>(&mut self, rt: &R, item: T, enough: usize)
+        ensures { self.new ≡ pushed_to self.old item }
+    {
+        self.push(rt, item, Haste::Later(enough));
+    }
+
+    /// Wakes the consumer where it sleeps, for what was pushed unrung to any lane of its bell. Nothing is pushed. A consumer
+    /// that finds nothing sleeps again.
     pub fn rouse(&self) {
         self.lane.filled.ring();
+    }
+
+    // One try, which notes what comes back.
+    fn try_once<R: Wait>(&mut self, rt: &R, item: T, haste: Haste) -> Result<(), T>
+        ensures pushed { MatchResult result (λ _. self.new ≡ pushed_to self.old item)
+            (λ back. (back ≡ item) × (self.new ≡ refused_by self.old item)) }
+        ensures full { IfErr result (λ _. self.old.producers ≡ 1
+            → self.old.capacity ≤ length self.old.pushed) }
+    {
+        match self.offer(rt, item, haste) {
+            Ok(()) => Ok(()),
+            Err(back) => {
+                self.note(&back);
+                Err(back)
+            }
+        }
     }
 
     fn push<R: Wait>(&mut self, rt: &R, item: T, haste: Haste)
@@ -114,7 +142,7 @@ impl<T> Pusher<T> {
         put(rt, &self.lane, &mut self.pass, item, haste)
     }
 
-    fn offer_or_rest<R: Wait>(&mut self, rt: &R, item: T, haste: Haste) -> Result<(), T>
+    pub(crate) fn offer_or_rest<R: Wait>(&mut self, rt: &R, item: T, haste: Haste) -> Result<(), T>
         ensures { MatchResult result (λ _. self.new ≡ pushed_to self.old item)
             (λ back. (back ≡ item) × (self.new ≡ self.old)) }
     {

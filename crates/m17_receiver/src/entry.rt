@@ -43,6 +43,7 @@ impl<E, B> Receiver<E, B> {
         push_posts(
             rt,
             self.modules,
+            self.patient,
             &mut self.post,
             &mut self.inboxes,
             &mut self.door,
@@ -73,6 +74,7 @@ impl<E, B> Receiver<E, B> {
         push_posts(
             rt,
             self.modules,
+            self.patient,
             &mut self.post,
             &mut self.inboxes,
             &mut self.door,

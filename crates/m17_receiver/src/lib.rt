@@ -5,8 +5,9 @@
 //! its module, in order, each event once; the claims are the roll's, and where it is patient of places that no other
 //! known peer has; a peer that comes again is to be greeted only behind the notes of all that it was before; and the
 //! trace and the tape hold what was heard and what became of it.
-//! Where a lane is full it waits asleep. What the modules and the sender do with what it pushes is left to their jobs,
-//! and when it starts and who joins it to whoever starts it.
+//! Where a lane is full it waits asleep. What can wait it pushes quietly: Ticks, and in a patient run packets too. What
+//! the modules and the sender do with what it pushes is left to their jobs, and when it starts and who joins it to whoever
+//! starts it.
 #![tactic(auto)]
 
 mod claim;

@@ -15,11 +15,15 @@ use m17_lane::Pusher;
 use m17_rows::{push_at, push_quietly_at};
 use std::sync::Wait;
 
+// How many Ticks wake a worker that dozes.
+const TICKS: usize = 8;
+
 // Takes out all that was posted, and pushes each to the inbox of its module or to the door, in order; it waits where a
-// lane is full.
+// lane is full. In a patient run workers are left asleep for longer.
 pub(crate) fn push_posts<R: Wait>(
     rt: &R,
     modules: Modules,
+    patient: bool,
     post: &mut Post,
     inboxes: &mut Vec<Pusher<Event>>,
     door: &mut Pusher<Direct>,
@@ -33,7 +37,7 @@ pub(crate) fn push_posts<R: Wait>(
 {
     known_laws();
     'posts: while let Some(dispatch) = post.take() {
-        push_one(rt, modules, dispatch, inboxes, door);
+        push_one(rt, modules, patient, dispatch, inboxes, door);
     }
 }
 
@@ -41,6 +45,7 @@ pub(crate) fn push_posts<R: Wait>(
 fn push_one<R: Wait>(
     rt: &R,
     modules: Modules,
+    patient: bool,
     dispatch: Dispatch,
     inboxes: &mut Vec<Pusher<Event>>,
     door: &mut Pusher<Direct>,
@@ -57,18 +62,9 @@ fn push_one<R: Wait>(
             module: letter,
             event,
         } => {
-            foretell(&event, door);
-            push_event(rt, modules, letter, event, inboxes);
+            push_event(rt, modules, patient, letter, event, inboxes);
         }
         Dispatch::ToDoor(direct) => door.push_waiting(rt, direct),
-    }
-}
-
-// Most packets that go to a module give something to say, so the sender is woken while the worker looks at one: a thread of
-// an idle processor takes longer to wake than the worker does.
-fn foretell(event: &Event, door: &Pusher<Direct>) {
-    if let Body::Packet { .. } = event.body {
-        door.rouse();
     }
 }
 
@@ -76,6 +72,7 @@ fn foretell(event: &Event, door: &Pusher<Direct>) {
 fn push_event<R: Wait>(
     rt: &R,
     modules: Modules,
+    patient: bool,
     letter: ModuleLetter,
     event: Event,
     inboxes: &mut Vec<Pusher<Event>>,
@@ -88,21 +85,37 @@ fn push_event<R: Wait>(
     known_laws();
     if let Some(at) = inbox_of(modules, letter.byte()) {
         if at < inboxes.len() {
-            push_in(rt, inboxes, at, event);
+            push_in(rt, patient, inboxes, at, event);
         }
     }
 }
 
-// Pushes an event to an inbox. That time has passed can wait until a few such events are there: a worker that needs it at
-// once doesn't doze.
-fn push_in<R: Wait>(rt: &R, inboxes: &mut Vec<Pusher<Event>>, at: usize, event: Event)
+// Pushes an event to an inbox, quietly where it can wait: a worker that needs it at once doesn't doze.
+fn push_in<R: Wait>(
+    rt: &R,
+    patient: bool,
+    inboxes: &mut Vec<Pusher<Event>>,
+    at: usize,
+    event: Event,
+)
     requires { at < vec_len inboxes.old }
     ensures row { inboxes.new.items ≡ push_each (only at event) 0 inboxes.old.items }
     ensures room { vec_capacity inboxes.new ≡ vec_capacity inboxes.old }
 {
+    match enough(patient, &event) {
+        Some(enough) => push_quietly_at(rt, inboxes, at, event, enough),
+        None => push_at(rt, inboxes, at, event),
+    }
+}
+
+// How many events in its inbox wake a worker that dozes, this one among them; none where it is to have this one at once.
+// That time has passed can wait until it has a few times. In a patient run nobody waits for what a packet gives either, so
+// there as many of both may lie as the inbox lets.
+fn enough(patient: bool, event: &Event) -> Option<usize> {
     match event.body {
-        Body::Tick => push_quietly_at(rt, inboxes, at, event),
-        _ => push_at(rt, inboxes, at, event),
+        Body::Tick if !patient => Some(TICKS),
+        Body::Tick | Body::Packet { .. } if patient => Some(usize::MAX),
+        _ => None,
     }
 }
 

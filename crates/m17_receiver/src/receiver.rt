@@ -34,7 +34,8 @@ pub struct Receiver<E, B> {
     /// How many places the roll has, 1 to 256.
     pub places: u32,
     /// Whether it claims again until it has a place, none that a peer has that its link knows, and claims nothing where
-    /// those have all; else it claims once.
+    /// those have all; else it claims once. A patient one lets packets and Ticks lie in an inbox until half of it is full of
+    /// them, or another event comes.
     pub patient: bool,
     /// The receiving half of the link's socket.
     pub ear: E,

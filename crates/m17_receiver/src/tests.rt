@@ -441,20 +441,3 @@ fn a_full_roll_turns_away(rt: HostRuntime) {
         assert!(rt; answered == [Some(peer(3)), None]);
     }
 }
-
-// The sender, which rests on the bell of the door, is woken by a packet that goes to a module, though nothing comes by the
-// door: else this would sleep for ever.
-#[test]
-fn a_packet_wakes_the_sender_before_the_worker_has_it(rt: HostRuntime) {
-    assert!(rt; is_plan(&ONE_MODULE));
-    let heard = [conn(&rt, peer(1), 0, b'A'), voice(peer(1), 1, 0)];
-    let heard = must(&rt, Vec::from_array(rt.alloc(), heard));
-    let bell = must(&rt, Bell::make_marked(rt.alloc(), 1));
-    let trace = must(&rt, ListBook::make(rt.alloc(), 4_096, Vec::new(rt.alloc())));
-    let ear = ScriptEar::new(heard);
-    let bench = make_bench(&rt, rt.alloc(), &ONE_MODULE, &bell, ear, trace);
-    let announced = bell.announce();
-    let mut bench = go(&rt, bench, Order::Go);
-    announced.sleep(&rt);
-    assert!(rt; bench.door.try_pop(&rt).is_none());
-}

@@ -17,19 +17,35 @@ pub fn push_at<T, R: Wait>(rt: &R, row: &mut Vec<Pusher<T>>, at: usize, item: T)
     row[at].push_waiting(rt, item);
 }
 
-/// `push_at` of an item that can wait: see `Pusher::push_quietly`.
-pub fn push_quietly_at<T, R: Wait>(rt: &R, row: &mut Vec<Pusher<T>>, at: usize, item: T)
+/// `push_at` that wakes nobody unless it has to wait: see `Pusher::push_unrung`.
+pub fn push_unrung_at<T, R: Wait>(rt: &R, row: &mut Vec<Pusher<T>>, at: usize, item: T)
     requires { at < vec_len row.old }
     ensures row { row.new.items ≡ push_each (only at item) 0 row.old.items }
     ensures same_length { vec_len row.new ≡ vec_len row.old }
     ensures same_room { vec_capacity row.new ≡ vec_capacity row.old }
 {
-    row[at].push_quietly(rt, item);
+    row[at].push_unrung(rt, item);
+}
+
+/// `push_at` of an item that can wait until `enough` are there: see `Pusher::push_quietly`.
+pub fn push_quietly_at<T, R: Wait>(
+    rt: &R,
+    row: &mut Vec<Pusher<T>>,
+    at: usize,
+    item: T,
+    enough: usize,
+)
+    requires { at < vec_len row.old }
+    ensures row { row.new.items ≡ push_each (only at item) 0 row.old.items }
+    ensures same_length { vec_len row.new ≡ vec_len row.old }
+    ensures same_room { vec_capacity row.new ≡ vec_capacity row.old }
+{
+    row[at].push_quietly(rt, item, enough);
 }
 
 /// Pushes `item` at the end of the row with that index where there is room, and hands it back where the lane is full;
-/// it then counts as refused at that end. It never waits. All other ends of the row are as they were. In a lane of one
-/// producer a refusal comes only after at least `capacity` pushes.
+/// it then counts as refused at that end. It never waits, and wakes nobody: see `Pusher::try_push_unrung`. All other ends of
+/// the row are as they were. In a lane of one producer a refusal comes only after at least `capacity` pushes.
 pub fn try_push_at<T, R: Wait>(
     rt: &R,
     row: &mut Vec<Pusher<T>>,
@@ -46,7 +62,7 @@ pub fn try_push_at<T, R: Wait>(
     ensures same_length { vec_len row.new ≡ vec_len row.old }
     ensures same_room { vec_capacity row.new ≡ vec_capacity row.old }
 {
-    row[at].try_push(rt, item)
+    row[at].try_push_unrung(rt, item)
 }
 
 /// The oldest item of the lane whose end has that index in the row, or None where that lane is empty; it never waits.

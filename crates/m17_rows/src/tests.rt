@@ -33,14 +33,17 @@ fn three_lanes<R: Abort>(rt: &R, alloc: Global) -> Ends
 fn an_item_comes_out_at_its_own_place(rt: HostRuntime) {
     let (mut pushers, mut poppers) = three_lanes(&rt, rt.alloc());
     push_at(&rt, &mut pushers, 1, 20);
-    push_quietly_at(&rt, &mut pushers, 2, 30);
+    push_quietly_at(&rt, &mut pushers, 2, 30, 8);
     let popped = [
         pop_at(&rt, &mut poppers, 0),
         pop_at(&rt, &mut poppers, 1),
         pop_at(&rt, &mut poppers, 1),
         pop_at(&rt, &mut poppers, 2),
     ];
+    push_unrung_at(&rt, &mut pushers, 0, 10);
+    let unrung = [pop_at(&rt, &mut poppers, 0), pop_at(&rt, &mut poppers, 1)];
     assert!(rt; popped == [None, Some(20), None, Some(30)]);
+    assert!(rt; unrung == [Some(10), None]);
 }
 
 #[test]

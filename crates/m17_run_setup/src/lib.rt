@@ -18,6 +18,8 @@ mod marks;
 mod rooms;
 mod site;
 mod staffing;
+#[cfg(test)]
+mod tests;
 mod vectors;
 
 pub use rooms::{LinkRooms, ModuleRooms, Rooms, TrailRooms};

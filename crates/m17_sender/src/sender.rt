@@ -16,7 +16,7 @@ use std::sync::Wait;
 /// Bye the member is pushed to its link's notes. What names a link or a place that is not there is passed over. A
 /// datagram that a mouth fails to say is lost, and nothing else. After `Stop` it ends with the first turn over all
 /// queues in which it neither popped nor said anything, and holds the Hellos that still wait. While there is nothing to
-/// do it sleeps until a lane of its bell is pushed to. After `Quit` it ends with all as it was.
+/// do it sleeps until its bell is rung, by a push or by who rouses it. After `Quit` it ends with all as it was.
 #[derive(Drop)]
 pub struct Sender<M> {
     /// The address in whose name it says PING, PONG and DISC.

@@ -40,7 +40,7 @@ fn ask_for_echoes<R: Wait + Clock + Abort>(rt: &R, events: Pusher<Event>, popper
     events.push_waiting(rt, event(2, 1_040, last));
     for at in [2_040, 2_080] {
         thread::sleep(rt, Duration::from_millis(20));
-        events.push_quietly(rt, event(3, at, Body::Tick));
+        events.push_quietly(rt, event(3, at, Body::Tick), 8);
         next_echo(rt, &mut popper);
     }
     events.push_waiting(rt, event(4, 2_100, Body::Stop));
@@ -66,9 +66,14 @@ fn run_beside<W: Work, R: Threads + Wait + Clock + Abort + Sync>(
 }
 
 // The moment of a parrot's worker when it has ended, and how many events it admitted.
-fn end_of_a_parrot<R: Threads + Wait + Clock + Abort + Sync>(rt: &R, alloc: Global) -> (u64, u64) {
+fn end_of_a_parrot<R: Threads + Wait + Clock + Abort + Sync>(
+    rt: &R,
+    alloc: Global,
+    patient: bool,
+) -> (u64, u64) {
     let inner: Option<ListBook> = None;
     let mut bench = lay(rt, alloc, 1, Shelf { inner }, true);
+    bench.worker.offers.patient = patient;
     bench.orders.push_waiting(rt, Order::Go);
     let popper = bench.queues.pop().expect(rt, "a queue");
     let worker = run_beside(rt, bench.worker, bench.events, popper);
@@ -77,8 +82,14 @@ fn end_of_a_parrot<R: Threads + Wait + Clock + Abort + Sync>(rt: &R, alloc: Glob
     seen
 }
 
-// Where the worker dozed, the first echo would never come; the gate stops a test after 60 seconds.
+// Where the worker dozed, or woke nobody for what it offered, the first echo would never come; the gate stops a test after
+// 60 seconds.
 #[test]
 fn each_tick_wakes_a_parrot(rt: HostRuntime) {
-    assert!(rt; end_of_a_parrot(&rt, rt.alloc()) == (2_100, 2));
+    for patient in [false, true] {
+        assert!(rt;
+            end_of_a_parrot(&rt, rt.alloc(), patient) == (2_100, 2),
+            "{patient}"
+        );
+    }
 }

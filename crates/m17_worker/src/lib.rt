@@ -4,8 +4,10 @@
 //! It promises, of whatever was popped up to the last link's Stop: the module stands for these events; every item that
 //! they give was offered, in order, and only what may be missed was left out, counted, at a queue that was full; a
 //! place is given back for each Bye that was offered, once; book and tape hold what was decided.
-//! It waits asleep for events and for room in a queue; a few Ticks alone don't wake it, unless its module is a parrot. What events come is left to the receivers, what becomes of what
-//! is queued to the sender, and when it starts and who joins it to whoever starts it.
+//! It waits asleep for events and for room in a queue; a few Ticks alone don't wake it, unless its module is a parrot. It
+//! wakes the sender once for all frames that an event gives, and in a patient run once for all events that had come.
+//! What events come is left to the receivers, what becomes of what is queued to the sender, and when it starts and who
+//! joins it to whoever starts it.
 #![tactic(auto)]
 
 #[cfg(test)]

@@ -10,12 +10,12 @@ ghost use Rattle.m17_worker.specs.Taken.{is_there, place_of};
 ghost use Rattle.m17_worker.specs.WorkerDid.{HasServed};
 ghost use Rattle.m17_worker.specs.Underway.{CanServe, HasRoom, IsAt, IsServing, NoteFits, filled, noted_text};
 
-use crate::Worker;
 use crate::book::write_if;
 use crate::gifts::hand_out;
 use crate::records::{is_replaced_leave, own_record, record_of_bye};
 use crate::stops::{MOST_LINKS, note_stop};
 use crate::tape::fill_tape;
+use crate::{LaneOffers, Worker};
 use m17_control::{Body, Event, Item};
 use m17_floor::{Verdict, laws as floor_laws};
 use m17_lane::Popper;
@@ -39,7 +39,7 @@ impl<B: Book> Worker<B> {
         ensures popped { (event : Event) × (self.new.inbox ≡ popped_from self.old.inbox event) }
         ensures order { self.new.order ≡ self.old.order }
     {
-        let event = next_event(rt, &mut self.inbox, self.module.is_parrot());
+        let event = next_event(rt, &mut self.inbox, &self.offers, self.module.is_parrot());
         note_stop(stopped, &event);
         if !self.has(&event) {
             return served;
@@ -85,6 +85,7 @@ impl<B: Book> Worker<B> {
         m17_rows::laws::rows_grow::<Item>();
         let verdict = self.module.step(event, &mut self.basket);
         let gives = !is_replaced_leave(event);
+        let says = !self.basket.is_empty();
         let bye = hand_out(
             rt,
             &mut self.basket,
@@ -92,6 +93,9 @@ impl<B: Book> Worker<B> {
             &mut self.seat,
             gives,
         );
+        if says && !self.offers.patient {
+            self.offers.rouse();
+        }
         self.note(event, verdict, &bye);
     }
 
@@ -158,10 +162,21 @@ impl<B: Book> Worker<B> {
 }
 
 // Pops the next event. A parrot says each frame at its time, so each event wakes its worker. Another module says nothing at
-// a Tick but a PING each 3 s, so its worker dozes.
-fn next_event<R: Wait>(rt: &R, inbox: &mut Popper<Event>, is_parrot: bool) -> Event
+// a Tick but a PING each 3 s, so its worker dozes. In a patient run the sender is woken here for all frames that were offered.
+fn next_event<R: Wait>(
+    rt: &R,
+    inbox: &mut Popper<Event>,
+    offers: &LaneOffers,
+    is_parrot: bool,
+) -> Event
     ensures { inbox.new ≡ popped_from inbox.old result }
 {
+    if let Some(event) = inbox.try_pop(rt) {
+        return event;
+    }
+    if offers.patient {
+        offers.rouse();
+    }
     if is_parrot {
         inbox.pop_waiting(rt)
     } else {

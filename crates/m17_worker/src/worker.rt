@@ -26,7 +26,8 @@ use std::sync::Wait;
 ///
 /// For each event, in this order: the module takes it in; what that gives is offered to the queues, in order, and
 /// behind each Bye its member's place is given back to the roll, again until it is taken, but for a Leave with
-/// `Replaced`; the records of the event go to the book, one write each, and its verdict to the tape. An event that
+/// `Replaced`; the consumer of the queues is woken, where anything was said and the offers aren't patient; the records of
+/// the event go to the book, one write each, and its verdict to the tape. An event that
 /// names a link or a place that isn't there is passed over. The book's header is written before the first event, and a
 /// book that failed is written no more. After `Quit` nothing but the order is touched.
 #[derive(Drop)]

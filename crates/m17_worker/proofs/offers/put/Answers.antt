@@ -2,8 +2,8 @@ use Rattle.std.proofs.Common.{◌<◌, length, refl, arith}
 use Rattle.m17_worker.proofs.Tries.{row_took, row_tried, row_left, full_one, within}
 use Rattle.m17_worker.proofs.offers.put.Goals as goal
 
-pub push_at-requires : goal.push_at-requires
-push_at-requires g c =
+pub push-requires : goal.push-requires
+push-requires g c =
     let h : c.args.item.member.place < length c.args.queues.now.items = within _ c.args.queues.now.items c.args.item.member.place refl c.requires.queue in
     omega (arith, h, c.args.queues.now.ok.0)
 
@@ -13,7 +13,7 @@ try_push_at-requires g c =
     omega (arith, h, c.args.queues.now.ok.0)
 
 pub returns-then-waits-clause-queues : goal.returns-then-waits-clause-queues
-returns-then-waits-clause-queues g c = row_took c.args.item c.args.queues.now.items _ c.rows_grow.ensures c.push_at.ensures.row
+returns-then-waits-clause-queues g c = row_took c.args.item c.args.queues.now.items _ c.rows_grow.ensures c.push.ensures.row
 
 pub returns-in-Ok-clause-queues : goal.returns-in-Ok-clause-queues
 returns-in-Ok-clause-queues g c = row_tried c.args.item c.args.queues.now.items _ c.rows_grow.ensures c.in-Ok.ensures.row
