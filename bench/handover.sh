@@ -3,14 +3,16 @@
 #
 # What three threads cost a relay that is plain C: bench/handover/relay.c in one thread and in three, in turn, ROUNDS times (9)
 # of SECONDS_EACH (2). The first table is of the full rate, the second of 25 datagrams a second, where it says what is gained by
-# waking the sender early, and the third, by bench/handover/items.c, of what an item costs without any socket. The tables have
-# medians, and medians of the rounds' ratios. It needs cc.
+# waking the sender early, and the third, by bench/handover/items.c, of what an item costs without any socket, also where other
+# programs want all processors, and what a Tick costs that is handed to each of 26 modules. The tables have medians, and medians
+# of the rounds' ratios. It needs cc.
 set -u
 here=$(cd "$(dirname "${BASH_SOURCE[0]}")" && pwd)
 rounds=${1:-9}
 seconds=${SECONDS_EACH:-2}
 dir=$(mktemp -d)
-trap 'rm -rf "$dir"' EXIT
+others=()
+trap '[ ${#others[@]} -eq 0 ] || kill "${others[@]}"; rm -rf "$dir"' EXIT
 for name in relay items; do
     cc -O2 -Wall -Wextra -pthread -o "$dir/$name" "$here/handover/$name.c" || exit 1
 done
@@ -21,7 +23,7 @@ echo "$(nproc) processors, $rounds rounds of $seconds s, medians"
 echo
 echo '| listeners | one thread: datagrams a second | us each | three threads: datagrams a second | by one | us each | by one |'
 echo '|---|---|---|---|---|---|---|'
-for listeners in 10 60 250; do
+for listeners in 10 20 60 250; do
     rm -f "$dir/rows"
     for _round in $(seq "$rounds"); do
         echo "$("$dir/relay" 1 "$listeners" "$seconds") $("$dir/relay" 3 "$listeners" "$seconds")" >>"$dir/rows"
@@ -63,3 +65,21 @@ for _round in $(seq "$rounds"); do
     echo "$("$dir/items" one 4 600000) $("$dir/items" ring 4 600000) $("$dir/items" kit 4 600000)" >>"$dir/rows"
 done
 echo "| $(awk '{ print $1 }' "$dir/rows" | median) | $(awk '{ print $2 }' "$dir/rows" | median) | $(awk '{ print $3 }' "$dir/rows" | median) |"
+
+echo
+echo 'Nanoseconds for each Tick that is put into an inbox, 333,330 of them into 26, taken by half an inbox:'
+echo
+for _round in $(seq "$rounds"); do
+    "$dir/items" ticks 26 333330
+done | median
+
+echo
+echo 'Nanoseconds an item as above, beside as many programs that never wait as there are processors, once:'
+echo
+for _other in $(seq "$(nproc)"); do
+    sh -c 'while :; do :; done' &
+    others+=($!)
+done
+echo '| one thread, nothing is queued | five threads, rings | five threads, the steps of the kit'"'"'s queue |'
+echo '|---|---|---|'
+echo "| $("$dir/items" one 4 600000) | $("$dir/items" ring 4 600000) | $("$dir/items" kit 4 600000) |"

@@ -5,7 +5,9 @@
  *   ring   five threads; each queue is a ring of one producer and one consumer, by acquire and release
  *   kit    five threads; each slot of a queue has a stamp, a place is claimed by a compare-exchange, a slot that is taken is
  *          emptied, and each step is sequentially consistent: the steps of the queue that lanes are made of
- * Who finds a queue full or empty tries a while, then lets other threads run. It prints nanoseconds an item. */
+ * Who finds a queue full or empty tries a while, then lets other threads run. It prints nanoseconds an item.
+ * `items ticks MODULES COUNT`: a thread puts each of COUNT items into the queues of all MODULES, by the same steps as `kit`, and
+ * another takes what a queue holds once that is half of its room. It prints nanoseconds for each time an item was put. */
 #define _GNU_SOURCE
 #include <pthread.h>
 #include <sched.h>
@@ -16,7 +18,7 @@
 #include <string.h>
 #include <time.h>
 
-enum { ITEM = 112, FRAME = 54, WORKERS = 3, MOST = 16, INBOX = 256, QUEUE = 64 };
+enum { ITEM = 112, FRAME = 54, WORKERS = 3, MOST = 16, INBOX = 256, QUEUE = 64, MODULES = 26 };
 
 struct item {
     uint64_t number;
@@ -36,9 +38,9 @@ struct queue {
     struct slot *slots;
 };
 
-static int kit, listeners;
+static int kit, ticks, listeners;
 static unsigned long packets;
-static struct queue inbox[WORKERS], queue[WORKERS][MOST];
+static struct queue inbox[MODULES], queue[WORKERS][MOST];
 static _Alignas(128) atomic_ulong marks;
 static atomic_int working = WORKERS;
 static uint16_t table[256];
@@ -212,29 +214,60 @@ static void in_one(void)
     }
 }
 
+static void *puts_ticks(void *none)
+{
+    struct item it = { 0 };
+    for (unsigned long n = 0; n < packets; n++)
+        for (int m = 0; m < listeners; m++, items++)
+            push_waiting(&inbox[m], &it);
+    atomic_store(&working, 0);
+    return none;
+}
+
+static void *takes_ticks(void *none)
+{
+    struct item it;
+    for (int over = 0; !over;) {
+        over = !atomic_load(&working);
+        for (int m = 0; m < listeners; m++)
+            if (over || atomic_load(&inbox[m].tail) - atomic_load(&inbox[m].head) >= INBOX / 2)
+                while (pop(&inbox[m], &it))
+                    ;
+        sched_yield();
+    }
+    return none;
+}
+
 int main(int argc, char **argv)
 {
     pthread_t thread[WORKERS + 2];
     struct timespec a, b;
     listeners = argc == 4 ? atoi(argv[2]) : 0;
     packets = argc == 4 ? strtoul(argv[3], 0, 10) : 0;
-    if (listeners < 1 || listeners > MOST || !packets || (strcmp(argv[1], "one") && strcmp(argv[1], "ring") && strcmp(argv[1], "kit")))
-        return fprintf(stderr, "usage: items one|ring|kit LISTENERS PACKETS\n"), 2;
-    kit = argv[1][0] == 'k';
+    ticks = argc == 4 && !strcmp(argv[1], "ticks");
+    if (listeners < 1 || listeners > (ticks ? MODULES : MOST) || !packets
+        || (!ticks && strcmp(argv[1], "one") && strcmp(argv[1], "ring") && strcmp(argv[1], "kit")))
+        return fprintf(stderr, "usage: items one|ring|kit LISTENERS PACKETS, or items ticks MODULES COUNT\n"), 2;
+    kit = ticks || argv[1][0] == 'k';
     for (int i = 0; i < 256; i++) {
         uint16_t c = i << 8;
         for (int k = 0; k < 8; k++)
             c = c & 0x8000 ? c << 1 ^ 0x5935 : c << 1;
         table[i] = c;
     }
-    for (int w = 0; w < WORKERS; w++) {
-        make(&inbox[w], INBOX);
-        for (int i = 0; i < listeners; i++)
+    for (int m = 0; m < MODULES; m++)
+        make(&inbox[m], INBOX);
+    for (int w = 0; w < WORKERS; w++)
+        for (int i = 0; i < listeners && i < MOST; i++)
             make(&queue[w][i], QUEUE);
-    }
     clock_gettime(CLOCK_MONOTONIC, &a);
     if (argv[1][0] == 'o') {
         in_one();
+    } else if (ticks) {
+        pthread_create(&thread[0], 0, puts_ticks, 0);
+        pthread_create(&thread[1], 0, takes_ticks, 0);
+        for (int i = 0; i < 2; i++)
+            pthread_join(thread[i], 0);
     } else {
         pthread_create(&thread[0], 0, receives, 0);
         for (long w = 0; w < WORKERS; w++)
