@@ -468,6 +468,16 @@ full_book() {
 }
 check "a book that cannot be written does not end serve, and gives 8 at its end" full_book
 
+# 20 words, the most that serve takes with two links.
+all_options() {
+    free_ports
+    mkdir all || return 1
+    gives 0 'A admitted 0 missed 0\nB admitted 0 missed 0\n' \
+        prog serve --call M17-TST --modules AB --parrots B --places 8 --for 1 --limit 60 --book all \
+        --rules --board all.board "127.0.0.1:$port" "127.0.0.1:$other" </dev/null && [ -s all/link1.trace ] && [ -s all/B.book ] && [ -e all.board ]
+}
+check "serve takes all of its options at once" all_options
+
 # The largest plan takes about 70 MB.
 little_memory() {
     # shellcheck disable=SC3045  # shells that lack it skip the check
