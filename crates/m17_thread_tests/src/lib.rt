@@ -1,5 +1,5 @@
 //! Tests of what the threads of a large reflector share: marks and queues beyond the first 4,096, which the tests of
-//! `m17_lane` and `m17_sender` don't come to, and that no waking by marks is lost. They name public items alone.
+//! `m17_lane` and `m17_sender` don't come to. They name public items alone.
 //! It has no items of its own, and promises nothing: it stands apart so that the bodies below are not proved once more
 //! for their tests.
 #![tactic(auto)]
@@ -10,5 +10,3 @@ mod bench;
 mod mark_tests;
 #[cfg(test)]
 mod queue_tests;
-#[cfg(test)]
-mod waking_tests;
