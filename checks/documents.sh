@@ -39,11 +39,14 @@ prints_as_said() { # DOCUMENT COMMAND GOT WANTED
     }
 }
 check "the examples of README.md print what it says" examples_of README.md
-check "the examples of docs/operating.md print what it says" examples_of docs/operating.md
+for page in operating service reference; do
+    check "the examples of docs/$page.md print what it says" examples_of docs/$page.md
+done
 
 help_has_each_command() {
     "$top/m17" help >help || return 1
-    grep -o '\./m17 [a-z]*' "$top/README.md" "$top/docs/operating.md" | sed 's/.* //' | sort -u >named
+    grep -o '\./m17 [a-z]*' "$top/README.md" "$top/docs/operating.md" "$top/docs/service.md" \
+        "$top/docs/reference.md" | sed 's/.* //' | sort -u >named
     [ -s named ] || return 1
     while read -r word; do
         grep -q "m17 $word" help || {
@@ -54,20 +57,26 @@ help_has_each_command() {
 }
 check "m17 help has each command that the documents name" help_has_each_command
 
-# In the tables of docs/proofs*.md the column `edits` names files of crates/*/must-fail.
+# In the tables of docs/*.md the column `edits` names files of crates/*/must-fail and of edits/.
 edits_are_named() {
     awk -F '|' '
         !/^\|/ { column = 0; next }
         !column { for (i = 2; i < NF; i++) if ($i ~ /^ *edits *$/) column = i; if (!column) column = -1; next }
-        column > 0 { print $column }' "$top"/docs/proofs*.md | grep -o '`[a-z0-9_]*`' | tr -d '`' | sort -u >named
-    find "$top"/crates/*/must-fail -name '*.edit' | sed 's/.*\///; s/\.edit$//' | sort -u >files
+        column > 0 { print $column }' "$top"/docs/*.md | grep -o '`[a-z0-9_]*`' | tr -d '`' | sort -u >named
+    find "$top"/crates/*/must-fail "$top/edits" -name '*.edit' | sed 's/.*\///; s/\.edit$//' | sort -u >files
     [ -s named ] && [ -s files ] || return 1
-    comm -23 named files | sed 's/$/ is named in docs\/proofs*.md, and is no edit/' >wrong
-    comm -13 named files | sed 's/$/ is an edit that docs\/proofs*.md do not name/' >>wrong
+    comm -23 named files | sed 's/$/ is named in docs\/*.md, and is no edit/' >wrong
+    comm -13 named files | sed 's/$/ is an edit that docs\/*.md do not name/' >>wrong
     cat wrong
     [ ! -s wrong ]
 }
-check "docs/proofs.md and its pages name each edit of must-fail, and no other" edits_are_named
+check "the tables of what is proved name each edit, and no other" edits_are_named
+
+edits_stand() {
+    needs python3
+    "$top/checks/edits" --standing
+}
+check "each edit can be applied, and the gate has no more than it should" edits_stand
 
 crates_are_on_the_map() {
     sed 's/#.*//; /:/!d; s/[ :].*//' "$top/crates.txt" >crates
@@ -100,8 +109,8 @@ links_lead_on() {
 # Paths in back quotes that begin with a folder of the tree.
 paths_are_there() {
     links_lead_on "$top" || return 1
-    for text in "$top"/*.md "$top"/docs/*.md "$top"/bench/*.md "$top"/contrib/*.md "$top"/conformance/*.md "$top"/crates/*/CALLING.md; do
-        grep -o '`\(crates\|docs\|examples\|bench\|checks\|contrib\|conformance\|release\)/[A-Za-z0-9_./-]*`' "$text" | tr -d '`' |
+    for text in "$top"/*.md "$top"/docs/*.md "$top"/bench/*.md "$top"/contrib/*.md "$top"/conformance/*.md "$top"/edits/*.md "$top"/crates/*/CALLING.md; do
+        grep -o '`\(crates\|docs\|edits\|examples\|bench\|checks\|contrib\|conformance\|release\)/[A-Za-z0-9_./-]*`' "$text" | tr -d '`' |
             grep -v '/out/\|/NAME\|[*]' | while read -r path; do
             [ -e "$top/$path" ] || echo "${text#"$top"/}: there is no $path"
         done
@@ -174,7 +183,7 @@ made_examples() {
 }
 check "examples/make.py makes the example inputs" made_examples
 
-# The recipe of docs/operating.md, on a capture whose short Ethernet frames are filled up to 60 bytes.
+# The recipe of contrib/README.md, on a capture whose short Ethernet frames are filled up to 60 bytes.
 capture() {
     needs tcpdump python3
     python3 "$top/checks/padded_capture.py" <"$top/examples/show.hex" >padded.pcap || return 1
@@ -184,6 +193,6 @@ capture() {
         cat lines
         return 1
     }
-    grep -qF 'awk -W interactive -f examples/tcpdump_hex.awk' "$top/docs/operating.md"
+    grep -qF 'awk -W interactive -f examples/tcpdump_hex.awk' "$top/contrib/README.md"
 }
 check "the recipe for tcpdump leaves out what fills up short frames" capture

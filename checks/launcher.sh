@@ -256,16 +256,18 @@ installed() {
     [ ! -s err ] && prog judge <"$top/examples/judge.bin" | cmp - got || return 1
     without_rt 'a prefix/bin/m17' version >got && has got 'rattle-kit-of-the-checks' || return 1
     without_rt 'a prefix/bin/m17' help >got && has got 'm17 judge' || return 1
-    for text in README.md docs/operating.md examples/show.hex examples/m17.service LICENSE-MIT contrib/README.md; do
+    for text in README.md docs/operating.md docs/service.md docs/reference.md examples/show.hex examples/m17.service LICENSE-MIT contrib/README.md; do
         cmp "$top/$text" "a prefix/share/doc/m17/$text" || return 1
     done
-    for script in m17-log m17-book m17-crc m17-pcap m17-board; do
+    for script in m17-log m17-book m17-crc m17-pcap m17-page m17-why; do
         [ -x "a prefix/bin/$script" ] || return 1
     done
     if command -v python3 >/dev/null; then
-        for script in m17-log m17-book m17-crc m17-pcap m17-board; do
+        for script in m17-log m17-book m17-crc m17-pcap m17-page m17-why; do
             without_rt "a prefix/bin/$script" --help >helped && has helped "$script" || return 1
         done
+        # With all that it needs from lib.
+        without_rt 'a prefix/bin/m17-page' --once . >shown && has shown '<h1>M17 reflector</h1>' || return 1
     fi
     cmp "$top/docs/m17.1" 'a prefix/share/man/man1/m17.1' || return 1
     find 'a prefix' -type f -name '*.[0-9]*' ! -name m17.1 | grep . && return 1

@@ -1,5 +1,5 @@
 # Checks of the built program with a board: its lines while it runs, the page of them, and files that cannot be written. Part
-# of checks/run, behind reflector.sh and board.sh, whose helpers it uses.
+# of checks/run, behind reflector.sh, whose helpers it uses.
 # shellcheck shell=sh
 
 # boards WORD..: starts a reflector of A, M and Z with a board, and waits until its file is there.
@@ -39,6 +39,11 @@ rises() {
     awk '!/^[AZ] records [0-9]+ admitted [0-9]+ at [0-9]+ talker (none|AB1CD|N0CALL)$/ || $3 <= last[$1] { print; exit 1 } { last[$1] = $3 }' "$1"
 }
 
+# shows PORT TEXT: waits until the page says so.
+shows() {
+    timeout 120 python3 -B "$top/checks/page.py" shows "$@"
+}
+
 # followed_by WORD..: with these words the board is followed by tail, and by the page, while somebody talks in the first module
 # and somebody else in the last one.
 followed_by() {
@@ -47,14 +52,14 @@ followed_by() {
     tail -n +1 -f board >followed &
     follower=$!
     place=$(python3 -c 'import socket; s = socket.socket(); s.bind(("127.0.0.1", 0)); print(s.getsockname()[1])') || return 1
-    timeout 60 "$top/contrib/m17-board" --port "$place" board &
+    timeout 60 "$top/contrib/m17-page" --port "$place" --board board kept &
     page=$!
     joins script talker "127.0.0.1:$port"
     talker=$!
     prog talk --call N0CALL --module Z --bind 127.0.0.1:0 --to "127.0.0.1:$port" <last_script >last_talker &
     last=$!
-    has_line '^A records [0-9]* admitted [0-9]* at [0-9]* talker AB1CD$' && shows "$place" '^A | AB1CD | since' || return 1
-    has_line '^Z records [0-9]* admitted [0-9]* at [0-9]* talker N0CALL$' && shows "$place" '^Z | N0CALL | since' || return 1
+    has_line '^A records [0-9]* admitted [0-9]* at [0-9]* talker AB1CD$' && shows "$place" 'A talks AB1CD' || return 1
+    has_line '^Z records [0-9]* admitted [0-9]* at [0-9]* talker N0CALL$' && shows "$place" 'Z talks N0CALL' || return 1
     wait $talker && said talker 'closed asked kept 0' && wait $last && said last_talker 'closed asked kept 0' || return 1
     kill -0 "$server" || return 1
     ends 0 'A admitted 375 missed 0\nM admitted 0 missed 0\nZ admitted 375 missed 0\n' && kill $page || return 1

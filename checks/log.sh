@@ -31,7 +31,7 @@ logs() {
 # awaits FILE PATTERN [COUNT]: waits until so many lines have it, one without the number.
 awaits() {
     tries=0
-    until [ "$(grep -c -e "$2" "$1")" -ge "${3:-1}" ]; do
+    until found=$(grep -s -c -e "$2" "$1"); [ "${found:-0}" -ge "${3:-1}" ]; do
         tries=$((tries + 1))
         [ $tries -lt 300 ] || {
             echo "$1 never had ${3:-1} lines with '$2':"
@@ -93,13 +93,13 @@ limited_log() {
 01:59.100Z A join AB1CD
 01:59.100Z A join N0CALL
 01:59.200Z A begin AB1CD stream 0001
-02:00.160Z A end AB1CD 1.0 s 25 packets timed-out
+02:00.160Z A end AB1CD 1.0 s 25 packets timed out
 02:00.200Z A begin N0CALL stream 0002
 02:00.200Z A end N0CALL 0.0 s 1 packets
 02:00.240Z A begin AB1CD stream 0003
-02:01.200Z A end AB1CD 1.0 s 25 packets timed-out
+02:01.200Z A end AB1CD 1.0 s 25 packets timed out
 02:01.240Z A begin AB1CD stream 0004
-02:02.200Z A end AB1CD 1.0 s 25 packets timed-out
+02:02.200Z A end AB1CD 1.0 s 25 packets timed out
 02:03.000Z A begin AB1CD stream 0005
 02:03.040Z A end AB1CD 0.1 s 2 packets silent
 02:04.640Z A begin N0CALL stream 0006
@@ -121,7 +121,7 @@ assert [each["event"] for each in said] == [words[1 + ("module" in each)] for ea
 assert said[1] == {"time": "2026-11-28T08:01:59.100Z", "event": "join", "module": "A", "callsign": "AB1CD",
     "listens": False, "peer": "10.0.0.1:17000", "link": 0, "moment": 100}, said[1]
 assert said[7] == {"time": "2026-11-28T08:02:00.160Z", "event": "end", "module": "A", "talker": "W1XYZ",
-    "seconds": 0.2, "packets": 4, "sent": 5, "cause": "ended", "moment": 1160}, said[7]'
+    "seconds": 0.2, "packets": 4, "sent": 5, "cause": "let go", "moment": 1160}, said[7]'
 }
 check "m17-log --json has an object of JSON for each line" made_json
 
@@ -239,14 +239,75 @@ A leave AB1CD asked' || return 1
 }
 check "m17-log and m17-book --follow go on behind restarts, in the same folder and in another" restarted_log
 
+# without_times FILE..: the lines that tell who joined, spoke and left, without their times.
+without_times() {
+    cat "$@" | sed 's/^[^ ]* //'
+}
+
+# stops: ends the log that follows, as systemd does.
+stops() {
+    kill $follows && wait $follows
+    [ $? -eq 143 ]
+}
+
+# A log that is stopped and started again while a book grows, behind the joins and behind an over; then over a restart.
+continued_log() {
+    made whole && rm whole/link0.trace whole/B.book && mkdir kept && touch first second third fourth fifth || return 1
+    log --once --every 1 whole >once && without_times once >wanted || return 1
+    set -- timeout 60 "$top/contrib/m17-log" --state place --every 1 kept
+    # Each log is started by a command of its own: of a list of commands `$!` may be a shell, and the log outlive that.
+    head -c 91 whole/A.book >kept/A.book || return 1
+    "$@" >first &
+    follows=$!
+    awaits first ' A join N0CALL listens' && awaits place '"place": 91' && stops || return 1
+    head -c 479 whole/A.book | tail -c +92 >>kept/A.book || return 1
+    "$top/contrib/m17-log" --state place --every 1 kept >second &
+    follows=$!
+    awaits second ' A end W1XYZ' && awaits place '"place": 479'
+    ended=$?
+    kill -KILL $follows
+    wait $follows
+    [ $ended -eq 0 ] || return 1
+    tail -c +480 whole/A.book >>kept/A.book || return 1
+    "$@" >third &
+    follows=$!
+    awaits third ' A leave N0CALL silent' && stops || return 1
+    without_times first second third | cmp - wanted || {
+        cat first second third
+        return 1
+    }
+    # The book is made anew while no log runs, and then nothing happens.
+    rm kept/A.book && head -c 54 whole/A.book >kept/A.book || return 1
+    "$@" >fourth &
+    follows=$!
+    awaits fourth ' A join AB1CD' && stops && told fourth 'start modules A
+A join AB1CD' || return 1
+    "$@" --new >fifth &
+    follows=$!
+    tail -c +55 whole/A.book | head -c 37 >>kept/A.book && awaits fifth ' A join N0CALL' && stops && told fifth 'A join N0CALL listens' || return 1
+    # With what is no such file it begins with the books; and what is earlier is left out.
+    echo junk >place && log --once --state place kept >sixth 2>why && grep -q 'not what this log wrote' why &&
+        [ "$(wc -l <sixth)" -eq 3 ] && log --once --since 2026-11-28T08:02:01Z --start 2026-11-28T080159 whole >later &&
+        told later 'A leave AB1CD asked
+A leave N0CALL silent
+A refused listen-only 2 N0CALL' || return 1
+    made both && python3 -B "$top/checks/log_state.py" "$top/contrib/m17-log" both
+}
+check "m17-log --state goes on where it was: behind its own restart, one of the reflector, and at each event" continued_log
+
 words_of_log() {
     needs python3
     mkdir here && set -- "$top/contrib/m17-log" || return 1
     gives 2 '' "$@" 2>why && gives 2 '' "$@" a b && gives 2 '' "$@" --other here && gives 2 '' "$@" --module a here &&
-        gives 2 '' "$@" --start yesterday here && gives 2 '' "$@" --every 0 here && gives 2 '' "$@" --every || return 1
+        gives 2 '' "$@" --start yesterday here && gives 2 '' "$@" --every 0 here && gives 2 '' "$@" --every &&
+        gives 2 '' "$@" --since yesterday here && gives 2 '' "$@" here --state || return 1
     gives 3 '' "$@" --once no/such && gives 0 '' "$@" --once here || return 1
+    # A folder that is not there is told of at once, and waited for.
+    "$@" kept >lines 2>why &
+    follows=$!
+    awaits why 'kept: there is no such folder yet' && made kept && awaits lines ' join ' && kill $follows || return 1
     [ -c /dev/full ] || return 0
-    made kept && log --once kept >/dev/full
+    log --once kept >/dev/full
     [ $? -eq 4 ] || return 1
     log --once kept >&- 2>why
     [ $? -eq 4 ] && [ ! -s why ]

@@ -314,7 +314,7 @@ rule_examples() {
     needs python3
     python3 -B "$top/checks/rule_examples.py" "$program"
 }
-check "by each of the ten examples of rules those are heard of whom it says so, and no others" rule_examples
+check "by each of the ten examples of rules, and by those against look-alikes, those are heard of whom it says so, and no others" rule_examples
 
 # On a port of both families, and on a second link of IPv6 alone.
 both_families() {

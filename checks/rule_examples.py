@@ -1,4 +1,5 @@
-"""Runs `serve --rules` by each of the ten examples of docs/rules.md, and asks it over UDP: rule_examples.py PROGRAM.
+"""Runs `serve --rules` by each of the ten examples of docs/rules.md, and by those against callsigns that look alike, and asks it
+over UDP: rule_examples.py PROGRAM.
 
 What is heard stands in its trace. An example without a line of probes here, or the other way round, is a failure too.
 """
@@ -28,18 +29,26 @@ PROBES = (
     ("conn A N0CALL, lstn A N0CALL, talk * AB1CD", "talk * N0CALL"),
     ("conn A CLUB, talk * CLUB", "conn A #CLUB, lstn A #CLUB, talk * #CLUB"),
     ("talk * AB1CD, talk * #CLUB, talk *  A, talk * .A", "talk * broadcast, talk * none"),
+    ("conn A AB1CD, talk * AB1CD-9, talk * AB1/P", "conn A  N0CALL, talk *  N0CALL, lstn A .N0CALL, talk * .N0CALL,"
+     " conn A -N0CALL, talk * -N0CALL, conn A /N0CALL, talk * /N0CALL, conn A #N0CALL, talk * #N0CALL"),
 )
 
 WORDS = {"broadcast": BROADCAST, "none": 0}
 
 
 def examples():
-    """The rules of each example: the blocks of code that stand below its number."""
+    """The rules of each example: those that stand in the last field of its row."""
     with open(os.path.join(TOP, "docs", "rules.md"), encoding="utf-8") as page:
         section = page.read().split("## Ten examples")[1].split("\n## ")[0]
-    parts = re.split(r"(?m)^\d+\. ", section)[1:]
-    texts = ["".join(re.findall(r"(?m)^ +(?:allow|deny) .*\n", part)) for part in parts]
-    return ["".join(line.lstrip() for line in text.splitlines(True)) for text in texts]
+    rows = re.findall(r"(?m)^\| .* \| (`(?:allow|deny) .*) \|$", section)
+    return ["".join(rule + "\n" for rule in re.findall(r"`((?:allow|deny) [^`]*)`", row)) for row in rows]
+
+
+def against_look_alikes():
+    """The block of rules against callsigns that look like others."""
+    with open(os.path.join(TOP, "docs", "rules.md"), encoding="utf-8") as page:
+        section = page.read().split("## Callsigns that look alike")[1].split("\n## ")[0]
+    return section.split("```\n")[1]
 
 
 def whole(number, text):
@@ -71,7 +80,7 @@ def failures(program, number, text):
 
 
 def main(program):
-    texts = examples()
+    texts = examples() + [against_look_alikes()]
     if len(texts) != len(PROBES) or not all(texts):
         return "%d examples, %d of probes" % (len(texts), len(PROBES))
     with concurrent.futures.ThreadPoolExecutor(len(texts)) as runs:

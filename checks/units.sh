@@ -2,7 +2,7 @@
 # behind reflector.sh, whose helpers it uses.
 # shellcheck shell=sh
 
-units="m17.service m17-log.service m17-crc.service m17-bridge.service m17-board.service m17-clean.service m17-clean.timer"
+units="m17.service m17-log.service m17-crc.service m17-bridge.service m17-page.service m17-clean.service m17-clean.timer"
 
 # The units name programs of a prefix; here they are ones that are there.
 verified_units() {
@@ -47,7 +47,7 @@ check "systemd-analyze security finds little that the services are exposed to" e
 # Refused words start nothing again, lines in the journal have a bound, and the relay has a file for each client.
 bounded_units() {
     needs python3
-    for unit in m17 m17-log m17-crc m17-bridge m17-board; do
+    for unit in m17 m17-log m17-crc m17-bridge m17-page; do
         grep -q '^RestartPreventExitStatus=\(1 \)\{0,1\}2' "$top/examples/$unit.service" || return 1
     done
     for unit in m17-log m17-crc; do
@@ -115,6 +115,31 @@ prepared_folders() {
     [ "$(readlink now)" = "$second" ]
 }
 check "the unit's folders: one for each start, locked, with books and without traces" prepared_folders
+
+# The unit's own line, with the launcher in it: the lock is on a descriptor that the launcher was given.
+locked_by_launcher() {
+    needs flock
+    free_ports
+    mkdir -p state prefix/bin prefix/lib/m17 || return 1
+    cp "$top/m17" prefix/bin/m17 && cp "$program" prefix/lib/m17/m17_app && echo kit >prefix/lib/m17/kit || return 1
+    launcher=$PWD/prefix/bin/m17
+    cd state && prepares || return 1
+    sed -n 's/^ExecStart=//p' "$top/examples/m17.service" |
+        sed "s|/usr/local/bin/m17 |$launcher |; s|\[::\]:17000|127.0.0.1:$port|; s/%%/%/g; s/\\$\\$/\$/g" >start
+    sh -c "exec $(cat start)" >served &
+    server=$!
+    has_bytes now/A.book 17 || return 1
+    if flock --nonblock now true; then
+        kill "$server"
+        return 1
+    fi
+    # A second one by the very line is not started, and cuts no file.
+    sh -c "exec $(cat start)" >again
+    [ $? -eq 1 ] && [ ! -s again ] && [ "$(wc -c <now/A.book)" -ge 17 ] || return 1
+    kill "$server" && wait "$server" 2>/dev/null
+    flock --wait 20 now true
+}
+check "the unit's lock holds through the launcher: a second reflector into one folder is not started" locked_by_launcher
 
 # As the unit starts it, for fewer seconds and with a limit that a book comes to within a talk.
 bounded_books() {

@@ -1,10 +1,11 @@
-"""What the scripts beside this file know of packets, books and traces (docs/protocol.md). It lies where they lie, or in
-../lib/m17 from there.
+"""What the scripts beside this file know of packets, books and traces (docs/protocol.md), and their reader of one. It lies where
+they lie, or in ../lib/m17 from there.
 """
 
 import calendar
 import os
 import re
+import stat
 import sys
 import time
 from collections import namedtuple
@@ -28,12 +29,14 @@ END_BIT = 0x8000
 # The magics of packets, by length.
 MAGICS = {4: (b"ACKN", b"NACK", b"DISC"), 10: (b"PING", b"PONG", b"DISC"), 11: (b"CONN", b"LSTN"), 54: (b"M17 ",)}
 
-READ_AT_ONCE = 1 << 20
+READ_AT_ONCE = 1 << 16
 # How many bytes before the place are compared, to see that a file is still the one that was read.
 KEPT_TAIL = 64
 # How much later than before, in milliseconds, a start has to be so that the clock was set.
 CLOCK_SET = 2000
 LAST_TIME = 253402300799999
+# In milliseconds: so much older than the clock says no record is that was just written.
+LATE = 2000
 
 
 class Broken(Exception):
@@ -118,6 +121,25 @@ class Clock:
         return old
 
 
+class Moments:
+    """The moment that it is now, in milliseconds since the reflector began: first by the clock, and then by the count of time
+    that nobody sets, as items come, none of which was written before its moment nor seconds after it."""
+
+    def __init__(self):
+        self.base = None
+
+    def take(self, newest, start, has_come):
+        """The newest moment that was read, and whether that came since the last look."""
+        count, is_first = int(1000 * time.monotonic()), self.base is None
+        if is_first:
+            self.base = count - int(1000 * time.time()) + start
+        if count - newest < self.base or (has_come and not is_first and count - newest > self.base + LATE):
+            self.base = count - newest
+
+    def now(self):
+        return int(1000 * time.monotonic()) - self.base if self.base is not None else 0
+
+
 def crc_step(value):
     for _ in range(8):
         value = value << 1 ^ (0x15935 if value & 0x8000 else 0)
@@ -149,23 +171,47 @@ def refusal(data):
     return None
 
 
-class Source:
-    """A file that grows, and how far it was read: `place` is behind the last whole item."""
+def open_waitless(path, flags=os.O_RDONLY):
+    """Opens a file, and waits for nobody where it is a pipe."""
+    return os.open(path, flags | os.O_NONBLOCK | os.O_CLOEXEC)
 
-    def __init__(self, path):
-        self.path = path
-        self.file = open(path, "rb", buffering=0)
+
+def is_regular(path):
+    """A trace that leads to /dev/null is none."""
+    try:
+        return stat.S_ISREG(os.stat(path).st_mode)
+    except OSError:
+        return False
+
+
+class Source:
+    """A file that grows, and how far it was read: `place` is behind the last whole item. Where links led to another file
+    meanwhile, `real` is that one."""
+
+    def __init__(self, path, real=None):
+        self.path, self.real = path, os.path.realpath(real or path)
+        self.file = open(self.real, "rb", buffering=0, opener=open_waitless)
         status = os.fstat(self.file.fileno())
         self.key = status.st_dev, status.st_ino
-        self.place = self.limit = self.moment = self.changed = 0
+        self.place = self.limit = self.moment = self.changed = self.index = 0
         self.tail = b""
-        self.seen = None
-        self.is_broken = False
+        self.seen = self.why = None
+
+    def state(self):
+        """How far it was read, for another process that goes on there."""
+        told = {"path": self.path, "real": self.real, "inode": self.key[1], "tail": self.tail.hex(), "why": self.why}
+        return {**told, "place": self.place, "moment": self.moment, "index": self.index, "seen": self.seen}
+
+    def go_on(self, told):
+        """Whether what was read by `told` stands there still. Then it goes on behind that."""
+        self.place, self.moment, self.index = int(told["place"]), int(told["moment"]), int(told["index"])
+        self.tail, self.seen, self.why = bytes.fromhex(told["tail"]), told["seen"], told["why"]
+        return self.key[1] == told["inode"] and self.is_whole()
 
     def look(self):
         """Takes how far the file goes now, and when it was changed last."""
         status = os.fstat(self.file.fileno())
-        self.limit = 0 if self.is_broken else status.st_size
+        self.limit = 0 if self.why else status.st_size
         self.changed = status.st_mtime_ns
 
     def is_whole(self):
@@ -209,8 +255,8 @@ class Source:
                 self.tail = (self.tail + item)[-KEPT_TAIL:]
                 yield item
         except Broken as broken:
-            self.is_broken = True
-            sys.stderr.write(f"{self.path}: refused at {self.place}: {broken}\n")
+            self.why = f"refused at {self.place}: {broken}"
+            sys.stderr.write(f"{self.path}: {self.why}\n")
         self.seen = self.changed if self.place == self.limit else None
 
 
@@ -218,8 +264,8 @@ class Book(Source):
     """A book, of this module or, where the letter is None, of any. Each event is a moment, an order beside those of traces,
     and what it is."""
 
-    def __init__(self, path, letter):
-        super().__init__(path)
+    def __init__(self, path, letter, real=None):
+        super().__init__(path, real)
         self.letter = letter
 
     def size_of(self, data, at, place):
@@ -257,10 +303,9 @@ class Book(Source):
 class Trace(Source):
     """A trace: of its entries only the datagrams are events."""
 
-    def __init__(self, path, link):
-        super().__init__(path)
+    def __init__(self, path, link, real=None):
+        super().__init__(path, real)
         self.link = link
-        self.index = 0
 
     def size_of(self, data, at, place):
         if place == 0:

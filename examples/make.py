@@ -218,9 +218,20 @@ def script(callsign, frames):
     return b"".join(records)
 
 
+def write_script(words):
+    """Writes the script that the words ask for, or ends with what is wrong with them."""
+    if len(words) != 2 or not words[1].isdigit() or not 1 <= int(words[1]) <= 16384:
+        sys.exit("make.py: it is to be: make.py script CALLSIGN FRAMES, with 1 to 16384 frames")
+    letters = words[0][1:] if words[0].startswith("#") else words[0]
+    most = 8 if words[0].startswith("#") else 9
+    if not 1 <= len(letters) <= most or letters.endswith(" ") or not set(letters) <= set(LETTERS):
+        sys.exit(f"make.py: {words[0]} is no callsign: up to nine of A to Z (upper case), 0 to 9, - / . or a group, as #AB")
+    sys.stdout.buffer.write(script(words[0], int(words[1])))
+
+
 def main():
     if sys.argv[1:2] == ["script"]:
-        sys.stdout.buffer.write(script(sys.argv[2], int(sys.argv[3])))
+        write_script(sys.argv[2:])
         return
     folder = os.path.dirname(os.path.abspath(__file__))
     with open(os.path.join(folder, "judge.bin"), "wb") as out:

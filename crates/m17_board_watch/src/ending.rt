@@ -43,6 +43,7 @@ impl<B: Book, T: Drop> Watch<B, T> {
             order,
             clock,
         } = self;
+        // models/watch.pml: board-closed
         close_into(rt, posters, eyes, glances);
         let mut rest = Watch {
             modules,
@@ -53,6 +54,7 @@ impl<B: Book, T: Drop> Watch<B, T> {
             order,
             clock,
         };
+        // models/watch.pml: last-lines-written
         rest.write_last(glances.as_slice());
         let Watch {
             modules: _,

@@ -54,10 +54,13 @@ impl<B: Book, T: Clock> Watch<B, T> {
         ensures { WatchDid B.told self.old self.new }
     {
         for _ in rt.forever() {
+            // models/watch.pml: quit-heard
             if hears_quit(rt, &mut self.order) {
                 return;
             }
+            // models/watch.pml: round-looked
             self.look_round(rt);
+            // models/watch.pml: rested
             thread::sleep(&self.clock, Duration::from_millis(REST_MS));
         }
         unreachable!()
@@ -97,6 +100,7 @@ impl<B: Book, T> Watch<B, T> {
         if place >= self.last.len() {
             return;
         }
+        // models/watch.pml: cell-looked
         let glance = look_with(rt, &mut self.eyes, place);
         if self.failed {
             return;
@@ -117,6 +121,7 @@ impl<B: Book, T> Watch<B, T> {
     {
         m17_ports::laws::books_are_written_in_turn::<B::Label>();
         let line = line_of(letter, glance);
+        // models/watch.pml: line-written
         match self.book.write(line.bytes()) {
             Ok(()) => self.last[place] = glance.records,
             Err(_) => self.failed = true,
@@ -139,6 +144,7 @@ fn hears_quit<R: Wait>(rt: &R, orders: &mut Popper<Order>) -> bool
         (HasPassed orders.old orders.new) }
 {
     for _ in rt.forever() {
+        // models/watch.pml: order-popped
         match orders.try_pop(rt) {
             Some(Order::Quit) => return true,
             Some(Order::Go) => {}

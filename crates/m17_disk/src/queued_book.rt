@@ -76,6 +76,7 @@ impl<R: Wait + Clock + Drop> QueuedBook<R> {
         if bytes.is_empty() {
             return true;
         }
+        // models/books.pml: ended-asked
         if self.ended.load(Ordering::SeqCst) {
             return false;
         }
@@ -107,6 +108,7 @@ fn push_soon<R: Wait + Clock>(
 {
     let mut slip = slip;
     for rested in 0..RESTS + 1 {
+        // models/books.pml: slip-tried
         match slips.try_push(rt, slip) {
             Ok(()) => {
                 if rested == 0 {
@@ -116,10 +118,13 @@ fn push_soon<R: Wait + Clock>(
             }
             Err(back) => slip = back,
         }
+        // models/books.pml: end-asked-again
         if *rests == 0 || ended.load(Ordering::SeqCst) {
             return false;
         }
+        // models/books.pml: rest-counted
         *rests -= 1;
+        // models/books.pml: rested
         thread::sleep(rt, Duration::from_millis(REST_MS));
     }
     false
@@ -160,6 +165,7 @@ impl<R: Wait + Clock + Drop> Book for QueuedBook<R> {
         if !self.gave_up && self.hand_over(bytes) {
             return Ok(());
         }
+        // models/books.pml: given-up
         self.gave_up = true;
         self.faults = self.faults.saturating_add(1);
         Err(Failed)

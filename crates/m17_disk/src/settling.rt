@@ -97,8 +97,10 @@ impl<B: Book + Drop + Send + 'static> Hand<B> {
             mut orders,
             ended,
         } = self;
+        // models/books.pml: stop-told
         let _ = orders.try_push(rt, Order::Stop);
         if is_set_within(rt, &ended, rests) {
+            // models/books.pml: joined
             Some(running.join(rt))
         } else {
             None
@@ -109,12 +111,14 @@ impl<B: Book + Drop + Send + 'static> Hand<B> {
 // Rests until the flag is set, so often at the most, and says whether it is.
 fn is_set_within<R: Clock>(rt: &R, flag: &Arc<AtomicBool, Global>, rests: &mut u32) -> bool {
     for _ in 0..RESTS + 1 {
+        // models/books.pml: end-awaited
         if flag.load(Ordering::SeqCst) {
             return true;
         }
         if *rests == 0 {
             return false;
         }
+        // models/books.pml: wait-counted
         *rests -= 1;
         thread::sleep(rt, Duration::from_millis(REST_MS));
     }

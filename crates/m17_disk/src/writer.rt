@@ -36,6 +36,7 @@ impl<B: Book + Drop + Send + 'static> Work for Writer<B> {
 
     fn go<R: Wait>(&mut self, rt: &R) {
         self.work(rt);
+        // models/books.pml: end-said
         self.ended.store(true, Ordering::SeqCst);
     }
 }
@@ -48,13 +49,18 @@ impl<B: Book> Writer<B> {
     {
         let mut stops = false;
         for _ in rt.forever() {
+            // models/books.pml: sleep-announced
             let announced = self.bell.announce();
+            // models/books.pml: order-looked
             stops = stops || self.order.try_pop(rt).is_some();
+            // models/books.pml: slips-taken
             let some = write_next(rt, &mut self.slips, &mut self.book, &mut self.failed);
+            // models/books.pml: end-decided
             if self.failed || (stops && !some) {
                 return;
             }
             if !some {
+                // models/books.pml: slept
                 announced.sleep(rt);
             }
         }

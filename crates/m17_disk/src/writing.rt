@@ -33,6 +33,7 @@ pub(crate) fn write_next<B: Book, R: Wait>(
     if batch.is_empty() {
         return false;
     }
+    // models/books.pml: batch-written
     *failed = book.write(batch.as_slice()).is_err();
     true
 }
@@ -47,6 +48,7 @@ fn gather<R: Wait>(rt: &R, slips: &mut Popper<Slip>) -> ArrayVec<u8, BATCH_BYTES
         if batch.len() > BATCH_BYTES - SLIP_BYTES {
             return batch;
         }
+        // models/books.pml: slip-popped
         match slips.try_pop(rt) {
             Some(slip) => batch.try_extend_from_slice(slip.bytes()).unwrap(),
             None => return batch,

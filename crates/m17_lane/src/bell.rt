@@ -24,7 +24,7 @@ use std::sync::{Arc, Wait};
 /// they are empty, and then rests.
 ///
 /// ```text
-/// for group in 0..bell.groups() { for each word in bell.marked_words(group) { .. bell.take_marks(word) .. } }
+/// for word in 0..bell.words() { .. bell.take_marks(word) .. }
 /// .. pop each marked lane until it is empty ..
 /// bell.rest(rt);
 /// ```
@@ -83,15 +83,9 @@ impl Bell {
         })
     }
 
-    /// How many groups of 64 words of 64 marks it has: 0 for a bell without marks.
-    pub fn groups(&self) -> usize {
-        self.rung.marks.groups()
-    }
-
-    /// Which words of a group have marks to take: bit b, from the lowest, stands for word `64 * group + b`. What it
-    /// answers is taken: it is answered again only after another push. 0 for a group that is not there.
-    pub fn marked_words(&self, group: usize) -> u64 {
-        self.rung.marks.take_words(group)
+    /// How many words of 64 marks it has: 0 for a bell without marks.
+    pub fn words(&self) -> usize {
+        self.rung.marks.words()
     }
 
     /// Which marks of a word are set: bit b, from the lowest, stands for mark `64 * word + b`. What it answers is taken:
@@ -104,6 +98,7 @@ impl Bell {
     /// Sleeps until a push on a lane with a mark rings, or somebody rouses it, and not at all where one was pushed to since its
     /// mark was taken. It may return without a push. A push on a lane of this bell without a mark does not end it for sure.
     pub fn rest<R: Wait>(&self, rt: &R) {
+        // models/bells.pml: rest-announced
         let announced = self.announce();
         if !self.rung.marks.any() {
             announced.sleep(rt);
@@ -123,14 +118,19 @@ impl Bell {
 
     // Who dozes says so before it announces, so that who finds the announcement knows.
     fn announce_as(&self, dozes: bool) -> Announced<'_> {
+        // models/lane.pml: sleep-counted
         let key = self.rung.count.prepare_wait();
+        // models/lane.pml: doze-said
         self.rung.dozes.store(dozes, Ordering::SeqCst);
+        // models/lane.pml: sleep-announced
         self.rung.announced.store(true, Ordering::SeqCst);
         Announced { key }
     }
 
     // Whether a doze is announced, and was not rung since.
     pub(crate) fn is_dozed_on(&self) -> bool {
+        // models/lane.pml: announcement-asked
+        // models/lane.pml: doze-asked
         self.rung.announced.load(Ordering::SeqCst) && self.rung.dozes.load(Ordering::SeqCst)
     }
 
@@ -146,7 +146,10 @@ impl Bell {
     // not come to run yet. It wakes for a push on any lane of the bell.
     pub(crate) fn ring(&self) {
         let announced = &self.rung.announced;
+        // models/lane.pml: announcement-looked
+        // models/lane.pml: announcement-taken
         if announced.load(Ordering::SeqCst) && announced.swap(false, Ordering::SeqCst) {
+            // models/lane.pml: sleeper-woken
             self.rung.count.notify_all();
         }
     }
@@ -168,6 +171,7 @@ impl Announced<'_> {
     /// Sleeps until a push on a lane of the bell rings, or has since the announcement. It may return without one.
     pub fn sleep<R: Wait>(self, rt: &R) {
         let Announced { key } = self;
+        // models/lane.pml: slept
         key.wait(rt);
     }
 }
@@ -175,6 +179,7 @@ impl Announced<'_> {
 impl Drop for Announced<'_> {
     fn drop(self) {
         let Announced { key } = self;
+        // models/lane.pml: sleep-dropped
         drop(key);
     }
 }

@@ -57,10 +57,13 @@ pub fn put<T, R: Wait>(
     ensures full { IfErr result (λ _. (view pass.old).producers ≡ 1
         → ruled_capacity lane.now.line ≤ length (first_log (view pass.old).logs)) }
 {
+    // models/lane.pml: item-in
     let answer = lane.line.push_as::<Puts, R>(rt, pass, item);
     if answer.is_ok() {
+        // models/bells.pml: mark-behind-item
         lane.filled.set_mark();
         if !is_left_asleep(rt, lane, pass, haste) {
+            // models/lane.pml: rung-behind-item
             lane.filled.ring();
         }
     }
@@ -83,6 +86,7 @@ fn is_left_asleep<T, R: Wait>(
     match haste {
         Haste::Now => false,
         Haste::Later(enough) => {
+            // models/lane.pml: quiet-counted
             lane.filled.is_dozed_on()
                 && lane.line.len_as::<Gets, R>(rt, pass) < enough.min(lane.half)
         }
@@ -107,8 +111,10 @@ pub fn put_or_rest<T, R: Wait>(
         (λ back. (back ≡ item) × (view pass.new ≡ view pass.old)) }
 {
     let wanted = lane.room.want();
+    // models/lane.pml: tried-behind-want
     let answer = put(rt, lane, pass, item, haste);
     if answer.is_err() {
+        // models/lane.pml: rung-before-sleep
         lane.filled.ring();
         wanted.sleep(rt);
     }
@@ -124,8 +130,10 @@ pub fn get<T, R: Wait>(rt: &R, lane: &Lane<T>, pass: &mut Pass<T, Hand<T>>) -> O
     ensures some { MatchOption result (view pass.new ≡ view pass.old)
         (λ x. view pass.new ≡ got_by (view pass.old) x) }
 {
+    // models/lane.pml: item-out
     let item = lane.line.pop_as::<Gets, R>(rt, pass);
     if item.is_some() && lane.room.is_wanted() {
+        // models/lane.pml: held-counted
         let held = lane.line.len_as::<Gets, R>(rt, pass);
         lane.room.tell(held);
     }
@@ -150,6 +158,7 @@ pub fn get_or_rest<T, R: Wait>(
         Rest::Sleep => lane.filled.announce(),
         Rest::Doze => lane.filled.announce_doze(),
     };
+    // models/lane.pml: tried-behind-announcement
     let item = get(rt, lane, pass);
     if item.is_none() {
         announced.sleep(rt);

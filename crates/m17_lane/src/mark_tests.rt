@@ -6,18 +6,15 @@ use std::sync::Wait;
 use std::thread;
 use std::time::{Clock, Duration};
 
-// What a bell shows of its words and marks, one after the other.
-fn shown_by(bell: &Bell) -> [u64; 10] {
+// What a bell shows of its marks, one word after the other.
+fn shown_by(bell: &Bell) -> [u64; 7] {
     [
-        bell.marked_words(0),
-        bell.marked_words(0),
         bell.take_marks(0),
         bell.take_marks(0),
         bell.take_marks(2),
         bell.take_marks(2),
         bell.take_marks(1),
         bell.take_marks(3),
-        bell.marked_words(1),
         bell.take_marks(99),
     ]
 }
@@ -29,9 +26,9 @@ fn marks_tell_which_lanes_were_pushed_to(rt: HostRuntime) {
     let (mut low, _from_low) = must(&rt, make_one_marked(rt.alloc(), &bell, 3, 2));
     let (mut high, _from_high) = must(&rt, make_one_marked(rt.alloc(), &bell, 130, 2));
     let (mut plain, _from_plain) = must(&rt, make_one_with(rt.alloc(), &bell, 2));
-    let groups = bell.groups();
-    let new = bell.marked_words(0);
-    let unmarked = (plain.try_push(&rt, 1u8), bell.marked_words(0));
+    let words = bell.words();
+    let new = bell.take_marks(0);
+    let unmarked = (plain.try_push(&rt, 1u8), bell.take_marks(0));
     let pushed = [
         low.try_push(&rt, 2u8),
         high.try_push(&rt, 3u8),
@@ -39,10 +36,10 @@ fn marks_tell_which_lanes_were_pushed_to(rt: HostRuntime) {
     ];
     bell.rest(&rt);
     let shown = shown_by(&bell);
-    let refused = (high.try_push(&rt, 5u8), bell.marked_words(0));
-    assert!(rt; groups == 1 && new == 0 && unmarked == (Ok(()), 0));
+    let refused = (high.try_push(&rt, 5u8), bell.take_marks(2));
+    assert!(rt; words == 4 && new == 0 && unmarked == (Ok(()), 0));
     assert!(rt; pushed == [Ok(()); 3] && refused == (Err(5), 0));
-    assert!(rt; shown == [0b101, 0, 0b1000, 0, 0b100, 0, 0, 0, 0, 0]);
+    assert!(rt; shown == [0b1000, 0, 0b100, 0, 0, 0, 0]);
 }
 
 #[test]
@@ -52,8 +49,8 @@ fn each_producer_of_a_lane_sets_its_mark(rt: HostRuntime) {
     assert!(rt; pushers.len() == 2);
     for pusher in pushers.iter_mut() {
         let pushed = pusher.try_push(&rt, 1u8);
-        let taken = [bell.marked_words(0), bell.take_marks(0)];
-        assert!(rt; pushed.is_ok() && taken == [0b1, 0b100_0000]);
+        let taken = bell.take_marks(0);
+        assert!(rt; pushed.is_ok() && taken == 0b100_0000);
     }
 }
 
@@ -89,11 +86,10 @@ fn take_marked<R: Wait>(rt: &R, bell: &Bell, ends: (Popper<u32>, Popper<u32>), c
         if taken >= count {
             return taken;
         }
-        let words = bell.marked_words(0);
-        if words & 1 != 0 && bell.take_marks(0) == 1 << 5 {
+        if bell.take_marks(0) == 1 << 5 {
             taken = taken.saturating_add(pop_all(rt, &mut a));
         }
-        if words & 2 != 0 && bell.take_marks(1) == 1 << 6 {
+        if bell.take_marks(1) == 1 << 6 {
             taken = taken.saturating_add(pop_all(rt, &mut b));
         }
         if taken < count {

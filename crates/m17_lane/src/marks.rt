@@ -9,60 +9,54 @@ use std::sync::atomic::{AtomicU64, Ordering};
 /// How many bits a word has.
 const WORD_BITS: u32 = 64;
 
-/// A bit for each lane that has a mark, and above them a bit for each word of such bits, so that the consumer finds the
-/// marks that are set among thousands by a few reads.
+/// A bit for each lane that has a mark, so that the consumer of thousands of lanes finds those that were pushed to by a read
+/// for 64 of them.
 ///
-/// No push is missed. A push puts its item into the queue, then sets the mark, then the bit of the mark's word, and then
-/// rings, or is rung for later; the consumer takes in the opposite order, the bits of the words, then the marks, and then
-/// pops. So a push whose mark is set before the consumer takes that word of marks has its item in the queue when the
-/// consumer pops. A push whose mark is set after sets the bit of the word after that too, which is after the consumer took
-/// it: there it stands for the next turn, or for `any`, which is asked once a sleep is announced. And where `any` was asked
-/// before the bit was set, the ring comes after the announcement, and ends the sleep. A push that finds its mark set sets
-/// nothing: the mark is taken behind that look, and the item is in the queue when the consumer pops. Where another producer
-/// of the lane set it and not yet the bit of the word, that one does, and its ring follows.
+/// No push is missed. A push puts its item into the queue, then sets the mark, and then rings, or is rung for later; the
+/// consumer takes the marks, and then pops. So a push whose mark is set before the consumer takes that word of marks has its
+/// item in the queue when the consumer pops. A push whose mark is set after leaves it standing for the next turn, or for
+/// `any`, which is asked once a sleep is announced. And where `any` was asked before the mark was set, the ring comes after
+/// the announcement, and ends the sleep. A push that finds its mark set sets nothing: the mark is taken behind that look,
+/// and the item is in the queue when the consumer pops. Where another producer of the lane set it, that one's ring follows.
 #[derive(Drop)]
 pub(crate) struct Marks {
     of_lanes: Vec<AtomicU64>,
-    of_words: Vec<AtomicU64>,
 }
 
 impl Marks {
     /// None set, for that many lanes. `NoMemory` where there is none for it.
     pub(crate) fn make(alloc: Global, lanes: u32) -> Result<Marks, NoMemory> {
-        let words = lanes.div_ceil(WORD_BITS);
-        let groups = words.div_ceil(WORD_BITS);
         Ok(Marks {
-            of_lanes: clear_words(alloc, words)?,
-            of_words: clear_words(alloc, groups)?,
+            of_lanes: clear_words(alloc, lanes.div_ceil(WORD_BITS))?,
         })
     }
 
-    pub(crate) fn groups(&self) -> usize {
-        self.of_words.len()
+    /// How many words of 64 marks there are.
+    pub(crate) fn words(&self) -> usize {
+        self.of_lanes.len()
     }
 
-    /// Sets a mark, and then the bit of its word, where the mark isn't set already: then it was not taken since, and it
-    /// stands for this push too. A mark that is not there sets nothing.
+    /// Sets a mark where it isn't set already: then it was not taken since, and it stands for this push too. A mark that is
+    /// not there sets nothing.
     pub(crate) fn set(&self, mark: u32) {
-        let word = mark / WORD_BITS;
-        let group = word / WORD_BITS;
-        if !has_bit(&self.of_lanes, word as usize, mark % WORD_BITS) {
-            set_bit(&self.of_lanes, word as usize, mark % WORD_BITS);
-            set_bit(&self.of_words, group as usize, word % WORD_BITS);
+        let word = (mark / WORD_BITS) as usize;
+        let bit = mark % WORD_BITS;
+        // models/bells.pml: mark-looked
+        if !has_bit(&self.of_lanes, word, bit) {
+            // models/bells.pml: mark-set
+            set_bit(&self.of_lanes, word, bit);
         }
     }
 
-    pub(crate) fn take_words(&self, group: usize) -> u64 {
-        take_word(&self.of_words, group)
-    }
-
     pub(crate) fn take(&self, word: usize) -> u64 {
+        // models/bells.pml: marks-taken
         take_word(&self.of_lanes, word)
     }
 
-    /// Whether the bit of a word is set.
+    /// Whether a mark is set.
     pub(crate) fn any(&self) -> bool {
-        for word in &self.of_words {
+        for word in &self.of_lanes {
+            // models/bells.pml: marks-asked
             if word.load(Ordering::SeqCst) != 0 {
                 return true;
             }
@@ -99,6 +93,8 @@ fn set_bit(words: &[AtomicU64], word: usize, bit: u32)
 // Reads first: a word without marks stays as it is, and no other thread has to fetch it again.
 fn take_word(words: &[AtomicU64], word: usize) -> u64 {
     match words.get(word) {
+        // models/bells.pml: word-read
+        // models/bells.pml: word-swapped
         Some(bits) if bits.load(Ordering::SeqCst) != 0 => bits.swap(0, Ordering::SeqCst),
         _ => 0,
     }

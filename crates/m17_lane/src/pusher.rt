@@ -6,6 +6,7 @@ ghost use Rattle.m17_lane.specs.Ends.{pushed_to, refused_by};
 ghost use Rattle.m17_lane.specs.Rule.{refuse, IsPusher};
 
 use crate::lane::{Haste, Lane, put, put_or_rest};
+use crate::popper::MOST_ROUNDS;
 use crate::rule::{Hand, Line, Refusal, Refuse};
 use crossbeam_queue::Pass;
 use crossbeam_utils::Backoff;
@@ -92,6 +93,7 @@ impl<T> Pusher<T> {
     /// Wakes the consumer where it sleeps, for what was pushed unrung to any lane of its bell. Nothing is pushed. A consumer
     /// that finds nothing sleeps again.
     pub fn rouse(&self) {
+        // models/lane.pml: roused
         self.lane.filled.ring();
     }
 
@@ -115,9 +117,10 @@ impl<T> Pusher<T> {
         ensures { self.new ≡ pushed_to self.old item }
     {
         let mut item = item;
+        let mut awake = MOST_ROUNDS;
         let backoff = Backoff::new();
         for _ in rt.forever() {
-            let answer = if backoff.is_completed() {
+            let answer = if awake == 0 {
                 self.offer_or_rest(rt, item, haste)
             } else {
                 self.offer(rt, item, haste)
@@ -126,8 +129,9 @@ impl<T> Pusher<T> {
                 Ok(()) => return,
                 Err(back) => item = back,
             }
-            if !backoff.is_completed() {
-                backoff.snooze();
+            awake = awake.saturating_sub(1);
+            if awake > 0 {
+                backoff.spin();
             }
         }
         unreachable!()

@@ -44,19 +44,24 @@ impl Room {
 
     /// Says that this thread will sleep until there is room. Try to push after it, and sleep where the queue was full.
     pub fn want(&self) -> Wanted<'_> {
+        // models/lane.pml: want-counted
         let key = self.count.prepare_wait();
+        // models/lane.pml: want-said
         self.wanted.store(true, Ordering::SeqCst);
         Wanted { key }
     }
 
     /// Whether a producer waits for room since the last waking.
     pub fn is_wanted(&self) -> bool {
+        // models/lane.pml: want-asked
         self.wanted.load(Ordering::SeqCst)
     }
 
     /// Wakes the producers that wait, where the queue holds few enough items.
     pub fn tell(&self, held: usize) {
+        // models/lane.pml: want-taken
         if held <= self.low && self.wanted.swap(false, Ordering::SeqCst) {
+            // models/lane.pml: room-woken
             self.count.notify_all();
         }
     }
@@ -66,6 +71,7 @@ impl Wanted<'_> {
     /// Sleeps until there is room. It may return without.
     pub fn sleep<R: Wait>(self, rt: &R) {
         let Wanted { key } = self;
+        // models/lane.pml: slept-for-room
         key.wait(rt);
     }
 }
@@ -73,6 +79,7 @@ impl Wanted<'_> {
 impl Drop for Wanted<'_> {
     fn drop(self) {
         let Wanted { key } = self;
+        // models/lane.pml: want-dropped
         drop(key);
     }
 }

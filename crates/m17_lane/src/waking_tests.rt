@@ -34,7 +34,7 @@ fn push_behind_each<R: Wait>(rt: &R, end: Pusher<u32>, taken: &AtomicU32) {
 
 // Takes the marks of the second word, and says how many numbers were in its lane.
 fn take_marked<R: Wait>(rt: &R, bell: &Bell, end: &mut Popper<u32>) -> u32 {
-    if bell.marked_words(0) & 2 == 0 || bell.take_marks(1) == 0 {
+    if bell.take_marks(1) == 0 {
         return 0;
     }
     match end.try_pop(rt) {

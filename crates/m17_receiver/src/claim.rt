@@ -1,6 +1,7 @@
 //! Claims of places for those who ask.
 ghost use Rattle.std.specs.Prelude.{◌≡◌, ◌<◌, ◌↔◌, ℕ, true, false, List, [], ◌∷◌, ◌++◌, length, None, Some};
 ghost use Rattle.m17_directory.specs.declared.known.Known.{Known};
+ghost use Rattle.m17_roll.specs.Seat.{HasLists, IsSameSeat};
 ghost use Rattle.m17_receiver.specs.SoFar.{HasTaken, HasNotedSome};
 
 use crate::notes::pop_one;
@@ -11,10 +12,52 @@ use m17_roll::RollSeat;
 use m17_values::Member;
 use std::sync::Wait;
 
-// Claims once for the asker with this number.
-pub(crate) fn claim_once(seat: &mut RollSeat, asker: u64) -> Option<Member>
+// Claims once for the asker with this number, behind the member whose leaving was noted last: its place is free by then.
+pub(crate) fn claim_behind<R: Wait>(
+    rt: &R,
+    seat: &mut RollSeat,
+    left: Option<Member>,
+    asker: u64,
+) -> Option<Member>
     ensures { (known : List Known) → HasTaken false asker result known seat.old seat.new }
 {
+    look_behind(rt, seat, left);
+    claim_once(seat, asker)
+}
+
+// Looks until the place of this member is free, if there is one.
+fn look_behind<R: Wait>(rt: &R, seat: &mut RollSeat, left: Option<Member>)
+    ensures lists { HasLists seat.old.claimed seat.old.given seat.old.refused seat.new }
+    ensures seat { IsSameSeat seat.old seat.new }
+{
+    match left {
+        Some(member) => look_until_free(rt, seat, member),
+        None => {}
+    }
+}
+
+// Looks at the place of a member that has left until it was given back. Its worker does that as the next step behind the
+// Bye, of which the note came; so who changes its module on a full reflector is not turned away for its own old place.
+fn look_until_free<R: Wait>(rt: &R, seat: &mut RollSeat, left: Member)
+    ensures lists { HasLists seat.old.claimed seat.old.given seat.old.refused seat.new }
+    ensures seat { IsSameSeat seat.old seat.new }
+{
+    let backoff = Backoff::new();
+    for _ in rt.forever() {
+        // models/circle.pml: old-place-looked-at
+        match seat.look(left.place) {
+            Some(word) if word % 2 == 1 && word / 2 == left.generation => backoff.snooze(),
+            _ => return,
+        }
+    }
+    unreachable!()
+}
+
+// Claims once for the asker with this number.
+fn claim_once(seat: &mut RollSeat, asker: u64) -> Option<Member>
+    ensures { (known : List Known) → HasTaken false asker result known seat.old seat.new }
+{
+    // models/circle.pml: claimed-once
     seat.claim(asker)
 }
 
@@ -51,7 +94,9 @@ fn claim_unknown_place(seat: &mut RollSeat, places: u32, directory: &Directory) 
         HasTaken true asker result directory.now.known seat.old seat.new }
 {
     for place in 0..places {
+        // models/circle.pml: known-passed-over
         if !directory.has_place(place) {
+            // models/circle.pml: place-tried
             if let Some(member) = seat.claim_at(place) {
                 return Some(member);
             }
@@ -72,8 +117,10 @@ fn rest<R: Wait>(
         (notes.new, directory.new, noted.new) }
 {
     if directory.has_departing() {
-        pop_one(rt, notes, directory, noted);
+        // models/circle.pml: note-awaited-for-place
+        let _ = pop_one(rt, notes, directory, noted);
     } else {
+        // models/circle.pml: rested-for-place
         backoff.snooze();
     }
 }

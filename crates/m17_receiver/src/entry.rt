@@ -7,7 +7,7 @@ ghost use Rattle.m17_directory.specs.Entries.{Notice, Entry, Says};
 ghost use Rattle.m17_receiver.specs.SoFar.{Plan, IsPlanOf, IsAsking, IsThrough, IsSoFar, IsKept, HasTaken, HasNotedSome, parts_of};
 
 use crate::Receiver;
-use crate::claim::{claim_once, claim_patiently};
+use crate::claim::{claim_behind, claim_patiently};
 use crate::laws::known_laws;
 use crate::notes::{pop_notes, pop_until_ready};
 use crate::posting::push_posts;
@@ -23,6 +23,7 @@ impl<E, B> Receiver<E, B> {
         entry: &Heard,
         index: u64,
         noted: &mut u64,
+        left: &mut Option<Member>,
     ) -> LinkVerdict
         requires posted { self.old.post ≡ [] }
         requires asked { self.old.directory.asked ≡ None }
@@ -38,8 +39,10 @@ impl<E, B> Receiver<E, B> {
             IsThrough plan entries notice (parts_of self.new noted.new) result }
     {
         known_laws();
-        pop_notes(rt, &mut self.notes, &mut self.directory, noted);
+        // models/circle.pml: notes-popped
+        pop_notes(rt, &mut self.notes, &mut self.directory, noted, left);
         let verdict = self.directory.hear(index, entry, &mut self.post);
+        // models/circle.pml: posts-pushed
         push_posts(
             rt,
             self.modules,
@@ -49,13 +52,19 @@ impl<E, B> Receiver<E, B> {
             &mut self.door,
         );
         match verdict {
-            LinkVerdict::Asks => self.answer(rt, index, noted),
+            LinkVerdict::Asks => self.answer(rt, index, noted, left),
             _ => verdict,
         }
     }
 
     // What becomes of the request that is asked, by the entry with this index.
-    fn answer<R: Wait>(&mut self, rt: &R, index: u64, noted: &mut u64) -> LinkVerdict
+    fn answer<R: Wait>(
+        &mut self,
+        rt: &R,
+        index: u64,
+        noted: &mut u64,
+        left: &mut Option<Member>,
+    ) -> LinkVerdict
         requires posted { self.old.post ≡ [] }
         requires asked { IsSome self.old.directory.asked }
         requires places { self.old.directory.setup.places ≡ self.old.seat.places }
@@ -68,9 +77,12 @@ impl<E, B> Receiver<E, B> {
             IsThrough plan entries notice (parts_of self.new noted.new) result }
     {
         known_laws();
-        pop_until_ready(rt, &mut self.notes, &mut self.directory, noted);
-        let claimed = self.claim(rt, index, noted);
+        // models/circle.pml: notes-awaited
+        pop_until_ready(rt, &mut self.notes, &mut self.directory, noted, left);
+        // models/circle.pml: place-claimed
+        let claimed = self.claim(rt, index, noted, *left);
         let verdict = self.directory.settle(claimed, *noted, &mut self.post);
+        // models/circle.pml: answer-pushed
         push_posts(
             rt,
             self.modules,
@@ -83,8 +95,15 @@ impl<E, B> Receiver<E, B> {
     }
 
     // The place that the asker with this index gets. A patient receiver claims none where all are known to its link,
-    // and else until it has one that no peer has that is known there; another claims once.
-    fn claim<R: Wait>(&mut self, rt: &R, index: u64, noted: &mut u64) -> Option<Member>
+    // and else until it has one that no peer has that is known there; another claims once, and behind the member that
+    // left last.
+    fn claim<R: Wait>(
+        &mut self,
+        rt: &R,
+        index: u64,
+        noted: &mut u64,
+        left: Option<Member>,
+    ) -> Option<Member>
         ensures taken { HasTaken self.old.patient index result self.old.directory.known
             self.old.seat self.new.seat }
         ensures full { self.old.patient ≡ true →
@@ -98,8 +117,9 @@ impl<E, B> Receiver<E, B> {
         } }
     {
         if !self.patient {
-            return claim_once(&mut self.seat, index);
+            return claim_behind(rt, &mut self.seat, left, index);
         }
+        // models/circle.pml: all-known
         if self.directory.known() == self.places {
             return None;
         }

@@ -20,42 +20,51 @@ fn take_note(directory: &mut Directory, noted: &mut u64, member: Member)
     *noted = noted.saturating_add(1);
 }
 
-// Pops the notes that are there, up to a number, and tells the directory of each.
+// Pops the notes that are there, up to a number, and tells the directory of each. `left` is the member of the last one.
 pub(crate) fn pop_notes<R: Wait>(
     rt: &R,
     notes: &mut Popper<Member>,
     directory: &mut Directory,
     noted: &mut u64,
+    left: &mut Option<Member>,
 )
     ensures { HasNotedSome (notes.old, directory.old, noted.old) (notes.new, directory.new, noted.new) }
 {
     'notes: for _note in 0..MOST_NOTES {
+        // models/circle.pml: note-tried
         match notes.try_pop(rt) {
-            Some(member) => take_note(directory, noted, member),
+            Some(member) => {
+                *left = Some(member);
+                take_note(directory, noted, member)
+            }
             None => return,
         }
     }
 }
 
-// Pops one note, and sleeps until there is one.
+// Pops one note, and sleeps until there is one: whose leaving it tells of.
 pub(crate) fn pop_one<R: Wait>(
     rt: &R,
     notes: &mut Popper<Member>,
     directory: &mut Directory,
     noted: &mut u64,
-)
+) -> Member
     ensures { HasNotedSome (notes.old, directory.old, noted.old) (notes.new, directory.new, noted.new) }
 {
+    // models/circle.pml: note-slept-for
     let member = notes.pop_waiting(rt);
     take_note(directory, noted, member);
+    member
 }
 
-// Pops notes until the request that is asked needs to wait no more, asleep while there is none.
+// Pops notes until the request that is asked needs to wait no more, asleep while there is none. `left` is the member of
+// the last one that was popped.
 pub(crate) fn pop_until_ready<R: Wait>(
     rt: &R,
     notes: &mut Popper<Member>,
     directory: &mut Directory,
     noted: &mut u64,
+    left: &mut Option<Member>,
 )
     ensures noted { HasNotedSome (notes.old, directory.old, noted.old) (notes.new, directory.new, noted.new) }
     ensures ready { must_wait directory.new ≡ false }
@@ -64,7 +73,7 @@ pub(crate) fn pop_until_ready<R: Wait>(
         if !directory.waits() {
             return;
         }
-        pop_one(rt, notes, directory, noted);
+        *left = Some(pop_one(rt, notes, directory, noted));
     }
     unreachable!()
 }

@@ -64,6 +64,7 @@ fn push_one<R: Wait>(
         } => {
             push_event(rt, modules, patient, letter, event, inboxes);
         }
+        // models/dozes.pml: reply-rung
         Dispatch::ToDoor(direct) => door.push_waiting(rt, direct),
     }
 }
@@ -103,7 +104,9 @@ pub(crate) fn push_in<R: Wait>(
     ensures room { vec_capacity inboxes.new ≡ vec_capacity inboxes.old }
 {
     match enough(patient, &event) {
+        // models/dozes.pml: pushed-quietly
         Some(enough) => push_quietly_at(rt, inboxes, at, event, enough),
+        // models/dozes.pml: pushed-with-ring
         None => push_at(rt, inboxes, at, event),
     }
 }

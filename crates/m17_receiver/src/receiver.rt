@@ -22,8 +22,8 @@ use std::sync::Wait;
 ///
 /// For each entry, in this order: it is written to the trace; notes of departed members are popped, at most 512, and
 /// told to the directory; the directory hears it, and what that posts is pushed, asleep while a lane is full; who asks
-/// for a place waits until the notes of all that its peer was have come, gets a place or none, and what that posts is
-/// pushed; and the verdict goes into its cell of the tape. It hears 2^64 - 1 entries at the most, and then waits for ever.
+/// for a place waits until the notes of all that its peer was have come and the place of the last that was noted is free,
+/// gets a place or none, and what that posts is pushed; and the verdict goes into its cell of the tape. It hears 2^64 - 1 entries at the most, and then waits for ever.
 /// After `Quit` nothing but the order is touched.
 #[derive(Drop)]
 pub struct Receiver<E, B> {
@@ -89,12 +89,15 @@ impl<E: Ear, B: Book> Receiver<E, B> {
         books_are_written_in_turn::<B::Label>();
         let mut index = 0u64;
         let mut noted = 0u64;
+        let mut left = None;
         for _ in rt.forever() {
             let next = count_one(rt, index);
+            // models/circle.pml: entry-heard
             let entry = self.ear.hear();
             write_trace(&mut self.trace, &mut self.trace_failed, index == 0, &entry);
-            let verdict = self.enter(rt, &entry, index, &mut noted);
+            let verdict = self.enter(rt, &entry, index, &mut noted, &mut left);
             fill_tape(&mut self.tape, index, verdict);
+            // models/circle.pml: link-ended
             if self.directory.has_ended() {
                 self.lost = is_fault(&entry);
                 return;

@@ -278,7 +278,7 @@ impl Book for WatchingTrace {
     ghost faults_fit = { λ _. lit≤ tt };
 
     fn write(&mut self, _bytes: &[u8]) -> Result<(), Failed> {
-        let pushed = self.door.marked_words(0) != 0;
+        let pushed = self.door.take_marks(0) != 0;
         if self.first.is_none() {
             self.first = Some(pushed);
         } else if self.second.is_none() {

@@ -16,9 +16,8 @@ const WORD_BITS: u32 = 64;
 #[derive(Drop)]
 pub struct Hint {
     bell: Bell,
-    // A bit for each queue that may have something, and above them a bit for each word that has one.
+    // A bit for each queue that may have something.
     of_queues: Vec<u64>,
-    of_words: Vec<u64>,
 }
 
 impl Hint {
@@ -26,77 +25,44 @@ impl Hint {
     /// `m * places + q`, and the door and the orders any other mark of the bell, so that a push on any of them ends the
     /// sender's sleep. `NoMemory` where there is none for it.
     pub fn make(alloc: Global, bell: Bell, queues: u32) -> Result<Hint, NoMemory> {
-        let words = queues.div_ceil(WORD_BITS);
-        let groups = words.div_ceil(WORD_BITS);
         Ok(Hint {
             bell,
-            of_queues: clear_words(alloc, words)?,
-            of_words: clear_words(alloc, groups)?,
+            of_queues: clear_words(alloc, queues.div_ceil(WORD_BITS))?,
         })
     }
 
     /// Takes the marks of all that was pushed to. It comes before the lanes are tried: see `Bell`.
     pub(crate) fn look(&mut self) {
-        for group in 0..self.bell.groups() {
-            self.look_at_group(group);
-        }
-    }
-
-    fn look_at_group(&mut self, group: usize) {
-        let mut words = self.bell.marked_words(group);
-        for _looked in 0..WORD_BITS {
-            if words == 0 {
-                return;
+        for word in 0..self.bell.words() {
+            // models/bells.pml: hint-kept
+            let marks = self.bell.take_marks(word);
+            if let Some(bits) = self.of_queues.get_mut(word) {
+                *bits |= marks;
             }
-            self.look_at_word(group, words.trailing_zeros());
-            words &= words - 1;
         }
     }
 
-    fn look_at_word(&mut self, group: usize, bit: u32)
-        requires { bit < 64 }
-    {
-        let word = group
-            .saturating_mul(WORD_BITS as usize)
-            .saturating_add(bit as usize);
-        let marks = self.bell.take_marks(word);
-        if let Some(bits) = self.of_queues.get_mut(word) {
-            *bits |= marks;
-            set_bits(&mut self.of_words, group, 1 << bit);
-        }
-    }
-
-    /// The first queue from this number on that may have something.
+    /// The first queue from this number on that may have something. Words without a bit are passed over.
+    // models/bells.pml: hint-searched
     pub(crate) fn next(&self, from: u32) -> Option<u32> {
-        let word = from / WORD_BITS;
-        let here = bits_from(&self.of_queues, word, from % WORD_BITS);
-        if here != 0 {
-            return bit_number(word, here);
-        }
-        let word = self.next_word(word.checked_add(1)?)?;
-        bit_number(word, bits_from(&self.of_queues, word, 0))
-    }
-
-    // The first word from this one on that has a bit.
-    fn next_word(&self, from: u32) -> Option<u32> {
-        let group = from / WORD_BITS;
-        let here = bits_from(&self.of_words, group, from % WORD_BITS);
-        if here != 0 {
-            return bit_number(group, here);
-        }
-        for (later, bits) in self.of_words.iter().enumerate() {
-            if later > group as usize && *bits != 0 {
-                return bit_number(u32::try_from(later).ok()?, *bits);
+        let first = from / WORD_BITS;
+        let mut bit = from % WORD_BITS;
+        let words = u32::try_from(self.of_queues.len()).unwrap_or(u32::MAX);
+        for word in first..words {
+            let here = bits_from(&self.of_queues, word, bit);
+            if here != 0 {
+                return bit_number(word, here);
             }
+            bit = 0;
         }
         None
     }
 
     /// The queue was found empty.
     pub(crate) fn clear(&mut self, queue: u32) {
-        let word = queue / WORD_BITS;
-        if clear_bit(&mut self.of_queues, word, queue % WORD_BITS) {
-            clear_bit(&mut self.of_words, word / WORD_BITS, word % WORD_BITS);
+        // models/bells.pml: hint-cleared
+        if let Some(bits) = self.of_queues.get_mut((queue / WORD_BITS) as usize) {
+            *bits &= !(1 << (queue % WORD_BITS));
         }
     }
 
@@ -109,12 +75,6 @@ impl Hint {
 fn clear_words(alloc: Global, count: u32) -> Result<Vec<u64>, NoMemory> {
     let words = Vec::from_elem(alloc, 0u64, count as usize)?;
     Ok(words)
-}
-
-fn set_bits(words: &mut Vec<u64>, word: usize, bits: u64) {
-    if let Some(old) = words.get_mut(word) {
-        *old |= bits;
-    }
 }
 
 // The bits of a word from this one on.
@@ -134,17 +94,4 @@ fn bit_number(word: u32, bits: u64) -> Option<u32> {
     }
     word.checked_mul(WORD_BITS)?
         .checked_add(bits.trailing_zeros())
-}
-
-// Clears a bit, and says whether the word has no other.
-fn clear_bit(words: &mut Vec<u64>, word: u32, bit: u32) -> bool
-    requires { bit < 64 }
-{
-    match words.get_mut(word as usize) {
-        Some(bits) => {
-            *bits &= !(1 << bit);
-            *bits == 0
-        }
-        None => false,
-    }
 }

@@ -14,6 +14,8 @@
 mod bench;
 mod cells;
 mod hint;
+#[cfg(test)]
+mod hint_tests;
 mod kept;
 mod queue;
 mod run;

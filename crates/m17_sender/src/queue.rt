@@ -56,6 +56,7 @@ impl<M: Mouth> Sender<M> {
         ensures vain { OnVain result (IsIdle self.old self.new kept.old.noted kept.new.noted
             × RestsAt self.new kept.new.noted row at) }
     {
+        // models/turns.pml: hello-waits
         if self.is_held_up(&kept.noted, row, at) {
             return Tried::Waiting;
         }
@@ -97,9 +98,11 @@ impl<M: Mouth> Sender<M> {
         m17_rows::laws::rows_pop::<Item>();
         if let Some(held) = cell_at(&self.held, row, at) {
             let item = *held;
+            // models/turns.pml: held-taken
             empty_cell(&mut self.held, row, at);
             return Some(item);
         }
+        // models/turns.pml: item-popped
         pop_in(rt, &mut self.queues, row, at)
     }
 
@@ -117,6 +120,7 @@ impl<M: Mouth> Sender<M> {
             return;
         }
         if waits(item, &kept.noted) {
+            // models/turns.pml: hello-held
             fill_cell(&mut self.held, row, at, *item);
         } else {
             self.say(rt, kept, item);
@@ -139,6 +143,7 @@ impl<M: Mouth> Sender<M> {
         m17_ports::laws::mouths_say_in_turn::<M::Label>();
         m17_send_order::laws::turns_grow();
         m17_send_order::laws::spelled_part_by_part();
+        // models/turns.pml: item-said
         say_kept(&mut self.mouths, self.name, item, &mut kept.last);
         note(rt, &mut self.notes, &mut kept.noted, item);
     }
@@ -173,7 +178,9 @@ fn note<R: Wait>(rt: &R, notes: &mut Vec<Pusher<Member>>, noted: &mut [u64; LINK
     m17_rows::laws::rows_push::<Member>();
     if let Said::Bye { .. } = item.body {
         let link = item.link as usize;
+        // models/turns.pml: note-pushed
         push_at(rt, notes, link, item.member);
+        // models/turns.pml: note-counted
         noted[link] = noted[link].saturating_add(1);
     }
 }

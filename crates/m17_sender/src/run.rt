@@ -38,11 +38,15 @@ impl<M: Mouth> Sender<M> {
         ensures stopped { HasStopped self.old.order self.new.order }
     {
         for _ in rt.forever() {
+            // models/turns.pml: marks-looked
             self.hint.look();
+            // models/turns.pml: stop-heard
             if hears_stop(rt, &mut self.order) {
                 return;
             }
+            // models/turns.pml: turn-made
             if !self.turn(rt, kept) {
+                // models/turns.pml: rested
                 self.hint.rest(rt);
             }
         }
@@ -57,6 +61,7 @@ impl<M: Mouth> Sender<M> {
         ensures rests { (m q : ℕ) → RestsAt self.new kept.new.noted m q }
     {
         for _ in rt.forever() {
+            // models/turns.pml: whole-turn-made
             if !self.whole_turn(rt, kept) {
                 return;
             }

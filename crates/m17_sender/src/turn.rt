@@ -64,6 +64,7 @@ impl<M: Mouth> Sender<M> {
             → GoesOn M.told
             (at_rest self.old noted) (at_rest self.new noted) }
     {
+        // models/turns.pml: reply-taken
         match self.door.try_pop(rt) {
             Some(reply) => {
                 self.answer(&reply);
@@ -82,6 +83,7 @@ impl<M: Mouth> Sender<M> {
         let mut did = false;
         let mut from = 0;
         for _tried in 0..u32::MAX {
+            // models/turns.pml: queue-found
             let Some(number) = self.hint.next(from) else {
                 return did;
             };
@@ -103,6 +105,7 @@ impl<M: Mouth> Sender<M> {
             Tried::Did => true,
             Tried::Waiting => false,
             Tried::Empty => {
+                // models/turns.pml: queue-cleared
                 self.hint.clear(number);
                 false
             }
@@ -154,6 +157,7 @@ impl<M: Mouth> Sender<M> {
     {
         let mut did = false;
         for at in 0..self.places {
+            // models/turns.pml: queue-tried
             if self.try_queue(rt, kept, row, at as usize).did() {
                 did = true;
             }

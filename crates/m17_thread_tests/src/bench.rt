@@ -13,7 +13,7 @@ use m17_values::{Member, Peer};
 use std::alloc::Global;
 use std::process::Abort;
 
-/// So many places, one queue each: two words more than a group of 64 words of 64 marks.
+/// So many places, one queue each: two words of 64 marks more than 64 words.
 pub(crate) const QUEUES: u32 = 4_224;
 
 /// A sender, and the other ends of its lanes.

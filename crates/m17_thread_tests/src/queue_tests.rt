@@ -59,8 +59,7 @@ fn comes_to<R: Wait + Clock>(rt: &R, handed: &Arc<AtomicU64, Global>, wanted: u6
 }
 
 // Where something is pushed: in the first word, which is soon empty; in the one behind it, which has more when the later ones
-// are empty, the last too, whose number in its group is the same; in the last word of the first group; and in both words of
-// the second.
+// are empty; in the last of the first 64 words; and in both words behind these.
 const PLACES: [u32; 9] = [0, 64, 64, 64, 64, 4_095, 4_096, 4_159, 4_160];
 
 fn push_pings<R: Wait>(rt: &R, queues: &mut Vec<Pusher<Item>>) {

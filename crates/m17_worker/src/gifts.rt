@@ -56,6 +56,7 @@ fn hand_over<R: Wait>(
     ensures gave_back { GaveBack seat.old (gifts_by gives (item.now ∷ [])) seat.new }
 {
     m17_rows::laws::rows_grow::<Item>();
+    // models/circle.pml: item-offered
     let _ = offers.offer(rt, *item);
     if gives && is_farewell(item) {
         give_back(rt, offers, seat, item);
@@ -72,6 +73,7 @@ fn give_back<R: Wait>(rt: &R, offers: &LaneOffers, seat: &mut RollSeat, bye: &It
     let _ = offers;
     let backoff = Backoff::new();
     for _ in rt.forever() {
+        // models/circle.pml: place-given-back
         if seat.give(bye.member) {
             return;
         }

@@ -74,6 +74,7 @@ fn put<R: Wait>(rt: &R, queues: &mut Vec<Pusher<Item>>, item: Item, waits: bool)
         push(rt, queues, at, item);
         return Offered::Queued;
     }
+    // models/dozes.pml: pushed-if-room
     match try_push_at(rt, queues, at, item) {
         Ok(()) => Offered::Queued,
         Err(_) => Offered::Missed,
@@ -87,8 +88,10 @@ fn push<R: Wait>(rt: &R, queues: &mut Vec<Pusher<Item>>, at: usize, item: Item)
     ensures room { vec_capacity queues.new ≡ vec_capacity queues.old }
 {
     if is_missable(&item.body) {
+        // models/dozes.pml: pushed-unrung
         push_unrung_at(rt, queues, at, item);
     } else {
+        // models/dozes.pml: rung-item
         push_at(rt, queues, at, item);
     }
 }

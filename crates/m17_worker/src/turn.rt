@@ -86,6 +86,7 @@ impl<B: Book> Worker<B> {
         let verdict = self.module.step(event, &mut self.basket);
         let gives = !is_replaced_leave(event);
         let says = !self.basket.is_empty();
+        // models/dozes.pml: event-handed-out
         let bye = hand_out(
             rt,
             &mut self.basket,
@@ -94,6 +95,7 @@ impl<B: Book> Worker<B> {
             gives,
         );
         if says && !self.offers.patient {
+            // models/dozes.pml: roused-behind-event
             self.offers.rouse();
         }
         self.note(event, verdict, &bye);
@@ -171,15 +173,19 @@ fn next_event<R: Wait>(
 ) -> Event
     ensures { inbox.new ≡ popped_from inbox.old result }
 {
+    // models/dozes.pml: event-tried
     if let Some(event) = inbox.try_pop(rt) {
         return event;
     }
     if offers.patient {
+        // models/dozes.pml: roused-before-waiting
         offers.rouse();
     }
     if is_parrot {
+        // models/dozes.pml: slept-for-event
         inbox.pop_waiting(rt)
     } else {
+        // models/dozes.pml: dozed-for-event
         inbox.pop_dozing(rt)
     }
 }

@@ -84,6 +84,7 @@ impl<B: Book> Worker<B> {
         let mut stopped = [false; MOST_LINKS];
         for _ in rt.forever() {
             served = self.turn(rt, served, &mut stopped);
+            // models/circle.pml: stops-counted
             if all_stopped(&stopped, self.links) {
                 return;
             }

@@ -13,8 +13,8 @@ pub returns-then-not-self-clause-taken : goal.returns-then-not-self-clause-taken
 returns-then-not-self-clause-taken g c =
     let old = c.args.self.now in
     let impatient : old.patient ≡ false = search rules in
-    subst (λ (b : Bool). HasTaken b c.args.index c.claim_once.result old.directory.known old.seat c.claim_once.new.seat) (sym impatient)
-    (c.claim_once.ensures old.directory.known)
+    subst (λ (b : Bool). HasTaken b c.args.index c.claim_behind.result old.directory.known old.seat c.claim_behind.new.seat) (sym impatient)
+    (c.claim_behind.ensures old.directory.known)
 
 pub returns-clause-taken : goal.returns-clause-taken
 returns-clause-taken g c =

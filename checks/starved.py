@@ -1,0 +1,66 @@
+"""Tells a machine that has no time for a process from a process that does nothing: for checks of m17-page, which must not fail
+where a machine is slow. The system counts for each thread how long it was ready to go on and had no processor."""
+
+import os
+import sys
+import time
+
+# Of a wait that was in vain, so large a part without a processor says that nothing can be said.
+MUCH = 0.75
+SKIPPED = 77
+
+
+class Starved(Exception):
+    """A process had no processor, or died for want of something: what it did not do says nothing of it."""
+
+
+def threads_of(pids):
+    """For each thread of these processes how many seconds it waited for a processor."""
+    found = {}
+    for pid in pids:
+        try:
+            for thread in os.listdir(f"/proc/{pid}/task"):
+                with open(f"/proc/{pid}/task/{thread}/schedstat", encoding="ascii") as line:
+                    found[thread] = int(line.read().split()[1]) / 1e9
+        except (OSError, ValueError, IndexError):
+            pass
+    return found
+
+
+def group_of(leader):
+    """The processes of the session that this one leads."""
+    found = []
+    for pid in filter(str.isdigit, os.listdir("/proc")):
+        try:
+            if os.getsid(int(pid)) == leader:
+                found.append(pid)
+        except OSError:
+            pass
+    return found
+
+
+class Wait:
+    """A wait for what these processes do, which began now; `pids` says which they are."""
+
+    def __init__(self, pids):
+        self.pids = lambda: [os.getpid(), *pids()]
+        self.began, self.before = time.monotonic(), threads_of(self.pids())
+
+    def fault(self, what):
+        """What to raise where it was in vain."""
+        passed = time.monotonic() - self.began
+        waited = max((now - self.before.get(thread, 0) for thread, now in threads_of(self.pids()).items()), default=0)
+        if waited >= MUCH * passed:
+            return Starved(f"{what}: of {passed:.0f} seconds a thread waited {waited:.0f} for a processor")
+        return AssertionError(f"there never was {what}")
+
+
+def tried(function, *words):
+    """Ends with the status of a check: 77, with the reason, where it was starved."""
+    try:
+        function(*words)
+    except Starved as starved:
+        print(f"nothing can be said: {starved}")
+        sys.stdout.flush()
+        # Threads that wait for ever hold nothing up.
+        os._exit(SKIPPED)
