@@ -46,7 +46,7 @@ check "the words of bridge are taken up to their bounds, and refused past them" 
 # it prints goes to NAME.said, and its process is $server.
 reflects() {
     mkdir "$1" || return 1
-    timeout 60 "$program" serve --call M17-TST --modules A --for 8 --book "$1" "127.0.0.1:$2" >"$1.said" </dev/null &
+    timeout -k 5 60 "$program" serve --call M17-TST --modules A --for 8 --book "$1" "127.0.0.1:$2" >"$1.said" </dev/null &
     server=$!
     has_bytes "$1/A.book" 17
 }

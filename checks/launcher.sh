@@ -259,11 +259,11 @@ installed() {
     for text in README.md docs/operating.md docs/service.md docs/reference.md examples/show.hex examples/m17.service LICENSE-MIT contrib/README.md; do
         cmp "$top/$text" "a prefix/share/doc/m17/$text" || return 1
     done
-    for script in m17-log m17-book m17-crc m17-pcap m17-page m17-why; do
+    for script in m17-log m17-book m17-pcap m17-page m17-why; do
         [ -x "a prefix/bin/$script" ] || return 1
     done
     if command -v python3 >/dev/null; then
-        for script in m17-log m17-book m17-crc m17-pcap m17-page m17-why; do
+        for script in m17-log m17-book m17-pcap m17-page m17-why; do
             without_rt "a prefix/bin/$script" --help >helped && has helped "$script" || return 1
         done
         # With all that it needs from lib.

@@ -2,7 +2,7 @@
 # behind reflector.sh, whose helpers it uses.
 # shellcheck shell=sh
 
-units="m17.service m17-log.service m17-crc.service m17-bridge.service m17-page.service m17-clean.service m17-clean.timer"
+units="m17.service m17-log.service m17-bridge.service m17-page.service m17-clean.service m17-clean.timer"
 
 # The units name programs of a prefix; here they are ones that are there.
 verified_units() {
@@ -44,21 +44,14 @@ exposed_units() {
 }
 check "systemd-analyze security finds little that the services are exposed to" exposed_units
 
-# Refused words start nothing again, lines in the journal have a bound, and the relay has a file for each client.
+# Refused words start nothing again, and lines in the journal have a bound.
 bounded_units() {
-    needs python3
-    for unit in m17 m17-log m17-crc m17-bridge m17-page; do
+    for unit in m17 m17-log m17-bridge m17-page; do
         grep -q '^RestartPreventExitStatus=\(1 \)\{0,1\}2' "$top/examples/$unit.service" || return 1
     done
-    for unit in m17-log m17-crc; do
-        grep -q '^LogRateLimitIntervalSec=' "$top/examples/$unit.service" &&
-            grep -q '^LogRateLimitBurst=' "$top/examples/$unit.service" || return 1
-    done
-    most=$("$top/contrib/m17-crc" --help | sed -n 's/^ *--clients N .* 1 to \([0-9]*\) .*/\1/p')
-    files=$(sed -n 's/^LimitNOFILE=//p' "$top/examples/m17-crc.service")
-    [ -n "$most" ] && [ "$files" -ge $((most + 16)) ]
+    grep -q '^LogRateLimitIntervalSec=' "$top/examples/m17-log.service" && grep -q '^LogRateLimitBurst=' "$top/examples/m17-log.service"
 }
-check "the units bound the journal's lines, and give m17-crc a file for each client" bounded_units
+check "the units bound the journal's lines, and start nothing again whose words are refused" bounded_units
 
 # line_of UNIT KEY: the command of that key, as a shell reads it: the program is that of this check, and the port is $port.
 line_of() {

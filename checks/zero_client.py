@@ -1,8 +1,7 @@
 #!/usr/bin/env python3
-"""A client of a reflector that leaves the CRC of its stream packets out, as some hotspots do, for checks of m17-crc. The
-arguments are the port on the loopback, how many packets of one stream it sends, 40 ms apart, for how many seconds it stays
-then, and how many others send one CONN each while it speaks, all of them from ports of their own. It prints how many voice
-packets it was sent. The status is 1 where it was not let in.
+"""A client of a reflector that leaves the CRC of its stream packets out, as some hotspots do. The arguments are the port on the
+loopback, how many packets of one stream it sends, 40 ms apart, and for how many seconds it stays then. It prints how many
+voice packets it was sent. The status is 1 where it was not let in.
 """
 
 import os
@@ -39,7 +38,7 @@ class Client:
                 self.socket.send(b"PONG" + CALL)
 
     def join(self):
-        """Asks five times, since the relay may not have begun yet."""
+        """Asks for five seconds, since an answer may be lost."""
         for _ in range(25):
             try:
                 self.socket.send(b"CONN" + CALL + b"A")
@@ -51,23 +50,15 @@ class Client:
         sys.exit("not let in")
 
 
-def others(port, count):
-    """So many CONNs, each from a port of its own."""
-    for _ in range(count):
-        with socket.socket(socket.AF_INET, socket.SOCK_DGRAM) as own:
-            own.sendto(b"CONN" + address("N0CALL") + b"A", ("127.0.0.1", port))
-
-
 def main():
-    port, count, seconds, flood = map(int, sys.argv[1:])
+    port, count, seconds = map(int, sys.argv[1:])
     client = Client(port)
     client.join()
     start = time.monotonic()
     for number in range(count):
         client.hear_until(start + 0.04 * number)
-        packet = stream_packet(0x1234, number | END_BIT * (number == count - 1), "AB1CD")
+        packet = stream_packet(0x4321, number | END_BIT * (number == count - 1), "AB1CD")
         client.socket.send(packet[:52] + b"\0\0")
-        others(port, flood // count)
     client.hear_until(time.monotonic() + seconds)
     client.socket.send(b"DISC" + CALL)
     print("heard", client.frames)

@@ -1,10 +1,12 @@
-/* The thread of a book: writes that are handed over, a full lane, Stop, a disk that fails or hangs.
-   Of crates/m17_disk/src: queued_book.rt (hand_over, push_soon, write), writer.rt (go, work),
-   writing.rt (gather, write_next), settling.rt (Hand::end, is_set_within).
+/* The thread of a book: writes that are handed over, a full lane, the mark behind the last write, a disk that fails
+   or hangs.
+   Of crates/m17_disk/src: queued_book.rt (hand_over, is_over, push_soon, write), writer.rt (go, work),
+   writing.rt (gather, write_next), settling.rt (Hand::end, ends_within).
 
-   Whoever writes the book makes WRITES writes through a lane that holds CAP, with RESTS rests in
-   all, and is through; then the thread is told to stop, and its end is awaited. Each write to the
-   disk succeeds, fails, or hangs for ever, freely.
+   Whoever writes the book makes WRITES writes through a lane that holds CAP, with RESTS rests, of
+   which a write that finds room at once gives one back, and is through; then the mark is sent to
+   the thread, by the same lane, and its end is awaited. What waits together, up to BATCH and up to
+   the mark, is one write to the disk; each succeeds, fails, or hangs for ever, freely.
 
    Looked for: nothing moves any more, and who writes the book, or who ends it, isn't through; or
    the thread isn't, but for a disk that hangs. When all are through, all that was handed over is
@@ -12,10 +14,11 @@
 
    Left out: the steps of a lane and its bell (lane.pml): here an item is in, and then the bell
    rung, in two steps, and to announce is one. Time: who awaits the end gives up where the disk
-   hangs, and not before. A batch is one write.
+   hangs, and not before.
 
    sound: -DWRITES=2 -DCAP=1
    sound: -DWRITES=3 -DCAP=2
+   sound: -DWRITES=4 -DCAP=3
 
    harmless 1, ended-asked: left out; what is handed over then lies, and the end tells that a write failed
    fault 2, slip-tried [-DCAP=1]: it waits for room
@@ -25,16 +28,20 @@
    fault 5, given-up [-DCAP=1]: left out
    fault 6, end-said: left out
    fault 7, sleep-announced: behind the look for writes
-   fault 8, order-looked: before the announcement
-   fault 9, slips-taken: before the look for orders
-   fault 10, end-decided: at the order, though something was written
-   fault 11, slept: the epoch is read behind the looks
+   fault 8, slips-taken [-DWRITES=4 -DCAP=3]: left out behind a write, so that it sleeps at once
+   fault 9, slip-popped: popped and not written
+   fault 10, mark-taken: passed over, as a write of no bytes
+   fault 11, mark-taken: told in place of the writes before it
    fault 12, batch-written: that it failed is forgotten
-   fault 13, slip-popped: popped and not written
-   fault 14, stop-told: left out
-   fault 15, end-awaited: left out
+   fault 13, end-decided: where nothing waits
+   fault 14, slept: the epoch is read behind the looks
+   fault 15, mark-sent: left out
+   fault 16, mark-sent [-DCAP=1]: tried once, and not again where the lane was full
+   fault 17, mark-sent: before the last write
+   harmless 18, mark-sent: again where it was sent; what lies behind the first is looked at by nobody
+   fault 19, end-awaited: left out
    no fault, joined: a thread that has said its end ends by itself
-   fault 16, wait-counted: left out */
+   fault 20, wait-counted: left out */
 #ifndef FAULT
 #define FAULT 0
 #endif
@@ -45,39 +52,49 @@
 #define CAP 2
 #endif
 #define RESTS 2
+#define BATCH 2
 
-byte slips, order;                      /* the lanes */
-bool announced, told;                   /* the bell of both */
+mtype = { write, mark };
+chan lane = [CAP] of { mtype };
+bool announced, told;                   /* the bell of the lane */
 bool ended, failed, hangs;
 byte handed, written; bool through;
 
 inline ring() { atomic { if :: announced -> announced = false; told = true :: else fi } }
 
 inline push_soon() {
+  rested = false;
   do
 #if FAULT == 2
-  :: atomic { slips < CAP -> slips++; handed++ }; ring(); break
+  :: atomic { nfull(lane) -> lane ! write; handed++ }; ring(); break
 #else
-  :: atomic { slips < CAP -> slips++; handed++ };                       /* slip-tried */
-     ring(); break
+  :: atomic { nfull(lane) -> lane ! write; handed++ };                  /* slip-tried */
+     ring();
+     if :: !rested && rests < RESTS -> rests++ :: else fi;
+     break
+  :: full(lane) ->
+     if
 #if FAULT == 3
-  :: slips == CAP && rests == 0 -> gave_up = true; break
+     :: rests == 0 -> gave_up = true; break
 #elif FAULT == 4
-  :: slips == CAP && ended -> gave_up = true; break
+     :: ended -> gave_up = true; break
 #else
-  :: slips == CAP && (rests == 0 || ended) ->                           /* end-asked-again */
-     gave_up = true; break                                              /* given-up */
+     :: rests == 0 || ended ->                                          /* end-asked-again */
+        gave_up = true; break                                           /* given-up */
 #endif
-#if FAULT != 4
-  :: slips == CAP && rests > 0 ->
-     rests--                                                            /* rest-counted, rested */
+#if FAULT == 3
+     :: rests > 0 -> rests--; rested = true
+#elif FAULT != 4
+     :: rests > 0 && !ended ->
+        rests--; rested = true                                          /* rest-counted, rested */
 #endif
+     fi
 #endif
   od
 }
 
 active proctype writes_the_book() {
-  byte i, rests = RESTS; bool gave_up, refused;
+  byte i, rests = RESTS; bool rested, gave_up, refused;
   for (i : 1 .. WRITES) {
     if
     :: gave_up -> refused = true
@@ -97,55 +114,70 @@ active proctype writes_the_book() {
   through = true
 }
 
-inline take() {
-  some = false;
-  if
-  :: atomic { slips > 0 -> slips-- };                                   /* slip-popped */
-     some = true;
-     if                                                                 /* batch-written */
-#if FAULT == 13
-     :: true
+/* what waits: so many writes, and whether the mark stood behind them */
+inline gather() {
+  some = 0; marked = false;
+  do
+  :: some == BATCH -> break
+  :: some < BATCH && empty(lane) -> break
+  :: atomic { some < BATCH && lane ? [write] -> lane ? write };         /* slip-popped */
+#if FAULT == 9
+     break
 #else
-     :: written++
+     some++
 #endif
+  :: atomic { some < BATCH && lane ? [mark] -> lane ? mark };           /* mark-taken */
+#if FAULT == 10
+     skip
+#elif FAULT == 11
+     some = 0; marked = true; break
+#else
+     marked = true; break
+#endif
+  od
+}
+
+inline write_next() {
+  gather();
+  if                                                                    /* batch-written */
+  :: some == 0
+  :: some > 0 -> written = written + some
 #if FAULT == 12
-     :: true
+  :: some > 0
 #else
-     :: failed = true
+  :: some > 0 -> failed = true
 #endif
-     :: hangs = true; goto hung
-     fi
-  :: slips == 0
+  :: some > 0 -> hangs = true; goto hung
   fi
 }
+
 inline announce() { d_step { announced = true; told = false } }         /* sleep-announced */
-inline look() { if :: order > 0 -> order--; stops = true :: order == 0 fi }     /* order-looked */
 
 active proctype writer() {
-  bool stops, some;
+  byte some; bool marked;
   do
   ::
 #if FAULT == 7
-     take(); announce(); look();
-#elif FAULT == 8
-     look(); announce(); take();
-#elif FAULT == 9
-     announce(); take(); look();
+     write_next(); announce();
 #else
-     announce(); look(); take();                                        /* slips-taken */
+     announce(); write_next();                                          /* slips-taken */
 #endif
-#if FAULT == 10
-     if :: failed || stops -> break :: else fi;
+#if FAULT == 13
+     if :: failed || marked || some == 0 -> break :: else fi;
 #else
-     if :: failed || (stops && !some) -> break :: else fi;              /* end-decided */
+     if :: failed || marked -> break :: else fi;                        /* end-decided */
 #endif
      if
-     :: some
-     :: !some ->
-#if FAULT == 11
+#if FAULT == 8
+     :: true -> told
+#else
+     :: some > 0
+     :: some == 0 ->
+#if FAULT == 14
         told = false;
 #endif
         told                                                            /* slept */
+#endif
      fi
   od;
 #if FAULT != 6
@@ -155,20 +187,31 @@ hung: skip
 }
 
 active proctype ends_it() {
-  bool late;
+  bool late, sent;
+#if FAULT != 17
   through;
-#if FAULT != 14
-  order++; ring();                                                      /* stop-told */
 #endif
-  if
-#if FAULT == 15
-  :: true -> ended
-#elif FAULT == 16
-  :: ended
+  do
+#if FAULT == 16
+  :: !sent && nfull(lane) -> lane ! mark; sent = true; ring()
+  :: !sent && full(lane) -> sent = true
+#elif FAULT == 18
+  :: nfull(lane) -> lane ! mark; ring()
+#elif FAULT != 15
+  :: atomic { !sent && nfull(lane) -> lane ! mark; sent = true };       /* mark-sent */
+     ring()
+#endif
+#if FAULT == 19
+  :: sent -> ended; break
+#elif FAULT == 20
+  :: ended -> break
 #else
-  :: ended                                                              /* end-awaited, joined */
-  :: hangs -> late = true                                               /* wait-counted */
+  :: ended -> break                                                     /* end-awaited, joined */
+  :: hangs -> late = true; break                                        /* wait-counted */
 #endif
-  fi;
+  od;
+#if FAULT == 17
+  through;
+#endif
   assert(late || failed || written == handed)
 }

@@ -37,7 +37,7 @@ module _ {E M B : Type 0} where
   left_alone (Make seed count) run alone never = alone.serve.board
   left_alone Check run alone never = alone.serve.board
   left_alone Migrate run alone never = alone.serve.board
-  left_alone (Replay call modules parrots places summary limit) run alone never = alone.board
+  left_alone (Replay call modules parrots places summary limit threads) run alone never = alone.board
   left_alone (Talk order) run alone never = alone.0.board
   left_alone (Serve order) run alone never = alone.2 (none_there order.board never)
   left_alone (Bridge order) run alone never = alone.0.board

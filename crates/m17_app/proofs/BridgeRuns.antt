@@ -1,8 +1,9 @@
 -- A run of `bridge`, from its ending to what it promises.
-use Rattle.std.proofs.Common.{◌≡◌, ◌≢◌, ℕ, ◌<◌, Bool, true, false, List, ◌++◌, take, Option, Some, refl, sym, ap, subst, ◌∙◌, arith, inl, inr}
+use Rattle.std.proofs.Common.{◌≡◌, ◌≢◌, ℕ, ◌<◌, Bool, true, false, List, ◌++◌, take, Option, None, Some, refl, sym, ap, subst, ◌∙◌, arith, inl, inr}
 use Rattle.std.specs.Prelude.{IsTrue, if◌then◌else◌}
 use Rattle.m17_io.specs.Faults.{HasRisen, HasCauses}
 use Rattle.m17_io.specs.Sink.{AppendsPrefix}
+use Rattle.m17_ports.specs.Ports.{PortsTold}
 use Rattle.m17_print.specs.declared.ending.Ending.{Ending}
 use Rattle.m17_print.specs.declared.ending.Ending.TheVariants as ways
 use Rattle.m17_print.specs.declared.ending.NoReason.{NoReason}
@@ -18,13 +19,13 @@ use Rattle.m17_bridge_command.specs.declared.ending.BridgeEnding.TheVariants as 
 use Rattle.m17_bridge_command.specs.Endings.{bridge_ending}
 use Rattle.m17_bridge_command.specs.Bridged.{bridge_line, ending_of, failed_device, AreNew, Bridges, ComesToBridge, EndsBridge, Handed}
 use Rattle.m17_app.specs.declared.status.Status.{Status}
-use Rattle.m17_app.specs.declared.status.Status.TheVariants.{WriteFailed, PortFailed, CrewRefused, LinkLost}
+use Rattle.m17_app.specs.declared.status.Status.TheVariants.{WriteFailed, PortFailed, CrewRefused, LinkLost, NoMemory}
 use Rattle.m17_app.specs.Bridge.{bridge_last_line, bridge_status, bridge_terms, CutsBridge, RanBridge, TellsBridge}
 use Rattle.m17_app.specs.Status.{Beside, HasCause, Streams, RoseBy, WritesLast, beside, count_from}
 use Rattle.m17_app.specs.Terms.{RunsCommand}
 use Rattle.m17_app.specs.Written.{LeavesInput}
 use Rattle.m17_app.proofs.Statuses.{Told, is_write_failed, own_status}
-use Rattle.m17_app.proofs.Causes.{cause_from, counts, runs_by, stays}
+use Rattle.m17_app.proofs.Causes.{cause_from, counts, memory_cause, runs_by, stays}
 use Rattle.m17_app.proofs.Written.{adds_after, adds_part_after, part_longer, same_written}
 
 -- what an ending tells of the streams
@@ -160,3 +161,11 @@ module _ {E M : Type 0} where
       ] in
       runs_by (bridge_terms order run) status before after others cause ((last.input_untouched ∙ same), tells) (λ t _. t.1) (λ t. t.1)
       (loses_none order run before after) (λ t _. t.1)
+
+  -- there was no memory
+  pub no_run : (order : BridgeOrder) (both : Streams) (run : Handed E M) (crew : ℕ) → run.after ≡ run.before → run.devices ≡ None
+      → RunsCommand (bridge_terms order run) NoMemory both both (beside (count_from run.before.faults run.after.faults) (count_from crew crew))
+  no_run order both run crew ports none =
+      let others : Beside = beside (count_from run.before.faults run.after.faults) (count_from crew crew) in
+      runs_by (bridge_terms order run) NoMemory both both others (memory_cause both both others refl refl (ap (λ (p : PortsTold). p.faults) ports) refl)
+      (refl, (ports, none, refl)) (λ t _. t.1) (λ t. t.1) (loses_none order run both both) (λ t _. t.1)

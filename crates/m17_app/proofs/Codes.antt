@@ -1,19 +1,14 @@
 -- The numbers of statuses, and what a run says by them.
-use Rattle.std.proofs.Common.{◌≡◌, ◌≢◌, ◌⊎◌, ℕ, Bool, true, false, List, refl, sym, ap, subst, ◌∙◌, arith, inl, inr}
-use Rattle.std.specs.Prelude.{string_bytes}
-use Rattle.std.specs.Option.{option_map}
+use Rattle.std.proofs.Common.{◌≡◌, ◌≢◌, ◌⊎◌, ℕ, List, refl, sym, ap, subst, ◌∙◌, arith, inl, inr}
 use Rattle.m17_words.specs.declared.command.Command.{Command}
-use Rattle.m17_words.specs.declared.order.ServeOrder.{ServeOrder}
 use Rattle.m17_words.specs.declared.command.Command.TheVariants.{Judge, Show, Replay, Make, Check, Migrate, Talk, Serve, Bridge}
 use Rattle.m17_app.specs.declared.status.Status.{Status}
 use Rattle.m17_app.specs.declared.status.Status.TheVariants.{Finished, InputRefused, WordsRefused, ReadFailed, WriteFailed, PortFailed, CrewRefused, LinkLost, BookFailed, NoMemory}
 use Rattle.m17_io.specs.Faults.{HasRisen}
-use Rattle.m17_app.specs.Status.{code_of, Count, Streams, Tells}
+use Rattle.m17_app.specs.Status.{code_of, Streams, Tells}
 use Rattle.m17_app.specs.Run.{TellsRefused}
-use Rattle.m17_app.specs.Commands.{terms_of, Runs, RunsWords, EndsRefused}
+use Rattle.m17_app.specs.Commands.{terms_of, HasThreads, NameNoThreads, Runs, RunsWords, EndsRefused}
 use Rattle.m17_app.specs.Doing.{Doing, crew_of}
-use Rattle.m17_app.specs.Forms.{ServeForm}
-use Rattle.m17_app.specs.Serve.{terms_by, form_of}
 
 -- the status with the number 2
 pub is_words_refused : (status : Status) → code_of status ≡ 2 → status ≡ WordsRefused
@@ -71,10 +66,6 @@ refused_status WordsRefused before after tells = inl refl
 refused_status WriteFailed before after tells = inr refl
 refused_status _ before after tells = absurd tells
 
-serve_not_words : (by : Bool) (form : ServeForm) (order : ServeOrder) (crew : Count) (before after : Streams) → (terms_by by form order crew).tells WordsRefused before after → ⊥
-serve_not_words false form order crew before after tells = tells.1
-serve_not_words true form order crew before after tells = tells
-
 module _ {E M B : Type 0} where
   -- no command ends as refused words do
   not_words : (command : Command) (before after : Streams) (run : Doing E M B) → (terms_of command run).tells WordsRefused before after → ⊥
@@ -83,14 +74,40 @@ module _ {E M B : Type 0} where
   not_words (Make seed count) before after run tells = tells
   not_words Check before after run tells = tells
   not_words Migrate before after run tells = tells
-  not_words (Replay call modules parrots places summary limit) before after run tells = tells
+  not_words (Replay call modules parrots places summary limit threads) before after run tells = tells
   not_words (Talk order) before after run tells = tells
-  not_words (Serve order) before after run tells = serve_not_words order.rules (form_of (option_map string_bytes order.board) order run) order (crew_of run) before after tells
+  not_words (Serve order) before after run tells = tells
   not_words (Bridge order) before after run tells = tells.1
 
   pub not_two : (command : Command) (status : Status) (before after : Streams) (run : Doing E M B) → Runs command status before after run → code_of status ≢ 2
   not_two command status before after run runs two =
       not_words command before after run (subst (λ (s : Status). (terms_of command run).tells s before after) (is_words_refused status two) runs.0.tells)
+
+  -- the crew refused a start only of a command that has threads
+  no_start : (command : Command) (before after : Streams) (run : Doing E M B) → (HasThreads command → ⊥) → (terms_of command run).tells CrewRefused before after → ⊥
+  no_start Judge before after run none tells = tells
+  no_start Show before after run none tells = tells
+  no_start (Make seed count) before after run none tells = tells
+  no_start Check before after run none tells = tells
+  no_start Migrate before after run none tells = tells
+  no_start (Replay call modules parrots places summary limit threads) before after run none tells = none tells.0
+  no_start (Talk order) before after run none tells = tells
+  no_start (Serve order) before after run none tells = none tt
+  no_start (Bridge order) before after run none tells = tells.1
+
+  pub not_six : (words : List (List ℕ)) (code : ℕ) (before after : Streams) (run : Doing E M B) → Tells code (λ status. RunsWords words status before after run)
+      → code ≡ 6 → NameNoThreads words → ⊥
+  not_six words code before after run (status, is, inl (command, names, runs)) six none =
+      no_start command before after run (none command names)
+      (subst (λ (s : Status). (terms_of command run).tells s before after) (is_crew_refused status (sym is ∙ six)) runs.0.tells)
+  not_six words code before after run (status, is, inr (inl (are, refuses))) six none =
+      let crew = is_crew_refused status (sym is ∙ six) in
+      elim (refused_status status before after refuses.0.tells) [
+        | inl e ↦ let bad : WordsRefused ≡ CrewRefused = sym e ∙ crew in cc
+        | inr e ↦ let bad : WriteFailed ≡ CrewRefused = sym e ∙ crew in cc
+      ]
+  not_six words code before after run (status, is, inr (inr (memory, same, nothing))) six none =
+      let bad : NoMemory ≡ CrewRefused = sym memory ∙ is_crew_refused status (sym is ∙ six) in cc
 
   -- the numbers of refused words
   pub refused_code : (status : Status) (code : ℕ) (before after : Streams) (run : Doing E M B) → code ≡ code_of status → EndsRefused status before after run → (code ≡ 2) ⊎ (code ≡ 4) ⊎ (code ≡ 70)

@@ -1,5 +1,6 @@
 mod Keeping
 pub mod Nothing
+pub mod Answered
 pub mod Statuses
 pub mod LastLines
 pub mod Causes
@@ -10,11 +11,10 @@ pub mod MakeRuns
 pub mod ReplayRuns
 pub mod TalkRuns
 pub mod ServeRuns
-pub mod ServeForms
 pub mod BridgeRuns
-mod RuledRuns
 pub mod Runnable
 pub mod Boards
 pub mod Shelves
 pub mod Codes
-pub mod Dropped
+mod Fitting
+mod Starting

@@ -74,20 +74,20 @@ alone : (ending : ReplayEnding) (status : Status) (before mid after : Streams) �
 alone ending status before mid after none last other = λ first is. last.whole other first (none ∙ is)
 
 -- the last line was written
-own_tells : (plan : Plan) (summary : Bool) (crew : Count) (ending : ReplayEnding) (before mid after : Streams) → replay_status ending ≢ WriteFailed
+own_tells : (plan : Plan) (summary threads : Bool) (crew : Count) (ending : ReplayEnding) (before mid after : Streams) → replay_status ending ≢ WriteFailed → (ending ≡ endings.CrewRefused → threads ≡ true)
     → Said (SaysReplay plan summary) ending before mid → Printed (PrintsTrace plan summary) ending before mid → Grows before.sink.written mid.sink.written
-    → (EndsBeforeText ending → mid.sink.written ≡ before.sink.written) → Last ending (replay_status ending) mid after → TellsReplay plan summary crew (replay_status ending) before after
-own_tells plan summary crew endings.Finished before mid after other said printed grows unwritten last = (
+    → (EndsBeforeText ending → mid.sink.written ≡ before.sink.written) → Last ending (replay_status ending) mid after → TellsReplay plan summary threads crew (replay_status ending) before after
+own_tells plan summary threads crew endings.Finished before mid after other started said printed grows unwritten last = (
   ends_by (SaysReplay plan summary) (PrintsTrace plan summary) _ _ _ endings.Finished before mid after said printed grows last other,
   adds_text (SaysReplay plan summary) (PrintsTrace plan summary) (IsReplayText plan summary false) _ _ _ endings.Finished before mid after said printed last other
       (finished_text plan summary),
 )
-own_tells plan summary crew endings.LinkLost before mid after other said printed grows unwritten last = (
+own_tells plan summary threads crew endings.LinkLost before mid after other started said printed grows unwritten last = (
   ends_by (SaysReplay plan summary) (PrintsTrace plan summary) _ _ _ endings.LinkLost before mid after said printed grows last other,
   adds_text (SaysReplay plan summary) (PrintsTrace plan summary) (IsRunText plan summary LinkLost) _ _ _ endings.LinkLost before mid after said printed last other
       (λ input text left h p. (text, p, refl)),
 )
-own_tells plan summary crew (endings.Refused place reason) before mid after other said printed grows unwritten last = (
+own_tells plan summary threads crew (endings.Refused place reason) before mid after other started said printed grows unwritten last = (
   place,
   reason,
   ends_by (SaysReplay plan summary) (PrintsTrace plan summary) _ _ _ (endings.Refused place reason) before mid after said printed grows last other,
@@ -95,25 +95,26 @@ own_tells plan summary crew (endings.Refused place reason) before mid after othe
       (λ input text left h p. (place, reason, h, ap (λ (xs : List ℕ). xs ++ replay_last_line (endings.Refused place reason)) p)),
   alone (endings.Refused place reason) _ before mid after (unwritten tt) last other,
 )
-own_tells plan summary crew endings.CrewRefused before mid after other said printed grows unwritten last = (
+own_tells plan summary threads crew endings.CrewRefused before mid after other started said printed grows unwritten last = (
+  started refl,
   ends_by (SaysReplay plan summary) (PrintsTrace plan summary) _ _ _ endings.CrewRefused before mid after said printed grows last other,
   alone endings.CrewRefused _ before mid after (unwritten tt) last other,
 )
-own_tells plan summary crew endings.ReadFailed before mid after other said printed grows unwritten last = (
+own_tells plan summary threads crew endings.ReadFailed before mid after other started said printed grows unwritten last = (
   ends_by (SaysReplay plan summary) (PrintsTrace plan summary) _ _ _ endings.ReadFailed before mid after said printed grows last other,
   alone endings.ReadFailed _ before mid after (unwritten tt) last other,
 )
-own_tells plan summary crew endings.WriteFailed before mid after other said printed grows unwritten last = absurd (other refl)
+own_tells plan summary threads crew endings.WriteFailed before mid after other started said printed grows unwritten last = absurd (other refl)
 
 -- an input that is a trace isn't refused, and one without 16 faults in a row doesn't lose its link
-refuses_none : TracesAreExact → (plan : Plan) (summary : Bool) (crew : Count) (before after : Streams) → TellsReplay plan summary crew InputRefused before after
+refuses_none : TracesAreExact → (plan : Plan) (summary threads : Bool) (crew : Count) (before after : Streams) → TellsReplay plan summary threads crew InputRefused before after
     → (input : List ℕ) × (before.source.left ≡ Some input) × ((heard : List Heard) × IsTrace input heard) → ⊥
-refuses_none exact plan summary crew before after (place, reason, ends, adds, line) (input, is, (heard, is_trace)) =
+refuses_none exact plan summary threads crew before after (place, reason, ends, adds, line) (input, is, (heard, is_trace)) =
     exact.not_both input heard (refusal_told place reason) is_trace (ends.said input is)
 
-loses_none : LostBySixteenFaults → (plan : Plan) (summary : Bool) (crew : Count) (before after : Streams) → TellsReplay plan summary crew LinkLost before after
+loses_none : LostBySixteenFaults → (plan : Plan) (summary threads : Bool) (crew : Count) (before after : Streams) → TellsReplay plan summary threads crew LinkLost before after
     → (input : List ℕ) × (before.source.left ≡ Some input) × KeepsItsLink input → ⊥
-loses_none law plan summary crew before after (ends, adds) (input, is, (heard, is_trace, none)) =
+loses_none law plan summary threads crew before after (ends, adds) (input, is, (heard, is_trace, none)) =
     let said = ends.said input is in
     none ((law plan summary true input said.0.0 heard said.0.1 is_trace).0 refl)
 
@@ -136,39 +137,47 @@ has_memory ending way is e = some_way ending (sym is ∙ e)
 abbrev pub Came : Plan → Bool → ReplayEnding → Streams → Streams → Type 0
 Came plan summary ending before mid = (input : List ℕ) → before.source.left ≡ Some input → ComesToReplay plan summary ending (streams input mid.source.left before.sink.written mid.sink.written)
 
+-- in one thread there is no crew
+pub none_started : (ending : ReplayEnding) (n : ℕ) → ending ≢ endings.CrewRefused → TellsCrew ending n n
+none_started ending n never = record {
+  refused = λ is. absurd (never is);
+  others = λ _. refl;
+}
+
 -- the whole run
-pub ran : (plan : Plan) (summary : Bool) (ending : ReplayEnding) (status : Status) (before mid after : Streams) (ports : ℕ) (crew : Count) → TracesAreExact → LostBySixteenFaults
-    → TellsCrew ending crew.before crew.after → Came plan summary ending before mid → HasCauses (counts before) (counts mid) (failed_device ending) → Grows before.sink.written mid.sink.written
+pub ran : (plan : Plan) (summary threads : Bool) (ending : ReplayEnding) (status : Status) (before mid after : Streams) (ports : ℕ) (crew : Count) → TracesAreExact → LostBySixteenFaults
+    → TellsCrew ending crew.before crew.after → (ending ≡ endings.CrewRefused → threads ≡ true) → Came plan summary ending before mid → HasCauses (counts before) (counts mid) (failed_device ending) → Grows before.sink.written mid.sink.written
     → (EndsBeforeText ending → mid.sink.written ≡ before.sink.written) → Last ending status mid after
-    → RunsCommand (replay_terms plan summary crew) status before after (beside (count_from ports ports) crew)
-ran plan summary ending status before mid after ports crew exact law tells came causes grows unwritten last =
+    → RunsCommand (replay_terms plan summary threads crew) status before after (beside (count_from ports ports) crew)
+ran plan summary threads ending status before mid after ports crew exact law tells started came causes grows unwritten last =
     let own : Status = replay_status ending in
     let others : Beside = beside (count_from ports ports) crew in
     let cause : HasCause status before after others = cause_from own (failed_device ending) (replay_last_line ending) status before mid after others (told ending) causes last
     (stays PortFailed own ports ports (no_ports ending) refl) (crew_rose ending crew tells) in
     let said : Said (SaysReplay plan summary) ending before mid = λ input is. (came input is).said in
     let printed : Printed (PrintsTrace plan summary) ending before mid = λ input first is is_first. (came input is).printed first is_first in
-    let cut : CutsReplay plan summary before after crew = (
+    let cut : CutsReplay plan summary threads before after crew = (
       ending,
       (λ is. sound_from own (failed_device ending) (replay_last_line ending) status before mid after causes last (ap failed_device is)),
       (λ is. tells.refused is),
+      started,
       cuts_by (SaysReplay plan summary) (PrintsTrace plan summary) (replay_last_line ending) own status ending before mid after said printed last,
     ) in
-    let all : TellsReplay plan summary crew status before after = elim (is_write_failed status) [
-      | inl four ↦ subst (λ (s : Status). TellsReplay plan summary crew s before after) (sym four) cut
+    let all : TellsReplay plan summary threads crew status before after = elim (is_write_failed status) [
+      | inl four ↦ subst (λ (s : Status). TellsReplay plan summary threads crew s before after) (sym four) cut
       | inr other ↦
           let its : status ≡ own = own_status own status last.answer other in
-          subst (λ (s : Status). TellsReplay plan summary crew s before after) (sym its)
-          (own_tells plan summary crew ending before mid after (λ e. other (its ∙ e)) said printed grows unwritten (own_last (replay_last_line ending) own status mid after last its))
+          subst (λ (s : Status). TellsReplay plan summary threads crew s before after) (sym its)
+          (own_tells plan summary threads crew ending before mid after (λ e. other (its ∙ e)) started said printed grows unwritten (own_last (replay_last_line ending) own status mid after last its))
     ] in
-    runs_by (replay_terms plan summary crew) status before after others cause all (refuses_none exact plan summary crew before after) (λ t. t)
-    (loses_none law plan summary crew before after) (λ t _. t)
+    runs_by (replay_terms plan summary threads crew) status before after others cause all (refuses_none exact plan summary threads crew before after) (λ t. t)
+    (loses_none law plan summary threads crew before after) (λ t _. t)
 
 -- there was no memory
-pub no_run : (plan : Plan) (summary : Bool) (before after : Streams) (ports : ℕ) (crew : Count) → TracesAreExact → LostBySixteenFaults → after.sink.written ≡ before.sink.written
+pub no_run : (plan : Plan) (summary threads : Bool) (before after : Streams) (ports : ℕ) (crew : Count) → TracesAreExact → LostBySixteenFaults → after.sink.written ≡ before.sink.written
     → after.source.faults ≡ before.source.faults → after.sink.faults ≡ before.sink.faults → crew.after ≡ crew.before
-    → RunsCommand (replay_terms plan summary crew) NoMemory before after (beside (count_from ports ports) crew)
-no_run plan summary before after ports crew exact law written reads writes stands =
+    → RunsCommand (replay_terms plan summary threads crew) NoMemory before after (beside (count_from ports ports) crew)
+no_run plan summary threads before after ports crew exact law written reads writes stands =
     let others : Beside = beside (count_from ports ports) crew in
-    runs_by (replay_terms plan summary crew) NoMemory before after others (memory_cause before after others reads writes refl stands) (written, reads, writes)
-    (refuses_none exact plan summary crew before after) (λ t. t) (loses_none law plan summary crew before after) (λ t _. t)
+    runs_by (replay_terms plan summary threads crew) NoMemory before after others (memory_cause before after others reads writes refl stands) (written, reads, writes)
+    (refuses_none exact plan summary threads crew before after) (λ t. t) (loses_none law plan summary threads crew before after) (λ t _. t)

@@ -67,7 +67,7 @@ gives_runnable words (Serve order) gives = record {
   few_links = gives.1.few_binds;
   few_seconds = few_seconds _ order.seconds gives.1.seconds_are;
 }
-gives_runnable words (Replay call modules parrots places summary limit) gives = record {
+gives_runnable words (Replay call modules parrots places summary limit threads) gives = record {
   some_place = omega (arith, gives.1.places_are.at_least);
   at_most = omega (arith, gives.1.places_are.at_most);
   some_module = some_module _ modules gives.1.modules_are;

@@ -7,6 +7,7 @@ use Rattle.m17_ports.specs.declared.shelf.Shelf.{Shelf}
 use Rattle.m17_ports.specs.Book.{BookTold}
 use Rattle.m17_ports.specs.Ear.{EarTold}
 use Rattle.m17_ports.specs.Mouth.{MouthTold}
+use Rattle.m17_app.specs.Fitted.{EarBehind, MouthBehind, behind_told, mouth_told}
 use Rattle.m17_reflect.specs.declared.returned.Refused.{Refused}
 use Rattle.m17_reflect.specs.declared.returned.Returned.{Returned}
 use Rattle.m17_serve.specs.Devices.{house_back, refused_back, told_of_shelf}
@@ -23,13 +24,13 @@ module _ {E M B X Y Z : Type 0} (ear : E → EarTold X) (mouth : M → MouthTold
   of_talk None = tt
   of_talk (Some d) = (option_map book d.2.inner, refl)
 
-  of_house : (house : Option (Returned E M (Shelf B))) → IfSome (house_back ear mouth book house) (λ h. All IsOfShelf h.0.traces × All IsOfShelf h.0.books)
+  of_house : {R : Type 0} (house : Option (Returned (EarBehind E) (MouthBehind M R) (Shelf B))) → IfSome (house_back (behind_told ear) (mouth_told mouth) book house) (λ h. All IsOfShelf h.0.traces × All IsOfShelf h.0.books)
   of_house None = tt
   of_house (Some r) = (each_of_shelf r.traces.items, each_of_shelf r.books.items)
 
-  of_refused : (refused : Option (Refused E M (Shelf B))) → IfSome (refused_back ear mouth book refused) (λ h. All IsOfShelf h.0.traces × All IsOfShelf h.0.books)
+  of_refused : {R : Type 0} (refused : Option (Refused (EarBehind E) (MouthBehind M R) (Shelf B))) → IfSome (refused_back (behind_told ear) (mouth_told mouth) book refused) (λ h. All IsOfShelf h.0.traces × All IsOfShelf h.0.books)
   of_refused None = tt
   of_refused (Some r) = (each_of_shelf r.traces.items, each_of_shelf r.books.items)
 
-  pub of_shelves : (done : Done E M B) → AreOfShelves (option_map (λ d. devices_told (ear d.0) (mouth d.1) (told_of_shelf book d.2)) done.talk) (house_back ear mouth book done.house) (refused_back ear mouth book done.refused)
+  pub of_shelves : {R : Type 0} (done : Done E M B R X) → AreOfShelves (option_map (λ d. devices_told (ear d.0) (mouth d.1) (told_of_shelf book d.2)) done.talk) (house_back (behind_told ear) (mouth_told mouth) book done.house) (refused_back (behind_told ear) (mouth_told mouth) book done.refused)
   of_shelves done = record { in_talk = of_talk done.talk; in_house = of_house done.house; in_refused = of_refused done.refused }

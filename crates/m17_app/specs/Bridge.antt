@@ -1,5 +1,5 @@
--- What a run of `bridge` promises. It reads nothing, and takes no memory.
-use Rattle.std.specs.Prelude.{◌≡◌, ◌⊎◌, ℕ, ◌<◌, List, ◌++◌, Some}
+-- What a run of `bridge` promises. It reads nothing, and takes memory for the guards of its links alone.
+use Rattle.std.specs.Prelude.{◌≡◌, ◌⊎◌, ℕ, ◌<◌, List, ◌++◌, None, Some}
 use Rattle.m17_print.specs.Endings.{last_line, port_failed_line}
 use Rattle.m17_bridge.specs.declared.crossing.BridgeEnd.{BridgeEnd}
 use Rattle.m17_bridge.specs.declared.side.Side.{Side}
@@ -11,8 +11,8 @@ use Rattle.m17_bridge_command.specs.declared.ending.BridgeEnding.{BridgeEnding}
 use Rattle.m17_bridge_command.specs.Endings.{bridge_ending}
 use Rattle.m17_bridge_command.specs.Bridged.{bridge_line, ending_of, Bridges, FailsAtPort, Handed}
 use Rattle.m17_app.specs.declared.status.Status.{Status}
-use Rattle.m17_app.specs.declared.status.Status.TheVariants.{Finished, WriteFailed, PortFailed, LinkLost}
-use Rattle.m17_app.specs.Forms.{no_words}
+use Rattle.m17_app.specs.declared.status.Status.TheVariants.{Finished, WriteFailed, PortFailed, LinkLost, NoMemory}
+use Rattle.m17_app.specs.Serve.{no_words}
 use Rattle.m17_app.specs.Status.{Streams, status_of}
 use Rattle.m17_app.specs.Terms.{Terms}
 use Rattle.m17_app.specs.Written.{Adds, AddsPart, LeavesInput}
@@ -55,6 +55,9 @@ module _ {E M : Type 0} where
   TellsBridge order run WriteFailed before after = CutsBridge order before after run
   TellsBridge order run PortFailed before after =
       FailsAtPort order run × Adds port_failed_line before after
+  -- before the ports are asked and anything is written, and no device has failed then
+  TellsBridge order run NoMemory before after = (run.after ≡ run.before)
+      × (run.devices ≡ None) × (after ≡ before)
   TellsBridge order run _ before after = ⊥
 
   -- its terms: it takes any input, and reads nothing of it; and nothing else stood against it where no ear's list ended in

@@ -1,5 +1,5 @@
 -- What a run of the program promises, by its words.
-use Rattle.std.specs.Prelude.{◌≡◌, ◌⊎◌, ℕ, ◌≤◌, Bool, List, Option, None, IsSome}
+use Rattle.std.specs.Prelude.{◌≡◌, ◌⊎◌, ℕ, ◌≤◌, Bool, true, List, Option, None, IsSome}
 use Rattle.m17_control.specs.declared.modules.Modules.{Modules}
 use Rattle.m17_plan.specs.declared.plan.Plan.{Plan}
 use Rattle.m17_plan.specs.Planned.{IsPlan}
@@ -35,16 +35,16 @@ replay_plan call modules parrots places limit = record {
 
 module _ {E M B : Type 0} where
   -- The terms of each command, and what it leaves alone. Only `talk`, `serve` and `bridge` ask the ports for anything, and
-  -- hand back devices, each its own, and the book of a board only where one is named; only `replay` and `serve` have the
-  -- crew start threads.
+  -- hand back devices, each its own, and the book of a board only where one is named; only `serve`, and `replay` over
+  -- threads, have the crew start threads.
   abbrev pub terms_of : Command → Doing E M B → Terms
   terms_of Judge run = text_terms judge_command
   terms_of Show run = text_terms show_command
   terms_of (Make seed count) run = make_terms seed count
   terms_of Check run = text_terms check_command
   terms_of Migrate run = text_terms migrate_command
-  terms_of (Replay call modules parrots places summary limit) run =
-      replay_terms (replay_plan call modules parrots places limit) summary
+  terms_of (Replay call modules parrots places summary limit threads) run =
+      replay_terms (replay_plan call modules parrots places limit) summary threads
       (crew_of run)
   terms_of (Talk order) run = talk_terms order (talk_side run)
   terms_of (Serve order) run = serve_terms order run
@@ -56,7 +56,7 @@ module _ {E M B : Type 0} where
   LeavesAlone (Make seed count) run = DoesNothing run
   LeavesAlone Check run = DoesNothing run
   LeavesAlone Migrate run = DoesNothing run
-  LeavesAlone (Replay call modules parrots places summary limit) run = AsksForNothing run
+  LeavesAlone (Replay call modules parrots places summary limit threads) run = AsksForNothing run
   LeavesAlone (Talk order) run = ServesNothing run × (run.bridge ≡ None)
   LeavesAlone (Serve order) run = (run.talk ≡ None) × (run.bridge ≡ None)
       × (order.board ≡ None → run.board ≡ None)
@@ -103,6 +103,16 @@ NameBoard words = (command : Command) × Names words command × HasBoard command
 abbrev pub NameNoBoard : List (List ℕ) → Type 0
 NameNoBoard words = NameBoard words → ⊥
 
+-- The command has the crew start threads, where it comes so far: a reflector, or a replay over threads; the words name
+-- none that does.
+abbrev pub HasThreads : Command → Type 0
+HasThreads (Replay call modules parrots places summary limit threads) = threads ≡ true
+HasThreads (Serve order) = Unit {0}
+HasThreads _ = ⊥
+
+abbrev pub NameNoThreads : List (List ℕ) → Type 0
+NameNoThreads words = (command : Command) → Names words command → HasThreads command → ⊥
+
 -- The values of a command are within the bounds that its run needs, as those of a command that words name are.
 abbrev pub IsRunnable : Command → Type 0
 IsRunnable Judge = Unit {0}
@@ -110,7 +120,7 @@ IsRunnable Show = Unit {0}
 IsRunnable (Make seed count) = count ≤ 100000
 IsRunnable Check = Unit {0}
 IsRunnable Migrate = Unit {0}
-IsRunnable (Replay call modules parrots places summary limit) =
+IsRunnable (Replay call modules parrots places summary limit threads) =
     IsPlan (replay_plan call modules parrots places limit)
 IsRunnable (Talk order) = Unit {0}
 IsRunnable (Serve order) = IsServable order

@@ -5,51 +5,54 @@ use Rattle.m17_ports.specs.Book.{BookTold}
 use Rattle.m17_ports.specs.Ear.{EarTold}
 use Rattle.m17_ports.specs.Mouth.{MouthTold}
 use Rattle.m17_ports.specs.Ports.{PortsTold}
+use Rattle.m17_guard.specs.Guarded.{guard_told}
+use Rattle.m17_guard.specs.declared.guarded.GuardLabel.{GuardLabel}
 use Rattle.m17_reflect.specs.declared.returned.HouseRefusal.{HouseRefusal}
 use Rattle.m17_reflect.specs.Run as reflect
 use Rattle.m17_serve.specs.Devices.{house_back, refused_back, told_of_shelf}
-use Rattle.m17_serve.specs.Boards.{AroundBoard}
-use Rattle.m17_serve.specs.Served.{Around}
 use Rattle.m17_talk.specs.Devices.{DevicesTold, devices_told}
 use Rattle.m17_talk.specs.Talked.{Handed, handed}
 use Rattle.m17_bridge.specs.CrossDevices as bridge
 use Rattle.m17_bridge_command.specs.Bridged as bridged
 use Rattle.m17_app.specs.declared.done.Done.{Done}
 use Rattle.m17_app.specs.declared.done.Ended.{Ended}
+use Rattle.m17_app.specs.Fitted.{DevicesBack, ServeRun, behind_told, mouth_told}
 use Rattle.m17_app.specs.Status.{Beside, Count, beside, code_of, count_from}
 
 -- What the ports told before the run and after it, how many starts the crew had refused then, and what the run hands
 -- back: the devices of a talk that ran, those of a reflector that ran with what went through its threads, those of one
 -- that refused to run with the reason, or those of a bridge that ran; and beside those of a reflector the book of its board.
+-- The ears of a reflector come back behind all that stands before them, its mouths behind their paces, and the ears of a
+-- bridge behind guards.
 pub record Doing (E M B : Type 0) : Type 0 where
   pub before : PortsTold
   pub after : PortsTold
   pub crew_before : ℕ
   pub crew_after : ℕ
   pub talk : Option (DevicesTold E M (Option B))
-  pub house : Option (reflect.Devices E M (Option B) × reflect.Handed)
-  pub refused : Option (reflect.Devices E M (Option B) × HouseRefusal)
-  pub bridge : Option (bridge.DevicesTold E M)
+  pub house : Option (DevicesBack E M B × reflect.Handed)
+  pub refused : Option (DevicesBack E M B × HouseRefusal)
+  pub bridge : Option (bridge.DevicesTold (GuardLabel E) M)
   pub board : Option (BookTold B)
 
 module _ {E M B : Type 0} where
   -- what is told of the run that came to `done`; `ear`, `mouth` and `book` say what each kind of device tells
-  abbrev pub doing : {X Y Z : Type 0} → (E → EarTold X) → (M → MouthTold Y) → (B → BookTold Z)
-      → PortsTold → PortsTold → ℕ → ℕ → Done E M B → Doing X Y Z
+  abbrev pub doing : {R X Y Z : Type 0} → (E → EarTold X) → (M → MouthTold Y) → (B → BookTold Z)
+      → PortsTold → PortsTold → ℕ → ℕ → Done E M B R X → Doing X Y Z
   doing ear mouth book before after crew_before crew_after done = record {
     before = before;
     after = after;
     crew_before = crew_before;
     crew_after = crew_after;
     talk = option_map (λ d. devices_told (ear d.0) (mouth d.1) (told_of_shelf book d.2)) done.talk;
-    house = house_back ear mouth book done.house;
-    refused = refused_back ear mouth book done.refused;
-    bridge = option_map (bridged.bridge_told ear mouth) done.bridge;
+    house = house_back (behind_told ear) (mouth_told mouth) book done.house;
+    refused = refused_back (behind_told ear) (mouth_told mouth) book done.refused;
+    bridge = option_map (bridged.bridge_told (guard_told ear) mouth) done.bridge;
     board = option_map book done.board;
   }
 
   -- a run that ended so, with the number of its status
-  abbrev pub done_of : Ended E M B → Done E M B
+  abbrev pub done_of : {R L : Type 0} → Ended E M B R L → Done E M B R L
   done_of ended = record {
     status = code_of ended.status;
     talk = ended.talk;
@@ -59,23 +62,21 @@ module _ {E M B : Type 0} where
     board = ended.board;
   }
 
-  -- the part of it that the clauses of `talk` speak of, that of `bridge`, and that of `serve`, without a board and with one
+  -- the part of it that the clauses of `talk` speak of, that of `bridge`, and that of `serve`
   abbrev pub talk_side : Doing E M B → Handed E M B
   talk_side run = handed run.before run.after run.talk
 
-  abbrev pub bridge_side : Doing E M B → bridged.Handed E M
+  abbrev pub bridge_side : Doing E M B → bridged.Handed (GuardLabel E) M
   bridge_side run = bridged.handed run.before run.after run.bridge
 
-  abbrev pub serve_side : Doing E M B → Around E M B
+  abbrev pub serve_side : Doing E M B → ServeRun E M B
   serve_side run = record {
     before = run.before;
     after = run.after;
     house = run.house;
     refused = run.refused;
+    board = run.board;
   }
-
-  abbrev pub board_side : Doing E M B → AroundBoard E M B
-  board_side run = record { run = serve_side run; board = run.board }
 
   -- how many starts the crew refused
   abbrev pub crew_of : Doing E M B → Count

@@ -6,9 +6,10 @@ pub mod Text
 pub mod Make
 pub mod Replayed
 pub mod Talk
+pub mod Fitted
 pub mod Doing
-pub mod Forms
 pub mod Serve
 pub mod Bridge
 pub mod Commands
+pub mod Habits
 pub mod Started

@@ -48,44 +48,48 @@ EndsReplay plan summary ending before after =
 
 -- Some ending was come to, and the sink failed, while it printed or at the last line: what the ending says of the input
 -- holds, so of no refusal but the input's own a first part is written, and of `read failed` and `crew refused` only where
--- the count of the source, or of the crew, rose.
-abbrev pub CutsReplay : Plan → Bool → Streams → Streams → Count → Type 0
-CutsReplay plan summary before after crew = (ending : ReplayEnding)
+-- the count of the source, or of the crew, rose, and of `crew refused` only over threads.
+abbrev pub CutsReplay : Plan → Bool → Bool → Streams → Streams → Count → Type 0
+CutsReplay plan summary threads before after crew = (ending : ReplayEnding)
     × (ending ≡ endings.ReadFailed → HasRisen before.source.faults after.source.faults)
     × (ending ≡ endings.CrewRefused → HasRisen crew.before crew.after)
+    × (ending ≡ endings.CrewRefused → threads ≡ true)
     × CutsBy (SaysReplay plan summary) (PrintsTrace plan summary) (replay_last_line ending) ending
     before after
 
 -- What each status says of a run of `replay`. With 0 and 7 the whole text stands written; with 1, 3 and 6 the last line
 -- alone, whatever the source tells; with 4 a first part of what would have been written. Want of memory comes before
--- anything is written, and no device has failed then.
-abbrev pub TellsReplay : Plan → Bool → Count → Status → Streams → Streams → Type 0
-TellsReplay plan summary crew Finished before after =
+-- anything is written, and no device has failed then. 6 comes over threads alone.
+abbrev pub TellsReplay : Plan → Bool → Bool → Count → Status → Streams → Streams → Type 0
+TellsReplay plan summary threads crew Finished before after =
     EndsReplay plan summary endings.Finished before after
     × AddsText (IsRunText plan summary Finished) before after
-TellsReplay plan summary crew LinkLost before after =
+TellsReplay plan summary threads crew LinkLost before after =
     EndsReplay plan summary endings.LinkLost before after
     × AddsText (IsRunText plan summary LinkLost) before after
-TellsReplay plan summary crew InputRefused before after = (place : ℕ) × (reason : TraceReason)
+TellsReplay plan summary threads crew InputRefused before after = (place : ℕ) × (reason : TraceReason)
     × EndsReplay plan summary (endings.Refused place reason) before after
     × AddsText (IsRunText plan summary InputRefused) before after
     × Adds (input_refused_line place (trace_reason_words reason)) before after
-TellsReplay plan summary crew ReadFailed before after =
+TellsReplay plan summary threads crew ReadFailed before after =
     EndsReplay plan summary endings.ReadFailed before after × Adds read_failed_line before after
-TellsReplay plan summary crew CrewRefused before after =
-    EndsReplay plan summary endings.CrewRefused before after × Adds crew_refused_line before after
-TellsReplay plan summary crew WriteFailed before after = CutsReplay plan summary before after crew
-TellsReplay plan summary crew NoMemory before after = (after.sink.written ≡ before.sink.written)
+TellsReplay plan summary threads crew CrewRefused before after =
+    (threads ≡ true) × EndsReplay plan summary endings.CrewRefused before after
+    × Adds crew_refused_line before after
+TellsReplay plan summary threads crew WriteFailed before after =
+    CutsReplay plan summary threads before after crew
+TellsReplay plan summary threads crew NoMemory before after =
+    (after.sink.written ≡ before.sink.written)
     × (after.source.faults ≡ before.source.faults) × (after.sink.faults ≡ before.sink.faults)
-TellsReplay plan summary crew _ before after = ⊥
+TellsReplay plan summary threads crew _ before after = ⊥
 
 -- the input is a trace in which no 16 faults stand in a row
 abbrev pub KeepsItsLink : List ℕ → Type 0
 KeepsItsLink input = (heard : List Heard) × IsTrace input heard × ¬ HasSixteenFaults heard
 
-abbrev pub replay_terms : Plan → Bool → Count → Terms
-replay_terms plan summary crew = record {
-  tells = TellsReplay plan summary crew;
+abbrev pub replay_terms : Plan → Bool → Bool → Count → Terms
+replay_terms plan summary threads crew = record {
+  tells = TellsReplay plan summary threads crew;
   takes = λ left. (input : List ℕ) × (left ≡ Some input)
       × ((heard : List Heard) × IsTrace input heard);
   untroubled = λ left. (input : List ℕ) × (left ≡ Some input) × KeepsItsLink input;

@@ -1,9 +1,8 @@
--- What a run of `serve` promises: one without rules, which reads nothing, and one by the rules of its input; each in one of
--- its forms, without a board or with one.
-use Rattle.std.specs.Prelude.{◌≡◌, ◌⊎◌, ℕ, Bool, false, true, List, [], Option, None, Some, string_bytes}
-use Rattle.std.specs.Option.{option_map}
+-- What a run of `serve` promises: one without rules, which reads nothing, and one by the rules of its input.
+use Rattle.std.specs.Prelude.{◌≡◌, ◌⊎◌, ℕ, Bool, false, true, List, [], ◌++◌, Option, Some}
 use Rattle.m17_io.specs.Faults.{HasRisen}
-use Rattle.m17_print.specs.Endings.{crew_refused_line, input_refused_line, port_failed_line, read_failed_line}
+use Rattle.m17_print.specs.Endings.{crew_refused_line, input_refused_line, last_line, port_failed_line, read_failed_line}
+use Rattle.m17_print.specs.declared.ending.NoReason.{NoReason}
 use Rattle.m17_reflect.specs.declared.returned.HouseRefusal.TheVariants as refusals
 use Rattle.m17_reflect.specs.Run.{Handed}
 use Rattle.m17_gate.specs.declared.rule.Rule.{Rule}
@@ -13,73 +12,44 @@ use Rattle.m17_rules.specs.Reasons.{rules_reason_words}
 use Rattle.m17_rules.specs.Taking.{RefusesRules}
 use Rattle.m17_words.specs.declared.order.ServeOrder.{ServeOrder}
 use Rattle.m17_serve.specs.declared.served.ServeEnding.{ServeEnding}
+use Rattle.m17_serve.specs.Endings.{serve_ending}
+use Rattle.m17_serve.specs.Served.{ending_of, lines_of, AsksNothing, FailsAtPort, IsUntroubled, Refuses, Serves}
 use Rattle.m17_app.specs.declared.status.Status.{Status}
 use Rattle.m17_app.specs.declared.status.Status.TheVariants.{Finished, InputRefused, ReadFailed, WriteFailed, PortFailed, CrewRefused, LinkLost, BookFailed, NoMemory}
-use Rattle.m17_app.specs.Doing.{Doing, board_side, crew_of, serve_side}
-use Rattle.m17_app.specs.Forms.{board_form, plain_form, serve_status, serve_text, ServeForm}
-use Rattle.m17_app.specs.Status.{Count, Streams}
+use Rattle.m17_app.specs.Doing.{Doing, crew_of, serve_side}
+use Rattle.m17_app.specs.Fitted.{AreBehind, ArePaced, DevicesBack, ServeRun}
+use Rattle.m17_app.specs.Status.{Count, Streams, status_of}
 use Rattle.m17_app.specs.Terms.{Terms}
 use Rattle.m17_app.specs.Written.{Adds, AddsPart, LeavesInput}
 
--- The reflector ran, without rules or by these, to an end with this status, and its text stands written.
-pub record RanServe (form : ServeForm) (order : ServeOrder) (rules : Option (List Rule))
-    (status : Status) (before after : Streams) : Type 0 where
-  pub handed : Handed
-  pub ending : ServeEnding
-  pub ran : form.ran rules handed ending
-  pub status_is : status ≡ serve_status ending
-  pub text : Adds (serve_text order handed ending) before after
+-- no reason has words, since no input is refused
+abbrev pub no_words : NoReason → List ℕ
+no_words reason = []
 
--- the same, and a first part of its text stands written
-abbrev pub CutsRun : ServeForm → ServeOrder → Option (List Rule) → Streams → Streams → Type 0
-CutsRun form order rules before after = (handed : Handed) × (ending : ServeEnding)
-    × form.ran rules handed ending × AddsPart (serve_text order handed ending) before after
+-- the last line of a run that ended so, if it has one, and its status where that line could be written
+abbrev pub serve_last_line : ServeEnding → List ℕ
+serve_last_line ending = last_line no_words (serve_ending ending)
 
--- the crew refused a start, and the devices come back as new as they were
-abbrev pub RefusedServe : ServeForm → Count → Type 0
-RefusedServe form crew = form.refuses refusals.Crew × HasRisen crew.before crew.after
+abbrev pub serve_status : ServeEnding → Status
+serve_status ending = status_of (serve_ending ending)
 
--- The sink failed: after the ports did, after the crew had refused, or after the reflector had run; a first part of the
--- text of such a run stands written.
-abbrev pub CutsServe : ServeForm → ServeOrder → Count → Streams → Streams → Type 0
-CutsServe form order crew before after =
-    (form.fails_at_port × AddsPart port_failed_line before after)
-    ⊎ (RefusedServe form crew × AddsPart crew_refused_line before after)
-    ⊎ CutsRun form order None before after
-
--- What each status says of a run of `serve`.
-abbrev pub TellsServe : ServeForm → ServeOrder → Count → Status → Streams → Streams → Type 0
-TellsServe form order crew Finished before after = RanServe form order None Finished before after
-TellsServe form order crew LinkLost before after = RanServe form order None LinkLost before after
-TellsServe form order crew BookFailed before after =
-    RanServe form order None BookFailed before after
-TellsServe form order crew WriteFailed before after = CutsServe form order crew before after
-TellsServe form order crew PortFailed before after =
-    form.fails_at_port × Adds port_failed_line before after
-TellsServe form order crew CrewRefused before after =
-    RefusedServe form crew × Adds crew_refused_line before after
--- before anything was heard, and before the streams are touched
-TellsServe form order crew NoMemory before after =
-    (form.asks_nothing ⊎ form.refuses refusals.NoMemory) × (after ≡ before)
-TellsServe form order crew _ before after = ⊥
-
--- the terms of a run without rules
-abbrev pub plain_terms : ServeForm → ServeOrder → Count → Terms
-plain_terms form order crew = record {
-  tells = λ status before after. LeavesInput before after
-      × TellsServe form order crew status before after;
-  takes = λ left. Unit {0};
-  untroubled = λ left. form.untroubled None;
-}
+-- the text of a run of the reflector that ended so: the line of each module, and then the last line
+abbrev pub serve_text : ServeOrder → Handed → ServeEnding → List ℕ
+serve_text order handed ending = lines_of order handed ++ serve_last_line ending
 
 -- The rules are those of the input, which was read to its end.
 abbrev pub TakesRules : List Rule → Streams → Streams → Type 0
 TakesRules rules before after = (text : List ℕ) → before.source.left ≡ Some text
     → AreRules text rules × (after.source.left ≡ Some [])
 
--- The rules were taken.
-abbrev pub HasRules : Streams → Streams → Type 0
-HasRules before after = (rules : List Rule) × TakesRules rules before after
+-- The rules of a run: those of its input, where the words say so, and else none, and nothing is read.
+abbrev pub TakesBy : Bool → List Rule → Streams → Streams → Type 0
+TakesBy true rules before after = TakesRules rules before after
+TakesBy false rules before after = (rules ≡ []) × LeavesInput before after
+
+-- The rules were taken, if any are.
+abbrev pub HasRules : Bool → Streams → Streams → Type 0
+HasRules by before after = (rules : List Rule) × TakesBy by rules before after
 
 -- the input is no text of rules, at this place and for this reason
 abbrev pub AreNoRules : ℕ → RulesReason → Streams → Type 0
@@ -98,67 +68,93 @@ IsEarlyLine line before after = (line ≡ [])
     ⊎ ((place : ℕ) × (reason : RulesReason) × AreNoRules place reason before
     × (line ≡ input_refused_line place (rules_reason_words reason)))
 
--- By rules the headline holds of what was heard behind the gates of the rules.
-abbrev pub RanByRules : ServeForm → ServeOrder → Status → Streams → Streams → Type 0
-RanByRules form order status before after = (rules : List Rule) × TakesRules rules before after
-    × RanServe form order (Some rules) status before after
-
--- The sink failed: before the ports and the crew were asked, after the ports failed, after the crew had refused, or after
--- the reflector had run; a first part of the text of such a run stands written.
-abbrev pub CutsByRules : ServeForm → ServeOrder → Count → Streams → Streams → Type 0
-CutsByRules form order crew before after = (form.asks_nothing
-    × (crew.after ≡ crew.before)
-    × ((line : List ℕ) × IsEarlyLine line before after × AddsPart line before after))
-    ⊎ (HasRules before after × form.fails_at_port × AddsPart port_failed_line before after)
-    ⊎ (HasRules before after × RefusedServe form crew × AddsPart crew_refused_line before after)
-    ⊎ ((rules : List Rule) × TakesRules rules before after
-    × CutsRun form order (Some rules) before after)
-
--- What each status says of a run of `serve` by rules.
-abbrev pub TellsByRules : ServeForm → ServeOrder → Count → Status → Streams → Streams → Type 0
-TellsByRules form order crew Finished before after = RanByRules form order Finished before after
-TellsByRules form order crew LinkLost before after = RanByRules form order LinkLost before after
-TellsByRules form order crew BookFailed before after =
-    RanByRules form order BookFailed before after
-TellsByRules form order crew InputRefused before after =
-    form.asks_nothing × RefusedRules before after
-TellsByRules form order crew ReadFailed before after =
-    form.asks_nothing × Adds read_failed_line before after
-TellsByRules form order crew WriteFailed before after = CutsByRules form order crew before after
-TellsByRules form order crew PortFailed before after =
-    HasRules before after × form.fails_at_port × Adds port_failed_line before after
-TellsByRules form order crew CrewRefused before after =
-    HasRules before after × RefusedServe form crew × Adds crew_refused_line before after
--- before anything was heard or written, and no device has failed then
-TellsByRules form order crew NoMemory before after =
-    (form.asks_nothing ⊎ form.refuses refusals.NoMemory)
-    × (after.sink.written ≡ before.sink.written)
+-- Nothing was written and nothing failed; and without rules no stream was touched.
+abbrev pub KeepsBy : Bool → Streams → Streams → Type 0
+KeepsBy true before after = (after.sink.written ≡ before.sink.written)
     × (after.source.faults ≡ before.source.faults) × (after.sink.faults ≡ before.sink.faults)
-TellsByRules form order crew _ before after = ⊥
+KeepsBy false before after = after ≡ before
 
--- its terms: it takes the texts of rules
-abbrev pub ruled_terms : ServeForm → ServeOrder → Count → Terms
-ruled_terms form order crew = record {
-  tells = TellsByRules form order crew;
-  takes = λ left. (text : List ℕ) × (left ≡ Some text)
-      × ((rules : List Rule) × AreRules text rules);
-  untroubled = λ left. (rules : List Rule)
-      → ((text : List ℕ) → left ≡ Some text → AreRules text rules)
-      → form.untroubled (Some rules);
-}
-
-abbrev pub terms_by : Bool → ServeForm → ServeOrder → Count → Terms
-terms_by false form order crew = plain_terms form order crew
-terms_by true form order crew = ruled_terms form order crew
+-- it takes any input without rules, and else the texts of rules
+abbrev pub TakesInput : Bool → Option (List ℕ) → Type 0
+TakesInput true left = (text : List ℕ) × (left ≡ Some text)
+    × ((rules : List Rule) × AreRules text rules)
+TakesInput false left = Unit {0}
 
 module _ {E M B : Type 0} where
-  -- the form of a run, with a board of this name or without one
-  abbrev pub form_of : Option (List ℕ) → ServeOrder → Doing E M B → ServeForm
-  form_of None order run = plain_form order (serve_side run)
-  form_of (Some name) order run = board_form order name (board_side run)
+  -- The reflector ran over its devices, which are handed back, each ear and each mouth behind what the words ask for; this
+  -- went through its threads, and so the command ends where its lines are written.
+  abbrev pub RanBy : ServeOrder → ServeRun E M B → List Rule → Handed → ServeEnding
+      → Type 0
+  RanBy order run rules handed ending =
+      (devices : DevicesBack E M B) × (lines_failed : Bool)
+      × Serves order run devices handed lines_failed × (ending ≡ ending_of handed lines_failed)
+      × AreBehind order rules devices × ArePaced order devices
+
+  -- nothing stood against the run: no link was lost, and no book failed
+  abbrev pub IsSmooth : ServeOrder → ServeRun E M B → Type 0
+  IsSmooth order run = (devices : DevicesBack E M B) (handed : Handed)
+      (lines_failed : Bool) (serves : Serves order run devices handed lines_failed)
+      → IsUntroubled order run devices handed lines_failed serves
+
+  -- The reflector ran to an end with this status, and its text stands written.
+  pub record RanServe (order : ServeOrder) (run : ServeRun E M B) (status : Status)
+      (before after : Streams) : Type 0 where
+    pub rules : List Rule
+    pub taken : TakesBy order.rules rules before after
+    pub handed : Handed
+    pub ending : ServeEnding
+    pub ran : RanBy order run rules handed ending
+    pub status_is : status ≡ serve_status ending
+    pub text : Adds (serve_text order handed ending) before after
+
+  -- the same, and a first part of its text stands written
+  abbrev pub CutsRun : ServeOrder → ServeRun E M B → Streams → Streams → Type 0
+  CutsRun order run before after = (rules : List Rule) × TakesBy order.rules rules before after
+      × ((handed : Handed) × (ending : ServeEnding) × RanBy order run rules handed ending
+      × AddsPart (serve_text order handed ending) before after)
+
+  -- the crew refused a start, and the devices come back as new as they were
+  abbrev pub RefusedServe : ServeOrder → ServeRun E M B → Count → Type 0
+  RefusedServe order run crew =
+      Refuses order refusals.Crew run × HasRisen crew.before crew.after
+
+  -- The sink failed: before the ports and the crew were asked, after the ports failed, after the crew had refused, or after
+  -- the reflector had run; a first part of the text of such a run stands written.
+  abbrev pub CutsServe : ServeOrder → ServeRun E M B → Count → Streams → Streams
+      → Type 0
+  CutsServe order run crew before after =
+      ((order.rules ≡ true) × AsksNothing run × (crew.after ≡ crew.before)
+      × ((line : List ℕ) × IsEarlyLine line before after × AddsPart line before after))
+      ⊎ (HasRules order.rules before after × FailsAtPort order run
+      × AddsPart port_failed_line before after)
+      ⊎ (HasRules order.rules before after × RefusedServe order run crew
+      × AddsPart crew_refused_line before after)
+      ⊎ CutsRun order run before after
+
+  -- What each status says of a run of `serve`.
+  abbrev pub TellsServe : ServeOrder → ServeRun E M B → Count → Status → Streams
+      → Streams → Type 0
+  TellsServe order run crew Finished before after = RanServe order run Finished before after
+  TellsServe order run crew LinkLost before after = RanServe order run LinkLost before after
+  TellsServe order run crew BookFailed before after = RanServe order run BookFailed before after
+  TellsServe order run crew InputRefused before after =
+      (order.rules ≡ true) × AsksNothing run × RefusedRules before after
+  TellsServe order run crew ReadFailed before after =
+      (order.rules ≡ true) × AsksNothing run × Adds read_failed_line before after
+  TellsServe order run crew WriteFailed before after = CutsServe order run crew before after
+  TellsServe order run crew PortFailed before after = HasRules order.rules before after
+      × FailsAtPort order run × Adds port_failed_line before after
+  TellsServe order run crew CrewRefused before after = HasRules order.rules before after
+      × RefusedServe order run crew × Adds crew_refused_line before after
+  -- before anything was heard or written, and no device has failed then
+  TellsServe order run crew NoMemory before after =
+      (AsksNothing run ⊎ Refuses order refusals.NoMemory run) × KeepsBy order.rules before after
+  TellsServe order run crew _ before after = ⊥
 
   -- the terms of a run of `serve`
   abbrev pub serve_terms : ServeOrder → Doing E M B → Terms
-  serve_terms order run =
-      terms_by order.rules (form_of (option_map string_bytes order.board) order run) order
-      (crew_of run)
+  serve_terms order run = record {
+    tells = TellsServe order (serve_side run) (crew_of run);
+    takes = TakesInput order.rules;
+    untroubled = λ left. IsSmooth order (serve_side run);
+  }

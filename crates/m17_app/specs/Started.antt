@@ -1,5 +1,5 @@
 -- What is told of a run of the program whose streams and devices its caller doesn't see.
-use Rattle.std.specs.Prelude.{◌≡◌, ◌≢◌, ◌⊎◌, ◌↔◌, ℕ, List, reverse, All, Option, None, Some, IfSome}
+use Rattle.std.specs.Prelude.{◌≡◌, ◌≢◌, ◌⊎◌, ◌↔◌, ℕ, List, length, reverse, All, Option, None, Some, IfSome}
 use Rattle.std.specs.List.{AllZip}
 use Rattle.m17_disk.specs.Writing.{EndsAs, IsWritten}
 use Rattle.m17_disk.specs.declared.writer.Writer.{Writer}
@@ -10,9 +10,12 @@ use Rattle.m17_ports.specs.Book.{BookTold, shelf_told}
 use Rattle.m17_ports.specs.Ports.{PortsTold}
 use Rattle.m17_talk.specs.Devices.{DevicesTold}
 use Rattle.m17_bridge.specs.CrossDevices as bridge
+use Rattle.m17_guard.specs.declared.guarded.GuardLabel.{GuardLabel}
 use Rattle.m17_app.specs.declared.status.Status.{Status}
 use Rattle.m17_app.specs.declared.status.Status.TheVariants.{NoMemory}
 use Rattle.m17_app.specs.Commands.{RunsWords}
+use Rattle.m17_app.specs.Fitted.{DevicesBack}
+use Rattle.m17_app.specs.Habits.{Keep}
 use Rattle.m17_app.specs.Status.{Streams, Count, Tells}
 
 -- What is told of a book that may be missing is what such a one tells: one that isn't there has written nothing, and never
@@ -22,8 +25,8 @@ IsOfShelf {B} told = (book : Option (BookTold B)) × (told ≡ shelf_told book)
 
 -- The same of the book of a talk, and of the traces and books of a reflector that ran or refused to.
 pub record AreOfShelves {E M B : Type 0} (talk : Option (DevicesTold E M (Option B)))
-    (house : Option (reflect.Devices E M (Option B) × reflect.Handed))
-    (refused : Option (reflect.Devices E M (Option B) × HouseRefusal)) : Type 0 where
+    (house : Option (DevicesBack E M B × reflect.Handed))
+    (refused : Option (DevicesBack E M B × HouseRefusal)) : Type 0 where
   pub in_talk : IfSome talk (λ d. IsOfShelf d.book)
   pub in_house : IfSome house (λ h. All IsOfShelf h.0.traces × All IsOfShelf h.0.books)
   pub in_refused : IfSome refused (λ h. All IsOfShelf h.0.traces × All IsOfShelf h.0.books)
@@ -36,9 +39,9 @@ pub record HasRun (E M B : Type 0) (words : List (List ℕ)) (status : Status)
   pub before : Streams
   pub after : Streams
   pub talk : Option (DevicesTold E M (Option B))
-  pub house : Option (reflect.Devices E M (Option B) × reflect.Handed)
-  pub refused : Option (reflect.Devices E M (Option B) × HouseRefusal)
-  pub bridge : Option (bridge.DevicesTold E M)
+  pub house : Option (DevicesBack E M B × reflect.Handed)
+  pub refused : Option (DevicesBack E M B × HouseRefusal)
+  pub bridge : Option (bridge.DevicesTold (GuardLabel E) M)
   pub board : Option (BookTold B)
   pub shelves : AreOfShelves talk house refused
   pub ran : RunsWords words status before after (record {
@@ -74,6 +77,13 @@ pub record AreEnded {F : Type 0} (ended : List (Option (Writer (BookKept F)))) :
   pub started : List (Writer (BookKept F))
   pub new : All IsBegun started
   pub each : AllZip (EndsAs file_book_told) (reverse started) ended
+
+-- Where the ports of a run had counted no fault before, as they do where a thread can't be started, each trace and book that
+-- the command of its words keeps has its thread among these. They had not been asked for anything.
+pub record AreAll {B : Type 0} (words : Option (List (List ℕ))) (first : PortsTold)
+    (ended : List (Option (Writer B))) : Type 0 where
+  pub unasked : first.calls ≡ 0
+  pub all : first.faults ≡ 0 → IfSome words (λ words. Keep words (length ended))
 
 -- The number that a process ends with, by what became of the threads of its books and by the number that its command ended
 -- with. It is the same, but where that is 0: then it is 0 exactly where each thread ended and no write failed, and else 8,

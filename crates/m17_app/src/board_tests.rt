@@ -60,14 +60,14 @@ fn served<C: Crew, R: Threads + Wait + Clock + Abort + Copy + Drop + Send + 'sta
     books: Vec<ListBook>,
     crew: &mut C,
     wanted: (u8, &str),
-) -> (Serve, bool) {
+) -> (Serve<R>, bool) {
     let mouth = must(rt, ListMouth::make(alloc, 8, Vec::new(alloc)));
     let ear = ScriptEar::new(evening(rt, alloc));
     let links = must(rt, Vec::from_array(alloc, [(ear, mouth)]));
-    let mut ports = ScriptPorts::new(links, books, Vec::new(alloc));
+    let ports = ScriptPorts::new(links, books, Vec::new(alloc));
     let mut source = BytesSource::new(Vec::new(alloc), Vec::new(alloc));
     let mut sink = sink_that(rt, alloc, 100, &[]);
-    let done = run_over(rt, alloc, given, &mut ports, crew, &mut source, &mut sink);
+    let done = run_over(rt, alloc, given, ports, crew, &mut source, &mut sink);
     let as_wanted = done.status == wanted.0 && sink.bytes() == wanted.1.as_bytes();
     (done, as_wanted)
 }

@@ -132,9 +132,9 @@ enum Back {
     Said(&'static [Word], &'static [Word]),
 }
 
-type Bridge = Done<ScriptEar, ListMouth, ListBook>;
+type Bridge<R> = Done<ScriptEar, ListMouth, ListBook, R>;
 
-fn has_back(done: &Bridge, back: Back) -> bool {
+fn has_back<R: Copy>(done: &Bridge<R>, back: Back) -> bool {
     if done.talk.is_some() || done.house.is_some() || done.refused.is_some() {
         return false;
     }
@@ -160,29 +160,21 @@ fn bridged<R: Threads + Wait + Clock + Abort + Copy + Drop + Send + 'static>(
     rt: &R,
     alloc: Global,
     row: &Row,
-) -> (Bridge, bool) {
+) -> (Bridge<R>, bool) {
     let (near, far, [fails, mouth_fails, sink_fails], status, text, _) = *row;
     let near = link(rt, alloc, NEAR, near, &[]);
     let far = link(rt, alloc, FAR, far, mouth_fails);
     let links = must(rt, Vec::from_array(alloc, [near, far]));
-    let mut ports = ScriptPorts::new(links, Vec::new(alloc), must(rt, fails.to_vec(alloc)));
+    let ports = ScriptPorts::new(links, Vec::new(alloc), must(rt, fails.to_vec(alloc)));
     let mut source = BytesSource::new(Vec::new(alloc), must(rt, Vec::from_array(alloc, [0])));
     let mut sink = sink_that(rt, alloc, 100, sink_fails);
     let mut crew = StdCrew::new();
-    let done = run_over(
-        rt,
-        alloc,
-        BRIDGE,
-        &mut ports,
-        &mut crew,
-        &mut source,
-        &mut sink,
-    );
+    let done = run_over(rt, alloc, BRIDGE, ports, &mut crew, &mut source, &mut sink);
     let as_wanted = done.status == status && sink.bytes() == text.as_bytes();
     (done, as_wanted)
 }
 
-fn let_go(_done: Bridge) {}
+fn let_go<R: Copy + Drop>(_done: Bridge<R>) {}
 
 // Runs `bridge` by each of these rows, and demands what comes of it.
 fn expect<R: Threads + Wait + Clock + Abort + Copy + Drop + Send + 'static>(

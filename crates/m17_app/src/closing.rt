@@ -1,5 +1,5 @@
 //! What the program does for its books: it starts their threads before its command, and closes them when that has ended.
-ghost use Rattle.std.specs.Prelude.{◌≡◌, ◌⊎◌, [], reverse, All};
+ghost use Rattle.std.specs.Prelude.{◌≡◌, ◌⊎◌, reverse, length, All, IfOk, is_some};
 ghost use Rattle.std.specs.List.{AllZip};
 ghost use Rattle.m17_disk.specs.Writing.{EndsAs};
 ghost use Rattle.m17_net.specs.Devices.{IsBegun, file_book_told};
@@ -7,12 +7,13 @@ ghost use Rattle.m17_app.specs.Started.{IsClosed};
 ghost use Rattle.m17_app.specs.Status.{IsStatus};
 
 use crate::conclude::end_with;
+use crate::habits::Habits;
 use crate::status::Status;
 use crate::std_out::StdOut;
 use m17_buffers::BufferedSink;
 use m17_disk::{Hand, Writer, settle};
 use m17_net::{FileBook, LateFile, UdpPorts};
-use m17_words::{Command, ServeOrder, read_words};
+use m17_values::NoMemory;
 use std::alloc::Global;
 use std::fs::File;
 use std::marker::Model;
@@ -46,8 +47,8 @@ impl Model for Staff {
         × (vec_len s.ended + vec_len s.hands ≤ vec_capacity s.ended) };
 }
 
-// Starts a thread for each book and trace that the command of the words keeps, where there are words. Where one cannot be
-// started, the ports have no book for it.
+// Starts threads for so many books and traces. Where one cannot be started, the ports count a fault and have no book for it,
+// and no more are. `NoMemory` where there is none for their list.
 pub(crate) fn staff_books<
     R: Threads
         + Wait
@@ -59,67 +60,58 @@ pub(crate) fn staff_books<
         + Drop
         + Send
         + 'static,
->(ports: &mut UdpPorts<R>, alloc: Global, words: &Option<Vec<String>>) -> Staff
+>(ports: &mut UdpPorts<R>, alloc: Global, count: usize) -> Result<Staff, NoMemory>
     // Each of them is that of a new book, and its file has not failed.
-    ensures begun { All IsBegun result }
+    ensures begun { IfOk result (λ staff. All IsBegun staff) }
+    ensures all { IfOk result (λ staff. ports.new.faults ≡ 0 → length staff ≡ count) }
+    ensures same { ports.new ≡ record ports.old { faults = ports.new.faults } }
 {
-    let count = match words {
-        Some(words) => books_of(alloc, words),
-        None => 0,
-    };
-    let Ok(mut hands) = Vec::with_capacity(alloc, count) else {
-        return nobody(alloc);
-    };
-    let Ok(ended) = Vec::with_capacity(alloc, count) else {
-        return nobody(alloc);
-    };
+    let mut hands = Vec::with_capacity(alloc, count)?;
+    let ended = Vec::with_capacity(alloc, count)?;
     while hands.len() < count {
         match ports.staff() {
             Ok(hand) => hands.push_reserved(hand),
-            Err(_) => return Staff { hands, ended },
+            Err(_) => return Ok(Staff { hands, ended }),
         }
     }
-    Staff { hands, ended }
+    Ok(Staff { hands, ended })
 }
 
-// No threads.
-fn nobody(alloc: Global) -> Staff
-    ensures { result ≡ [] }
+/// The ports of the machine for a command with these habits.
+pub(crate) fn ports_of<
+    R: Threads
+        + Wait
+        + Net
+        + Files<File = File>
+        + Clock
+        + AllocGlobal
+        + Copy
+        + Drop
+        + Send
+        + 'static,
+>(rt: R, host: HostRuntime, habits: Habits) -> UdpPorts<R>
+    // They were asked for nothing, have not failed, and are as the command wants them.
+    ensures { result ≡ record {
+      start = result.start;
+      rests = habits.rests;
+      stops = is_some habits.stop;
+      calls = 0;
+      faults = 0;
+    } }
 {
-    Staff {
-        hands: Vec::new(alloc),
-        ended: Vec::new(alloc),
+    let Habits {
+        rests,
+        books: _,
+        lock,
+        stop,
+    } = habits;
+    let mut ports = UdpPorts::new(rt, rests);
+    if let Some(name) = lock {
+        ports = ports.locking(name);
     }
-}
-
-// Whether the ears of the command of these words may wait long where nobody is there: those of `serve`, each of which has a
-// thread of its own. A bridge hears its sides in turn, and a client asks and has its answer by then.
-pub(crate) fn may_rest(alloc: Global, words: &Option<Vec<String>>) -> bool {
-    match words {
-        Some(words) => matches!(read_words(alloc, words), Ok(Command::Serve(_))),
-        None => false,
-    }
-}
-
-// How many books and traces the command of these words keeps.
-fn books_of(alloc: Global, words: &[String]) -> usize {
-    match read_words(alloc, words) {
-        Ok(Command::Serve(order)) => kept_of(&order).saturating_add(usize::from(
-            order.board.is_some(),
-        )),
-        Ok(Command::Talk(order)) => usize::from(order.book.is_some()),
-        _ => 0,
-    }
-}
-
-// How many traces and books of modules a reflector keeps.
-fn kept_of(order: &ServeOrder) -> usize {
-    match &order.book {
-        Some(_) => order
-            .binds
-            .len()
-            .saturating_add(order.modules.count() as usize),
-        None => 0,
+    match stop {
+        Some(name) => ports.stopping(host, name),
+        None => ports,
     }
 }
 

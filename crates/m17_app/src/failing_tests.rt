@@ -1,6 +1,11 @@
 //! An evening of `serve`, in which each device fails at each of its calls in turn: the status and its text, what each
 //! peer is told, and what stands in the files.
 use crate::done::Done;
+use crate::failing_outcomes::{
+    BOOK_BEFORE, Back, CALLS, Device, LOST, LOST_LATE, Outcome, PORT_FAILED, SOUND, UNTOUCHED,
+    wanted_of,
+};
+use crate::fitted::BehindMouth;
 use crate::serve_tests::{BOOK, evening, packet};
 use crate::talk_tests::peer;
 use crate::tests::{must, run_over, text_of};
@@ -15,40 +20,8 @@ use std::sync::Wait;
 use std::thread::Threads;
 use std::time::Clock;
 
-/// What may fail: the devices of the one link, its trace, the book of the one module, and what the program is given.
-#[derive(Clone, Copy, PartialEq, Eq)]
-enum Device {
-    Ear,
-    Mouth,
-    Trace,
-    Book,
-    Ports,
-    Crew,
-    Sink,
-}
-
 /// A device of which the call of this number fails, and so many calls from it on.
 type Failing = (Device, u64, u64);
-
-/// What devices come back.
-#[derive(Clone, Copy, PartialEq, Eq)]
-enum Back {
-    Nothing,
-    OfARun,
-    Untouched,
-}
-
-/// What comes of an evening: the status, the text, what comes back, how many datagrams were said, and how many bytes
-/// the trace and the book have.
-#[derive(Clone, Copy)]
-struct Outcome {
-    status: u8,
-    text: &'static str,
-    back: Back,
-    said: usize,
-    trace: usize,
-    book: usize,
-}
 
 /// The numbers of the calls of this device that fail.
 fn calls(rt: &impl Abort, alloc: Global, failing: &[Failing], device: Device) -> Vec<u64> {
@@ -106,28 +79,20 @@ fn ports(rt: &impl Abort, alloc: Global, failing: &[Failing]) -> ScriptPorts {
     ScriptPorts::new(links, books, calls(rt, alloc, failing, Device::Ports))
 }
 
-type Serve = Done<ScriptEar, ListMouth, ListBook>;
+type Serve<R> = Done<ScriptEar, ListMouth, ListBook, R>;
 
 /// Runs the evening: what it came to, and what was printed.
 fn served<R: Threads + Wait + Clock + Abort + Copy + Drop + Send + 'static>(
     rt: &R,
     alloc: Global,
     failing: &[Failing],
-) -> (Serve, Vec<u8>) {
-    let mut ports = ports(rt, alloc, failing);
+) -> (Serve<R>, Vec<u8>) {
+    let ports = ports(rt, alloc, failing);
     let mut crew = RefusingCrew::new(calls(rt, alloc, failing, Device::Crew));
     let mut source = BytesSource::new(Vec::new(alloc), Vec::new(alloc));
     let fails = calls(rt, alloc, failing, Device::Sink);
     let mut sink = must(rt, BytesSink::make(alloc, 100, fails));
-    let done = run_over(
-        rt,
-        alloc,
-        BOOK,
-        &mut ports,
-        &mut crew,
-        &mut source,
-        &mut sink,
-    );
+    let done = run_over(rt, alloc, BOOK, ports, &mut crew, &mut source, &mut sink);
     let text = must(rt, sink.bytes().to_vec(alloc));
     (done, text)
 }
@@ -185,21 +150,21 @@ struct Files {
 }
 
 /// How many datagrams were said, and how many bytes the trace and the book have.
-fn told_by(
-    mouths: &[ListMouth],
+fn told_by<R: Clock + Copy + Drop>(
+    mouths: &[BehindMouth<ListMouth, R>],
     traces: &[Shelf<ListBook>],
     books: &[Shelf<ListBook>],
     whole: &Files,
 ) -> Option<[usize; 3]> {
     Some([
-        said(mouths.first()?.list())?,
+        said(mouths.first()?.inner().list())?,
         kept(traces.first()?, &whole.trace)?,
         kept(books.first()?, &whole.book)?,
     ])
 }
 
 /// What comes back of an evening, and the same of its devices.
-fn seen(done: &Serve, whole: &Files) -> (Back, Option<[usize; 3]>) {
+fn seen<R: Clock + Copy + Drop>(done: &Serve<R>, whole: &Files) -> (Back, Option<[usize; 3]>) {
     match (&done.house, &done.refused) {
         (Some(house), None) => {
             let told = told_by(&house.mouths, &house.traces, &house.books, whole);
@@ -213,7 +178,7 @@ fn seen(done: &Serve, whole: &Files) -> (Back, Option<[usize; 3]>) {
     }
 }
 
-fn let_go(_done: Serve) {}
+fn let_go<R: Copy + Drop>(_done: Serve<R>) {}
 
 /// The book of the evening beside the faults of its ear: a record names the entry that it is of, in the last of the
 /// eight bytes behind its first two. The sixteenth fault in a row is the end itself.
@@ -264,113 +229,11 @@ fn sound_book<R: Threads + Wait + Clock + Abort + Copy + Drop + Send + 'static>(
     book
 }
 
-fn book_of(rt: &impl Abort, alloc: Global, done: &Serve) -> Vec<u8> {
+fn book_of<R: Copy>(rt: &impl Abort, alloc: Global, done: &Serve<R>) -> Vec<u8> {
     let house = done.house.as_ref().expect(rt, "a run");
     let shelf = house.books.first().expect(rt, "a shelf");
     let book = shelf.inner.as_ref().expect(rt, "a book");
     must(rt, book.bytes().to_vec(alloc))
-}
-
-const LINE: &str = "A admitted 4 missed 0\n";
-
-/// Nothing fails.
-const SOUND: Outcome = Outcome {
-    status: 0,
-    text: LINE,
-    back: Back::OfARun,
-    said: 6,
-    trace: 375,
-    book: 541,
-};
-
-const LOST: Outcome = Outcome {
-    status: 7,
-    text: "A admitted 0 missed 0\nlink lost\n",
-    back: Back::OfARun,
-    said: 0,
-    trace: 24,
-    book: 17,
-};
-
-const LOST_LATE: Outcome = Outcome {
-    status: 7,
-    text: "A admitted 4 missed 0\nlink lost\n",
-    trace: 391,
-    ..SOUND
-};
-
-const BOOK_FAILED: Outcome = Outcome {
-    status: 8,
-    text: "A admitted 4 missed 0\nbook failed\n",
-    ..SOUND
-};
-
-const UNTOUCHED: Outcome = Outcome {
-    status: 6,
-    text: "crew refused\n",
-    back: Back::Untouched,
-    said: 0,
-    trace: 0,
-    book: 0,
-};
-
-const PORT_FAILED: Outcome = Outcome {
-    status: 5,
-    text: "port failed\n",
-    back: Back::Nothing,
-    ..UNTOUCHED
-};
-
-/// How many bytes the trace has before each of its entries is written, the first with the header, and the book before
-/// its header and each of its records.
-const TRACE_BEFORE: [usize; 7] = [0, 36, 107, 135, 206, 277, 304];
-
-const BOOK_BEFORE: [usize; 9] = [0, 17, 54, 151, 188, 285, 382, 413, 510];
-
-/// How often each device is called.
-const CALLS: [(&str, Device, usize); 7] = [
-    ("ear", Device::Ear, 8),
-    ("mouth", Device::Mouth, 6),
-    ("trace", Device::Trace, 7),
-    ("book", Device::Book, 9),
-    ("ports", Device::Ports, 3),
-    ("crew", Device::Crew, 3),
-    ("sink", Device::Sink, 3),
-];
-
-/// The item at this place; 0 where there is none.
-fn at<const N: usize>(items: &[usize; N], place: usize) -> usize {
-    items.get(place).copied().unwrap_or(0)
-}
-
-/// What comes of an evening where so many calls of a device fail, from this one on: each fault of the ear stands in the
-/// trace, each call of the mouth that fails loses one datagram, and a file has what was written before.
-fn wanted_of(device: Device, from: usize, count: usize) -> Outcome {
-    match device {
-        Device::Ear => Outcome {
-            trace: 375usize.saturating_add(count),
-            ..SOUND
-        },
-        Device::Mouth => Outcome {
-            said: from.max(6usize.saturating_sub(count)),
-            ..SOUND
-        },
-        Device::Trace => Outcome {
-            trace: at(&TRACE_BEFORE, from),
-            ..BOOK_FAILED
-        },
-        Device::Book => Outcome {
-            book: at(&BOOK_BEFORE, from),
-            ..BOOK_FAILED
-        },
-        Device::Ports => PORT_FAILED,
-        Device::Crew => UNTOUCHED,
-        Device::Sink => Outcome {
-            status: 4,
-            text: if from == 0 { "" } else { LINE },
-            ..SOUND
-        },
-    }
 }
 
 /// Lets a device fail at each of its calls in turn, and at each two that follow each other; behind the last there is

@@ -1,12 +1,11 @@
 //! The source and the sink of each command fail at each of their calls in turn: the status, and how much of what the
 //! command writes stands before.
 use crate::check_tests::{EMPTY, EMPTY_LINE, HELD};
+use crate::judge_tests::TWO_TALKERS;
 use crate::replay_tests::{REPLAY, SUMMARY};
 use crate::serve_tests::SERVE;
 use crate::talk_tests::TALK;
-use crate::tests::{
-    JUDGE, MADE, Piece, Row, TWO_TALKERS, expect, input_of, must, sink_that, status_over,
-};
+use crate::tests::{JUDGE, MADE, Piece, Row, expect, input_of, must, sink_that, status_over};
 use m17_devices::{BytesSource, ListMouth, ScriptEar, ScriptPorts, StdCrew};
 use std::alloc::Global;
 use std::process::Abort;
@@ -63,16 +62,8 @@ fn ends<R: Threads + Wait + Clock + Abort + Copy + Drop + Send + 'static>(
     let reads = must(rt, Vec::from_array(alloc, [fails.0]));
     let mut source = BytesSource::new(input_of(rt, alloc, input), reads);
     let mut sink = sink_that(rt, alloc, 4096, &[fails.1]);
-    let (mut ports, mut crew) = (ports(rt, alloc), StdCrew::new());
-    let ended = status_over(
-        rt,
-        alloc,
-        given,
-        &mut ports,
-        &mut crew,
-        &mut source,
-        &mut sink,
-    );
+    let (ports, mut crew) = (ports(rt, alloc), StdCrew::new());
+    let ended = status_over(rt, alloc, given, ports, &mut crew, &mut source, &mut sink);
     ended == status && is_text(sink.bytes(), whole, part.0, part.1)
 }
 

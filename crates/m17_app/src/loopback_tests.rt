@@ -37,18 +37,10 @@ fn ran_on_sockets<
         + Send
         + 'static,
 >(rt: &R, alloc: Global, given: &[&str], input: Vec<u8>) -> Ran {
-    let (mut ports, mut crew) = (UdpPorts::new(*rt, false), StdCrew::new());
+    let (ports, mut crew) = (UdpPorts::new(*rt, false), StdCrew::new());
     let mut source = BytesSource::new(input, Vec::new(alloc));
     let mut sink = sink_that(rt, alloc, 100, &[]);
-    let status = status_over(
-        rt,
-        alloc,
-        given,
-        &mut ports,
-        &mut crew,
-        &mut source,
-        &mut sink,
-    );
+    let status = status_over(rt, alloc, given, ports, &mut crew, &mut source, &mut sink);
     (status, must(rt, sink.bytes().to_vec(alloc)))
 }
 

@@ -9,9 +9,10 @@
 mod closing;
 mod conclude;
 mod done;
+mod fitted;
+mod habits;
 mod interruption;
 mod run;
-mod run_board;
 mod run_bridge;
 mod run_check;
 mod run_make;
@@ -25,16 +26,19 @@ mod std_out;
 mod streams;
 mod words;
 
-ghost use Rattle.std.specs.Prelude.{ℕ};
+ghost use Rattle.std.specs.Prelude.{◌≡◌, [], ℕ};
 ghost use Rattle.std.specs.Process.{exit_status};
-ghost use Rattle.m17_app.specs.Started.{AreEnded, EndsAsRun, IsClosed};
+ghost use Rattle.m17_app.specs.Started.{AreAll, AreEnded, EndsAsRun, IsClosed};
 ghost use Rattle.m17_app.specs.Status.{IsStatus};
 
-use closing::{Ended, close_books, may_rest, staff_books};
+use closing::{Ended, close_books, ports_of, staff_books};
+use habits::with_habits;
 use m17_devices::StdCrew;
-use m17_net::UdpPorts;
+use status::Status;
+use std::alloc::Global;
 use std::env;
 use std::fs::File;
+use std::hash::RandomState;
 use std::net::Net;
 use std::process::ExitCode;
 use std::rt::Files;
@@ -64,25 +68,44 @@ fn start<
     ensures status { IsStatus (exit_status result.0) }
     // The jobs are those of threads that were started for new books, each as it ended.
     ensures books { AreEnded result.1.items }
-    // The process ends with the status of a run of the program; but 0 becomes 8, or 4, where a book was not written.
-    ensures ran { (ended : ℕ) × EndsAsRun (Unit {0}) (Unit {0}) (Unit {0}) ended
-        × IsClosed result.1.items ended (exit_status result.0) }
+    // The process ends with the status of a run of the program; but 0 becomes 8, or 4, where a book was not written. There
+    // are as many jobs as the run's command keeps traces and books, unless a thread was refused.
+    ensures ran { (ended : ℕ) × (run : EndsAsRun (Unit {0}) (Unit {0}) (Unit {0}) ended)
+        × IsClosed result.1.items ended (exit_status result.0)
+        × AreAll run.words run.first result.1.items }
 {
     let words = words_of(rt.alloc(), env::args(&rt));
-    let mut ports = UdpPorts::new(*waits, may_rest(rt.alloc(), &words));
+    let Some((words, habits)) = with_habits(rt.alloc(), words) else {
+        return no_memory(rt.alloc());
+    };
+    let Ok(keys) = RandomState::new(&rt) else {
+        return no_memory(rt.alloc());
+    };
+    let books = habits.books;
+    let mut ports = ports_of(*waits, rt, habits);
+    let Ok(staff) = staff_books(&mut ports, rt.alloc(), books) else {
+        return no_memory(rt.alloc());
+    };
     let mut crew = StdCrew::new();
-    let staff = staff_books(&mut ports, rt.alloc(), &words);
-    let status = run_words(
+    let (status, _ports) = run_words(
         waits,
         rt.alloc(),
-        words,
-        &mut ports,
+        keys,
+        Some(words),
+        ports,
         &mut crew,
         rt.stdin(),
         &rt,
     );
     let (closed, ended) = close_books(waits, rt.alloc(), staff, status, &rt);
     (ExitCode::from(closed), ended)
+}
+
+// The end of the program where there was no memory before its command began.
+fn no_memory(alloc: Global) -> (ExitCode, Ended)
+    ensures { (exit_status result.0 ≡ 70) × (result.1.items ≡ []) }
+{
+    (ExitCode::from(Status::NoMemory.code()), Vec::new(alloc))
 }
 
 #[cfg(test)]
@@ -94,9 +117,15 @@ mod check_tests;
 #[cfg(test)]
 mod evening_tests;
 #[cfg(test)]
+mod failing_outcomes;
+#[cfg(test)]
 mod failing_tests;
 #[cfg(test)]
 mod faults_tests;
+#[cfg(test)]
+mod fitted_tests;
+#[cfg(test)]
+mod judge_tests;
 #[cfg(test)]
 mod limit_tests;
 #[cfg(test)]

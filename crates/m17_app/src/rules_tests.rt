@@ -26,33 +26,29 @@ fn served<R: Threads + Wait + Clock + Abort + Copy + Drop + Send + 'static>(
     rules: &str,
     fails: &[u64],
     wanted: (u8, &str),
-) -> (Serve, bool) {
-    let mut ports = ports(rt, alloc, evening(rt, alloc), NONE);
+) -> (Serve<R>, bool) {
+    let ports = ports(rt, alloc, evening(rt, alloc), NONE);
     let text = must(rt, rules.as_bytes().to_vec(alloc));
     let mut source = BytesSource::new(text, must(rt, fails.to_vec(alloc)));
     let (mut sink, mut crew) = (sink_that(rt, alloc, 100, &[]), StdCrew::new());
-    let done = run_over(
-        rt,
-        alloc,
-        SERVE,
-        &mut ports,
-        &mut crew,
-        &mut source,
-        &mut sink,
-    );
+    let done = run_over(rt, alloc, SERVE, ports, &mut crew, &mut source, &mut sink);
     let as_wanted = done.status == wanted.0 && sink.bytes() == wanted.1.as_bytes();
     (done, as_wanted)
 }
 
 // Whether the one mouth that comes back said just these to the talker and to the listener.
-fn were_told(done: &Serve, talker: &[&[u8]], listener: &[&[u8]]) -> bool {
+fn were_told<R: Clock + Copy + Drop>(
+    done: &Serve<R>,
+    talker: &[&[u8]],
+    listener: &[&[u8]],
+) -> bool {
     let Some(house) = &done.house else {
         return false;
     };
     let [mouth] = house.mouths.as_slice() else {
         return false;
     };
-    let list: &[(Peer, Gram)] = mouth.list();
+    let list: &[(Peer, Gram)] = mouth.inner().list();
     list.len() == talker.len() + listener.len()
         && were_said(list, 1, talker)
         && were_said(list, 2, listener)

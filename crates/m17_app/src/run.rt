@@ -1,9 +1,9 @@
-ghost use Rattle.std.specs.Prelude.{◌≡◌, ◌≢◌, ℕ, None, map, string_bytes};
+ghost use Rattle.std.specs.Prelude.{◌≡◌, ◌≢◌, ℕ, Contains, None, map, string_bytes};
 ghost use Rattle.m17_ports.specs.Ports.{FailsLast, next_number};
 ghost use Rattle.m17_app.specs.Doing.{doing, done_of};
 ghost use Rattle.m17_app.specs.Status.{Tells, IsStatus, beside, count_from, streams};
 ghost use Rattle.m17_app.specs.Run.{AreRefused, refused_terms};
-ghost use Rattle.m17_app.specs.Commands.{Runs, RunsWords, EndsRefused, IsRunnable, HasBoard, NameBoard};
+ghost use Rattle.m17_app.specs.Commands.{Runs, RunsWords, EndsRefused, IsRunnable, HasBoard, HasThreads, NameBoard, NameNoThreads};
 ghost use Rattle.m17_app.specs.Terms.{RunsCommand};
 ghost use Rattle.m17_app.specs.Text.{judge_command, show_command, text_terms};
 
@@ -17,12 +17,13 @@ use crate::run_replay::run_replay;
 use crate::run_serve::run_serve;
 use crate::run_talk::run_talk;
 use crate::status::Status;
-use m17_devices::{Book, Crew, Ports};
+use m17_devices::{Book, Crew, Ear, Ports};
 use m17_io::{Input, Sink};
 use m17_plan::Plan;
 use m17_words::laws::words_name_one_command;
 use m17_words::{Command, WordsRefusal, read_words};
 use std::alloc::Global;
+use std::hash::RandomState;
 use std::sync::Wait;
 use std::thread::Threads;
 use std::time::Clock;
@@ -58,40 +59,46 @@ fn run_nothing<S: Input<K>, K: Sink>(input: &S, out: &mut K) -> Status
     refuse_words(out)
 }
 
-// Runs the command that the words name.
+// Runs the command that the words name. The ports come back.
 fn run_command<
     R: Threads + Wait + Clock + Copy + Drop + Send + 'static,
-    P: Ports,
+    P: Ports + Drop,
     C: Crew,
     S: Input<K>,
     K: Sink,
 >(
     rt: &R,
     alloc: Global,
+    keys: RandomState,
     command: Command,
-    ports: &mut P,
+    ports: P,
     crew: &mut C,
     input: &mut S,
     out: &mut K,
-) -> Ended<P::Ear, P::Mouth, P::Book>
+) -> (Ended<P::Ear, P::Mouth, P::Book, R>, P)
 where
+    <P::Ear as Ear>::Label: 'static,
     <P::Book as Book>::Label: 'static,
     requires runnable { IsRunnable command }
-    ensures runs { Runs command result.status
+    ensures runs { Runs command result.0.status
         (streams (S.told input.old) (K.told out.old)) (streams (S.told input.new) (K.told out.new))
-        (doing P.Ear.told P.Mouth.told P.Book.told (P.told ports.old) (P.told ports.new)
-        (C.refusals crew.old) (C.refusals crew.new) (done_of result)) }
-    ensures fails_last { FailsLast P.told ports.old ports.new }
-    ensures unasked { result.status ≡ Status.NoMemory → result.board ≡ None → crew.new ≡ crew.old }
-    ensures watch { result.refused ≢ None → HasBoard command → result.board ≡ None
+        (doing P.Ear.told P.Mouth.told P.Book.told (P.told ports) (P.told result.1)
+        (C.refusals crew.old) (C.refusals crew.new) (done_of result.0)) }
+    ensures fails_last { FailsLast P.told ports result.1 }
+    ensures unasked { result.0.status ≡ Status.NoMemory → result.0.board ≡ None
+        → crew.new ≡ crew.old }
+    ensures idle { (HasThreads command → ⊥) → crew.new ≡ crew.old }
+    ensures watch { result.0.refused ≢ None → HasBoard command → result.0.board ≡ None
         → C.starts crew.new ≡ next_number (C.starts crew.old) }
+    ensures withheld { Contains (C.refuses crew.old) (C.starts crew.old) → result.0.board ≡ None }
 {
+    let mut ports = ports;
     match command {
-        Command::Judge => alone(run_judge(alloc, input, out)),
-        Command::Show => alone(run_show(input, out)),
-        Command::Make { seed, count } => alone(run_make(seed, count, input, out)),
-        Command::Check => alone(run_check(input, out)),
-        Command::Migrate => alone(run_migrate(alloc, input, out)),
+        Command::Judge => (alone(run_judge(alloc, input, out)), ports),
+        Command::Show => (alone(run_show(input, out)), ports),
+        Command::Make { seed, count } => (alone(run_make(seed, count, input, out)), ports),
+        Command::Check => (alone(run_check(input, out)), ports),
+        Command::Migrate => (alone(run_migrate(alloc, input, out)), ports),
         Command::Replay {
             call,
             modules,
@@ -99,6 +106,7 @@ where
             places,
             summary,
             limit,
+            threads,
         } => {
             let plan = Plan {
                 name: call,
@@ -109,11 +117,15 @@ where
                 entries: 0,
                 limit,
             };
-            alone(run_replay(rt, alloc, &plan, summary, crew, input, out))
+            let status = run_replay(rt, alloc, &plan, summary, threads, crew, input, out);
+            (alone(status), ports)
         }
-        Command::Talk(order) => run_talk(rt, alloc, &order, ports, input, out),
-        Command::Serve(order) => run_serve(rt, alloc, &order, ports, crew, input, out),
-        Command::Bridge(order) => run_bridge(rt, &order, ports, out),
+        Command::Talk(order) => {
+            let ended = run_talk(rt, alloc, &order, &mut ports, input, out);
+            (ended, ports)
+        }
+        Command::Serve(order) => run_serve(rt, alloc, keys, &order, ports, crew, input, out),
+        Command::Bridge(order) => run_bridge(rt, alloc, keys, &order, ports, out),
     }
 }
 
@@ -121,56 +133,67 @@ where
 /// sink, and answers the status: 0 where the command went to its end, 1 where the input is refused, 2 where the words
 /// are, 3 where the source failed, 4 where the sink failed, in place of all others, 5 where the ports failed, 6 where
 /// the crew refused a start, 7 where a link was lost, 8 where a book failed, and 70 where there was no memory. Only
-/// `talk`, `serve` and `bridge` ask the ports for anything; where they ran, their devices are handed back. Only `replay`
-/// and `serve` have the crew start threads. `make` and `bridge` read no input, and `make` ends with 0 or 4.
+/// `talk`, `serve` and `bridge` ask the ports for anything; where they ran, their devices are handed back, and so are the
+/// ports in any case. Only `serve`, and `replay` with `--threads`, have the crew start threads. `make` and `bridge` read no
+/// input, and `make` ends with 0 or 4. By `keys`, which should be drawn, guards look for what they have heard.
 pub fn run<
     R: Threads + Wait + Clock + Copy + Drop + Send + 'static,
-    P: Ports,
+    P: Ports + Drop,
     C: Crew,
     S: Input<K>,
     K: Sink,
 >(
     rt: &R,
     alloc: Global,
+    keys: RandomState,
     words: &[String],
-    ports: &mut P,
+    ports: P,
     crew: &mut C,
     input: &mut S,
     out: &mut K,
-) -> Done<P::Ear, P::Mouth, P::Book>
+) -> (Done<P::Ear, P::Mouth, P::Book, R>, P)
 where
+    <P::Ear as Ear>::Label: 'static,
     <P::Book as Book>::Label: 'static,
     // No other status comes.
-    ensures status { IsStatus result.status }
+    ensures status { IsStatus result.0.status }
     // 2 comes where the words name no command, and nowhere else.
-    ensures taken { result.status ≡ 2 → AreRefused (map string_bytes words.now) }
+    ensures taken { result.0.status ≡ 2 → AreRefused (map string_bytes words.now) }
     // Where the ports fail, that was the last question: until then their count of faults stands.
-    ensures fails_last { FailsLast P.told ports.old ports.new }
+    ensures fails_last { FailsLast P.told ports result.1 }
     // Want of memory comes before the crew is asked for anything; but the watch of a board, whose book comes back then, may
     // have been started.
-    ensures unasked { result.status ≡ 70 → result.board ≡ None → crew.new ≡ crew.old }
+    ensures unasked { result.0.status ≡ 70 → result.0.board ≡ None → crew.new ≡ crew.old }
+    // Nor is it asked for anything by other words than those of a reflector, or of a replay over threads.
+    ensures idle { NameNoThreads (map string_bytes words.now) → crew.new ≡ crew.old }
+    // So 6 doesn't come by those.
+    ensures started { result.0.status ≡ 6 → NameNoThreads (map string_bytes words.now) → ⊥ }
     // It refused nothing in any case.
-    ensures unrefused { result.status ≡ 70 → C.refusals crew.new ≡ C.refusals crew.old }
+    ensures unrefused { result.0.status ≡ 70 → C.refusals crew.new ≡ C.refusals crew.old }
     // Where the devices of a refused run come back without the book of its board, the crew refused the first start, that of the
-    // watch.
-    ensures watch { result.refused ≢ None → NameBoard (map string_bytes words.now) → result.board ≡ None
-        → C.starts crew.new ≡ next_number (C.starts crew.old) }
+    // watch; and where the crew withholds that, no book of a board comes back.
+    ensures watch { result.0.refused ≢ None → NameBoard (map string_bytes words.now)
+        → result.0.board ≡ None → C.starts crew.new ≡ next_number (C.starts crew.old) }
+    ensures withheld { Contains (C.refuses crew.old) (C.starts crew.old) → result.0.board ≡ None }
     // The run is that of a command which the words name, or says that they name none.
-    ensures runs { Tells result.status (λ status. RunsWords (map string_bytes words.now) status
+    ensures runs { Tells result.0.status (λ status. RunsWords (map string_bytes words.now) status
         (streams (S.told input.old) (K.told out.old)) (streams (S.told input.new) (K.told out.new))
-        (doing P.Ear.told P.Mouth.told P.Book.told (P.told ports.old) (P.told ports.new)
-        (C.refusals crew.old) (C.refusals crew.new) result)) }
+        (doing P.Ear.told P.Mouth.told P.Book.told (P.told ports) (P.told result.1)
+        (C.refusals crew.old) (C.refusals crew.new) result.0)) }
     // Words that name no command are refused, but for want of memory.
     ensures refused { AreRefused (map string_bytes words.now)
-        → Tells result.status (λ status. EndsRefused status
+        → Tells result.0.status (λ status. EndsRefused status
         (streams (S.told input.old) (K.told out.old)) (streams (S.told input.new) (K.told out.new))
-        (doing P.Ear.told P.Mouth.told P.Book.told (P.told ports.old) (P.told ports.new)
-        (C.refusals crew.old) (C.refusals crew.new) result)) }
+        (doing P.Ear.told P.Mouth.told P.Book.told (P.told ports) (P.told result.1)
+        (C.refusals crew.old) (C.refusals crew.new) result.0)) }
 {
     words_name_one_command();
     match read_words(alloc, words) {
-        Ok(command) => answer_of(run_command(rt, alloc, command, ports, crew, input, out)),
-        Err(WordsRefusal::Refused) => answer_of(alone(run_nothing(input, out))),
-        Err(WordsRefusal::NoMemory) => answer_of(alone(Status::NoMemory)),
+        Ok(command) => {
+            let (ended, ports) = run_command(rt, alloc, keys, command, ports, crew, input, out);
+            (answer_of(ended), ports)
+        }
+        Err(WordsRefusal::Refused) => (answer_of(alone(run_nothing(input, out))), ports),
+        Err(WordsRefusal::NoMemory) => (answer_of(alone(Status::NoMemory)), ports),
     }
 }

@@ -1,4 +1,4 @@
-ghost use Rattle.std.specs.Prelude.{ℕ};
+ghost use Rattle.std.specs.Prelude.{◌≡◌, ℕ, None};
 ghost use Rattle.m17_ports.specs.Ports.{FailsLast};
 ghost use Rattle.m17_words.specs.declared.command.Command.TheVariants as commands;
 ghost use Rattle.m17_app.specs.Commands.{Runs};
@@ -17,19 +17,20 @@ use std::alloc::Global;
 use std::sync::Wait;
 
 // Runs `talk` to its last line.
-pub(crate) fn run_talk<R: Wait, P: Ports, S: Input<K>, K: Sink>(
+pub(crate) fn run_talk<R: Wait + Copy, P: Ports, S: Input<K>, K: Sink>(
     rt: &R,
     alloc: Global,
     order: &TalkOrder,
     ports: &mut P,
     input: &mut S,
     out: &mut K,
-) -> Ended<P::Ear, P::Mouth, P::Book>
+) -> Ended<P::Ear, P::Mouth, P::Book, R>
     ensures runs { (crew : ℕ) → Runs (commands.Talk order.now) result.status
         (streams (S.told input.old) (K.told out.old)) (streams (S.told input.new) (K.told out.new))
         (doing P.Ear.told P.Mouth.told P.Book.told (P.told ports.old) (P.told ports.new)
         crew crew (done_of result)) }
     ensures fails_last { FailsLast P.told ports.old ports.new }
+    ensures no_board { result.board ≡ None }
 {
     scripts_are_exact();
     match talk(rt, alloc, order, ports, input, out) {

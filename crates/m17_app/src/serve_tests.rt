@@ -68,10 +68,10 @@ pub(crate) fn ports(
     ScriptPorts::new(links, books, must(rt, fails.ports.to_vec(alloc)))
 }
 
-pub(crate) type Serve = Done<ScriptEar, ListMouth, ListBook>;
+pub(crate) type Serve<R> = Done<ScriptEar, ListMouth, ListBook, R>;
 
 // Runs `serve` by these words: what it came to, and whether that has this status and this text.
-fn served<C: Crew, R: Threads + Wait + Clock + Abort + Copy + Drop + Send + 'static>(
+pub(crate) fn served<C: Crew, R: Threads + Wait + Clock + Abort + Copy + Drop + Send + 'static>(
     rt: &R,
     alloc: Global,
     given: &[&str],
@@ -79,17 +79,17 @@ fn served<C: Crew, R: Threads + Wait + Clock + Abort + Copy + Drop + Send + 'sta
     crew: &mut C,
     fails: Fails,
     wanted: (u8, &str),
-) -> (Serve, bool) {
-    let mut ports = ports(rt, alloc, heard, fails);
+) -> (Serve<R>, bool) {
+    let ports = ports(rt, alloc, heard, fails);
     let mut source = BytesSource::new(Vec::new(alloc), Vec::new(alloc));
     let mut sink = sink_that(rt, alloc, 100, fails.sink);
-    let done = run_over(rt, alloc, given, &mut ports, crew, &mut source, &mut sink);
+    let done = run_over(rt, alloc, given, ports, crew, &mut source, &mut sink);
     let as_wanted = done.status == wanted.0 && sink.bytes() == wanted.1.as_bytes();
     (done, as_wanted)
 }
 
 // Whether devices come back from a run, from a refusal and from a talk.
-pub(crate) fn back_of(done: &Serve) -> [bool; 3] {
+pub(crate) fn back_of<R: Copy>(done: &Serve<R>) -> [bool; 3] {
     [
         done.house.is_some(),
         done.refused.is_some(),
@@ -97,7 +97,7 @@ pub(crate) fn back_of(done: &Serve) -> [bool; 3] {
     ]
 }
 
-pub(crate) fn let_go(_done: Serve) {}
+pub(crate) fn let_go<R: Copy + Drop>(_done: Serve<R>) {}
 
 // The words, how many faults are heard, what fails, the status, the text, and whether devices come back from a run.
 type Row = (
@@ -197,10 +197,10 @@ fn were_told(list: &[(Peer, Gram)]) -> bool {
 }
 
 // Whether one mouth comes back, by which the evening was said.
-fn is_evening_said(done: &Serve) -> bool {
+fn is_evening_said<R: Clock + Copy + Drop>(done: &Serve<R>) -> bool {
     match &done.house {
         Some(house) => match house.mouths.as_slice() {
-            [mouth] => were_told(mouth.list()),
+            [mouth] => were_told(mouth.inner().list()),
             _ => false,
         },
         None => false,

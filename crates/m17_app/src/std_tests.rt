@@ -3,7 +3,7 @@
 use crate::std_in::StdIn;
 use crate::std_out::StdOut;
 use crate::streams::run_on;
-use crate::tests::{must, no_ports, words};
+use crate::tests::{keys, must, no_ports, words};
 use m17_devices::StdCrew;
 use m17_io::{Outlet, Source};
 use m17_values::Failed;
@@ -191,9 +191,9 @@ fn is_run<R: Threads + Wait + Clock + Abort + Copy + Drop + Send + 'static>(
     let (given, input, reads, writes, status, printed) = *run;
     let words = words(rt, alloc, given);
     let to = printer_that(alloc, writes);
-    let (mut ports, mut crew) = (no_ports(alloc), StdCrew::new());
+    let (ports, mut crew) = (no_ports(alloc), StdCrew::new());
     let reader = reader_of(input, reads);
-    let ended = run_on(rt, alloc, &words, &mut ports, &mut crew, reader, &to);
+    let ended = run_on(rt, alloc, keys(rt), &words, ports, &mut crew, reader, &to).0;
     ended == status && to.holds(printed)
 }
 

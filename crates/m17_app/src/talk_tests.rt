@@ -151,7 +151,7 @@ enum Back {
     Kept(usize),
 }
 
-type Talk = Done<ScriptEar, ListMouth, ListBook>;
+type Talk<R> = Done<ScriptEar, ListMouth, ListBook, R>;
 
 // Whether these are the CONN, the packet of the script and the DISC.
 fn is_packet(said: &[(Peer, Gram)]) -> bool {
@@ -175,7 +175,7 @@ fn is_of(book: &Option<ListBook>, size: usize) -> bool {
 }
 
 // Whether this came back.
-fn has_back(done: &Talk, back: Back) -> bool {
+fn has_back<R: Copy>(done: &Talk<R>, back: Back) -> bool {
     let Some((_, mouth, shelf)) = &done.talk else {
         return matches!(back, Back::Nothing);
     };
@@ -205,26 +205,18 @@ fn talked<R: Threads + Wait + Clock + Abort + Copy + Drop + Send + 'static>(
     rt: &R,
     alloc: Global,
     row: &Row,
-) -> (Talk, bool) {
+) -> (Talk<R>, bool) {
     let (given, ear, moments, [fails, book_fails, sink_fails], status, text, _) = *row;
-    let mut ports = ports(rt, alloc, heard_by(rt, alloc, ear), fails, book_fails);
+    let ports = ports(rt, alloc, heard_by(rt, alloc, ear), fails, book_fails);
     let mut source = BytesSource::new(script(rt, alloc, moments), Vec::new(alloc));
     let mut sink = sink_that(rt, alloc, 100, sink_fails);
     let mut crew = StdCrew::new();
-    let done = run_over(
-        rt,
-        alloc,
-        given,
-        &mut ports,
-        &mut crew,
-        &mut source,
-        &mut sink,
-    );
+    let done = run_over(rt, alloc, given, ports, &mut crew, &mut source, &mut sink);
     let as_wanted = done.status == status && sink.bytes() == text.as_bytes();
     (done, as_wanted)
 }
 
-fn let_go(_done: Talk) {}
+fn let_go<R: Copy + Drop>(_done: Talk<R>) {}
 
 // Runs `talk` by each of these rows, and demands what comes of it.
 fn expect<R: Threads + Wait + Clock + Abort + Copy + Drop + Send + 'static>(

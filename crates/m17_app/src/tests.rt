@@ -2,11 +2,16 @@
 //! is data; `expect` runs the program by it.
 use crate::done::Done;
 use crate::run::run;
-use m17_devices::{Book, BytesSink, BytesSource, Crew, Ports, RefusingCrew, ScriptPorts, StdCrew};
+use m17_devices::{
+    Book, BytesSink, BytesSource, Crew, Ear, Ports, RefusingCrew, ScriptPorts, StdCrew,
+};
 use m17_samples::frame;
 use m17_stream::write;
 use std::alloc::Global;
+use std::hash::RandomState;
+use std::io;
 use std::process::Abort;
+use std::random::RandomSource;
 use std::sync::Wait;
 use std::thread::Threads;
 use std::time::Clock;
@@ -14,6 +19,20 @@ use std::time::Clock;
 /// What was made; the test ends where it was not.
 pub(crate) fn must<T, E: Drop>(rt: &impl Abort, made: Result<T, E>) -> T {
     made.ok().expect(rt, "made")
+}
+
+/// A source of numbers that are drawn, which are all 0.
+struct Zeros;
+
+impl RandomSource for Zeros {
+    fn fill_bytes(&self, _buf: &mut [u8]) -> io::Result<()> {
+        Ok(())
+    }
+}
+
+/// Keys of guards, the same at each run.
+pub(crate) fn keys(rt: &impl Abort) -> RandomState {
+    must(rt, RandomState::new(&Zeros))
 }
 
 /// A piece of an input. Peers are named by the last number of their address 10.0.0.0.
@@ -127,40 +146,42 @@ pub(crate) fn sink_that(rt: &impl Abort, alloc: Global, room: usize, fails: &[u6
 
 /// Runs the program by these words over these devices and this crew.
 pub(crate) fn run_over<
-    P: Ports,
+    P: Ports + Drop,
     C: Crew,
     R: Threads + Wait + Clock + Abort + Copy + Drop + Send + 'static,
 >(
     rt: &R,
     alloc: Global,
     given: &[&str],
-    ports: &mut P,
+    ports: P,
     crew: &mut C,
     source: &mut BytesSource,
     sink: &mut BytesSink,
-) -> Done<P::Ear, P::Mouth, P::Book>
+) -> Done<P::Ear, P::Mouth, P::Book, R>
 where
+    <P::Ear as Ear>::Label: 'static,
     <P::Book as Book>::Label: 'static,
 {
     let words = words(rt, alloc, given);
-    run(rt, alloc, &words, ports, crew, source, sink)
+    run(rt, alloc, keys(rt), &words, ports, crew, source, sink).0
 }
 
 /// The same where its status alone counts.
 pub(crate) fn status_over<
-    P: Ports,
+    P: Ports + Drop,
     C: Crew,
     R: Threads + Wait + Clock + Abort + Copy + Drop + Send + 'static,
 >(
     rt: &R,
     alloc: Global,
     given: &[&str],
-    ports: &mut P,
+    ports: P,
     crew: &mut C,
     source: &mut BytesSource,
     sink: &mut BytesSink,
 ) -> u8
 where
+    <P::Ear as Ear>::Label: 'static,
     <P::Book as Book>::Label: 'static,
 {
     run_over(rt, alloc, given, ports, crew, source, sink).status
@@ -181,16 +202,8 @@ pub(crate) fn text_of<R: Threads + Wait + Clock + Abort + Copy + Drop + Send + '
 ) -> (u8, Vec<u8>) {
     let mut source = BytesSource::new(input, Vec::new(alloc));
     let mut sink = sink_that(rt, alloc, room, &[]);
-    let (mut ports, mut crew) = (no_ports(alloc), StdCrew::new());
-    let status = status_over(
-        rt,
-        alloc,
-        given,
-        &mut ports,
-        &mut crew,
-        &mut source,
-        &mut sink,
-    );
+    let (ports, mut crew) = (no_ports(alloc), StdCrew::new());
+    let status = status_over(rt, alloc, given, ports, &mut crew, &mut source, &mut sink);
     (status, must(rt, sink.bytes().to_vec(alloc)))
 }
 
@@ -205,8 +218,8 @@ fn expect_by<C: Crew, R: Threads + Wait + Clock + Abort + Copy + Drop + Send + '
     let reads = must(rt, reads.to_vec(alloc));
     let mut source = BytesSource::new(input_of(rt, alloc, input), reads);
     let mut sink = sink_that(rt, alloc, 4096, writes);
-    let mut ports = no_ports(alloc);
-    let status = status_over(rt, alloc, given, &mut ports, crew, &mut source, &mut sink);
+    let ports = no_ports(alloc);
+    let status = status_over(rt, alloc, given, ports, crew, &mut source, &mut sink);
     assert!(rt;
         status == wanted && sink.bytes() == text.as_bytes(),
         "{status} {text}"
@@ -229,7 +242,7 @@ pub(crate) const JUDGE: &[&str] = &["judge"];
 // A crew that refuses the first start: nothing of the trace is told. Without a trace the crew is not asked.
 #[test]
 fn a_refused_start_is_told(rt: HostRuntime) {
-    const REPLAY: &[&str] = &["replay"];
+    const REPLAY: &[&str] = &["replay", "--threads"];
     const ROWS: [Row; 2] = [
         (
             REPLAY,
@@ -252,121 +265,6 @@ fn a_refused_start_is_told(rt: HostRuntime) {
         let first = must(&rt, Vec::from_array(rt.alloc(), [0]));
         expect_by(&rt, rt.alloc(), &row, &mut RefusingCrew::new(first));
     }
-}
-
-pub(crate) const TWO_TALKERS: &[Piece] = &[
-    Piece::Spoken(0, 3, 1, 0, false),
-    Piece::Spoken(0, 4, 2, 0, false),
-];
-
-const ONE_STREAM: &[Piece] = &[
-    Piece::Spoken(0, 0, 1, 5, false),
-    Piece::Spoken(40, 0, 1, 5, false),
-    Piece::Spoken(80, 0, 1, 4, false),
-    Piece::Spoken(120, 0, 1, 7, false),
-    Piece::Spoken(160, 0, 1, 6, false),
-];
-
-const ROUND: &[Piece] = &[
-    Piece::Spoken(0, 0, 1, 32767, false),
-    Piece::Spoken(0, 0, 1, 0, false),
-];
-
-const HALF_LESS: &[Piece] = &[
-    Piece::Spoken(0, 0, 1, 0, false),
-    Piece::Spoken(0, 0, 1, 16383, false),
-];
-
-const HALF: &[Piece] = &[
-    Piece::Spoken(0, 0, 1, 0, false),
-    Piece::Spoken(0, 0, 1, 16384, false),
-];
-
-const ENDED: &[Piece] = &[
-    Piece::Spoken(0, 0, 1, 7, false),
-    Piece::Spoken(40, 0, 1, 9, true),
-    Piece::Spoken(80, 0, 1, 8, false),
-    Piece::Spoken(10_039, 0, 1, 0, false),
-    Piece::Spoken(10_040, 0, 1, 0, false),
-];
-
-const SILENT: &[Piece] = &[
-    Piece::Spoken(0, 0, 1, 0, false),
-    Piece::Spoken(1_599, 1, 2, 0, false),
-    Piece::Spoken(1_600, 1, 2, 0, false),
-    Piece::Spoken(1_600, 0, 1, 1, false),
-];
-
-const BACK: &[Piece] = &[
-    Piece::Spoken(5_000, 0, 1, 0, false),
-    Piece::Spoken(0, 1, 2, 0, false),
-    Piece::Spoken(6_600, 1, 2, 0, false),
-];
-
-#[test]
-fn the_floor_is_held_lost_and_given_up(rt: HostRuntime) {
-    const ROWS: [Row; 8] = [
-        (JUDGE, TWO_TALKERS, &[], &[], 0, "0 opened\n1 busy 3\n"),
-        (
-            JUDGE,
-            ONE_STREAM,
-            &[],
-            &[],
-            0,
-            "0 opened\n1 repeat\n2 late 5\n3 continued\n4 late 7\n",
-        ),
-        (JUDGE, ROUND, &[], &[], 0, "0 opened\n1 continued\n"),
-        (JUDGE, HALF_LESS, &[], &[], 0, "0 opened\n1 continued\n"),
-        (JUDGE, HALF, &[], &[], 0, "0 opened\n1 late 0\n"),
-        (
-            JUDGE,
-            ENDED,
-            &[],
-            &[],
-            0,
-            "0 opened\n1 continued\n2 after-end\n3 after-end\n4 opened\n",
-        ),
-        (
-            JUDGE,
-            SILENT,
-            &[],
-            &[],
-            0,
-            "0 opened\n1 busy 0\n2 opened\n3 busy 1\n",
-        ),
-        (JUDGE, BACK, &[], &[], 0, "0 opened\n1 busy 0\n2 opened\n"),
-    ];
-    expect(&rt, rt.alloc(), &ROWS);
-}
-
-#[test]
-fn a_refused_packet_moves_the_moment_alone(rt: HostRuntime) {
-    const INPUT: [Piece; 4] = [
-        Piece::Spoken(0, 0, 1, 0, false),
-        Piece::Spoken(1_600, 1, 2, 0, false),
-        Piece::Put(2, b"\xff\xff"),
-        Piece::Spoken(1_500, 1, 2, 0, false),
-    ];
-    let input = input_of(&rt, rt.alloc(), &INPUT);
-    assert_eq!(rt; input.len(), 192);
-    let (status, text) = text_of(&rt, rt.alloc(), JUDGE, input, 4096);
-    assert_eq!(rt; status, 0);
-    assert!(rt; text.starts_with(b"0 opened\n1 refused crc FFFF "));
-    let lines = text.iter().filter(|byte| **byte == b'\n').count();
-    assert!(rt; text.ends_with(b"\n2 opened\n") && lines == 3);
-}
-
-#[test]
-fn a_wrong_magic_is_named(rt: HostRuntime) {
-    const ROWS: [Row; 1] = [(
-        JUDGE,
-        &[Piece::Spoken(0, 0, 1, 0, false), Piece::Put(54, b"CONX")],
-        &[],
-        &[],
-        0,
-        "0 refused magic 434F4E58\n",
-    )];
-    expect(&rt, rt.alloc(), &ROWS);
 }
 
 #[test]

@@ -6,40 +6,44 @@ ghost use Rattle.m17_app.specs.Status.{Tells, count_from};
 
 use crate::status::Status;
 use crate::streams::run_on;
-use m17_devices::{Book, Crew, Ports};
+use m17_devices::{Book, Crew, Ear, Ports};
 use std::alloc::Global;
 use std::env::Args;
+use std::hash::RandomState;
 use std::io::{self, ErrorKind, Read};
 use std::sync::Wait;
 use std::thread::Threads;
 use std::time::Clock;
 
 /// Runs the program by these words on a reader and on what prints. `NoMemory` where there was none for the words.
+/// The ports come back.
 pub fn run_words<
     H: Threads + Wait + Clock + Copy + Drop + Send + 'static,
-    Q: Ports,
+    Q: Ports + Drop,
     C: Crew,
     R: Read + Drop,
     P: Print,
 >(
     rt: &H,
     alloc: Global,
+    keys: RandomState,
     words: Option<Vec<String>>,
-    ports: &mut Q,
+    ports: Q,
     crew: &mut C,
     reader: R,
     to: &P,
-) -> u8
+) -> (u8, Q)
 where
+    <Q::Ear as Ear>::Label: 'static,
     <Q::Book as Book>::Label: 'static,
-    ensures { Tells result (λ status. HasRunIfAny Q.Ear.Label Q.Mouth.Label Q.Book.Label
+    ensures { Tells result.0 (λ status. HasRunIfAny Q.Ear.Label Q.Mouth.Label Q.Book.Label
         (option_map (λ words. map string_bytes words.items) words) status
-        (Q.told ports.old) (Q.told ports.new)
+        (Q.told ports) (Q.told result.1)
         (count_from (C.refusals crew.old) (C.refusals crew.new))) }
 {
     match words {
-        Some(words) => run_on(rt, alloc, &words, ports, crew, reader, to),
-        None => Status::NoMemory.code(),
+        Some(words) => run_on(rt, alloc, keys, &words, ports, crew, reader, to),
+        None => (Status::NoMemory.code(), ports),
     }
 }
 

@@ -1,7 +1,6 @@
 -- What is told of the books of a run with a board.
-use Rattle.std.proofs.Common.{◌≡◌, ℕ, suc, List, [], ◌∷◌, ◌++◌, map, length, All, Option, refl, sym, ap, ap₂, subst, ◌∙◌}
+use Rattle.std.proofs.Common.{◌≡◌, ℕ, suc, Bool, true, false, List, [], ◌∷◌, ◌++◌, map, length, All, Option, refl, sym, ap, ap₂, subst, ◌∙◌}
 use Rattle.std.specs.List.{AllZip}
-use Rattle.std.proofs.lemmas.List.{length-map}
 use Rattle.std.proofs.lemmas.List.Elements.{All-cons, All-head, All-tail, All-nil}
 use Rattle.m17_ports.specs.Book.{BookTold}
 use Rattle.m17_ports.specs.Marks.{Device}
@@ -11,26 +10,35 @@ use Rattle.m17_board.specs.Ends.{AreOfOneBoard, EyeEnd, PostEnd}
 use Rattle.m17_board_book.specs.Kept.{BoardKept}
 use Rattle.m17_board_book.specs.declared.board_book.BoardLabel.{BoardLabel}
 use Rattle.m17_board_run.specs.Kept.{kept_told, plain_told, posting_each, told_of_shelf}
-use Rattle.m17_board_run.specs.Putting.{IsPosting, plain, plain_of, posters_of}
+use Rattle.m17_board_run.specs.Putting.{IsKept, IsPosting, IsSameEnd, plain, plain_of, posters_of}
 use Rattle.m17_board_run.specs.declared.kept.Kept.{Kept}
 use Rattle.m17_board_run.specs.declared.kept.Kept.TheVariants as kept
 use Rattle.m17_board_run.specs.declared.kept.KeptLabel.{KeptLabel}
 use Rattle.m17_board_run.specs.declared.kept.KeptLabel.TheVariants.{Plain, Posting}
-
--- the posters are those of one board, at one place each, whatever they posted
-pub record IsSameEnd (p q : PostEnd) : Type 0 where
-  pub cell : p.cell ≡ q.cell
-  pub number : p.number ≡ q.number
 
 module _ (B R L : Type 0) where
   pub plain_all : (shelves : List (Shelf B)) → map (plain_of {B = B} {R = R} {L = L}) (map (plain {B = B} {R = R} {L = L}) shelves) ≡ shelves
   plain_all [] = refl
   plain_all (shelf ∷ shelves) = ap (λ (l : List (Shelf B)). shelf ∷ l) (plain_all shelves)
 
-  -- traces tell what their shelves do
-  pub plain_traces : (told : B → BookTold L) (shelves : List (Shelf B)) → map (kept_told told) (map (plain {B = B} {R = R} {L = L}) shelves) ≡ map plain_told (map (told_of_shelf told) shelves)
-  plain_traces told [] = refl
-  plain_traces told (shelf ∷ shelves) = ap (λ (l : List (BookTold (KeptLabel L))). plain_told (told_of_shelf told shelf) ∷ l) (plain_traces told shelves)
+  -- none of them posts
+  pub all_plain : (shelves : List (Shelf B)) → All (IsKept {B = B} {R = R} {L = L} false) (map (plain {B = B} {R = R} {L = L}) shelves)
+  all_plain [] = All-nil (IsKept {B = B} {R = R} {L = L} false)
+  all_plain (shelf ∷ shelves) =
+      All-cons (IsKept {B = B} {R = R} {L = L} false) (kept.Plain shelf) (map (plain {B = B} {R = R} {L = L}) shelves) tt (all_plain shelves)
+
+module _ {B R L : Type 0} where
+  pub posters_none : (some : List (Kept B R L)) → All (IsKept false) some → posters_of some ≡ []
+  posters_none [] all = refl
+  posters_none (kept.Plain shelf ∷ some) all = posters_none some (All-tail (IsKept false) (kept.Plain shelf) some all)
+  posters_none (kept.Posting book ∷ some) all = absurd (All-head (IsKept false) (kept.Posting book) some all)
+
+  -- shelves that are put as they are
+  pub over_plain : (some : List (Kept B R L)) (shelves : List (Shelf B)) → some ≡ map plain shelves → map plain_of some ≡ shelves
+  over_plain some shelves are = ap (map plain_of) are ∙ plain_all B R L shelves
+
+  pub kept_plain : (some : List (Kept B R L)) (shelves : List (Shelf B)) → some ≡ map plain shelves → All (IsKept false) some
+  kept_plain some shelves are = subst (All (IsKept false)) (sym are) (all_plain B R L shelves)
 
 module _ {B R L : Type 0} where
   pub posters_push : (some : List (Kept B R L)) (book : BoardKept (Shelf B)) → posters_of (some ++ kept.Posting book ∷ []) ≡ posters_of some ++ book.poster ∷ []
@@ -50,8 +58,14 @@ module _ {B R L : Type 0} where
   length_over (one ∷ some) [] over = absurd (let e = over in cc)
   length_over (one ∷ some) (s ∷ shelves) over = ap suc (length_over some shelves (let e = over in cc))
 
-  pub length_plain : (some : List (Kept B R L)) (shelves : List (Shelf B)) → some ≡ map plain shelves → length some ≡ length shelves
-  length_plain some shelves are = ap length are ∙ length-map shelves (plain {B = B} {R = R} {L = L})
+module _ {L : Type 0} where
+  -- the device of a shelf
+  abbrev off_label : KeptLabel L → Option L
+  off_label (Plain label) = label
+  off_label (Posting label) = label.inner
+
+  abbrev off_device : Device ℕ (KeptLabel L) → Device ℕ (Option L)
+  off_device device = record { mark = device.mark; label = off_label device.label }
 
 module _ {B R L : Type 0} (told : B → BookTold L) where
   one_fresh : (one : Kept B R L) → StartsEmpty (told_of_shelf told (plain_of one)).written → StartsEmpty (kept_told told one).written
@@ -78,6 +92,31 @@ module _ {B R L : Type 0} (told : B → BookTold L) where
   posting_books (kept.Plain shelf ∷ some) all = absurd (All-head IsPosting (kept.Plain shelf) some all)
   posting_books (kept.Posting book ∷ some) all =
       ap (λ (l : List (BookTold (KeptLabel L))). kept_told {R = R} told (kept.Posting book) ∷ l) (posting_books some (All-tail IsPosting (kept.Posting book) some all))
+
+  -- those that don't post tell what their shelves do
+  told_plain : (some : List (Kept B R L)) → All (IsKept false) some
+      → map (kept_told told) some ≡ map plain_told (map (told_of_shelf told) (map plain_of some))
+  told_plain [] all = refl
+  told_plain (kept.Plain shelf ∷ some) all =
+      ap (λ (l : List (BookTold (KeptLabel L))). plain_told (told_of_shelf told shelf) ∷ l) (told_plain some (All-tail (IsKept false) (kept.Plain shelf) some all))
+  told_plain (kept.Posting book ∷ some) all = absurd (All-head (IsKept false) (kept.Posting book) some all)
+
+  pub told_kept : (posts : Bool) (some : List (Kept B R L)) → All (IsKept posts) some
+      → map (kept_told told) some ≡ posting_each (posters_of some) (map (told_of_shelf told) (map plain_of some))
+  told_kept true some all = posting_books some all
+  told_kept false some all =
+      told_plain some all ∙ sym (ap (λ (l : List PostEnd). posting_each l (map (told_of_shelf told) (map plain_of some))) (posters_none some all))
+
+  pub told_traces : (some : List (Kept B R L)) → All (IsKept false) some
+      → map (kept_told told) some ≡ map plain_told (map (told_of_shelf told) (map plain_of some))
+  told_traces some all = told_plain some all
+
+  -- their shelves, as devices
+  pub off_all : (some : List (Kept B R L)) → map off_device (map (λ book. book.device) (map (kept_told told) some))
+      ≡ map (λ book. book.device) (map (told_of_shelf told) (map plain_of some))
+  off_all [] = refl
+  off_all (kept.Plain shelf ∷ some) = ap (λ (l : List (Device ℕ (Option L))). (told_of_shelf told shelf).device ∷ l) (off_all some)
+  off_all (kept.Posting book ∷ some) = ap (λ (l : List (Device ℕ (Option L))). (told_of_shelf told book.inner).device ∷ l) (off_all some)
 
 abbrev unposted : PostEnd → PostEnd
 unposted p = record p { posted = [] }
@@ -141,7 +180,7 @@ module _ {B R L : Type 0} (told : B → BookTold L) where
       ap suc (as_many now was (same_tail (kept_told told n) (kept_told told w) (map (kept_told told) now) (map (kept_told told) was) same))
 
   -- books that are the same devices as books that post do so, and their posters are of the same board
-  pub stay_posting : (now was : List (Kept B R L)) → AreSame now was → All IsPosting was → All IsPosting now × AllZip IsSameEnd (posters_of was) (posters_of now)
+  stay_posting : (now was : List (Kept B R L)) → AreSame now was → All IsPosting was → All IsPosting now × AllZip IsSameEnd (posters_of was) (posters_of now)
   stay_posting [] [] same all = (All-nil IsPosting, tt)
   stay_posting [] (w ∷ was) same all = absurd (let e = same in cc)
   stay_posting (n ∷ now) [] same all = absurd (let e = same in cc)
@@ -158,14 +197,29 @@ module _ {B R L : Type 0} (told : B → BookTold L) where
         (record { cell = sym (ap (λ (p : PostEnd). p.cell) end); number = sym (ap (λ (p : PostEnd). p.number) end) }, rest.1),
       )
 
-  -- traces that are the same devices as traces without posters tell what their shelves do
-  pub stay_plain : (now : List (Kept B R L)) (shelves : List (Shelf B)) → AreSame now (map plain shelves)
-      → map (kept_told told) now ≡ map plain_told (map (told_of_shelf told) (map plain_of now))
-  stay_plain [] shelves same = refl
-  stay_plain (n ∷ now) [] same = absurd (let e = same in cc)
-  stay_plain (kept.Plain own ∷ now) (shelf ∷ shelves) same =
-      ap (λ (l : List (BookTold (KeptLabel L))). plain_told (told_of_shelf told own) ∷ l)
-      (stay_plain now shelves (same_tail (kept_told {R = R} told (kept.Plain own)) (kept_told {R = R} told (kept.Plain shelf)) (map (kept_told told) now) (map (kept_told told) (map plain shelves)) same))
-  stay_plain (kept.Posting book ∷ now) (shelf ∷ shelves) same =
+  -- those that are the same devices as some that don't post don't post
+  stay_plain : (now was : List (Kept B R L)) → AreSame now was → All (IsKept false) was → All (IsKept false) now
+  stay_plain [] was same all = All-nil (IsKept false)
+  stay_plain (n ∷ now) [] same all = absurd (let e = same in cc)
+  stay_plain (n ∷ now) (kept.Posting book ∷ was) same all = absurd (All-head (IsKept false) (kept.Posting book) was all)
+  stay_plain (kept.Plain own ∷ now) (kept.Plain shelf ∷ was) same all =
+      All-cons (IsKept false) (kept.Plain own) now tt
+      (stay_plain now was (same_tail (kept_told {R = R} told (kept.Plain own)) (kept_told {R = R} told (kept.Plain shelf)) (map (kept_told told) now) (map (kept_told told) was) same)
+      (All-tail (IsKept false) (kept.Plain shelf) was all))
+  stay_plain (kept.Posting book ∷ now) (kept.Plain shelf ∷ was) same all =
       absurd (labels_apart (kept_told {R = R} told (kept.Plain shelf)) (kept_told {R = R} told (kept.Posting book)) _ _ refl refl
-      (sym (same_head (kept_told {R = R} told (kept.Posting book)) (kept_told {R = R} told (kept.Plain shelf)) (map (kept_told told) now) (map (kept_told told) (map plain shelves)) same)))
+      (sym (same_head (kept_told {R = R} told (kept.Posting book)) (kept_told {R = R} told (kept.Plain shelf)) (map (kept_told told) now) (map (kept_told told) was) same)))
+
+  pub stay_kept : (posts : Bool) (now was : List (Kept B R L)) → AreSame now was → All (IsKept posts) was
+      → All (IsKept posts) now × AllZip IsSameEnd (posters_of was) (posters_of now)
+  stay_kept true now was same all = stay_posting now was same all
+  stay_kept false now was same all = let stay = stay_plain now was same all in (
+    stay,
+    subst (λ (l : List PostEnd). AllZip IsSameEnd (posters_of was) l) (sym (posters_none now stay))
+        (subst (λ (l : List PostEnd). AllZip IsSameEnd l []) (sym (posters_none was all)) tt),
+  )
+
+  -- their shelves are the same devices
+  pub same_off : (now was : List (Kept B R L)) → AreSame now was
+      → map (λ (t : BookTold (Option L)). t.device) (map (told_of_shelf told) (map plain_of now)) ≡ map (λ (t : BookTold (Option L)). t.device) (map (told_of_shelf told) (map plain_of was))
+  same_off now was same = sym (off_all told now) ∙ ap (map off_device) same ∙ off_all told was

@@ -1,5 +1,5 @@
 mod Lists
 mod Books
-mod Runs
 mod Trails
+mod Runs
 mod Refusing

@@ -4,11 +4,8 @@ use Rattle.std.proofs.lemmas.List.Elements.{All-head}
 use Rattle.m17_ports.specs.Book.{BookTold, HasText}
 use Rattle.m17_ports.specs.Told.{told_then}
 use Rattle.m17_control.specs.declared.modules.Modules.{Modules}
-use Rattle.m17_board.specs.Ends.{AreOfOneBoard, EyeEnd, PostEnd}
-use Rattle.m17_board_watch.specs.Laws.{EndsStay}
-use Rattle.m17_board_watch.specs.Shows.{WatchDid}
+use Rattle.m17_board.specs.Ends.{PostEnd}
 use Rattle.m17_board_watch.specs.Written.{BoardLine, ShowBegin, ShowsBoard, TellsFirstPart, lines_text}
-use Rattle.m17_board_watch.specs.declared.watch.Watch.{Watch}
 use Rattle.m17_io.specs.Faults.{HasRisen}
 use Rattle.m17_reflect.specs.Views.{IsRefusedFor}
 use Rattle.m17_reflect.specs.declared.returned.HouseRefusal.{HouseRefusal}
@@ -44,13 +41,6 @@ module _ {L : Type 0} where
       subst (λ (lines : List BoardLine). HasText before (lines_text lines) false after) (no_lines modules posters h.lines unposted h.begin) h.text in
       let whole = text.whole refl in
       same_book before after (whole.0 ∙ nothing_more before.written) whole.1 text.same_device
-
--- the watch that ended has eyes of the board, whose posters are as they were made
-module _ {B R L : Type 0} (told : B → BookTold L) where
-  pub ended_as_made : EndsStay R told → (j k : Watch B R) (ps qs : List PostEnd) (eyes : List EyeEnd) → WatchDid told j k → j.eyes.items ≡ eyes → AreOfOneBoard ps eyes
-      → qs ≡ ps → AreOfOneBoard qs k.eyes.items
-  ended_as_made stay j k ps qs eyes did are board same =
-      subst (λ (l : List PostEnd). AreOfOneBoard l k.eyes.items) (sym same) ((stay j k did).board ps (subst (AreOfOneBoard ps) (sym are) board))
 
 -- the crew refused, and counted it
 apart : Crew ≡ NoMemory → ⊥

@@ -1,5 +1,5 @@
 -- What was posted of each module is the records of its trail.
-use Rattle.std.proofs.Common.{◌≡◌, ℕ, zero, suc, ◌<◌, Bool, true, false, List, [], ◌∷◌, ◌++◌, map, length, All, Option, None, Some, slice_get, refl, sym, ap, ap₂, subst, ◌∙◌, arith}
+use Rattle.std.proofs.Common.{◌≡◌, ◌⊎◌, ℕ, zero, suc, ◌<◌, Bool, true, false, List, [], ◌∷◌, ◌++◌, map, length, All, Option, None, Some, slice_get, refl, sym, ap, ap₂, subst, ◌∙◌, arith, inl, inr}
 use Rattle.std.specs.List.{AllZip}
 use Rattle.std.proofs.lemmas.Option.{same_Some, none-some}
 use Rattle.std.proofs.lemmas.List.Elements.{All-head, All-tail}
@@ -19,6 +19,7 @@ use Rattle.m17_reflect.specs.Judged.{AreWritten, head_at}
 use Rattle.m17_reflect.specs.Links.{At, Link, setup_at}
 use Rattle.m17_reflect.specs.Run.{Run}
 use Rattle.m17_reflect.specs.Trails.{events_of}
+use Rattle.m17_board_run.specs.Boarded.{IsPosted}
 use Rattle.m17_board_run.specs.Kept.{posting_each, posting_told, told_of_shelf}
 use Rattle.m17_board_run.specs.Putting.{IsBack}
 use Rattle.m17_board_run.specs.declared.kept.KeptLabel.{KeptLabel}
@@ -34,22 +35,10 @@ place_below [] m x at = absurd (none-some x at)
 place_below (y ∷ xs) zero x at = omega arith
 place_below (y ∷ xs) (suc m) x at = let lt = place_below xs m x at in omega arith
 
-place_map : {A B : Type 0} (f : A → B) (xs : List A) (m : ℕ) (x : A) → slice_get xs m ≡ Some x → slice_get (map f xs) m ≡ Some (f x)
-place_map f [] m x at = absurd (none-some x at)
-place_map f (y ∷ xs) zero x at = ap (λ a. Some (f a)) (same_Some y x at)
-place_map f (y ∷ xs) (suc m) x at = place_map f xs m x at
-
 pub place_all : {A : Type 0} (P : A → Type 0) (xs : List A) (m : ℕ) (x : A) → All P xs → slice_get xs m ≡ Some x → P x
 place_all P [] m x all at = absurd (none-some x at)
 place_all P (y ∷ xs) zero x all at = subst P (same_Some y x at) (All-head P y xs all)
 place_all P (y ∷ xs) (suc m) x all at = place_all P xs m x (All-tail P y xs all) at
-
-place_both : {A B : Type 0} (R : A → B → Type 0) (xs : List A) (ys : List B) (m : ℕ) (x : A) (y : B) → AllZip R xs ys → slice_get xs m ≡ Some x → slice_get ys m ≡ Some y → R x y
-place_both R [] ys m x y all at at' = absurd (none-some x at)
-place_both R (a ∷ xs) [] m x y all at at' = absurd (none-some y at')
-place_both R (a ∷ xs) (b ∷ ys) zero x y all at at' =
-    subst (λ c. R c y) (same_Some a x at) (subst (R a) (same_Some b y at') all.0)
-place_both R (a ∷ xs) (b ∷ ys) (suc m) x y all at at' = place_both R xs ys m x y all.1 at at'
 
 module _ {L : Type 0} where
   -- the book with the poster over it, at its place
@@ -71,27 +60,43 @@ text_is : {L : Type 0} (before after : BookTold L) (text bytes : List ℕ) (fail
 text_is before after text bytes true h empty is sound = let cut = h.cut refl in absurd (omega (arith, cut.2, sound))
 text_is before after text bytes false h empty is sound = told_is before.written text bytes empty (sym (h.whole refl).0 ∙ is)
 
-module _ {B L X Y : Type 0} (told : B → BookTold L) (law : OneListStandsWhole) where
-  pub of_trail : (run : Run X Y (KeptLabel L)) (links : List Link) (posters : List PostEnd) (olds news : List (Shelf B)) → AreWritten run links
-      → run.before.books ≡ posting_each posters (map (told_of_shelf told) olds) → run.after.books ≡ posting_each posters (map (told_of_shelf told) news)
-      → length news ≡ length olds → All (λ shelf. StartsEmpty (told_of_shelf told shelf).written) olds → AllZip (IsBack told) news posters
-      → (m : ℕ) (trail : TrailEnd Event) (poster : PostEnd) (after : Shelf B) (bytes : List ℕ) → At run.handed.trails m trail → At posters m poster → At news m after
-      → (told_of_shelf told after).written ≡ Some bytes → (told_of_shelf told after).faults ≡ 0 → poster.posted ≡ records_of (setup_at run.plan m) (events_of trail)
-  of_trail run links posters olds news written were are many empty back m trail poster after bytes at_trail at_poster at_after is sound =
+module _ {B L : Type 0} (told : B → BookTold L) where
+  whole_of : (shelves : List (Shelf B)) (posters : List PostEnd) → AllZip (IsBack told) shelves posters → (m : ℕ) (book : BookTold (Option L)) (poster : PostEnd)
+      → At (map (told_of_shelf told) shelves) m book → At posters m poster → IsPosted book poster
+  whole_of [] posters all m book poster at at' = absurd (none-some book at)
+  whole_of (shelf ∷ shelves) [] all m book poster at at' = absurd (none-some poster at')
+  whole_of (shelf ∷ shelves) (p ∷ posters) all zero book poster at at' =
+      subst (λ (b : BookTold (Option L)). IsPosted b poster) (same_Some (told_of_shelf told shelf) book at)
+      (subst (λ (q : PostEnd). IsPosted (told_of_shelf told shelf) q) (same_Some p poster at') all.0)
+  whole_of (shelf ∷ shelves) (p ∷ posters) all (suc m) book poster at at' = whole_of shelves posters all.1 m book poster at at'
+
+  -- what was posted stands whole in the bytes of each book that was posted at
+  pub posted_whole : (shelves : List (Shelf B)) (posters : List PostEnd) → (posters ≡ []) ⊎ AllZip (IsBack told) shelves posters → (m : ℕ) (book : BookTold (Option L)) (poster : PostEnd)
+      → At (map (told_of_shelf told) shelves) m book → At posters m poster → IsPosted book poster
+  posted_whole shelves posters (inl none) m book poster at at' = absurd (none-some poster (sym (ap (λ l. slice_get l m) none) ∙ at'))
+  posted_whole shelves posters (inr all) m book poster at at' = whole_of shelves posters all m book poster at at'
+
+module _ {L X Y : Type 0} (law : OneListStandsWhole) where
+  -- and that is the records of its trail
+  pub of_trail : (run : Run X Y (KeptLabel L)) (links : List Link) (posters : List PostEnd) (olds news : List (BookTold (Option L))) → AreWritten run links
+      → run.before.books ≡ posting_each posters olds → run.after.books ≡ posting_each posters news
+      → length news ≡ length olds → All (λ book. StartsEmpty book.written) olds
+      → ((m : ℕ) (book : BookTold (Option L)) (poster : PostEnd) → At news m book → At posters m poster → IsPosted book poster)
+      → (m : ℕ) (after : BookTold (Option L)) (trail : TrailEnd Event) (poster : PostEnd) (bytes : List ℕ) → At news m after → At run.handed.trails m trail → At posters m poster
+      → after.written ≡ Some bytes → after.faults ≡ 0 → poster.posted ≡ records_of (setup_at run.plan m) (events_of trail)
+  of_trail run links posters olds news written were are many empty whole m after trail poster bytes at_after at_trail at_poster is sound =
       let inside = place_below news m after at_after in
       let (before, at_before) = place_in olds m (omega (arith, inside, many)) in
-      let told_before : BookTold (Option L) = told_of_shelf told before in
-      let told_after : BookTold (Option L) = told_of_shelf told after in
       let head : Head = head_at run.plan m in
       let records : List Record = records_of (setup_at run.plan m) (events_of trail) in
-      let was : At run.before.books m (posting_told poster told_before) =
-      ap (λ l. slice_get l m) were ∙ over_at posters (map (told_of_shelf told) olds) m poster told_before at_poster (place_map (told_of_shelf told) olds m before at_before) in
-      let now : At run.after.books m (posting_told poster told_after) =
-      ap (λ l. slice_get l m) are ∙ over_at posters (map (told_of_shelf told) news) m poster told_after at_poster (place_map (told_of_shelf told) news m after at_after) in
-      let wrote = written.books m trail (posting_told poster told_before) (posting_told poster told_after) at_trail was now in
+      let was : At run.before.books m (posting_told poster before) =
+      ap (λ l. slice_get l m) were ∙ over_at posters olds m poster before at_poster at_before in
+      let now : At run.after.books m (posting_told poster after) =
+      ap (λ l. slice_get l m) are ∙ over_at posters news m poster after at_poster at_after in
+      let wrote = written.books m trail (posting_told poster before) (posting_told poster after) at_trail was now in
       let same : bytes ≡ book_text head records =
-      text_is (posting_told poster told_before) (posting_told poster told_after) (book_text head records) bytes wrote.0 wrote.1
-      (place_all (λ shelf. StartsEmpty (told_of_shelf told shelf).written) olds m before empty at_before) is sound in
-      let form = written.spelled m trail (posting_told poster told_after) bytes at_trail now is in
+      text_is (posting_told poster before) (posting_told poster after) (book_text head records) bytes wrote.0 wrote.1
+      (place_all (λ book. StartsEmpty book.written) olds m before empty at_before) is sound in
+      let form = written.spelled m trail (posting_told poster after) bytes at_trail now is in
       law.whole bytes head records poster.posted (subst (λ (b : List ℕ). HasBookForm Two b head records) (sym same) form)
-      (place_both (IsBack told) news posters m after poster back at_after at_poster bytes is sound)
+      (whole m after poster at_after at_poster bytes is sound)

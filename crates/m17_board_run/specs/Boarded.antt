@@ -1,52 +1,82 @@
--- What a run of the reflector with a board comes to.
-use Rattle.std.specs.Prelude.{◌≡◌, ℕ, List, None, Some}
-use Rattle.std.specs.List.{AllZip}
-use Rattle.std.specs.Option.{ForSome}
+-- What a run of the reflector comes to, whose board is shown or is not.
+use Rattle.std.specs.Prelude.{◌≡◌, ℕ, Bool, false, List, [], length, Option, None, Some}
 use Rattle.m17_ports.specs.Book.{BookTold}
-use Rattle.m17_ports.specs.Ear.{EarTold}
-use Rattle.m17_ports.specs.Mouth.{MouthTold}
-use Rattle.m17_ports.specs.declared.shelf.Shelf.{Shelf}
 use Rattle.m17_control.specs.declared.event.Event.{Event}
+use Rattle.m17_control.specs.declared.modules.Modules.{Modules}
 use Rattle.m17_lane.specs.Ends.{TrailEnd}
 use Rattle.m17_worker.specs.Records.{records_of}
 use Rattle.m17_plan.specs.declared.plan.Plan.{Plan}
 use Rattle.m17_board.specs.Ends.{PostEnd}
+use Rattle.m17_board_book.specs.Whole.{StandWhole}
 use Rattle.m17_board_watch.specs.Written.{ShowsBoard}
 use Rattle.m17_reflect.specs.Headline.{Headline}
+use Rattle.m17_reflect.specs.Laws.{AreSameDevices}
 use Rattle.m17_reflect.specs.Links.{At, setup_at}
+use Rattle.m17_reflect.specs.Run.{Devices, Handed, Run}
 use Rattle.m17_reflect.specs.Trails.{events_of}
+use Rattle.m17_reflect.specs.declared.returned.HouseRefusal.{HouseRefusal}
 use Rattle.m17_reflect.specs.declared.returned.HouseRefusal.TheVariants.{Crew}
-use Rattle.m17_reflect.specs.Views.{Kinds, devices_of, handed_of, kinds_back, kinds_refused}
-use Rattle.m17_board_run.specs.Kept.{told_of_shelf, on_board}
-use Rattle.m17_board_run.specs.Putting.{IsBack}
-use Rattle.m17_board_run.specs.declared.running.OnBoard.{OnBoard}
-use Rattle.m17_board_run.specs.declared.running.RefusedOnBoard.{RefusedOnBoard}
+use Rattle.m17_board_run.specs.Kept.{on_board}
+use Rattle.m17_board_run.specs.declared.kept.KeptLabel.{KeptLabel}
 
--- The reflector ran over these devices: the headline holds of the run as it saw them, its books with a poster over each.
--- What each poster posted is what stands whole in the bytes of its book, where the book tells them and never failed; the
--- lines show what was posted, module by module; and that is the records of the module's trail, of such books.
-pub record RanOnBoard {E M B X Y Z : Type 0} (ear : E → EarTold X) (mouth : M → MouthTold Y)
-    (book : B → BookTold Z) (plan : Plan) (devices : Kinds E M (Shelf B)) (lines : B)
-    (back : OnBoard E M B) : Type 0 where
-  pub posters : List PostEnd
-  pub headline : Headline record {
-    plan = plan;
-    before = on_board posters (devices_of ear mouth (told_of_shelf book) devices);
-    after = on_board posters (devices_of ear mouth (told_of_shelf book) (kinds_back back.house));
-    handed = handed_of back.house;
-  }
-  pub posted : AllZip (IsBack book) back.house.books.items posters
-  pub lines_show : ShowsBoard plan.modules posters back.lines_failed (book lines) (book back.lines)
-  pub of_trails : (m : ℕ) (trail : TrailEnd Event) (poster : PostEnd) (after : Shelf B)
-      (bytes : List ℕ) → At back.house.trails.items m trail → At posters m poster →
-      At back.house.books.items m after →
-      (told_of_shelf book after).written ≡ Some bytes → (told_of_shelf book after).faults ≡ 0 →
+-- What was posted at a module's book: where the book tells its bytes and never failed, the records that stand whole in them.
+abbrev pub IsPosted : {B : Type 0} → BookTold (Option B) → PostEnd → Type 0
+IsPosted book poster = (bytes : List ℕ) → book.written ≡ Some bytes → book.faults ≡ 0
+    → StandWhole bytes poster.posted
+
+-- What was posted at the books of modules, where there are posters: what stands whole in the bytes of each, and that is the
+-- records of the module's trail.
+pub record ArePosted {B : Type 0} (plan : Plan) (books : List (BookTold (Option B)))
+    (trails : List (TrailEnd Event)) (posters : List PostEnd) : Type 0 where
+  pub whole : (m : ℕ) (book : BookTold (Option B)) (poster : PostEnd) → At books m book
+      → At posters m poster → IsPosted book poster
+  pub of_trails : (m : ℕ) (book : BookTold (Option B)) (trail : TrailEnd Event) (poster : PostEnd)
+      (bytes : List ℕ) → At books m book → At trails m trail → At posters m poster →
+      book.written ≡ Some bytes → book.faults ≡ 0 →
       poster.posted ≡ records_of (setup_at plan m) (events_of trail)
 
--- Nothing was run, and the devices are as they were. The book of the lines stays away only where the crew refused the watch;
--- where it comes back, it is the same book, and nothing was written in it.
-pub record RefusedAsWere {E M B Z : Type 0} (book : B → BookTold Z)
-    (devices : Kinds E M (Shelf B)) (lines : B) (back : RefusedOnBoard E M B) : Type 0 where
-  pub same : kinds_refused back.refused ≡ devices
-  pub no_watch : back.lines ≡ None → back.refused.why ≡ Crew
-  pub unwritten : ForSome back.lines (λ b. book b ≡ book lines)
+module _ {E M B : Type 0} where
+  -- what a run of the reflector over these devices shows, with these posters over its books, if there are any
+  abbrev pub run_on_board : Plan → List PostEnd → Devices E M (Option B) → Devices E M (Option B)
+      → Handed → Run E M (KeptLabel B)
+  run_on_board plan posters before after handed = record {
+    plan = plan;
+    before = on_board posters before;
+    after = on_board posters after;
+    handed = handed;
+  }
+
+  -- The reflector ran over these devices, and they come back: the headline holds of the run as it saw them, its books with a
+  -- poster over each, if there are any.
+  pub record RanOver (plan : Plan) (posters : List PostEnd) (before after : Devices E M (Option B))
+      (handed : Handed) : Type 0 where
+    pub headline : Headline (run_on_board plan posters before after handed)
+    pub same_devices : AreSameDevices before after
+    pub posted : ArePosted plan after.books handed.trails posters
+
+module _ {B : Type 0} where
+  -- Where a board is shown, there is a poster for each of so many modules, and the lines show what was posted, module by
+  -- module; `failed` says whether a write of a line failed. Where none is, there is no poster and no line.
+  abbrev pub ShowLines : Modules → ℕ → List PostEnd → Bool → Option (BookTold B)
+      → Option (BookTold B) → Type 0
+  ShowLines modules count posters failed (Some empty) (Some lines) =
+      (length posters ≡ count) × ShowsBoard modules posters failed empty lines
+  ShowLines modules count posters failed (Some empty) None = ⊥
+  ShowLines modules count posters failed None (Some lines) = ⊥
+  ShowLines modules count posters failed None None = (posters ≡ []) × (failed ≡ false)
+
+  -- The book of the lines where nothing was run: it stays away only where the crew refused the watch; where it comes back, it
+  -- is the same book, and nothing was written in it.
+  abbrev pub LinesBack : HouseRefusal → Option (BookTold B) → Option (BookTold B) → Type 0
+  LinesBack why (Some empty) (Some lines) = lines ≡ empty
+  LinesBack why (Some empty) None = why ≡ Crew
+  LinesBack why None (Some lines) = ⊥
+  LinesBack why None None = Unit {0}
+
+-- The reflector ran over these devices, and they come back; and the lines of the board show what was posted, where there
+-- are lines. These are told of the book of the lines before the run and after it.
+pub record RanOnBoard {E M B : Type 0} (plan : Plan) (before after : Devices E M (Option B))
+    (handed : Handed) (lines_failed : Bool) (empty lines : Option (BookTold B)) : Type 0 where
+  pub posters : List PostEnd
+  pub ran : RanOver plan posters before after handed
+  pub lines_show : ShowLines plan.modules (length after.books) posters lines_failed empty lines

@@ -39,15 +39,16 @@ posting_told poster told = labelled (λ label. Posting record {
   poster = record poster { posted = [] };
 }) told
 
--- the books with these posters, one over each
+-- the books with these posters, one over each as long as there are any
 abbrev pub posting_each : {L : Type 0} → List PostEnd → List (BookTold (Option L))
     → List (BookTold (KeptLabel L))
-posting_each [] books = []
+posting_each [] books = map plain_told books
 posting_each (poster ∷ posters) [] = []
 posting_each (poster ∷ posters) (book ∷ books) =
     posting_told poster book ∷ posting_each posters books
 
--- What a reflector with a board sees of its devices: traces as they are, books that post, and the others as they are.
+-- What a reflector sees of its devices: traces as they are, books that post by these posters, or as they are where there are
+-- none, and the others as they are.
 abbrev pub on_board : {E M L : Type 0} → List PostEnd → Devices E M (Option L)
     → Devices E M (KeptLabel L)
 on_board posters devices = record {

@@ -2,6 +2,6 @@
 pub mod Kept
 pub mod Board
 pub mod Boarded
--- for the parts and the proofs alone, but for IsBack of Putting
+-- for the parts and the proofs alone
 pub mod Putting
 pub mod Returning

@@ -1,5 +1,5 @@
 -- Shelves and the books over them.
-use Rattle.std.specs.Prelude.{◌≡◌, ℕ, List, [], ◌∷◌, Some}
+use Rattle.std.specs.Prelude.{◌≡◌, ℕ, Bool, true, false, List, [], ◌∷◌, Some}
 use Rattle.m17_ports.specs.Book.{BookTold}
 use Rattle.m17_ports.specs.declared.shelf.Shelf.{Shelf}
 use Rattle.m17_board.specs.Ends.{PostEnd}
@@ -23,11 +23,22 @@ module _ {B R L : Type 0} where
   IsPosting (Plain shelf) = ⊥
   IsPosting (Posting book) = Unit {0}
 
+  -- it posts where this is true, and else it is the shelf as it is
+  abbrev pub IsKept : Bool → Kept B R L → Type 0
+  IsKept true kept = IsPosting kept
+  IsKept false (Plain shelf) = Unit {0}
+  IsKept false (Posting book) = ⊥
+
   -- the posters of those that post, in order
   abbrev pub posters_of : List (Kept B R L) → List PostEnd
   posters_of [] = []
   posters_of (Plain shelf ∷ kept) = posters_of kept
   posters_of (Posting book ∷ kept) = book.poster ∷ posters_of kept
+
+-- the posters are those of one board, at one place each, whatever they posted
+pub record IsSameEnd (p q : PostEnd) : Type 0 where
+  pub cell : p.cell ≡ q.cell
+  pub number : p.number ≡ q.number
 
 -- What was posted is what stands whole in the bytes of the shelf, where it tells them and never failed.
 abbrev pub IsBack : {B L : Type 0} → (B → BookTold L) → Shelf B → PostEnd → Type 0

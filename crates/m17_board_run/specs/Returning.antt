@@ -1,11 +1,18 @@
--- What comes back of a run, off the board. No public clause cites this module.
-use Rattle.std.specs.Prelude.{◌≡◌, map}
+-- What comes back of a run, its traces and books as shelves. No public clause cites this module.
+use Rattle.std.specs.Prelude.{◌≡◌, ℕ, ◌≤◌, [], map, vec_capacity}
 use Rattle.m17_ports.specs.declared.shelf.Shelf.{Shelf}
 use Rattle.m17_reflect.specs.Views.{handed_of}
 use Rattle.m17_reflect.specs.declared.returned.Refused.{Refused}
 use Rattle.m17_reflect.specs.declared.returned.Returned.{Returned}
 use Rattle.m17_board_run.specs.Putting.{plain_of}
+use Rattle.m17_board_run.specs.declared.keeping.Back.{Back}
 use Rattle.m17_board_run.specs.declared.kept.Kept.{Kept}
+
+-- there is room for what comes back of this number of links and of modules, and nothing is there yet
+pub record HasRoom {B : Type 0} (links modules : ℕ) (back : Back B) : Type 0 where
+  pub traces : (back.traces.items ≡ []) × (links ≤ vec_capacity back.traces)
+  pub books : (back.books.items ≡ []) × (modules ≤ vec_capacity back.books)
+  pub posters : (back.posters.items ≡ []) × (modules ≤ vec_capacity back.posters)
 
 module _ {E M B R L : Type 0} where
   -- what a run hands back, its traces and books as shelves

@@ -1,6 +1,7 @@
-//! The one kind of book for the traces and the books of a run with a board.
-ghost use Rattle.std.specs.Prelude.{◌≡◌, None, false};
+//! The one kind of book for the traces and the books of a run, whose board is shown or is not.
+ghost use Rattle.std.specs.Prelude.{◌≡◌, None, false, true};
 ghost use Rattle.m17_board_run.specs.Kept.{kept_told};
+ghost use Rattle.m17_board_run.specs.Putting.{IsPosting};
 
 use m17_board_book::{BoardBook, BoardLabel};
 use m17_ports::{Book, Shelf};
@@ -15,7 +16,7 @@ pub enum KeptLabel<L> {
     Posting(BoardLabel<Option<L>>),
 }
 
-/// A trace or a book of a run with a board: a shelf as it is, or a book over one that posts.
+/// A trace or a book of a run: a shelf as it is, or a book over one that posts.
 #[derive(Drop)]
 pub enum Kept<B: Book + Drop, R: Drop> {
     /// It posts nothing.
@@ -37,6 +38,7 @@ impl<B: Book + Drop, R: Wait + Drop> Book for Kept<B, R> {
     fn is_kept(&self) -> bool
         ensures untold { result ≡ false → ((kept_told B.told self.now).written ≡ None)
             × ((kept_told B.told self.now).device.mark ≡ None) }
+        ensures posting { IsPosting self.now → result ≡ true }
     {
         match self {
             Kept::Plain(shelf) => shelf.is_kept(),

@@ -1,43 +1,40 @@
-//! The run itself.
-ghost use Rattle.std.specs.Prelude.{◌≡◌, ◌<◌, ◌≤◌, Bool, true, All, None, Some, IfErr, IfOk, MatchResult, length, vec_len};
-ghost use Rattle.std.specs.List.{AllZip};
+//! The run itself, and its watch where a board is shown.
+ghost use Rattle.std.specs.Prelude.{◌≡◌, ◌<◌, ◌≤◌, true, All, Contains, IfErr, IfOk, IsSome, MatchResult, None, Some, is_some, length, option_map, vec_capacity, vec_len, []};
 ghost use Rattle.m17_ports.specs.Told.{StartsEmpty};
 ghost use Rattle.m17_ports.specs.Ports.{next_number};
 ghost use Rattle.m17_control.specs.Modules.{letters_of};
 ghost use Rattle.m17_plan.specs.Planned.{IsPlan, module_count};
 ghost use Rattle.m17_board.specs.Ends.{AreOfOneBoard};
 ghost use Rattle.m17_board_watch.specs.Ending.{IsFresh};
-ghost use Rattle.m17_board_watch.specs.Shows.{WatchDid};
 ghost use Rattle.m17_board_watch.specs.Written.{ShowsBoard};
-ghost use Rattle.m17_reflect.specs.Views.{IsRefusedFor, kinds_refused};
+ghost use Rattle.m17_reflect.specs.Views.{devices_of, handed_of, kinds_back, kinds_refused, IsRefusedFor};
 ghost use Rattle.m17_reflect.specs.declared.returned.HouseRefusal.TheVariants as refusals;
-ghost use Rattle.m17_board_run.specs.Board.{HasRoom, IsMade};
-ghost use Rattle.m17_board_run.specs.Boarded.{RanOnBoard, RefusedAsWere};
+ghost use Rattle.m17_board_run.specs.Board.{HasEnds, HasRooms, IsMade};
+ghost use Rattle.m17_board_run.specs.Boarded.{LinesBack, RanOnBoard};
 ghost use Rattle.m17_board_run.specs.Kept.{told_of_shelf};
-ghost use Rattle.m17_board_run.specs.Putting.{IsBack, IsPosting, posters_of};
-ghost use Rattle.m17_board_run.specs.Returning.{IsOff, IsOffRefused};
 
-use crate::board::{Back, Board};
-use crate::kept::{Kept, KeptLabel};
-use crate::putting::{keep_plain, keep_posting, plain_back, posting_back};
+use crate::board::{Board, Desk, Rooms};
+use crate::keeping::reflect_kept;
+use m17_board::{Glance, Poster};
 use m17_board_watch::Watch;
 use m17_crew::{Crew, Order, Running};
 use m17_lane::Pusher;
 use m17_plan::Plan;
 use m17_ports::{Book, Ear, Mouth, Shelf};
-use m17_reflect::{HouseRefusal, Refused, Returned, reflect};
+use m17_reflect::{HouseRefusal, Refused, Returned};
 use std::alloc::Global;
 use std::sync::Wait;
 use std::thread::Threads;
 use std::time::Clock;
 
-/// What a run with a board hands back: what the reflector does, with the book of the lines, and whether a write of it failed.
+/// What a run hands back: what the reflector does, and where a board is shown the book of the lines, and whether a write of
+/// it failed.
 #[derive(Drop)]
 pub struct OnBoard<E, M, B> {
     /// What the reflector hands back.
     pub house: Returned<E, M, Shelf<B>>,
     /// Where the lines were written.
-    pub lines: B,
+    pub lines: Option<B>,
     /// Whether a write of a line failed.
     pub lines_failed: bool,
 }
@@ -48,13 +45,14 @@ pub struct OnBoard<E, M, B> {
 pub struct RefusedOnBoard<E, M, B> {
     /// The devices, and why nothing was run.
     pub refused: Refused<E, M, Shelf<B>>,
-    /// Where lines would have been written. None where the crew refused the watch.
+    /// Where lines would have been written. None where the crew refused the watch, or no board is shown.
     pub lines: Option<B>,
 }
 
-/// Runs the reflector of this plan over these devices as `reflect` does, with a board: its books post, and a watch, which is
-/// started before all other jobs and ends after them, writes to `lines` what changed of a module, ten times a second at most.
-/// The board is made for as many links and modules.
+/// Runs the reflector of this plan over these devices as `reflect` does. With a book of lines it shows a board: the books of
+/// its modules post, and a watch, which is started before all other jobs and ends after them, writes to `lines` what changed
+/// of a module, ten times a second at most. The board is made for as many links and modules, and to be shown exactly where
+/// there is a book of lines. Without one nothing posts, no watch is started, and the books are kept as they are.
 ///
 /// Where the crew refuses the watch, or the reflector refuses to run, all devices come back as they were. The watch is joined
 /// in any case but the first, and its book comes back, in which nothing was written. `Crew` comes only where the crew's count
@@ -74,14 +72,14 @@ pub fn reflect_on_board<
     mouths: Vec<M>,
     traces: Vec<Shelf<B>>,
     books: Vec<Shelf<B>>,
-    lines: B,
+    lines: Option<B>,
     board: Board<B, R>,
     crew: &mut C,
 ) -> Result<OnBoard<E, M, B>, RefusedOnBoard<E, M, B>>
 where
     B::Label: 'static,
     requires plan { IsPlan plan.now }
-    requires board { IsMade (vec_len ears) (module_count plan.now) board }
+    requires board { IsMade (vec_len ears) (module_count plan.now) (is_some lines) board }
     requires links { (0 < vec_len ears) × (vec_len ears ≤ 4) }
     requires alone { plan.now.patient ≡ true → vec_len ears ≡ 1 }
     requires mouths { vec_len mouths ≡ vec_len ears }
@@ -90,39 +88,128 @@ where
     requires new_ears { All (λ ear. StartsEmpty (E.told ear).heard) ears.items }
     requires new_traces { All (λ trace. StartsEmpty (told_of_shelf B.told trace).written) traces.items }
     requires new_books { All (λ book. StartsEmpty (told_of_shelf B.told book).written) books.items }
-    // The reflector ran, and the lines show what its books were written.
-    ensures ran { IfOk result (λ r. RanOnBoard E.told M.told B.told plan.now (record {
+    // The reflector ran, and the lines show what its books were written, where there are lines.
+    ensures ran { IfOk result (λ r. RanOnBoard plan.now
+        (devices_of E.told M.told (told_of_shelf B.told) (record {
+          ears = ears.items;
+          mouths = mouths.items;
+          traces = traces.items;
+          books = books.items;
+        }))
+        (devices_of E.told M.told (told_of_shelf B.told) (kinds_back r.house))
+        (handed_of r.house) r.lines_failed (option_map B.told lines) (option_map B.told r.lines)) }
+    // Nothing was run, and all comes back as it was; the book of the lines stays away only where the crew refused the watch.
+    ensures refused { IfErr result (λ r. kinds_refused r.refused ≡ record {
       ears = ears.items;
       mouths = mouths.items;
       traces = traces.items;
       books = books.items;
-    }) lines r) }
-    ensures refused { IfErr result (λ r. RefusedAsWere B.told (record {
-      ears = ears.items;
-      mouths = mouths.items;
-      traces = traces.items;
-      books = books.items;
-    }) lines r) }
+    }) }
+    ensures lines_back { IfErr result (λ r.
+        LinesBack r.refused.why (option_map B.told lines) (option_map B.told r.lines)) }
     ensures cause { MatchResult result (λ _. C.refusals crew.new ≡ C.refusals crew.old)
         (λ r. IsRefusedFor r.refused.why (C.refusals crew.old) (C.refusals crew.new)) }
-    // The book of the lines stays away only where the crew refused the first start, that of the watch.
-    ensures first { IfErr result (λ r. r.lines ≡ None →
+    // Where it stays away, the crew refused the first start, that of the watch; and it does where the crew withholds that.
+    ensures first { IfErr result (λ r. IsSome lines → r.lines ≡ None →
         C.starts crew.new ≡ next_number (C.starts crew.old)) }
+    ensures withheld { Contains (C.refuses crew.old) (C.starts crew.old) →
+        MatchResult result (λ r. r.lines ≡ None) (λ r. r.lines ≡ None) }
+    ensures unasked { IfErr result (λ r. r.lines ≡ None → r.refused.why ≡ refusals.NoMemory
+        → crew.new ≡ crew.old) }
 {
-    m17_board_book::laws::one_list_stands_whole();
-    m17_reflect::laws::devices_stay::<E::Label, M::Label, KeptLabel<B::Label>>();
-    m17_board_watch::laws::ends_stay::<B, R>();
-    m17_board_watch::laws::numbers_of_lines_rise::<B, R>();
     let Board {
         posters,
+        rooms,
+        desk,
+    } = board;
+    match lines {
+        None => match reflect_kept(
+            rt, alloc, plan, ears, mouths, traces, books, posters, rooms, crew,
+        ) {
+            Ok(ran) => Ok(OnBoard {
+                house: ran.0,
+                lines: None,
+                lines_failed: false,
+            }),
+            Err(back) => Err(RefusedOnBoard {
+                refused: back.0,
+                lines: None,
+            }),
+        },
+        Some(lines) => match desk {
+            None => unreachable!(),
+            Some(desk) => reflect_watched(
+                rt, alloc, plan, ears, mouths, traces, books, posters, rooms, lines, desk, crew,
+            ),
+        },
+    }
+}
+
+// The same with a book of lines and what a watch needs.
+fn reflect_watched<
+    E: Ear + Drop + Send + 'static,
+    M: Mouth + Drop + Send + 'static,
+    B: Book + Drop + Send + 'static,
+    C: Crew,
+    R: Threads + Wait + Clock + Copy + Drop + Send + 'static,
+>(
+    rt: &R,
+    alloc: Global,
+    plan: &Plan,
+    ears: Vec<E>,
+    mouths: Vec<M>,
+    traces: Vec<Shelf<B>>,
+    books: Vec<Shelf<B>>,
+    posters: Vec<Poster>,
+    rooms: Rooms<B, R>,
+    lines: B,
+    desk: Desk,
+    crew: &mut C,
+) -> Result<OnBoard<E, M, B>, RefusedOnBoard<E, M, B>>
+where
+    B::Label: 'static,
+    requires plan { IsPlan plan.now }
+    requires rooms { HasRooms (vec_len ears) (module_count plan.now) rooms }
+    requires desk { HasEnds (module_count plan.now) posters.items desk }
+    requires links { (0 < vec_len ears) × (vec_len ears ≤ 4) }
+    requires alone { plan.now.patient ≡ true → vec_len ears ≡ 1 }
+    requires mouths { vec_len mouths ≡ vec_len ears }
+    requires traces { vec_len traces ≡ vec_len ears }
+    requires books { vec_len books ≡ module_count plan.now }
+    requires new_ears { All (λ ear. StartsEmpty (E.told ear).heard) ears.items }
+    requires new_traces { All (λ trace. StartsEmpty (told_of_shelf B.told trace).written) traces.items }
+    requires new_books { All (λ book. StartsEmpty (told_of_shelf B.told book).written) books.items }
+    ensures ran { IfOk result (λ r. RanOnBoard plan.now
+        (devices_of E.told M.told (told_of_shelf B.told) (record {
+          ears = ears.items;
+          mouths = mouths.items;
+          traces = traces.items;
+          books = books.items;
+        }))
+        (devices_of E.told M.told (told_of_shelf B.told) (kinds_back r.house))
+        (handed_of r.house) r.lines_failed (Some (B.told lines)) (option_map B.told r.lines)) }
+    ensures refused { IfErr result (λ r. kinds_refused r.refused ≡ record {
+      ears = ears.items;
+      mouths = mouths.items;
+      traces = traces.items;
+      books = books.items;
+    }) }
+    ensures lines_back { IfErr result (λ r.
+        LinesBack r.refused.why (Some (B.told lines)) (option_map B.told r.lines)) }
+    ensures cause { MatchResult result (λ _. C.refusals crew.new ≡ C.refusals crew.old)
+        (λ r. IsRefusedFor r.refused.why (C.refusals crew.old) (C.refusals crew.new)) }
+    ensures first { IfErr result (λ r. r.lines ≡ None →
+        C.starts crew.new ≡ next_number (C.starts crew.old)) }
+    ensures withheld { Contains (C.refuses crew.old) (C.starts crew.old) →
+        MatchResult result (λ r. r.lines ≡ None) (λ r. r.lines ≡ None) }
+{
+    let Desk {
         eyes,
         last,
         quit,
         order,
-        plain,
-        posting,
-        back,
-    } = board;
+        glances,
+    } = desk;
     let watch = Watch {
         modules: plan.modules,
         eyes,
@@ -132,16 +219,30 @@ where
         order,
         clock: *rt,
     };
-    let Ok(watching) = crew.start(rt, alloc, watch) else {
-        return Err(unwatched(ears, mouths, traces, books));
+    let watching = match crew.start(rt, alloc, watch) {
+        Ok(watching) => watching,
+        Err(_) => return Err(unwatched(ears, mouths, traces, books)),
     };
-    let traces = keep_plain(traces, plain);
-    let books = keep_posting(rt, books, posters, posting);
-    let ran = reflect(rt, alloc, plan, ears, mouths, traces, books, crew);
-    let watch = end_watch(rt, watching, quit);
-    match ran {
-        Ok(house) => Ok(end_run(rt, alloc, house, watch, back)),
-        Err(refused) => Err(hand_back(rt, alloc, refused, watch, back)),
+    match reflect_kept(
+        rt, alloc, plan, ears, mouths, traces, books, posters, rooms, crew,
+    ) {
+        Ok(ran) => {
+            let (house, posters) = ran;
+            let (lines, lines_failed) = end_watch(rt, alloc, watching, quit, posters, glances);
+            Ok(OnBoard {
+                house,
+                lines: Some(lines),
+                lines_failed,
+            })
+        }
+        Err(back) => {
+            let (refused, posters) = back;
+            let (unwritten, _) = end_watch(rt, alloc, watching, quit, posters, glances);
+            Err(RefusedOnBoard {
+                refused,
+                lines: Some(unwritten),
+            })
+        }
     }
 }
 
@@ -173,114 +274,29 @@ fn unwatched<E, M, B>(
     }
 }
 
-// Tells the watch to quit, and waits for it.
+// Tells the watch to quit, waits for it, and ends its board with these posters.
 fn end_watch<B: Book + Drop + Send + 'static, R: Threads + Wait + Clock + Drop + Send + 'static>(
     rt: &R,
+    alloc: Global,
     watching: Running<Watch<B, R>>,
     quit: Pusher<Order>,
-) -> Watch<B, R>
-    ensures { WatchDid B.told watching result }
+    posters: Vec<Poster>,
+    glances: Vec<Glance>,
+) -> (B, bool)
+    requires fresh { IsFresh watching }
+    requires board { AreOfOneBoard posters.items watching.eyes.items }
+    requires each { vec_len posters ≡ length (letters_of watching.modules) }
+    requires numbers { vec_len watching.last ≡ length (letters_of watching.modules) }
+    requires empty { glances.items ≡ [] }
+    requires room { vec_len posters ≤ vec_capacity glances }
+    ensures { ShowsBoard watching.modules posters.items result.1 (B.told watching.book)
+        (B.told result.0) }
 {
+    m17_board_watch::laws::ends_stay::<B, R>();
+    m17_board_watch::laws::numbers_of_lines_rise::<B, R>();
     let mut quit = quit;
+    let mut glances = glances;
     quit.push_waiting(rt, Order::Quit);
-    watching.join(rt)
-}
-
-// Takes the books off the board, and ends it.
-fn end_run<E: Drop, M: Drop, B: Book + Drop, R: Wait + Drop>(
-    rt: &R,
-    alloc: Global,
-    house: Returned<E, M, Kept<B, R>>,
-    watch: Watch<B, R>,
-    back: Back<B>,
-) -> OnBoard<E, M, B>
-    requires posting { All IsPosting house.books.items }
-    requires board { AreOfOneBoard (posters_of house.books.items) watch.eyes.items }
-    requires each { vec_len house.books ≡ length (letters_of watch.modules) }
-    requires numbers { vec_len watch.last ≡ length (letters_of watch.modules) }
-    requires room { HasRoom (vec_len house.traces) (vec_len house.books) back }
-    ensures off { IsOff house result.house }
-    // What was posted at each book is what stands whole in the bytes of its shelf.
-    ensures posted { AllZip (IsBack B.told) result.house.books.items
-        (posters_of house.books.items) }
-    // Of what the watch was before, as a job, all lines show what was posted.
-    ensures shows { (j : Watch B R) → WatchDid B.told j watch → IsFresh j
-        → ShowsBoard watch.modules (posters_of house.books.items) result.lines_failed
-        (B.told j.book) (B.told result.lines) }
-{
-    let Back {
-        traces,
-        books,
-        posters,
-        mut glances,
-    } = back;
-    let (books, posters) = posting_back(house.books, books, posters);
-    let (lines, lines_failed) = watch.end(rt, alloc, posters, &mut glances);
-    OnBoard {
-        house: Returned {
-            ears: house.ears,
-            mouths: house.mouths,
-            traces: plain_back(house.traces, traces),
-            books,
-            trails: house.trails,
-            queues: house.queues,
-            roll: house.roll,
-            missed: house.missed,
-            admitted: house.admitted,
-            link_tapes: house.link_tapes,
-            tapes: house.tapes,
-            lost: house.lost,
-            book_failed: house.book_failed,
-        },
-        lines,
-        lines_failed,
-    }
-}
-
-// Takes the books off the board where nothing was run, and ends it.
-fn hand_back<E: Drop, M: Drop, B: Book + Drop, R: Wait + Drop>(
-    rt: &R,
-    alloc: Global,
-    refused: Refused<E, M, Kept<B, R>>,
-    watch: Watch<B, R>,
-    back: Back<B>,
-) -> RefusedOnBoard<E, M, B>
-    requires posting { All IsPosting refused.books.items }
-    requires board { AreOfOneBoard (posters_of refused.books.items) watch.eyes.items }
-    requires each { vec_len refused.books ≡ length (letters_of watch.modules) }
-    requires numbers { vec_len watch.last ≡ length (letters_of watch.modules) }
-    requires room { HasRoom (vec_len refused.traces) (vec_len refused.books) back }
-    ensures off { IsOffRefused refused result.refused }
-    // Of what the watch was before, as a job, all lines show what was posted.
-    ensures shows { (j : Watch B R) → WatchDid B.told j watch → IsFresh j
-        → (lines : B) × (result.lines ≡ Some lines) × (failed : Bool)
-        × ShowsBoard watch.modules (posters_of refused.books.items) failed
-        (B.told j.book) (B.told lines) }
-{
-    let Back {
-        traces,
-        books,
-        posters,
-        mut glances,
-    } = back;
-    let why = refused.why;
-    let Refused {
-        ears,
-        mouths,
-        traces: kept,
-        books: posting,
-        ..
-    } = refused;
-    let (books, posters) = posting_back(posting, books, posters);
-    let (lines, _) = watch.end(rt, alloc, posters, &mut glances);
-    RefusedOnBoard {
-        refused: Refused {
-            why,
-            ears,
-            mouths,
-            traces: plain_back(kept, traces),
-            books,
-        },
-        lines: Some(lines),
-    }
+    let watch = watching.join(rt);
+    watch.end(rt, alloc, posters, &mut glances)
 }

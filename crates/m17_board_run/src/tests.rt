@@ -1,4 +1,5 @@
-//! What no clause says of a run with a board: that its last line comes to the evening's records, with books and without.
+//! What no clause says of a run: that the last line of a board that is shown comes to the evening's records, with books and
+//! without, and that without one there is no line.
 ghost use Rattle.std.specs.Prelude.{◌≡◌, [], All, Err, Ok, false, vec_len};
 ghost use Rattle.m17_ports.specs.Told.{StartsEmpty};
 ghost use Rattle.m17_plan.specs.Planned.{IsPlan, module_count};
@@ -138,11 +139,12 @@ fn shelves<R: Abort>(rt: &R, alloc: Global, there: bool) -> Vec<Shelf<ListBook>>
     all
 }
 
-// Runs the evening with this crew, with a trace and a book or without.
+// Runs the evening with this crew, with a trace and a book or without, and with a board that is shown or not.
 fn run<C: Crew, R: Threads + Wait + Clock + Abort + Copy + Drop + Send + 'static>(
     rt: &R,
     alloc: Global,
     there: bool,
+    shown: bool,
     crew: &mut C,
 ) -> Result<Ended, RefusedRun> {
     let plan = plan(rt);
@@ -150,29 +152,35 @@ fn run<C: Crew, R: Threads + Wait + Clock + Abort + Copy + Drop + Send + 'static
     let mouths = mouths(rt, alloc);
     let traces = shelves(rt, alloc, there);
     let books = shelves(rt, alloc, there);
-    let lines = book(rt, alloc);
-    let board = must(rt, make_board(alloc, 1, 1));
+    let lines = if shown { Some(book(rt, alloc)) } else { None };
+    let board = must(rt, make_board(alloc, 1, 1, lines.is_some()));
     reflect_on_board(
         rt, alloc, &plan, ears, mouths, traces, books, lines, board, crew,
     )
 }
 
-// The last line tells of the whole evening, and the shelf of the module is as it was, with a book or without.
-fn expect_all_told(rt: &impl Abort, there: bool, ran: &Ended) {
-    assert!(rt; ran.lines.bytes().ends_with(LAST_LINE));
-    assert!(rt; !ran.lines_failed && !ran.house.book_failed);
-    assert!(rt; ran.house.books.len() == 1);
-    assert!(rt; ran.house.books[0].inner.is_some() == there);
+// Whether the last line tells of the whole evening, if there is one, and the shelf of the module is as it was.
+fn is_all_told(ran: &Ended, there: bool, shown: bool) -> bool {
+    let lines = match &ran.lines {
+        Some(lines) => shown && lines.bytes().ends_with(LAST_LINE),
+        None => !shown,
+    };
+    let books = ran
+        .house
+        .books
+        .iter()
+        .all(|book| book.inner.is_some() == there);
+    lines && books && !ran.lines_failed && !ran.house.book_failed
 }
 
 #[test]
 fn the_last_line_tells_all_of_an_evening(rt: HostRuntime) {
-    let ran = must(&rt, run(&rt, rt.alloc(), true, &mut StdCrew::new()));
-    expect_all_told(&rt, true, &ran);
-    drop(ran);
-    let ran = must(&rt, run(&rt, rt.alloc(), false, &mut StdCrew::new()));
-    expect_all_told(&rt, false, &ran);
-    drop(ran);
+    for (there, shown) in [(true, true), (false, true), (true, false), (false, false)] {
+        let ran = must(&rt, run(&rt, rt.alloc(), there, shown, &mut StdCrew::new()));
+        let told = is_all_told(&ran, there, shown);
+        drop(ran);
+        assert!(rt; told, "{there} {shown}");
+    }
 }
 
 // The crew refuses the start with this number.
@@ -183,7 +191,7 @@ fn refused_at<R: Threads + Wait + Clock + Abort + Copy + Drop + Send + 'static>(
 ) -> RefusedRun {
     let numbers = must(rt, Vec::from_array(alloc, [start]));
     let mut crew = RefusingCrew::new(numbers);
-    must_not(rt, run(rt, alloc, true, &mut crew))
+    must_not(rt, run(rt, alloc, true, true, &mut crew))
 }
 
 // Whichever start the crew refuses. The first is that of the watch.

@@ -1,3 +1,3 @@
+pub mod Marks
 pub mod Settled
 pub mod Texts
-pub mod Written

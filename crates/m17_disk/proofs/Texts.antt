@@ -42,24 +42,22 @@ beginning text more n = elim (cases_lt n (length text)) [
 ]
 
 -- what was taken is a first part of what was handed over, and what was written is one of that
-pub first_part : {L : Type 0} (start after : BookTold L) (pushed popped rest : List (List ℕ)) (failed : Bool) → pushed ≡ popped ++ rest
-    → HasText start (joined popped) failed after → (n : ℕ) × (after.written ≡ told_then start.written (take n (joined pushed)))
+pub first_part : {L : Type 0} (start after : BookTold L) (pushed popped rest : List ℕ) (failed : Bool) → pushed ≡ popped ++ rest
+    → HasText start popped failed after → (n : ℕ) × (after.written ≡ told_then start.written (take n pushed))
 first_part start after pushed popped rest false is h = (
-  length (joined popped),
-  (h.whole refl).0
-      ∙ ap (told_then start.written) (sym (ap (take (length (joined popped))) (ap joined is ∙ flat_map-append (λ b. b) popped rest)
-      ∙ take_at (joined popped) (joined rest) (length (joined popped)) refl)),
+  length popped,
+  (h.whole refl).0 ∙ ap (told_then start.written) (sym (ap (take (length popped)) is ∙ take_at popped rest (length popped) refl)),
 )
 first_part start after pushed popped rest true is h =
     let s = h.cut refl in
-    let b = beginning (joined popped) (joined rest) s.0 in (
+    let b = beginning popped rest s.0 in (
       b.0,
-      s.1 ∙ ap (told_then start.written) (b.1 ∙ sym (ap (take b.0) (ap joined is ∙ flat_map-append (λ b. b) popped rest))),
+      s.1 ∙ ap (told_then start.written) (b.1 ∙ sym (ap (take b.0) is)),
     )
 
 -- all of it
-pub all_of_it : {L : Type 0} (start after : BookTold L) (pushed popped : List (List ℕ)) (failed : Bool) → pushed ≡ popped → failed ≡ false
-    → HasText start (joined popped) failed after → HasText start (joined pushed) false after
+pub all_of_it : {L : Type 0} (start after : BookTold L) (pushed popped : List ℕ) (failed : Bool) → pushed ≡ popped → failed ≡ false
+    → HasText start popped failed after → HasText start pushed false after
 all_of_it start after pushed popped failed is sound h =
-    subst (λ (p : List (List ℕ)). HasText start (joined p) false after) (sym is)
-    (subst (λ (b : Bool). HasText start (joined popped) b after) sound h)
+    subst (λ (p : List ℕ). HasText start p false after) (sym is)
+    (subst (λ (b : Bool). HasText start popped b after) sound h)

@@ -1,12 +1,14 @@
 //! How a book and its thread are made.
 ghost use Rattle.std.specs.Prelude.{◌≡◌, IfOk};
+ghost use Rattle.m17_lane.specs.Ends.{new_popper, new_pusher};
 ghost use Rattle.m17_disk.specs.Queue.{IsNewQueue};
-ghost use Rattle.m17_disk.specs.Writing.{IsOfBook, IsReady};
+ghost use Rattle.m17_disk.specs.Writing.{IsMarker, IsOfBook, IsReady};
 
 use crate::queued_book::{QueuedBook, RESTS};
+use crate::slip::Slip;
 use crate::writer::Writer;
-use m17_crew::{Crew, Order, Running, StdCrew};
-use m17_lane::{Bell, Pusher, make_one_with};
+use m17_crew::{Crew, Running, StdCrew};
+use m17_lane::{Bell, Popper, Pusher, make_with};
 use m17_ports::Book;
 use m17_values::{Failed, NoMemory};
 use std::alloc::Global;
@@ -23,16 +25,19 @@ const SLIPS: u32 = 2048;
 #[derive(Drop)]
 pub struct Hand<B: Book + Drop + Send + 'static> {
     pub(crate) running: Running<Writer<B>>,
-    pub(crate) orders: Pusher<Order>,
+    pub(crate) marker: Pusher<Slip>,
     pub(crate) ended: Arc<AtomicBool, Global>,
 }
 
 impl<B: Book + Drop + Send + 'static> Model for Hand<B> {
     ghost use Rattle.m17_disk.specs.declared.writer.Writer.{Writer};
+    ghost use Rattle.m17_disk.specs.Writing.{IsMarker};
 
     ghost Value = { Writer B };
 
     ghost view = { λ h. h.running };
+
+    ghost invariant = { λ h. IsMarker h.running h.marker };
 }
 
 // A flag, for the thread, the book and the hand.
@@ -42,12 +47,12 @@ type Flags = (
     Arc<AtomicBool, Global>,
 );
 
-// A book, the job of its thread, the end by which that is told to stop, and the flag by which it is known to have ended.
+// A book, the job of its thread, the end by which that is sent the mark, and the flag by which it is known to have ended.
 #[derive(Drop)]
 struct Made<B, R: Drop> {
     book: QueuedBook<R>,
     writer: Writer<B>,
-    orders: Pusher<Order>,
+    marker: Pusher<Slip>,
     ended: Arc<AtomicBool, Global>,
 }
 
@@ -70,7 +75,7 @@ pub fn open<B: Book + Drop + Send + 'static, R: Threads + Wait + Copy + Drop + S
     let Made {
         book,
         writer,
-        orders,
+        marker,
         ended,
     } = made;
     match StdCrew::new().start(&rt, alloc, writer) {
@@ -78,7 +83,7 @@ pub fn open<B: Book + Drop + Send + 'static, R: Threads + Wait + Copy + Drop + S
             book,
             Hand {
                 running,
-                orders,
+                marker,
                 ended,
             },
         )),
@@ -97,16 +102,17 @@ fn make<B: Drop, R: Drop>(
     ensures inner { IfOk result (λ made. made.writer.book ≡ inner) }
     ensures ready { IfOk result (λ made. IsReady made.writer) }
     ensures one_lane { IfOk result (λ made. IsOfBook made.book made.writer) }
+    ensures marker { IfOk result (λ made. IsMarker made.writer made.marker) }
 {
     let bell = Bell::make(alloc)?;
-    let (to_thread, slips) = make_one_with(alloc, &bell, SLIPS)?;
-    let (orders, order) = make_one_with(alloc, &bell, 1)?;
+    let (to_thread, marker, slips) = make_lane(alloc, &bell)?;
     let (ended, seen, kept) = make_flags(alloc)?;
     let book = QueuedBook {
         rt,
         slips: to_thread,
         ended: seen,
         rests: RESTS,
+        over: false,
         gave_up: false,
         faults: 0,
         number,
@@ -115,16 +121,31 @@ fn make<B: Drop, R: Drop>(
         slips,
         book: inner,
         failed: false,
-        order,
         bell,
         ended,
+        marker: None,
     };
     Ok(Made {
         book,
         writer,
-        orders,
+        marker,
         ended: kept,
     })
+}
+
+// The lane: the ends of the book and of the mark, and that of the thread.
+fn make_lane(
+    alloc: Global,
+    bell: &Bell,
+) -> Result<(Pusher<Slip>, Pusher<Slip>, Popper<Slip>), NoMemory>
+    ensures { IfOk result (λ r. (r.2 ≡ new_popper r.2.lane 2048 2)
+        × (r.0 ≡ new_pusher r.2 0) × (r.1 ≡ new_pusher r.2 1)) }
+{
+    let (mut pushers, slips) = make_with(alloc, bell, 2, SLIPS)?;
+    match (pushers.pop(), pushers.pop()) {
+        (Some(marker), Some(to_thread)) => Ok((to_thread, marker, slips)),
+        _ => unreachable!(),
+    }
 }
 
 // A flag that isn't set.

@@ -2,7 +2,7 @@ ghost use Rattle.std.specs.Prelude.{◌≡◌, ◌++◌, ℕ, ◌-◌, ◌^◌, 
 ghost use Rattle.m17_io.specs.Faults.{HasCause};
 ghost use Rattle.m17_ports.specs.Told.{told_then};
 ghost use Rattle.m17_ports.specs.Ports.{next_number};
-ghost use Rattle.m17_disk.specs.Queue.{joined, queue_told, IsSameEnd};
+ghost use Rattle.m17_disk.specs.Queue.{joined, queue_told, HandsOver, Hands, HasGround, IsSameEnd};
 
 use crate::slip::Slip;
 use m17_lane::Pusher;
@@ -33,22 +33,29 @@ pub struct QueuedBook<R: Drop> {
     pub(crate) slips: Pusher<Slip>,
     pub(crate) ended: Arc<AtomicBool, Global>,
     pub(crate) rests: u32,
+    // Whether it has seen that the thread has ended.
+    pub(crate) over: bool,
     pub(crate) gave_up: bool,
     pub(crate) faults: u64,
     pub(crate) number: u64,
 }
 
 impl<R: Drop> Model for QueuedBook<R> {
+    ghost use Rattle.std.specs.Prelude.{◌≤◌};
     ghost use Rattle.m17_disk.specs.Queue.{QueueKept};
 
     ghost Value = { QueueKept };
 
     ghost view = { λ b. record {
       slips = b.slips;
+      rests = b.rests;
+      over = b.over;
       gave_up = b.gave_up;
       faults = b.faults;
       number = b.number;
     } };
+
+    ghost invariant = { λ b. b.rests ≤ 250 };
 }
 
 impl<R: Drop> QueuedBook<R> {
@@ -65,69 +72,80 @@ impl<R: Drop> QueuedBook<R> {
 }
 
 impl<R: Wait + Clock + Drop> QueuedBook<R> {
+    ghost use Rattle.m17_disk.specs.Queue.{QueueKept};
+
     // Hands the bytes over, and says whether it did. Where there are none there is nothing to hand over.
     fn hand_over(&mut self, bytes: &[u8]) -> bool
-        ensures handed { result ≡ true
-            → joined self.new.slips.pushed ≡ joined self.old.slips.pushed ++ bytes.now }
+        ensures handed { result ≡ true → Hands bytes.now self.old self.new }
         ensures kept { result ≡ false → self.new.slips.pushed ≡ self.old.slips.pushed }
+        ensures ground { result ≡ false → HasGround bytes.now self.old self.new }
         ensures same_lane { IsSameEnd self.old.slips self.new.slips }
-        ensures same { self.new ≡ record self.old { slips = self.new.slips } }
+        ensures same { self.new ≡ record self.old {
+          slips = self.new.slips;
+          rests = self.new.rests;
+          over = self.new.over;
+        } }
     {
         if bytes.is_empty() {
             return true;
         }
         // models/books.pml: ended-asked
-        if self.ended.load(Ordering::SeqCst) {
+        if self.is_over() {
             return false;
         }
         match Slip::of(bytes) {
-            Some(slip) => push_soon(
-                &self.rt,
-                &mut self.slips,
-                &self.ended,
-                &mut self.rests,
-                slip,
-            ),
+            Some(slip) => self.push_soon(slip),
             None => false,
         }
     }
-}
 
-// Puts the slip into the lane, and rests while that is full, as often as it may.
-fn push_soon<R: Wait + Clock>(
-    rt: &R,
-    slips: &mut Pusher<Slip>,
-    ended: &Arc<AtomicBool, Global>,
-    rests: &mut u32,
-    slip: Slip,
-) -> bool
-    ensures handed { result ≡ true
-        → joined slips.new.pushed ≡ joined slips.old.pushed ++ slip }
-    ensures kept { result ≡ false → slips.new.pushed ≡ slips.old.pushed }
-    ensures same_lane { IsSameEnd slips.old slips.new }
-{
-    let mut slip = slip;
-    for rested in 0..RESTS + 1 {
-        // models/books.pml: slip-tried
-        match slips.try_push(rt, slip) {
-            Ok(()) => {
-                if rested == 0 {
-                    *rests = rests.saturating_add(1).min(RESTS);
-                }
-                return true;
-            }
-            Err(back) => slip = back,
+    // Whether the thread has ended.
+    fn is_over(&mut self) -> bool
+        ensures seen { result ≡ true → self.new.over ≡ true }
+        ensures same { self.new ≡ record self.old { over = self.new.over } }
+    {
+        if self.ended.load(Ordering::SeqCst) {
+            self.over = true;
         }
-        // models/books.pml: end-asked-again
-        if *rests == 0 || ended.load(Ordering::SeqCst) {
-            return false;
-        }
-        // models/books.pml: rest-counted
-        *rests -= 1;
-        // models/books.pml: rested
-        thread::sleep(rt, Duration::from_millis(REST_MS));
+        self.over
     }
-    false
+
+    // Puts the slip into the lane, and rests while that is full, as often as it may.
+    fn push_soon(&mut self, slip: Slip) -> bool
+        ensures handed { result ≡ true → HandsOver slip self.old self.new }
+        ensures kept { result ≡ false → self.new.slips.pushed ≡ self.old.slips.pushed }
+        ensures ground { result ≡ false → HasGround slip self.old self.new }
+        ensures same_lane { IsSameEnd self.old.slips self.new.slips }
+        ensures same { self.new ≡ record self.old {
+          slips = self.new.slips;
+          rests = self.new.rests;
+          over = self.new.over;
+        } }
+    {
+        let mut slip = slip;
+        let most = self.rests;
+        for rested in 0..most + 1 {
+            // models/books.pml: slip-tried
+            match self.slips.try_push(&self.rt, slip) {
+                Ok(()) => {
+                    if rested == 0 {
+                        self.rests = self.rests.saturating_add(1).min(RESTS);
+                    }
+                    return true;
+                }
+                Err(back) => slip = back,
+            }
+            // models/books.pml: end-asked-again
+            if self.rests == 0 || self.is_over() {
+                return false;
+            }
+            // models/books.pml: rest-counted
+            self.rests -= 1;
+            // models/books.pml: rested
+            thread::sleep(&self.rt, Duration::from_millis(REST_MS));
+        }
+        unreachable!()
+    }
 }
 
 impl<R: Wait + Clock + Drop> Book for QueuedBook<R> {
@@ -147,9 +165,9 @@ impl<R: Wait + Clock + Drop> Book for QueuedBook<R> {
             ((n : ℕ) × (None ≡ told_then {A = ℕ} None (take n bytes.now))) }
         ensures same_device { self.new.number ≡ self.old.number }
 
-        // All of the bytes are handed over, behind those of the writes before, or nothing is.
-        ensures handed { OnOk result
-            (joined self.new.slips.pushed ≡ joined self.old.slips.pushed ++ bytes.now) }
+        // All of the bytes are handed over, behind those of the writes before, or nothing is. A write of no bytes hands nothing
+        // over; any other is one more write, for which it rested as often as its lane refused it.
+        ensures handed { OnOk result (Hands bytes.now self.old self.new) }
         ensures kept { OnErr result (self.new.slips.pushed ≡ self.old.slips.pushed) }
         ensures same_lane { IsSameEnd self.old.slips self.new.slips }
 
@@ -157,6 +175,10 @@ impl<R: Wait + Clock + Drop> Book for QueuedBook<R> {
         ensures given_up { OnErr result (self.new.gave_up ≡ true) }
         ensures stays { self.old.gave_up ≡ true → IsErr result }
         ensures goes_on { OnOk result (self.new.gave_up ≡ false) }
+
+        // The first failure has a ground.
+        ensures ground { OnErr result
+            (self.old.gave_up ≡ false → HasGround bytes.now self.old self.new) }
 
         // A failure is counted, and nothing else is.
         ensures counted { OnErr result (self.new.faults ≡ next_number self.old.faults) }

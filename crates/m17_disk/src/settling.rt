@@ -1,11 +1,13 @@
 //! How the threads of books come to their end.
-ghost use Rattle.std.specs.Prelude.{◌≡◌, ◌⊎◌, ◌↔◌, ◌+◌, ◌≤◌, [], reverse, Ok, Err, IfSome, vec_len, vec_capacity};
+ghost use Rattle.std.specs.Prelude.{◌≡◌, ◌⊎◌, ◌↔◌, ◌+◌, ◌≤◌, [], reverse, Ok, Err, All, vec_len, vec_capacity};
 ghost use Rattle.std.specs.List.{AllZip};
-ghost use Rattle.m17_disk.specs.Writing.{EndsAs, IsWritten, FailsToWrite, SaysOf, WriterDid};
+ghost use Rattle.m17_disk.specs.Queue.{IsSameEnd};
+ghost use Rattle.m17_disk.specs.Writing.{EndsAs, IsWritten, FailsToWrite, SaysOf};
 
 use crate::opening::Hand;
+use crate::slip::Slip;
 use crate::writer::Writer;
-use m17_crew::Order;
+use m17_lane::Pusher;
 use m17_ports::Book;
 use std::alloc::Global;
 use std::sync::atomic::{AtomicBool, Ordering};
@@ -90,27 +92,40 @@ impl<B: Book + Drop + Send + 'static> Hand<B> {
     /// come to its end within `rests` rests of a millisecond, of which it takes as many as it needs; it is left behind
     /// then.
     pub fn end<R: Threads + Wait + Clock>(self, rt: &R, rests: &mut u32) -> Option<Writer<B>>
-        ensures { IfSome result (λ k. WriterDid B.told self k) }
+        ensures { EndsAs B.told self result }
     {
         let Hand {
             running,
-            mut orders,
+            mut marker,
             ended,
         } = self;
-        // models/books.pml: stop-told
-        let _ = orders.try_push(rt, Order::Stop);
-        if is_set_within(rt, &ended, rests) {
-            // models/books.pml: joined
-            Some(running.join(rt))
-        } else {
-            None
+        if !ends_within(rt, &mut marker, &ended, rests) {
+            return None;
         }
+        // models/books.pml: joined
+        let mut writer = running.join(rt);
+        writer.marker = Some(marker);
+        Some(writer)
     }
 }
 
-// Rests until the flag is set, so often at the most, and says whether it is.
-fn is_set_within<R: Clock>(rt: &R, flag: &Arc<AtomicBool, Global>, rests: &mut u32) -> bool {
+// Sends the mark as soon as there is room for it, rests until the flag is set, so often at the most, and says whether it is.
+fn ends_within<R: Wait + Clock>(
+    rt: &R,
+    marker: &mut Pusher<Slip>,
+    flag: &Arc<AtomicBool, Global>,
+    rests: &mut u32,
+) -> bool
+    ensures same_lane { IsSameEnd marker.old marker.new }
+    ensures marks { All (λ bytes. bytes ≡ []) marker.old.pushed
+        → All (λ bytes. bytes ≡ []) marker.new.pushed }
+{
+    let mut sent = false;
     for _ in 0..RESTS + 1 {
+        // models/books.pml: mark-sent
+        if !sent {
+            sent = marker.try_push(rt, Slip::mark()).is_ok();
+        }
         // models/books.pml: end-awaited
         if flag.load(Ordering::SeqCst) {
             return true;

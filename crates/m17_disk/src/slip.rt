@@ -1,4 +1,4 @@
-ghost use Rattle.std.specs.Prelude.{◌≡◌, ◌≤◌, length, IfSome};
+ghost use Rattle.std.specs.Prelude.{◌≡◌, ◌≤◌, ◌<◌, [], length, IfSome, IfNone};
 
 use arrayvec::ArrayVec;
 use std::marker::Model;
@@ -6,7 +6,8 @@ use std::marker::Model;
 /// How many bytes one write may have. A header, a record or an entry has 101 at the most.
 pub(crate) const SLIP_BYTES: usize = 112;
 
-/// The bytes of one write, on their way to the thread that makes it. Contracts see the list of bytes.
+/// The bytes of one write, on their way to the thread that makes it; or none, which is the mark behind the last write.
+/// Contracts see the list of bytes.
 #[derive(Drop)]
 pub struct Slip(ArrayVec<u8, SLIP_BYTES>);
 
@@ -21,13 +22,21 @@ impl Model for Slip {
 impl Slip {
     // The slip of these bytes, where they are not too many.
     pub(crate) fn of(bytes: &[u8]) -> Option<Slip>
-        ensures { IfSome result (λ slip. slip ≡ bytes.now) }
+        ensures slip { IfSome result (λ slip. slip ≡ bytes.now) }
+        ensures too_many { IfNone result (112 < length bytes.now) }
     {
         let mut slip = ArrayVec::new();
         match slip.try_extend_from_slice(bytes) {
             Ok(()) => Some(Slip(slip)),
             Err(_) => None,
         }
+    }
+
+    // The mark behind the last write.
+    pub(crate) fn mark() -> Slip
+        ensures { result ≡ [] }
+    {
+        Slip(ArrayVec::new())
     }
 
     // Its bytes.

@@ -2,17 +2,17 @@ ghost use Rattle.std.specs.Prelude.{◌≡◌};
 ghost use Rattle.m17_disk.specs.Writing.{IsReady, WriterDid};
 
 use crate::slip::Slip;
-use crate::writing::write_next;
-use m17_crew::{Order, Work};
-use m17_lane::{Bell, Popper};
+use crate::writing::{Waited, write_next};
+use m17_crew::Work;
+use m17_lane::{Bell, Popper, Pusher};
 use m17_ports::Book;
 use std::alloc::Global;
 use std::sync::atomic::{AtomicBool, Ordering};
 use std::sync::{Arc, Wait};
 
 /// The job of a book's thread: it takes what was handed over and writes it to its book, what waits together in one
-/// write, and sleeps while nothing waits. It ends at the first write that fails; and where it was told to stop, once
-/// nothing waits any more. Then it says so. It takes no memory.
+/// write, and sleeps while nothing waits. It ends at the first write that fails, and where it takes the mark behind the
+/// last write. Then it says so. It takes no memory.
 #[derive(Drop)]
 pub struct Writer<B> {
     /// What is to be written.
@@ -21,12 +21,12 @@ pub struct Writer<B> {
     pub book: B,
     /// Whether a write failed.
     pub failed: bool,
-    /// Where it is told to stop.
-    pub order: Popper<Order>,
-    /// Where it sleeps: what is handed over and what it is told ring this bell.
+    /// Where it sleeps: what is handed over rings this bell.
     pub bell: Bell,
     /// Whether it has ended, for those who wait for that, and for the book.
     pub ended: Arc<AtomicBool, Global>,
+    /// The end by which it was sent the mark, once it has ended.
+    pub marker: Option<Pusher<Slip>>,
 }
 
 impl<B: Book + Drop + Send + 'static> Work for Writer<B> {
@@ -47,19 +47,16 @@ impl<B: Book> Writer<B> {
         requires { IsReady self.old }
         ensures { WriterDid B.told self.old self.new }
     {
-        let mut stops = false;
         for _ in rt.forever() {
             // models/books.pml: sleep-announced
             let announced = self.bell.announce();
-            // models/books.pml: order-looked
-            stops = stops || self.order.try_pop(rt).is_some();
             // models/books.pml: slips-taken
-            let some = write_next(rt, &mut self.slips, &mut self.book, &mut self.failed);
+            let waited = write_next(rt, &mut self.slips, &mut self.book, &mut self.failed);
             // models/books.pml: end-decided
-            if self.failed || (stops && !some) {
+            if self.failed || waited == Waited::Mark {
                 return;
             }
-            if !some {
+            if waited == Waited::Nothing {
                 // models/books.pml: slept
                 announced.sleep(rt);
             }

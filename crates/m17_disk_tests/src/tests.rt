@@ -106,7 +106,7 @@ fn three_written<R: Threads + Wait + Clock + Abort + Copy + Drop + Send + 'stati
     must(&rt, book.write(b"record"));
     let mut rests = 5000;
     let writer = hand.end(&rt, &mut rests).expect(&rt, "the end");
-    all_written(&rt, book, writer)
+    must(&rt, all_written(&rt, alloc, book, writer))
 }
 
 #[test]

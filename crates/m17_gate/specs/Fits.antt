@@ -1,5 +1,5 @@
 -- Which rule fits, and what is allowed.
-use Rattle.std.specs.Prelude.{◌==◌, ◌&&◌, ℕ, Bool, true, false, List, find, is_none, nat_eq, Option, None, Some}
+use Rattle.std.specs.Prelude.{◌==◌, ◌&&◌, ℕ, Bool, true, false, List, [], ◌∷◌, find, is_none, nat_eq, Option, None, Some}
 use Rattle.std.specs.List.{starts_with}
 use Rattle.std.specs.Option.{option_map_or}
 use Rattle.m17_callsign.specs.Letters.{callsign_of}
@@ -60,6 +60,10 @@ is_allow Deny = false
 abbrev pub allows_asked : List Rule → Asked → Bool
 allows_asked rules asked =
     option_map_or (λ (rule : Rule). is_allow rule.act) (find (λ rule. fits rule asked) rules) true
+
+-- the one rule that denies everything
+abbrev pub deny_all : List Rule
+deny_all = record { act = Deny; kind = Any; modules = None; pattern = Every } ∷ []
 
 -- What is asked is allowed, if anything is.
 abbrev pub allows_any : List Rule → Option Asked → Bool

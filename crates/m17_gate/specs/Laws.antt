@@ -1,8 +1,9 @@
 -- What a gate does to packets, by the packets that bytes spell.
-use Rattle.std.specs.Prelude.{◌≡◌, ℕ, true, List, None, Contains, if◌then◌else◌}
+use Rattle.std.specs.Prelude.{◌≡◌, ℕ, true, List, [], None, Contains, if◌then◌else◌}
 use Rattle.m17_values.specs.declared.heard.Heard.{Heard}
 use Rattle.m17_values.specs.declared.heard.Heard.TheVariants.{Datagram, Quiet}
 use Rattle.m17_values.specs.declared.peer.Peer.{Peer}
+use Rattle.m17_ports.specs.Ear.{EarTold}
 use Rattle.m17_control.specs.Forms.{Spells, Refuses}
 use Rattle.m17_control.specs.declared.packet.Packet.{Packet}
 use Rattle.m17_control.specs.declared.packet.Refusal.{Refusal}
@@ -10,6 +11,12 @@ use Rattle.m17_gate.specs.declared.rule.Rule.{Rule}
 use Rattle.m17_gate.specs.Asking.{asked_by, asked_in}
 use Rattle.m17_gate.specs.Fits.{allows}
 use Rattle.m17_gate.specs.Gated.{gated_entry, gated}
+
+-- The first ear tells of what was heard, of faults and of its mark what the second does.
+pub record IsHeardAs {K L : Type 0} (gate : EarTold K) (ear : EarTold L) : Type 0 where
+  pub heard : gate.heard ≡ ear.heard
+  pub faults : gate.faults ≡ ear.faults
+  pub mark : gate.device.mark ≡ ear.device.mark
 
 -- What bytes ask is what the packet asks that they spell; those that spell none ask nothing.
 pub record BytesAskAsPackets : Type 0 where
@@ -32,3 +39,7 @@ abbrev pub DeniedIsNotHeard : Type 0
 DeniedIsNotHeard = (rules : List Rule) (entries : List Heard) (from : Peer) (at : ℕ)
     (bytes : List ℕ) (packet : Packet) → Contains (gated rules entries) (Datagram from at bytes)
     → Spells packet bytes → allows rules packet ≡ true
+
+-- A gate without rules lets each entry through as it is.
+abbrev pub NoRulesLetAllThrough : Type 0
+NoRulesLetAllThrough = (entries : List Heard) → gated [] entries ≡ entries

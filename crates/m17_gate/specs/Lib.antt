@@ -3,6 +3,7 @@ pub mod Text
 pub mod Asking
 pub mod Fits
 pub mod Gated
+pub mod Links
 pub mod Laws
 -- for proofs alone
 pub mod Answers

@@ -1,6 +1,10 @@
 //! What a gate does to packets, for callers to cite by name. Each is a function without
 //! arguments, which does nothing and ensures the law.
-ghost use Rattle.m17_gate.specs.Laws.{BytesAskAsPackets, GateIsExact, DeniedIsNotHeard};
+ghost use Rattle.std.specs.Prelude.{[]};
+ghost use Rattle.m17_gate.specs.Gated.{gate_told};
+ghost use Rattle.m17_gate.specs.Laws.{BytesAskAsPackets, GateIsExact, DeniedIsNotHeard, IsHeardAs, NoRulesLetAllThrough};
+
+use m17_ports::Ear;
 
 /// The bytes of a datagram ask what the packet asks that they spell, and nothing where they spell
 /// none.
@@ -26,3 +30,10 @@ pub fn denied_is_not_heard()
 {
     bytes_ask_as_packets();
 }
+
+/// A gate without rules hears what its ear hears, and fails where that does.
+pub fn no_rules_change_nothing<E: Ear>()
+    ensures entries { NoRulesLetAllThrough }
+    ensures ears { (ear : E)
+        → IsHeardAs (gate_told E.told (record { inner = ear; rules = [] })) (E.told ear) }
+{}

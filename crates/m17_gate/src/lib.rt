@@ -9,9 +9,11 @@
 
 mod asked;
 mod gate;
+mod gated_ports;
 pub mod laws;
 mod letters;
 mod line;
+mod link_rules;
 mod nowhere;
 mod pattern;
 mod quick;
@@ -22,7 +24,9 @@ mod rules;
 
 pub use asked::Asked;
 pub use gate::{Gate, GateLabel};
+pub use gated_ports::GatedPorts;
 pub use letters::Letters;
+pub use link_rules::LinkRules;
 pub use quick::QuickRules;
 pub use reading::read_rules;
 pub use refusal::{Reason, RulesRefusal};

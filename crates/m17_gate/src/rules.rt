@@ -1,4 +1,4 @@
-ghost use Rattle.std.specs.Prelude.{◌≡◌, [], ◌∷◌, ◌++◌, IfOk, OnOk};
+ghost use Rattle.std.specs.Prelude.{◌≡◌, ◌↔◌, [], ◌∷◌, ◌++◌, IsTrue, IfOk, OnOk};
 ghost use Rattle.m17_callsign.specs.Letters.{callsign_of};
 ghost use Rattle.m17_gate.specs.Fits.{address_in, allows, allows_asked, fits, is_about, is_allow, matches_address, serves_module};
 
@@ -33,6 +33,13 @@ impl Rules {
         Rules {
             list: Vec::new(alloc),
         }
+    }
+
+    /// Whether there are none.
+    pub(crate) fn is_empty(&self) -> bool
+        ensures { IsTrue result ↔ (self.now ≡ []) }
+    {
+        self.list.is_empty()
     }
 
     /// Puts a rule behind the others.

@@ -15,10 +15,7 @@ use Rattle.m17_reflect.specs.Judged.{head_at}
 use Rattle.m17_reflect.specs.Headline.{Headline}
 use Rattle.m17_reflect.specs.Run.{Devices, Run, Handed}
 use Rattle.m17_words.specs.declared.order.ServeOrder.{ServeOrder}
-use Rattle.m17_gate.specs.declared.rule.Rule.{Rule}
-use Rattle.m17_serve.specs.Boards.{run_on_board, AroundBoard, ServesOnBoard}
-use Rattle.m17_serve.specs.Gates.{behind_gates}
-use Rattle.m17_serve.specs.Served.{Around, IsServable, Serves, ServesBy, run_told}
+use Rattle.m17_serve.specs.Served.{run_told, Around, IsServable, Serves}
 
 -- the records of module m of a run that has this trail
 abbrev pub trail_records : {E M B : Type 0} → Run E M B → ℕ → TrailEnd Event → List Record
@@ -42,33 +39,12 @@ BooksOfRunsAreLegal E M B =
     At run.after.books m after → StartsEmpty before.written → after.written ≡ Some bytes →
     ¬ HasRisen before.faults after.faults → HaveLegalBook run m bytes
 
--- A book that is handed back, tells its bytes and has never failed is a legal book of its module,
--- under the limit of its header.
+-- A book that `serve` hands back, tells its bytes and has never failed is a legal book of its
+-- module, under the limit of its header.
 abbrev pub BooksOfServeAreLegal : (E M B : Type 0) → Type 0
 BooksOfServeAreLegal E M B =
-    (order : ServeOrder) (run : Around E M B) (devices : Devices E M (Option B))
-    (handed : Handed) (serves : Serves order run devices handed) → IsServable order →
+    (order : ServeOrder) (run : Around E M B) (devices : Devices E M (Option B)) (handed : Handed)
+    (failed : Bool) (serves : Serves order run devices handed failed) → IsServable order →
     (m : ℕ) (book : BookTold (Option B)) (bytes : List ℕ) → At devices.books m book →
     book.written ≡ Some bytes → book.faults ≡ 0 →
-    HaveLegalBook (run_told order serves.new devices handed) m bytes
-
--- The same of a run by rules, in which the links heard what passed the gates.
-abbrev pub BooksByRulesAreLegal : (E M B : Type 0) → Type 0
-BooksByRulesAreLegal E M B =
-    (rules : List Rule) (order : ServeOrder) (run : Around E M B) (devices : Devices E M (Option B))
-    (handed : Handed) (serves : ServesBy (behind_gates rules) order run devices handed) →
-    IsServable order → (m : ℕ) (book : BookTold (Option B)) (bytes : List ℕ) →
-    At devices.books m book → book.written ≡ Some bytes → book.faults ≡ 0 → HaveLegalBook
-    (run_told order (behind_gates rules serves.new) (behind_gates rules devices) handed) m bytes
-
--- The same of a run with a board, whatever the reflector sees of the devices, as long as it sees their books as they are.
-abbrev pub BooksOnBoardAreLegal : (E X M B : Type 0) → Type 0
-BooksOnBoardAreLegal E X M B =
-    (seen : Devices E M (Option B) → Devices X M (Option B)) →
-    ((d : Devices E M (Option B)) → (seen d).books ≡ d.books) →
-    (order : ServeOrder) (name : List ℕ) (around : AroundBoard E M B)
-    (devices : Devices E M (Option B)) (handed : Handed) (lines_failed : Bool)
-    (serves : ServesOnBoard seen order name around devices handed lines_failed) →
-    IsServable order → (m : ℕ) (book : BookTold (Option B)) (bytes : List ℕ) →
-    At devices.books m book → book.written ≡ Some bytes → book.faults ≡ 0 → HaveLegalBook
-    (run_on_board order serves.posters (seen serves.new) (seen devices) handed) m bytes
+    HaveLegalBook (run_told order run devices handed failed serves) m bytes

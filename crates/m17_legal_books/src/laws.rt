@@ -1,5 +1,5 @@
 //! What follows for the books of a run. Each function does nothing: its clause is the law.
-ghost use Rattle.m17_legal_books.specs.Laws.{BooksByRulesAreLegal, BooksOfRunsAreLegal, BooksOfServeAreLegal, BooksOnBoardAreLegal};
+ghost use Rattle.m17_legal_books.specs.Laws.{BooksOfRunsAreLegal, BooksOfServeAreLegal};
 
 /// The book of a module is legal, whatever its links heard: where it told nothing before the run and tells bytes after it,
 /// and its count of faults didn't rise, these are its header, which names the plan's limit, and records that break no rule
@@ -11,24 +11,9 @@ pub fn books_of_runs_are_legal<E, M, B>()
 }
 
 /// A book that `serve` hands back, tells its bytes and has never failed is a legal book of its module, under the
-/// limit of its header, whatever the links heard. That is the limit of the words.
+/// limit of its header, whatever the links heard, and whether a board is shown or not. That is the limit of the words.
 pub fn books_of_serve_are_legal<E, M, B>()
     ensures { BooksOfServeAreLegal E M B }
 {
-    books_of_runs_are_legal::<E, M, Option<B>>();
-}
-
-/// The same of a book that `serve_by_rules` hands back, whatever its rules denied.
-pub fn books_by_rules_are_legal<E, M, B>()
-    ensures { BooksByRulesAreLegal E M B }
-{
-    books_of_runs_are_legal::<m17_gate::GateLabel<E>, M, Option<B>>();
-}
-
-/// The same of a book that `serve_on_board` or `serve_on_board_by_rules` hands back. `X` is the kind of the labels of the
-/// ears that the reflector sees: gates by rules, and else `E`.
-pub fn books_on_board_are_legal<E, X, M, B>()
-    ensures { BooksOnBoardAreLegal E X M B }
-{
-    books_of_runs_are_legal::<X, M, m17_board_run::KeptLabel<B>>();
+    books_of_runs_are_legal::<E, M, m17_board_run::KeptLabel<B>>();
 }

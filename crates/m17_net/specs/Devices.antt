@@ -1,5 +1,5 @@
 -- What contracts see of an ear, a mouth and a book of a real machine, and of its ports.
-use Rattle.std.specs.Prelude.{◌≡◌, ◌≢◌, ◌⊎◌, ℕ, suc, min, ◌-◌, ◌^◌, ◌≤◌, List, [], ◌∷◌, take, Bool, false, Option, option_map, None, Some}
+use Rattle.std.specs.Prelude.{◌≡◌, ◌≢◌, ◌⊎◌, ℕ, suc, min, ◌-◌, ◌^◌, ◌≤◌, List, [], ◌∷◌, take, Bool, true, false, Option, option_map, None, Some}
 use Rattle.std.specs.Net.Addr.{is_ipv6}
 use Rattle.std.specs.Net.Grammar.{IsSocketText}
 use Rattle.std.specs.Net.Socket.{socket_ip}
@@ -18,15 +18,17 @@ use Rattle.m17_disk.specs.declared.writer.Writer.{Writer}
 use Rattle.m17_net.specs.Address.{IsPeerAt, IsAddressOf}
 use Rattle.m17_net.specs.Moments.{ReadsMoment}
 use Rattle.m17_net.specs.Wire.{Sent}
+use Rattle.m17_net.specs.Stops.{StopKept}
 
 -- an ear: its clock, its socket, the instant from which its moments are counted, the moment at which it ends, if it does,
--- its last moment, whether it may wait long, the moment of the last datagram, if one came, whether its socket was last told
--- to wait long, how often it has failed, and its number
+-- what ends it before, its last moment, whether it may wait long, the moment of the last datagram, if one came, whether its
+-- socket was last told to wait long, how often it has failed, and its number
 pub record EarKept (C W : Type 0) : Type 0 where
   pub clock : C
   pub wire : W
   pub start : Instant
   pub until : Option ℕ
+  pub stop : StopKept
   pub last : ℕ
   pub rests : Bool
   pub came : Option ℕ
@@ -35,12 +37,14 @@ pub record EarKept (C W : Type 0) : Type 0 where
   pub number : ℕ
 
 -- an ear that has heard nothing
-abbrev pub new_ear : {C W : Type 0} → C → W → Instant → Option ℕ → Bool → ℕ → EarKept C W
-new_ear clock wire start until rests n = record {
+abbrev pub new_ear : {C W : Type 0} → C → W → Instant → Option ℕ → StopKept → Bool → ℕ
+    → EarKept C W
+new_ear clock wire start until stop rests n = record {
   clock = clock;
   wire = wire;
   start = start;
   until = until;
+  stop = stop;
   last = 0;
   rests = rests;
   came = None;
@@ -95,11 +99,12 @@ file_book_told book = record {
   device = record { mark = Some book.number; label = tt };
 }
 
--- ports: the instant that they read when they were made, if their clock gave one, whether their ears may wait long, how many
--- calls there were, and how often they have failed
+-- ports: the instant that they read when they were made, if their clock gave one, whether their ears may wait long, whether
+-- something stops these, how many calls there were, and how often they have failed
 pub record PortsKept : Type 0 where
   pub start : Option Instant
   pub rests : Bool
+  pub stops : Bool
   pub calls : ℕ
   pub faults : ℕ
 
@@ -121,6 +126,10 @@ pub record IsBegun {F : Type 0} (job : Writer (BookKept F)) : Type 0 where
 abbrev pub IsOver : Option ℕ → ℕ → Type 0
 IsOver None last = ⊥
 IsOver (Some until) last = until ≤ last
+
+-- It is over, or has seen that it is to stop.
+abbrev pub IsDone : Option ℕ → Bool → ℕ → Type 0
+IsDone until stopped last = IsOver until last ⊎ (stopped ≡ true)
 
 -- the answer tells this moment, if it tells one
 abbrev pub TellsMoment : Heard → ℕ → Type 0
@@ -182,29 +191,31 @@ SendsTo six datagram before after = (address : SocketAddr) × IsAddressOf six da
     × (after ≡ told_then before ((address, datagram.1) ∷ []))
 
 -- The halves of a link that is new: both have this number, the ear counts its moments from the start of the ports, ends at
--- its moment and may wait long where those of the ports may, and the mouth knows whether the address that was asked for is
--- one of IPv6.
+-- its moment, stops where those of the ports do and may wait long where they may, and the mouth knows whether the address
+-- that was asked for is one of IPv6.
 pub record IsNewLink {C W : Type 0} (bind : List ℕ) (until : Option ℕ) (start : Option Instant)
-    (rests : Bool) (n : ℕ) (link : EarKept C W × MouthKept W) : Type 0 where
+    (rests stops : Bool) (n : ℕ) (link : EarKept C W × MouthKept W) : Type 0 where
   pub address : SocketAddr
   pub text : IsSocketText bind address
   pub started : start ≡ Some link.0.start
-  pub ear : link.0 ≡ new_ear link.0.clock link.0.wire link.0.start until rests n
+  pub ear : link.0 ≡ new_ear link.0.clock link.0.wire link.0.start until
+      (record { there = stops; seen = false }) rests n
   pub mouth : link.1 ≡ new_mouth link.1.wire (is_ipv6 (socket_ip address)) n
 
--- What an ear that counts its moments from an instant, and ends at a moment or never, does at one call.
-pub record Listens (start : Instant) (until : Option ℕ)
+-- What an ear that counts its moments from an instant, and ends at a moment or never, does at one call. `stopped` says
+-- whether it has seen that it is to stop.
+pub record Listens (start : Instant) (until : Option ℕ) (stopped : Bool)
     (before : EarFound) (answer : Heard) (after : EarFound) : Type 0 where
-  -- an ear that is over leaves its socket alone
-  pub over : IsOver until before.last → (answer ≡ heard.End) × (after ≡ before)
-  -- it ends at the first moment at which it is over, and at no earlier one
-  pub ends : answer ≡ heard.End → IsOver until after.last
+  -- an ear that is over, or stopped, leaves its socket alone
+  pub over : IsDone until stopped before.last → (answer ≡ heard.End) × (after ≡ before)
+  -- it ends where it is stopped, and at the first moment at which it is over, and at no earlier one
+  pub ends : answer ≡ heard.End → IsDone until stopped after.last
   pub goes_on : answer ≢ heard.End → answer ≢ heard.Fault → ¬ (IsOver until after.last)
   -- no moment lies before an earlier one
   pub forward : before.last ≤ after.last
   pub moment : TellsMoment answer after.last
   -- it reads its clock once, and its moment is that of the reading; a Fault has none, and changes none
-  pub reads : ¬ (IsOver until before.last) → answer ≢ heard.Fault
+  pub reads : ¬ (IsDone until stopped before.last) → answer ≢ heard.Fault
       → ReadsMoment start (before.readings, before.last) (after.readings, after.last)
   pub reads_none : answer ≡ heard.Fault
       → (after.readings ≡ before.readings) × (after.last ≡ before.last)

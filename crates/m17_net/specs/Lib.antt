@@ -5,7 +5,9 @@ pub mod Wire
 pub mod Moments
 pub mod Files
 pub mod Devices
+pub mod Stops
 pub mod Waits
 pub mod Laws
 -- for proofs alone
+pub mod Stopping
 pub mod Taking

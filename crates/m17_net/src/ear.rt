@@ -6,10 +6,12 @@ ghost use Rattle.m17_ports.specs.Ear.{EndsPastCount};
 ghost use Rattle.m17_ports.specs.Ports.{next_number};
 ghost use Rattle.m17_net.specs.Devices.{ear_found, CountsFault, IsOver, Listens};
 ghost use Rattle.m17_net.specs.Moments.{ReadsMoment};
+ghost use Rattle.m17_net.specs.Stops.{LooksSo, no_stop};
 ghost use Rattle.m17_net.specs.Taking.{Comes, CountsUnread, SaysWhatCame, TellsAt};
-ghost use Rattle.m17_net.specs.Waits.{ChoosesWait, IsAlone, IsEarly, WaitsLong, last_came, wait_told};
+ghost use Rattle.m17_net.specs.Waits.{ChoosesWait, IsAlone, IsEarly, WaitsLong, last_came, long_wait, wait_told};
 ghost use Rattle.m17_net.specs.Wire.{CountsError};
 
+use crate::stop::Stop;
 use crate::taking::{Taken, take_one};
 use crate::timer::Timer;
 use crate::wire::Wire;
@@ -26,6 +28,9 @@ pub(crate) const WAIT_MS: u64 = 20;
 /// How long an ear waits at the most where nobody is there, in milliseconds.
 const LONG_WAIT_MS: u64 = 5_000;
 
+/// The same where something may stop it, so that it sees that within a second.
+const STOPPING_WAIT_MS: u64 = 1_000;
+
 /// How long nothing has come where nobody is there, in milliseconds: longer than a reflector keeps a member that is silent,
 /// so nobody is left who could be pinged, sent an echo or found silent.
 const NOBODY_MS: u64 = 40_000;
@@ -35,13 +40,15 @@ const FAR_MS: u64 = 2 * LONG_WAIT_MS;
 
 /// The receiving half of a UDP socket. Moments are milliseconds since the ports were made. It waits for a datagram for 20 ms
 /// at the most; one that may rest waits for 5 seconds where none came for 40 seconds, or none ever, while its end is 10
-/// seconds away or more.
+/// seconds away or more. One that something may stop waits for a second in place of the five; it ends at the first call
+/// after that has come.
 #[derive(Drop)]
 pub struct UdpEar<C: Timer + Drop, W: Wire + Drop = UdpSocket> {
     clock: C,
     wire: W,
     start: Instant,
     until: Option<u64>,
+    stop: Stop,
     last: u64,
     // Whether it may wait long, the moment of the last datagram, and whether its socket was told to wait long.
     rests: bool,
@@ -61,6 +68,7 @@ impl<C: Timer + Drop, W: Wire + Drop> Model for UdpEar<C, W> {
       wire = e.wire;
       start = e.start;
       until = e.until;
+      stop = e.stop;
       last = e.last;
       rests = e.rests;
       came = e.came;
@@ -82,13 +90,14 @@ impl<C: Timer + Drop, W: Wire + Drop> UdpEar<C, W> {
         rests: bool,
         number: u64,
     ) -> UdpEar<C, W>
-        ensures { result ≡ new_ear clock wire start until rests number }
+        ensures { result ≡ new_ear clock wire start until no_stop rests number }
     {
         UdpEar {
             clock,
             wire,
             start,
             until,
+            stop: Stop::none(),
             last: 0,
             rests,
             came: None,
@@ -96,6 +105,15 @@ impl<C: Timer + Drop, W: Wire + Drop> UdpEar<C, W> {
             faults: 0,
             number,
         }
+    }
+
+    // The same ear, which this may stop.
+    pub(crate) fn stopped_by(self, stop: Stop) -> UdpEar<C, W>
+        ensures { result ≡ record self { stop = stop } }
+    {
+        let mut ear = self;
+        ear.stop = stop;
+        ear
     }
 
     // Whether its last moment is one at which it is over.
@@ -132,7 +150,7 @@ impl<C: Timer + Drop, W: Wire + Drop> UdpEar<C, W> {
     fn choose_wait(&mut self)
         ensures chosen { self.new.long ≡ true ↔ WaitsLong self.old }
         ensures told { W.waits self.new.wire ≡ told_then (W.waits self.old.wire)
-            (wait_told self.old.long self.new.long) }
+            (wait_told self.old.stop.there self.old.long self.new.long) }
         ensures nothing_taken { W.taken self.new.wire ≡ W.taken self.old.wire }
         ensures nothing_sent { W.sent self.new.wire ≡ W.sent self.old.wire }
         ensures sound { W.broken self.new.wire ≡ W.broken self.old.wire }
@@ -143,9 +161,20 @@ impl<C: Timer + Drop, W: Wire + Drop> UdpEar<C, W> {
     {
         let long = self.rests && self.is_alone() && self.is_early();
         if long != self.long {
-            self.wire
-                .wait_at_most(if long { LONG_WAIT_MS } else { WAIT_MS });
+            let ms = if long { self.long_wait() } else { WAIT_MS };
+            self.wire.wait_at_most(ms);
             self.long = long;
+        }
+    }
+
+    // How long a long wait of its is.
+    fn long_wait(&self) -> u64
+        ensures { result ≡ long_wait self.now.stop.there }
+    {
+        if self.stop.is_there() {
+            STOPPING_WAIT_MS
+        } else {
+            LONG_WAIT_MS
         }
     }
 
@@ -268,8 +297,8 @@ impl<C: Timer + Drop, W: Wire + Drop> Ear for UdpEar<C, W> {
             → None ≡ told_then {A = Heard} None (result ∷ []) }
         ensures same_device { self.new.number ≡ self.old.number }
 
-        // What it says is what its socket took, and when.
-        ensures listens { Listens self.old.start self.old.until
+        // What it says is what its socket took, and when. It is stopped where it sees that at this call, or saw it before.
+        ensures listens { Listens self.old.start self.old.until self.new.stop.seen
             (ear_found (W.taken self.old.wire) (W.sent self.old.wire) (W.broken self.old.wire)
             (C.readings self.old.clock) (C.unread self.old.clock) self.old.last) result
             (ear_found (W.taken self.new.wire) (W.sent self.new.wire) (W.broken self.new.wire)
@@ -277,12 +306,13 @@ impl<C: Timer + Drop, W: Wire + Drop> Ear for UdpEar<C, W> {
         ensures counted_so { CountsFault result self.old.faults self.new.faults }
         ensures same_start { self.new.start ≡ self.old.start }
         ensures same_end { self.new.until ≡ self.old.until }
+        ensures stop { LooksSo self.old.stop self.new.stop.seen self.new.stop }
 
         // How long its socket waits for that.
         ensures waits { ChoosesWait self.old (W.waits self.old.wire) result
             self.new (W.waits self.new.wire) }
     {
-        if self.is_over() {
+        if self.stop.look() || self.is_over() {
             return Heard::End;
         }
         self.choose_wait();

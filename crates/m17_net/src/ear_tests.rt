@@ -4,9 +4,12 @@ use crate::bench::{
     Answer, BROKEN, Beats, Gives, Hands, INTERRUPTED, LATE, NETWORK_DOWN, NO_HOST, NO_NETWORK,
     REFUSED, Scripted, WAITED, must, nothing_seen, peer,
 };
+use crate::stop::Stop;
 use m17_ports::Ear;
 use m17_values::{Gram, Heard};
 use std::process::Abort;
+use std::sync::Arc;
+use std::sync::atomic::{AtomicBool, Ordering};
 use std::time::Instant;
 
 // An ear on a socket that answers so, which ends at this moment.
@@ -194,6 +197,28 @@ fn waits_of<R: Abort>(rt: &R, rests: bool) -> ([(u64, u64); 9], bool) {
 fn an_ear_waits_long_where_nobody_is_there(rt: HostRuntime) {
     assert!(rt; waits_of(&rt, true) == (RESTING_WAITS, true));
     assert!(rt; waits_of(&rt, false) == ([(0, 0); 9], true));
+}
+
+// A stop is seen at the next call, which leaves the socket alone. Until then it waits for a second where nobody is there.
+#[test]
+fn an_ear_that_is_stopped_ends_at_its_next_call(rt: HostRuntime) {
+    let seen = nothing_seen();
+    let clock = Beats {
+        seen: &seen,
+        until: 100,
+    };
+    let flag = must(&rt, Arc::new(rt.alloc(), AtomicBool::new(false)));
+    let stop = Stop::at(must(&rt, Arc::try_clone(&flag)));
+    let start = must(&rt, Instant::now(&clock));
+    let wire = Scripted {
+        answers: &[WAITED],
+        seen: &seen,
+    };
+    let mut ear = UdpEar::new(clock, wire, start, None, true, 0).stopped_by(stop);
+    let quiet = matches!(ear.hear(), Heard::Quiet { .. });
+    flag.store(true, Ordering::SeqCst);
+    let ended = ear.hear() == Heard::End && ear.hear() == Heard::End;
+    assert!(rt; quiet && ended && seen.waits.get() == (1_000, 1) && seen.calls.get() == 1);
 }
 
 #[test]

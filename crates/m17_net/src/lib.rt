@@ -1,5 +1,6 @@
 //! The devices of a real machine: an ear and a mouth on a UDP socket of IPv4 or IPv6, a book in a file, whose writes a
-//! thread of its own makes (`m17_disk`), and ports that make them. Over any socket (`Wire`), clock (`Timer`) and file
+//! thread of its own makes (`m17_disk`), and ports that make them. These may lock the folder of their books, open no file
+//! twice, and may be told of a file whose end stops their ears. Over any socket (`Wire`), clock (`Timer`) and file
 //! (`BookFile`), it promises what an ear says of each datagram that the socket took, and at which moment, that a mouth
 //! sends one datagram with exactly its bytes to the address of its peer, that a book writes each record whole, that
 //! each of them fails only where its socket, clock or file did, and that each failure is counted and nothing else is;
@@ -15,7 +16,10 @@ mod file_book;
 mod late_file;
 pub mod laws;
 mod mouth;
+mod open_files;
 mod ports;
+mod stop;
+mod stopping;
 mod taking;
 mod timer;
 mod trouble;

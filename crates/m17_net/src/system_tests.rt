@@ -313,6 +313,73 @@ fn a_book_is_made_anew_and_holds_what_was_written(rt: HostRuntime) {
     assert!(rt; anew && !below && !other);
 }
 
+// A file of this process's folder of books, by the text behind the folder's name.
+fn place_in<R: AllocGlobal + Env + Abort>(rt: &R, id: u32, name: &str) -> String {
+    let folder = place_of_book(rt, id);
+    let folder = folder.as_str();
+    must(rt, format!(in rt.alloc(); "{folder}{name}"))
+}
+
+// Ports that lock the folder of this process, with threads for three books.
+fn locking_ports<
+    R: Net
+        + Files<File = File>
+        + Clock
+        + AllocGlobal
+        + Threads
+        + Wait
+        + Env
+        + Copy
+        + Drop
+        + Send
+        + Abort
+        + 'static,
+>(rt: R, id: u32) -> UdpPorts<R> {
+    let mut ports = UdpPorts::new(rt, false).locking(place_in(&rt, id, "/lock"));
+    for _book in 0..3 {
+        let _hand = must(&rt, ports.staff());
+    }
+    ports
+}
+
+// A folder that one run has locked is no other's, until that has ended; and none opens a file twice, by whatever name.
+#[test]
+fn a_folder_is_one_runs_and_a_file_is_opened_once(rt: HostRuntime) {
+    let id = process::id(rt.process());
+    let file = place_in(&rt, id, "/a");
+    must(&rt, fs::create_dir(&rt, place_in(&rt, id, "").as_str()));
+    must(
+        &rt,
+        fs::write(&rt, file.as_str(), "what stood there before"),
+    );
+    let mut second = locking_ports(rt, id);
+    let mut ports = locking_ports(rt, id);
+    let first = makes_book(&mut ports, place_in(&rt, id, "/b").as_str());
+    let locked = makes_book(&mut second, file.as_str());
+    let kept = holds(&rt, file.as_str(), b"what stood there before");
+    let made = makes_book(&mut ports, file.as_str()) && holds(&rt, file.as_str(), b"");
+    let again = makes_book(&mut ports, place_in(&rt, id, "/./b").as_str());
+    drop(ports);
+    let after = makes_book(&mut second, file.as_str());
+    must(&rt, fs::remove_dir_all(&rt, place_in(&rt, id, "").as_str()));
+    assert!(rt; first && !locked && kept && made && !again && after);
+}
+
+// A link whose ear the end of a file stops, which comes at once where the file has none of what a FIFO has; and none where
+// there is no file.
+#[test]
+fn the_end_of_a_file_stops_an_ear(rt: HostRuntime) {
+    let name = place_in(&rt, process::id(rt.process()), ".stop");
+    let mut none = UdpPorts::new(rt, true).stopping(rt, must(&rt, name.clone()));
+    let missing = gives_link(&mut none, "127.0.0.1:0");
+    must(&rt, fs::write(&rt, name.as_str(), "x"));
+    let mut ports = UdpPorts::new(rt, false).stopping(rt, must(&rt, name.clone()));
+    let (mut ear, _mouth) = must(&rt, ports.link("127.0.0.1:0", None));
+    let ended = quiet_until(&mut ear, u64::MAX).is_some();
+    must(&rt, fs::remove_file(&rt, name.as_str()));
+    assert!(rt; !missing && ended);
+}
+
 // Writes once to a device that is always full, and then until that fails, a second at the most: whether it came to fail.
 fn write_to_full<P: Ports, R: Clock + Abort>(rt: &R, ports: &mut P) -> bool
 where

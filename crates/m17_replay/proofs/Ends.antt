@@ -1,5 +1,5 @@
 -- What is written of a replay, and how `replay` comes to its end.
-use Rattle.std.proofs.Common.{◌≡◌, ℕ, Bool, true, false, List, [], ◌++◌, length, map, take, drop, Option, None, Some, Result, Ok, Err, refl, sym, ap, subst, ◌∙◌, inr, arith, MatchResult}
+use Rattle.std.proofs.Common.{◌≡◌, ◌≢◌, ℕ, Bool, true, false, List, [], ◌++◌, length, map, take, drop, Option, None, Some, Result, Ok, Err, refl, sym, ap, subst, ◌∙◌, inr, arith, MatchResult}
 use Rattle.std.specs.List.{flat_map, range_with_len}
 use Rattle.std.proofs.lemmas.List.{take-append-drop}
 use Rattle.m17_values.specs.declared.failures.Failed.{Failed}
@@ -11,6 +11,7 @@ use Rattle.m17_directory.specs.Entries.{Entry, peers_named}
 use Rattle.m17_plan.specs.declared.plan.Plan.{Plan}
 use Rattle.m17_house.specs.Laws.{AReplayThereIs}
 use Rattle.m17_replay.specs.Summary.{counts_text, peers_text}
+use Rattle.m17_replay.specs.declared.ending.ReplayEnding.TheVariants.{CrewRefused}
 use Rattle.m17_replay.specs.declared.judging.Replayed.{Replayed}
 use Rattle.m17_replay.specs.Laws.{TextIsFreeOfPlaces}
 use Rattle.m17_replay.specs.Replay.{failed_device, heard_count, line_of, lines_text, outcome_of, replay_text, streams, summary_text, tally_at, ComesToReplay, EndsBeforeText, IsReplayText}
@@ -101,6 +102,12 @@ pub text_was_due : {T E : Type 0} (result : Result T E) (lost : Bool) → EndsBe
 text_was_due (Ok v) true before = before
 text_was_due (Ok v) false before = before
 text_was_due (Err failed) lost before = before
+
+-- no crew is told of what was printed
+pub never_crew : {T E : Type 0} (result : Result T E) (lost : Bool) → judged_ending result lost ≢ CrewRefused
+never_crew (Ok v) true is = cc
+never_crew (Ok v) false is = cc
+never_crew (Err failed) lost is = cc
 
 -- what an answer says of one of its cases
 pub in_ok : {T E : Type 0} (result : Result T E) (P : T → Type 0) (Q : E → Type 0) (value : T) → result ≡ Ok value → MatchResult result P Q → P value

@@ -15,12 +15,23 @@ use Rattle.m17_port_memory.specs.Kept.{TalliesKept}
 use Rattle.m17_port_memory.specs.Peers.{named_in}
 use Rattle.m17_plan.specs.declared.plan.Plan.{Plan}
 use Rattle.m17_house.specs.Free.{IsFreelyReplayed}
-use Rattle.m17_house.specs.Replay.{packet_verdict}
+use Rattle.m17_house.specs.Laws.{ReplaysGiveFreely}
+use Rattle.m17_house.specs.Replay.{packet_verdict, IsReplayed}
 use Rattle.m17_plan.specs.Planned.{setup_of}
 use Rattle.m17_replay.specs.declared.judging.Replayed.{Replayed}
 use Rattle.m17_replay.specs.Replay.{is_lost}
 use Rattle.m17_replay.specs.Run.{is_fault_heard, AreNamed, CanPrint, IsJudged}
 use Rattle.m17_replay.proofs.HeardLemmas.{length_says, says_at, says_fault}
+
+-- the plain replay is one in which places are given freely
+pub freely : ReplaysGiveFreely → (plan : Plan) (heard : List Heard) (verdicts : List LinkVerdict) (packets : List (Option Verdict)) (mouth : TalliesKept) → IsReplayed plan heard verdicts packets mouth → IsFreelyReplayed plan heard verdicts packets mouth
+freely law plan heard verdicts packets mouth is = record {
+  entries = is.entries;
+  replay = law plan heard is.entries is.replay;
+  each = is.each;
+  each_packet = is.each_packet;
+  tallies = is.tallies;
+}
 
 -- so many of these are heard, up to the first that ends the link
 abbrev pub IsToEnd : List Heard → ℕ → Type 0

@@ -10,17 +10,19 @@ use Rattle.m17_floor.specs.declared.verdict.Verdict.{Verdict}
 use Rattle.m17_directory.specs.declared.verdict.LinkVerdict.{LinkVerdict}
 use Rattle.m17_directory.specs.Entries.{Entry, peers_named, with_peer}
 use Rattle.m17_port_memory.specs.Kept.{TalliesKept}
-use Rattle.m17_port_memory.specs.Peers as mouth
+use Rattle.m17_port_memory.specs.Peers as peers
 use Rattle.m17_plan.specs.declared.plan.Plan.{Plan}
-use Rattle.m17_house.specs.Free.{IsFreeReplayOf}
-use Rattle.m17_house.specs.Replay.{verdicts_of, packet_verdicts_of}
+use Rattle.m17_house.specs.Free.{IsFreelyReplayed, IsFreeReplayOf}
+use Rattle.m17_house.specs.Replay.{verdicts_of, packet_verdicts_of, HasNoTallies}
 use Rattle.m17_io.specs.declared.fault.Fault.{Fault}
 use Rattle.m17_print.specs.declared.kind.Kind.{Kind}
 use Rattle.m17_print.specs.Kinds.{kind_place, kind_word}
 use Rattle.m17_replay.specs.Summary.{count_at, count_line, Outcome}
 use Rattle.m17_replay.specs.declared.ending.ReplayEnding.{ReplayEnding}
 use Rattle.m17_replay.specs.declared.ending.ReplayEnding.TheVariants.{Finished, LinkLost, WriteFailed}
+use Rattle.m17_replay.specs.declared.judging.Page.{Page}
 use Rattle.m17_replay.specs.declared.judging.Replayed.{Replayed}
+use Rattle.m17_replay_run.specs.Tapes.{OutcomesKept}
 use Rattle.m17_replay.specs.Replay.{failed_device, heard_count, is_lost, tally_at}
 
 -- The text was appended to what stood there; or, where the sink failed, a first part of it.
@@ -51,8 +53,8 @@ judged_ending (Err _) lost = WriteFailed
 
 -- the peers that were named before, and the sender of what is heard next
 abbrev pub with_heard : Heard → List Peer → List Peer
-with_heard (heard.Datagram from at bytes) peers = with_peer from peers
-with_heard _ peers = peers
+with_heard (heard.Datagram from at bytes) named = with_peer from named
+with_heard _ named = named
 
 -- what was heard is that the socket failed
 abbrev pub is_fault_heard : Heard → Bool
@@ -72,11 +74,11 @@ pub record AreVerdicts (plan : Plan) (entries : List Entry) (verdicts : List Lin
 
 -- Each of the peers has a tally; and each tally is the one of its peer.
 abbrev pub AreNamed : List Peer → TalliesKept → Type 0
-AreNamed peers kept = (x : Peer) → Contains peers x → Contains (mouth.named_in kept.entries) x
+AreNamed named kept = (x : Peer) → Contains named x → Contains (peers.named_in kept.entries) x
 
 abbrev pub TalliesAre : (Peer → Tally) → TalliesKept → Type 0
 TalliesAre tally kept =
-    (x : Peer) (t : Tally) → mouth.tally_at kept.entries x ≡ Some t → t ≡ tally x
+    (x : Peer) (t : Tally) → peers.tally_at kept.entries x ≡ Some t → t ≡ tally x
 
 -- All that is printed is there: the verdicts reach so far, and each peer that is named has a tally.
 pub record CanPrint (replayed : Replayed) : Type 0 where
@@ -99,3 +101,26 @@ pub record IsJudged (plan : Plan) (summary : Bool) (heard : List Heard) (replaye
   pub is_replay : IsFreeReplayOf plan heard entries
   pub is_lost_so : is_lost entries ≡ replayed.lost
   pub stands : StandsFor plan summary entries replayed
+
+-- what is kept for printing, of what was known before a replay and of what that came to
+abbrev pub kept_on : Page → OutcomesKept → TalliesKept → Replayed
+kept_on page outcomes mouth = record {
+  outcomes = outcomes;
+  mouth = mouth;
+  named = page.named;
+  lost = page.lost;
+  count = page.count;
+}
+
+-- The mouth has said nothing; and whatever a replay comes to that speaks on it, what is kept then is judged, and can be
+-- printed.
+pub record IsPreparedFor (summary : Bool) (heard : List Heard) (made : Page × TalliesKept)
+    : Type 0 where
+  pub empty : HasNoTallies made.1
+  pub judged : (plan : Plan) (outcomes : OutcomesKept) (mouth : TalliesKept) →
+      IsFreelyReplayed plan heard outcomes.verdicts outcomes.packets mouth →
+      IsJudged plan summary heard (kept_on made.0 outcomes mouth)
+  pub can_print : (plan : Plan) (outcomes : OutcomesKept) (mouth : TalliesKept) →
+      IsFreelyReplayed plan heard outcomes.verdicts outcomes.packets mouth →
+      peers.named_in mouth.entries ≡ peers.named_in made.1.entries →
+      CanPrint (kept_on made.0 outcomes mouth)

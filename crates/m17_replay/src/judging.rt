@@ -4,16 +4,18 @@ ghost use Rattle.m17_book.specs.Answers.{HasEnd};
 ghost use Rattle.m17_plan.specs.Planned.{IsPlan};
 ghost use Rattle.m17_reflect.specs.declared.returned.HouseRefusal.TheVariants as refusals;
 ghost use Rattle.m17_reflect.specs.Views.{IsRefusedFor};
-ghost use Rattle.m17_replay.specs.Run.{is_fault_heard, CanPrint, IsJudged};
+ghost use Rattle.m17_replay.specs.Run.{is_fault_heard, kept_on, CanPrint, IsJudged, IsPreparedFor};
 
 use crate::hearing::{count_to_end, is_fault};
+use crate::outcomes::Outcomes;
 use crate::peers::{make_mouth, name_peers_for};
 use m17_crew::Crew;
+use m17_house::{laws as house_laws, replay_plain};
 use m17_plan::Plan;
 use m17_port_memory::TallyMouth;
 use m17_reflect::HouseRefusal;
-use m17_replay_run::{Outcomes, Replay, replay_over_threads};
-use m17_values::{Heard, Peer};
+use m17_replay_run::replay_over_threads;
+use m17_values::{Heard, NoMemory, Peer};
 use std::alloc::Global;
 use std::sync::Wait;
 use std::thread::Threads;
@@ -33,9 +35,38 @@ pub(crate) struct Replayed {
     pub count: usize,
 }
 
-// Judges what was heard, over threads, once the peers of the summary are named, where one is asked for. All that printing
-// needs is made before the run.
-pub(crate) fn judge_heard<C: Crew, R: Threads + Wait + Copy + Send + 'static>(
+// What printing needs beside the verdicts and tallies, known before the replay.
+#[derive(Drop)]
+pub(crate) struct Page {
+    // The peers that are named in the summary.
+    pub named: Vec<Peer>,
+    // Whether the link is lost.
+    pub lost: bool,
+    // How many entries are heard before the end.
+    pub count: usize,
+}
+
+// Judges what was heard, in one thread, once the peers of the summary are named, where one is asked for. All that
+// printing needs is made before the first entry is heard.
+pub(crate) fn judge(
+    alloc: Global,
+    plan: &Plan,
+    summary: bool,
+    heard: &[Heard],
+) -> Result<Replayed, NoMemory>
+    requires plan { IsPlan plan.now }
+    requires ends { HasEnd heard.now }
+    ensures judged { IfOk result (λ replayed. IsJudged plan.now summary heard.now replayed) }
+    ensures can_print { IfOk result CanPrint }
+{
+    house_laws::answers_are_free_of_places();
+    let (page, mut mouth) = prepare(alloc, summary, heard)?;
+    let (verdicts, packets) = replay_plain(alloc, plan, heard, &mut mouth)?;
+    Ok(keep(page, Outcomes::of_lists(verdicts, packets), mouth))
+}
+
+// The same over threads.
+pub(crate) fn judge_over_threads<C: Crew, R: Threads + Wait + Copy + Send + 'static>(
     rt: &R,
     alloc: Global,
     plan: &Plan,
@@ -52,36 +83,33 @@ pub(crate) fn judge_heard<C: Crew, R: Threads + Wait + Copy + Send + 'static>(
     // Want of memory comes before the crew is asked for anything: no thread was started.
     ensures unasked { IfErr result (λ why. why ≡ refusals.NoMemory → crew.new ≡ crew.old) }
 {
-    let front = &heard[..count_to_end(&heard)];
-    let lost = ends_in_fault(front);
-    let count = count_heard(front.len(), lost);
-    let Ok(named) = name_peers_for(alloc, summary, front) else {
-        return Err(HouseRefusal::NoMemory);
-    };
-    let Ok(mouth) = make_mouth(alloc, &named) else {
+    let Ok((page, mouth)) = prepare(alloc, summary, &heard) else {
         return Err(HouseRefusal::NoMemory);
     };
     match replay_over_threads(rt, alloc, plan, heard, mouth, crew) {
-        Ok(replay) => Ok(kept_of(replay, named, lost, count)),
+        Ok(replay) => Ok(keep(page, Outcomes::of_tapes(replay.outcomes), replay.mouth)),
         Err(refused) => Err(refused.why),
     }
 }
 
-// What is kept of a replay for printing. What was heard is let go.
-fn kept_of(replay: Replay, named: Vec<Peer>, lost: bool, count: usize) -> Replayed
-    ensures { result ≡ record {
-      outcomes = replay.outcomes;
-      mouth = replay.mouth;
-      named = named;
-      lost = lost;
-      count = count;
-    } }
+// All that printing needs of what was heard, and a mouth for its replay.
+fn prepare(alloc: Global, summary: bool, heard: &[Heard]) -> Result<(Page, TallyMouth), NoMemory>
+    requires { HasEnd heard.now }
+    ensures { IfOk result (IsPreparedFor summary heard.now) }
 {
-    let Replay {
-        outcomes,
-        mouth,
-        ..
-    } = replay;
+    let front = &heard[..count_to_end(heard)];
+    let lost = ends_in_fault(front);
+    let count = count_heard(front.len(), lost);
+    let named = name_peers_for(alloc, summary, front)?;
+    let mouth = make_mouth(alloc, &named)?;
+    Ok((Page { named, lost, count }, mouth))
+}
+
+// What is kept of a replay for printing.
+fn keep(page: Page, outcomes: Outcomes, mouth: TallyMouth) -> Replayed
+    ensures { result ≡ kept_on page outcomes mouth }
+{
+    let Page { named, lost, count } = page;
     Replayed {
         outcomes,
         mouth,

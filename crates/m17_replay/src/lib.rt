@@ -11,6 +11,7 @@ mod judging;
 mod kind;
 pub mod laws;
 mod lines;
+mod outcomes;
 mod peers;
 mod reading;
 mod reason;
@@ -23,7 +24,7 @@ pub use counts::Counts;
 pub use ending::ReplayEnding;
 pub use kind::kind_of;
 pub use reason::TraceReason;
-pub use replay_command::replay;
+pub use replay_command::{replay, replay_over_threads};
 pub use summary_lines::{make_entries_line, make_kind_line, make_peer_line};
 pub use verdict_line::make_verdict_line;
 

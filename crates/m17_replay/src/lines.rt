@@ -6,10 +6,10 @@ ghost use Rattle.m17_plan.specs.declared.plan.Plan.{Plan};
 ghost use Rattle.m17_replay.specs.Replay.{line_of};
 ghost use Rattle.m17_replay.specs.Run.{AreVerdicts, Writes};
 
+use crate::outcomes::Outcomes;
 use crate::verdict_line::make_verdict_line;
 use m17_io::Sink;
 use m17_print::Line;
-use m17_replay_run::Outcomes;
 use m17_values::Failed;
 
 // Writes a line that was made.

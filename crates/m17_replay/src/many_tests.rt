@@ -4,7 +4,7 @@ ghost use Rattle.std.specs.Prelude.{◌≡◌, Ok};
 ghost use Rattle.m17_plan.specs.Planned.{IsPlan};
 
 use crate::tests::{CONN_A, plan};
-use crate::{ReplayEnding, replay};
+use crate::{ReplayEnding, replay, replay_over_threads};
 use m17_book::write_entry;
 use m17_crew::StdCrew;
 use m17_memory::{BytesSink, BytesSource};
@@ -100,19 +100,37 @@ fn summary_text(rt: &impl Abort, alloc: Global, row: Row) -> Vec<u8> {
     text
 }
 
-// Whether the replay came to its end, and its text.
-fn summary_of<R: Threads + Wait + Abort + Copy + Send + 'static>(
-    rt: &R,
+// Whether the replay in one thread came to its end, and its text.
+fn plain(
+    rt: &impl Abort,
     alloc: Global,
     plan: &Plan,
-    bytes: Vec<u8>,
+    summary: bool,
+    bytes: &[u8],
 ) -> (bool, Vec<u8>)
     requires { IsPlan plan.now }
 {
-    let mut source = BytesSource::new(bytes, Vec::new(alloc));
+    let mut source = BytesSource::new(must(rt, bytes.to_vec(alloc)), Vec::new(alloc));
+    let mut sink = must(rt, BytesSink::make(alloc, 30_000, Vec::new(alloc)));
+    let ended = replay(alloc, plan, summary, &mut source, &mut sink);
+    let finished = ended.ok() == Some(ReplayEnding::Finished);
+    (finished, must(rt, sink.bytes().to_vec(alloc)))
+}
+
+// The same over threads.
+fn threaded<R: Threads + Wait + Abort + Copy + Send + 'static>(
+    rt: &R,
+    alloc: Global,
+    plan: &Plan,
+    summary: bool,
+    bytes: &[u8],
+) -> (bool, Vec<u8>)
+    requires { IsPlan plan.now }
+{
+    let mut source = BytesSource::new(must(rt, bytes.to_vec(alloc)), Vec::new(alloc));
     let mut sink = must(rt, BytesSink::make(alloc, 30_000, Vec::new(alloc)));
     let mut crew = StdCrew::new();
-    let ended = replay(rt, alloc, plan, true, &mut crew, &mut source, &mut sink);
+    let ended = replay_over_threads(rt, alloc, plan, summary, &mut crew, &mut source, &mut sink);
     let finished = ended.ok() == Some(ReplayEnding::Finished);
     (finished, must(rt, sink.bytes().to_vec(alloc)))
 }
@@ -126,8 +144,53 @@ fn a_summary_names_each_of_very_many_peers_of_a_very_long_trace(
         assert!(rt; 0 < places && places < 257);
         let plan = plan(places, "ABC")?;
         let bytes = trace(&rt, rt.alloc(), peers, quiets);
-        let (finished, text) = summary_of(&rt, rt.alloc(), &plan, bytes);
-        assert!(rt; finished && text == summary_text(&rt, rt.alloc(), row));
+        let text = summary_text(&rt, rt.alloc(), row);
+        let (finished, one) = plain(&rt, rt.alloc(), &plan, true, &bytes);
+        assert!(rt; finished && one == text);
+        let (finished, other) = threaded(&rt, rt.alloc(), &plan, true, &bytes);
+        assert!(rt; finished && other == text);
+    }
+    Ok(())
+}
+
+// What comes at a moment of an evening over all modules, drawn by the number of the entry: a peer joins a module or moves
+// to another, talks, leaves, or nothing comes.
+fn drawn(n: u16) -> Heard {
+    let host = (n % 41) as u8;
+    let at = 20 * u64::from(n);
+    let letter = b'A' + (n / 7 % 26 * 11 % 26) as u8;
+    match n % 6 {
+        0 => {
+            let mut asks = [0; 11];
+            asks.copy_from_slice(CONN_A);
+            asks[10] = letter;
+            m17_samples::said(host, at, &asks)
+        }
+        1 => Heard::Quiet { at },
+        2 if n % 5 == 0 => m17_samples::said(host, at, b"DISC\x00\x00\x00\x9f\xdd\x51"),
+        _ => {
+            let packet = m17_samples::frame(n / 50 + u16::from(host), n % 50, n % 50 == 49);
+            m17_samples::said(host, at, &m17_stream::write(&packet))
+        }
+    }
+}
+
+// More peers ask than there are places, and each module is asked for; whichever thread is the first, both have one text.
+#[test]
+fn an_evening_over_26_modules_is_the_same_text_over_threads(rt: HostRuntime) -> Result<(), Fail> {
+    let alloc = rt.alloc();
+    let plan = plan(32, "ABCDEFGHIJKLMNOPQRSTUVWXYZ")?;
+    let mut bytes = must(&rt, b"M17TRACE".to_vec(alloc));
+    for n in 0..1500u16 {
+        add(&rt, &mut bytes, &drawn(n));
+    }
+    for summary in [false, true] {
+        let (finished, one) = plain(&rt, alloc, &plan, summary, &bytes);
+        assert!(rt; finished);
+        for _run in 0..2 {
+            let (finished, other) = threaded(&rt, alloc, &plan, summary, &bytes);
+            assert!(rt; finished && other == one);
+        }
     }
     Ok(())
 }

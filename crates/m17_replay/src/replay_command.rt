@@ -1,14 +1,17 @@
-ghost use Rattle.std.specs.Prelude.{◌≡◌, ℕ, true, List, Some, IfOk, OnErr, MatchResult};
+ghost use Rattle.std.specs.Prelude.{◌≡◌, ◌≢◌, ℕ, true, List, [], Some, IfOk, OnErr, MatchResult};
 ghost use Rattle.m17_io.specs.Faults.{HasCause, HasCauses};
+ghost use Rattle.m17_values.specs.declared.heard.Heard.{Heard};
+ghost use Rattle.m17_book.specs.Book.{IsTrace};
 ghost use Rattle.m17_print.specs.Endings.{Grows};
 ghost use Rattle.m17_plan.specs.Planned.{IsPlan};
 ghost use Rattle.m17_directory.specs.Entries.{Entry};
 ghost use Rattle.m17_plan.specs.declared.plan.Plan.{Plan};
 ghost use Rattle.m17_replay.specs.Replay.{failed_device, replay_text, streams, summary_text, ComesToReplay, EndsBeforeText, TellsCrew};
-ghost use Rattle.m17_replay.specs.Run.{judged_ending, CanPrint, StandsFor, Writes};
+ghost use Rattle.m17_replay.specs.declared.ending.ReplayEnding.TheVariants.{CrewRefused};
+ghost use Rattle.m17_replay.specs.Run.{judged_ending, CanPrint, IsJudged, StandsFor, Writes};
 
 use crate::ReplayEnding;
-use crate::judging::{Replayed, judge_heard};
+use crate::judging::{Replayed, judge, judge_over_threads};
 use crate::laws::replay_text_is_free_of_places;
 use crate::lines::print_lines;
 use crate::reading::read_heard;
@@ -23,11 +26,55 @@ use std::alloc::Global;
 use std::sync::Wait;
 use std::thread::Threads;
 
-/// Replays a trace: reads it whole, has the reflector of this plan hear it again over threads, patiently, and writes a
-/// line for each entry, or with `summary` one page of counts. Nothing is written before the input was read to its end.
+/// Replays a trace, in one thread: reads it whole, has a reflector of this plan hear it again, entry by entry, and writes
+/// a line for each entry, or with `summary` one page of counts. Nothing is written before the input was read to its end.
 /// The input is refused with the place and reason of the form of traces; the answer says how the run ended, and the last
 /// line is the caller's to write. `NoMemory` where there is none, before an entry is heard.
-pub fn replay<S: Input<K>, K: Sink, C: Crew, R: Threads + Wait + Copy + Send + 'static>(
+pub fn replay<S: Input<K>, K: Sink>(
+    alloc: Global,
+    plan: &Plan,
+    summary: bool,
+    input: &mut S,
+    out: &mut K,
+) -> Result<ReplayEnding, NoMemory>
+    requires { IsPlan plan.now }
+    // A device is told to have failed exactly where its count of faults rose.
+    ensures causes { IfOk result (λ ending. HasCauses ((S.told input.old).faults, (K.told out.old).faults)
+        ((S.told input.new).faults, (K.told out.new).faults) (failed_device ending)) }
+    // What the ending says of the input holds, and what it prints stands written.
+    ensures ended { IfOk result (λ ending. (bytes : List ℕ) → (S.told input.old).left ≡ Some bytes →
+        ComesToReplay plan.now summary ending
+        (streams bytes (S.told input.new).left (K.told out.old).written (K.told out.new).written)) }
+    ensures appended { Grows (K.told out.old).written (K.told out.new).written }
+    // Nothing was written of an input that is refused, or where the source failed, whatever the source tells.
+    ensures unwritten { IfOk result (λ ending. EndsBeforeText ending →
+        (K.told out.new).written ≡ (K.told out.old).written) }
+    // There is no crew that could refuse a start.
+    ensures no_crew { IfOk result (λ ending. ending ≢ CrewRefused) }
+    // Want of memory comes before anything was written, and no device has failed then.
+    ensures untouched { OnErr result ((K.told out.new).written ≡ (K.told out.old).written) }
+    ensures no_fault { OnErr result (((S.told input.new).faults ≡ (S.told input.old).faults)
+        × ((K.told out.new).faults ≡ (K.told out.old).faults)) }
+{
+    let heard = match read_heard(alloc, input, out) {
+        Ok(Ok(heard)) => heard,
+        Ok(Err(ending)) => return Ok(ending),
+        Err(no_memory) => return Err(no_memory),
+    };
+    match judge(alloc, plan, summary, &heard) {
+        Ok(replayed) => Ok(print(summary, &replayed, out)),
+        Err(no_memory) => Err(no_memory),
+    }
+}
+
+/// The same over threads: the reflector of this plan hears the trace again patiently, each of its parts in a thread of its
+/// own. What it prints is the same text. `CrewRefused` where the crew refuses to start a thread, before an entry is heard.
+pub fn replay_over_threads<
+    S: Input<K>,
+    K: Sink,
+    C: Crew,
+    R: Threads + Wait + Copy + Send + 'static,
+>(
     rt: &R,
     alloc: Global,
     plan: &Plan,
@@ -59,21 +106,36 @@ pub fn replay<S: Input<K>, K: Sink, C: Crew, R: Threads + Wait + Copy + Send + '
     ensures no_fault { OnErr result (((S.told input.new).faults ≡ (S.told input.old).faults)
         × ((K.told out.new).faults ≡ (K.told out.old).faults)) }
 {
-    house_laws::a_replay_there_is();
-    replay_text_is_free_of_places();
     let heard = match read_heard(alloc, input, out) {
         Ok(Ok(heard)) => heard,
-        Ok(Err(ending)) => return Ok(ending),
+        Ok(Err(stopped)) => return Ok(stopped),
         Err(no_memory) => return Err(no_memory),
     };
-    let replayed = match judge_heard(rt, alloc, plan, summary, heard, crew) {
-        Ok(replayed) => replayed,
-        Err(HouseRefusal::Crew) => return Ok(ReplayEnding::CrewRefused),
-        Err(HouseRefusal::NoMemory) => return Err(NoMemory),
-    };
-    let lost = replayed.lost;
-    let printed = print_replayed(summary, &replayed, out);
-    Ok(ending_of(printed, lost))
+    match judge_over_threads(rt, alloc, plan, summary, heard, crew) {
+        Ok(replayed) => Ok(print(summary, &replayed, out)),
+        Err(HouseRefusal::Crew) => Ok(ReplayEnding::CrewRefused),
+        Err(HouseRefusal::NoMemory) => Err(NoMemory),
+    }
+}
+
+// Prints what was judged of a trace, and answers how the run ends.
+fn print<K: Sink>(summary: bool, replayed: &Replayed, out: &mut K) -> ReplayEnding
+    requires can { CanPrint replayed.now }
+    ensures causes { (a b c : ℕ) → HasCauses (a, b) (c, (K.told out.old).faults) None →
+        HasCauses (a, b) (c, (K.told out.new).faults) (failed_device result) }
+    ensures ended { (plan : Plan) (bytes : List ℕ) (heard : List Heard) → IsTrace bytes heard →
+        IsJudged plan summary heard replayed.now → ComesToReplay plan summary result
+        (streams bytes (Some []) (K.told out.old).written (K.told out.new).written) }
+    ensures appended { (plan : Plan) (heard : List Heard) →
+        IsJudged plan summary heard replayed.now →
+        Grows (K.told out.old).written (K.told out.new).written }
+    ensures late { EndsBeforeText result → ⊥ }
+    ensures no_crew { result ≢ CrewRefused }
+{
+    house_laws::a_replay_there_is();
+    replay_text_is_free_of_places();
+    let printed = print_replayed(summary, replayed, out);
+    ending_of(printed, replayed.lost)
 }
 
 // How a run ends whose trace was judged.

@@ -13,11 +13,11 @@ ghost use Rattle.m17_replay.specs.Run.{kind_line, kinds_text, AreNamed, AreVerdi
 
 use crate::counts::Counts;
 use crate::lines::write_line;
+use crate::outcomes::Outcomes;
 use crate::summary_lines::{make_entries_line, make_kind_line, make_peer_line};
 use m17_io::Sink;
 use m17_port_memory::TallyMouth;
 use m17_print::{Kind, Line};
-use m17_replay_run::Outcomes;
 use m17_values::{Failed, Peer};
 
 // Counts the first `count` entries by their kinds.

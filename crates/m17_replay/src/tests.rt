@@ -1,7 +1,7 @@
 ghost use Rattle.std.specs.Prelude.{◌<◌, IfOk};
 ghost use Rattle.m17_plan.specs.Planned.{IsPlan};
 
-use crate::{ReplayEnding, TraceReason, replay};
+use crate::{ReplayEnding, TraceReason, replay, replay_over_threads};
 use m17_book::write_entry;
 use m17_callsign::{CallAddress, encode};
 use m17_control::Modules;
@@ -70,8 +70,8 @@ fn trace(alloc: Global, heard: &[Heard]) -> Result<Vec<u8>, Fail> {
     Ok(bytes)
 }
 
-// Replays these bytes, and looks at how that ends and at what was written. The devices fail at the calls of these
-// numbers.
+// Replays these bytes, in one thread and over threads, and looks at how that ends and at what was written. The devices
+// fail at the calls of these numbers.
 fn expect_failing<R: Threads + Wait + Abort + Copy + Send + 'static>(
     rt: &R,
     alloc: Global,
@@ -86,8 +86,13 @@ fn expect_failing<R: Threads + Wait + Abort + Copy + Send + 'static>(
 {
     let mut source = BytesSource::new(bytes.to_vec(alloc)?, fails.0.to_vec(alloc)?);
     let mut sink = BytesSink::make(alloc, 1000, fails.1.to_vec(alloc)?)?;
+    let ended = replay(alloc, plan, summary, &mut source, &mut sink);
+    assert_eq!(rt; ended?, ending);
+    assert_eq!(rt; sink.bytes(), text.as_bytes());
+    let mut source = BytesSource::new(bytes.to_vec(alloc)?, fails.0.to_vec(alloc)?);
+    let mut sink = BytesSink::make(alloc, 1000, fails.1.to_vec(alloc)?)?;
     let mut crew = StdCrew::new();
-    let ended = replay(rt, alloc, plan, summary, &mut crew, &mut source, &mut sink);
+    let ended = replay_over_threads(rt, alloc, plan, summary, &mut crew, &mut source, &mut sink);
     assert_eq!(rt; ended?, ending);
     assert_eq!(rt; sink.bytes(), text.as_bytes());
     Ok(())
@@ -300,8 +305,7 @@ fn want_of_memory_comes_before_anything_is_written(rt: HostRuntime) -> Result<()
     let plan = plan(256, "ABC")?;
     let mut source = BytesSource::new(TWO_JOIN.to_vec(alloc)?, Vec::new(alloc));
     let mut sink = BytesSink::make(alloc, 1000, Vec::new(alloc))?;
-    let mut crew = StdCrew::new();
-    match replay(&rt, alloc, &plan, true, &mut crew, &mut source, &mut sink) {
+    match replay(alloc, &plan, true, &mut source, &mut sink) {
         Ok(ending) => {
             assert_eq!(rt; ending, ReplayEnding::Finished);
             assert_eq!(rt; sink.bytes(), SUMMARY.as_bytes());
@@ -320,7 +324,7 @@ fn a_refused_start_comes_before_anything_is_written(rt: HostRuntime) -> Result<(
         let mut source = BytesSource::new(TWO_JOIN.to_vec(alloc)?, Vec::new(alloc));
         let mut sink = BytesSink::make(alloc, 1000, Vec::new(alloc))?;
         let mut crew = RefusingCrew::new(Vec::from_array(alloc, [start])?);
-        let ended = replay(&rt, alloc, &plan, true, &mut crew, &mut source, &mut sink);
+        let ended = replay_over_threads(&rt, alloc, &plan, true, &mut crew, &mut source, &mut sink);
         assert_eq!(rt; ended, Ok(ReplayEnding::CrewRefused));
         assert!(rt; sink.bytes().is_empty());
     }

@@ -52,12 +52,21 @@ fn run_on_board<R: Threads + Wait + Clock + Abort + Copy + Drop + Send + 'static
     let traces = shelf(rt, alloc, MeetingBook::alone());
     let books = shelf(rt, alloc, book);
     assert!(rt; plan.modules.count() == 1);
-    let board = must(rt, make_board(alloc, 1, 1));
+    let board = must(rt, make_board(alloc, 1, 1, true));
     let mut crew = StdCrew::new();
     must(
         rt,
         reflect_on_board(
-            rt, alloc, &plan, ears, mouths, traces, books, lines, board, &mut crew,
+            rt,
+            alloc,
+            &plan,
+            ears,
+            mouths,
+            traces,
+            books,
+            Some(lines),
+            board,
+            &mut crew,
         ),
     )
 }

@@ -8,11 +8,9 @@ use Rattle.m17_ports.specs.Told.{told_then}
 use Rattle.m17_ports.specs.Ports.{FailsLast, HasAsked, PortsTold, next_number}
 use Rattle.m17_ports.specs.declared.question.Question.{Question}
 use Rattle.m17_ports.specs.declared.question.Question.TheVariants.{Link}
-use Rattle.m17_ports.specs.declared.question.Question.TheVariants as questions
 use Rattle.m17_talk.specs.Devices.{FailsAmong}
 use Rattle.m17_words.specs.declared.order.ServeOrder.{ServeOrder}
-use Rattle.m17_serve.specs.Asked.{call_after, link_questions, questions_of, shelf_questions, until_of}
-use Rattle.m17_serve.specs.Boards.{board_questions}
+use Rattle.m17_serve.specs.Asked.{board_questions, call_after, device_questions, link_questions, questions_of, shelf_questions, until_of}
 use Rattle.m17_serve.specs.Steps.{AreAsked, Asks}
 
 -- so many calls after so many
@@ -144,17 +142,16 @@ served_questions order p q some asked =
     let links : List Question = link_questions binds (until_of order.seconds) in
     let long : length links ≡ vec_len order.binds =
     omega (arith, length-map binds (λ bind. Link bind (until_of order.seconds)), length-map order.binds.items string_bytes, order.binds.ok.0) in
-    all_asked (questions_of order) p q (omega (arith, long, length-append links (shelf_questions order (option_map string_bytes order.book)))) asked
+    let devices = length-append links (shelf_questions order (option_map string_bytes order.book)) in
+    all_asked (questions_of order) p q (omega (arith, long, devices, length-append (device_questions order) (board_questions (option_map string_bytes order.board)))) asked
 
--- one more was asked behind those that were
-pub one_asked : (qs : List Question) (x : Question) (p q r : PortsTold) → AreAsked qs p q → HasAsked (x ∷ []) q r → AreAsked (qs ++ x ∷ []) p r
-one_asked qs x p q r first next = asked_then qs (x ∷ []) p q r first (asked_one x q r next)
+-- one was asked, or the ports failed at it
+pub one_asks : {T E : Type 0} (v : T) (x : Question) (p q : PortsTold) → HasAsked (x ∷ []) p q → q.faults ≡ p.faults → Asks {T = T} {E = E} (Ok v) (x ∷ []) p q
+one_asks v x p q asked same = record { asked = asked_one x p q asked; no_fault = same; failed = tt }
 
--- the ports failed at one more behind those that were asked
-pub one_failed : (qs : List Question) (x : Question) (p q r : PortsTold) → AreAsked qs p q → q.faults ≡ p.faults → HasAsked (x ∷ []) q r → HasRisen q.faults r.faults
-    → FailsAmong (qs ++ x ∷ []) p r
-one_failed qs x p q r first same next risen = fails_later qs (x ∷ []) p q r first same (record { count = 1; some = omega arith; few = omega arith; asked = next; risen = risen })
+pub one_fails : {T E : Type 0} (why : E) (x : Question) (p q : PortsTold) → HasAsked (x ∷ []) p q → HasRisen p.faults q.faults → Asks {T = T} {E = E} (Err why) (x ∷ []) p q
+one_fails why x p q asked risen = record { asked = tt; no_fault = tt; failed = record { count = 1; some = omega arith; few = omega arith; asked = asked; risen = risen } }
 
--- the questions with a board
-pub board_asked : (order : ServeOrder) (name : List ℕ) (p q : PortsTold) → AreAsked (board_questions order name) p q → HasAsked (board_questions order name) p q
-board_asked order name p q asked = all_asked (board_questions order name) p q (omega (arith, length-append (questions_of order) (questions.Book name ∷ []))) asked
+-- none was asked
+pub none_asks : {T E : Type 0} (v : T) (p : PortsTold) → Asks {T = T} {E = E} (Ok v) [] p p
+none_asks v p = record { asked = asked_none p; no_fault = refl; failed = tt }

@@ -1,18 +1,21 @@
 -- How the command ends, and what caused it.
-use Rattle.std.proofs.Common.{◌≡◌, ℕ, Bool, true, false, List, Option, Result, Ok, Err, OnOk, OnErr, refl, sym, subst, ◌∙◌, arith, inl, inr}
+use Rattle.std.proofs.Common.{◌≡◌, ℕ, Bool, true, false, List, Option, Result, Ok, Err, OnOk, OnErr, refl, sym, ap, subst, ◌∙◌, arith, inl, inr}
+use Rattle.std.specs.Prelude.{◌||◌, None, Some, is_some}
+use Rattle.std.specs.Option.{option_map}
 use Rattle.m17_io.specs.Faults.{HasCause, HasRisen}
+use Rattle.m17_ports.specs.Book.{BookTold}
+use Rattle.m17_control.specs.declared.modules.Modules.{Modules}
+use Rattle.m17_board.specs.Ends.{PostEnd}
+use Rattle.m17_board_run.specs.Boarded.{LinesBack, ShowLines}
 use Rattle.m17_reflect.specs.declared.returned.HouseRefusal.{HouseRefusal}
 use Rattle.m17_reflect.specs.declared.returned.HouseRefusal.TheVariants as refusals
 use Rattle.m17_reflect.specs.Run.{Devices, Handed}
 use Rattle.m17_reflect.specs.Views.{IsRefusedFor}
 use Rattle.m17_words.specs.declared.order.ServeOrder.{ServeOrder}
 use Rattle.m17_serve.specs.declared.served.ServeEnding.{ServeEnding}
-use Rattle.m17_serve.specs.declared.served.ServeEnding.TheVariants.{Finished, LinkLost, BookFailed, WriteFailed, PortFailed, CrewRefused, NoMemory}
-use Rattle.m17_ports.specs.Ports.{HasAsked}
-use Rattle.m17_serve.specs.Asked.{questions_of}
-use Rattle.m17_serve.specs.Devices.{AreNew}
-use Rattle.m17_serve.specs.Served.{Around, ComesToServe, HasCauses, RoseWhere, Serves, counts, ending_by, lines_of, NeverAsked, NeverRan}
-use Rattle.m17_serve.specs.Steps.{ComesOf, EndsOver, Prints, RanOver, RefusedOver}
+use Rattle.m17_serve.specs.declared.served.ServeEnding.TheVariants.{WriteFailed, PortFailed, CrewRefused, NoMemory}
+use Rattle.m17_serve.specs.Served.{Around, ComesToServe, EndsServe, HasCauses, Refuses, RoseWhere, Serves, counts, ending_by, lines_of, NeverAsked, NeverRan}
+use Rattle.m17_serve.specs.Steps.{Prints}
 
 stood : (cause : Type 0) (a b : ℕ) → (cause → ⊥) → b ≡ a → RoseWhere cause a b
 stood cause a b none same = record { rose = λ c. absurd (none c); stands = λ _. same }
@@ -102,54 +105,41 @@ asked_nothing refusals.Crew e old new crew memory (inr none) = let bad : CrewRef
 asked_nothing refusals.NoMemory e old new crew memory never = memory refl
 
 module _ {E M B : Type 0} where
-  by_flags : (order : ServeOrder) (before : Devices E M (Option B)) (e : ServeEnding) (house : Option (Devices E M (Option B) × Handed)) (refused : Option (Devices E M (Option B) × HouseRefusal))
-      (first written : Option (List ℕ)) (lost failed : Bool) → e ≡ ending_by lost failed → EndsOver order before e house refused first written → ComesOf order before e house refused first written
-  by_flags order before e house refused first written true failed is ends =
-      subst (λ (x : ServeEnding). EndsOver order before x house refused first written → ComesOf order before x house refused first written) (sym is) (λ h. h) ends
-  by_flags order before e house refused first written false true is ends =
-      subst (λ (x : ServeEnding). EndsOver order before x house refused first written → ComesOf order before x house refused first written) (sym is) (λ h. h) ends
-  by_flags order before e house refused first written false false is ends =
-      subst (λ (x : ServeEnding). EndsOver order before x house refused first written → ComesOf order before x house refused first written) (sym is) (λ h. h) ends
-
-  pub comes_run : {T F : Type 0} (printed : Result T F) (order : ServeOrder) (before : Devices E M (Option B)) (e : ServeEnding) (house : Option (Devices E M (Option B) × Handed))
-      (refused : Option (Devices E M (Option B) × HouseRefusal)) (devices : Devices E M (Option B)) (handed : Handed) (first written : Option (List ℕ))
-      → OnOk printed (e ≡ ending_by handed.lost handed.book_failed) → OnErr printed (e ≡ WriteFailed) → RanOver order before devices handed house refused
-      → Prints printed (lines_of order handed) first written → ComesOf order before e house refused first written
-  comes_run (Ok v) order before e house refused devices handed first written ok err ran prints =
-      by_flags order before e house refused first written handed.lost handed.book_failed ok (devices, handed, ran, ok, prints.all_of_it)
-  comes_run (Err v) order before e house refused devices handed first written ok err ran prints =
-      subst (λ (x : ServeEnding). ComesOf order before x house refused first written) (sym err) (devices, handed, ran, prints.part_of_it)
-
-  pub comes_refusal : (why : HouseRefusal) (order : ServeOrder) (before : Devices E M (Option B)) (e : ServeEnding) (house : Option (Devices E M (Option B) × Handed))
-      (refused : Option (Devices E M (Option B) × HouseRefusal)) (first : Option (List ℕ)) → (why ≡ refusals.Crew → e ≡ CrewRefused) → (why ≡ refusals.NoMemory → e ≡ NoMemory)
-      → RefusedOver before why house refused → ComesOf order before e house refused first first
-  comes_refusal refusals.Crew order before e house refused first crew memory over =
-      subst (λ (x : ServeEnding). ComesOf order before x house refused first first) (sym (crew refl)) (over, refl)
-  comes_refusal refusals.NoMemory order before e house refused first crew memory over =
-      subst (λ (x : ServeEnding). ComesOf order before x house refused first first) (sym (memory refl)) (over, refl)
-
-  serves_plainly : (order : ServeOrder) (run : Around E M B) (new devices : Devices E M (Option B)) (handed : Handed) → HasAsked (questions_of order) run.before run.after
-      → run.after.faults ≡ run.before.faults → AreNew order run.before.calls new → RanOver order new devices handed run.house run.refused → Serves order run devices handed
-  serves_plainly order run new devices handed asked same are_new ran = record {
-    asked = asked;
-    no_fault = same;
-    new = new;
-    are_new = are_new;
-    headline = ran.headline;
-    same_devices = ran.same_devices;
-    handed_back = ran.handed_back;
-    none = ran.none;
-  }
+  by_flags : (order : ServeOrder) (e : ServeEnding) (run : Around E M B) (first written : Option (List ℕ)) (lost failed : Bool) → e ≡ ending_by lost failed
+      → EndsServe order e run first written → ComesToServe order e run first written
+  by_flags order e run first written true failed is ends =
+      subst (λ (x : ServeEnding). EndsServe order x run first written → ComesToServe order x run first written) (sym is) (λ h. h) ends
+  by_flags order e run first written false true is ends =
+      subst (λ (x : ServeEnding). EndsServe order x run first written → ComesToServe order x run first written) (sym is) (λ h. h) ends
+  by_flags order e run first written false false is ends =
+      subst (λ (x : ServeEnding). EndsServe order x run first written → ComesToServe order x run first written) (sym is) (λ h. h) ends
 
   -- a run over the devices that the ports handed out
-  pub comes_plainly : (order : ServeOrder) (run : Around E M B) (new : Devices E M (Option B)) (first written : Option (List ℕ)) → HasAsked (questions_of order) run.before run.after
-      → run.after.faults ≡ run.before.faults → AreNew order run.before.calls new → (e : ServeEnding) → ComesOf order new e run.house run.refused first written → ComesToServe order e run first written
-  comes_plainly order run new first written asked same are_new Finished (devices, handed, ran, is, printed) = (devices, handed, serves_plainly order run new devices handed asked same are_new ran, is, printed)
-  comes_plainly order run new first written asked same are_new LinkLost (devices, handed, ran, is, printed) = (devices, handed, serves_plainly order run new devices handed asked same are_new ran, is, printed)
-  comes_plainly order run new first written asked same are_new BookFailed (devices, handed, ran, is, printed) = (devices, handed, serves_plainly order run new devices handed asked same are_new ran, is, printed)
-  comes_plainly order run new first written asked same are_new WriteFailed (devices, handed, ran, printed) = (devices, handed, serves_plainly order run new devices handed asked same are_new ran, printed)
-  comes_plainly order run new first written asked same are_new PortFailed came = absurd came
-  comes_plainly order run new first written asked same are_new CrewRefused (over, kept) =
-      (record { asked = asked; no_fault = same; devices = new; are_new = are_new; handed_back = over.0; none = over.1 }, kept)
-  comes_plainly order run new first written asked same are_new NoMemory (over, kept) =
-      (inr (record { asked = asked; no_fault = same; devices = new; are_new = are_new; handed_back = over.0; none = over.1 }), kept)
+  pub comes_run : {T F : Type 0} (printed : Result T F) (order : ServeOrder) (e : ServeEnding) (run : Around E M B) (devices : Devices E M (Option B)) (handed : Handed)
+      (lines_failed failed : Bool) (first written : Option (List ℕ)) → failed ≡ (handed.book_failed || lines_failed) → OnOk printed (e ≡ ending_by handed.lost failed)
+      → OnErr printed (e ≡ WriteFailed) → Serves order run devices handed lines_failed → Prints printed (lines_of order handed) first written → ComesToServe order e run first written
+  comes_run (Ok v) order e run devices handed lines_failed failed first written either ok err serves prints =
+      by_flags order e run first written handed.lost failed ok (devices, handed, lines_failed, serves, ok ∙ ap (ending_by handed.lost) either, prints.all_of_it)
+  comes_run (Err v) order e run devices handed lines_failed failed first written either ok err serves prints =
+      subst (λ (x : ServeEnding). ComesToServe order x run first written) (sym err) (devices, handed, lines_failed, serves, prints.part_of_it)
+
+  -- the reflector, or the crew its watch, refused to run
+  pub comes_refusal : (why : HouseRefusal) (order : ServeOrder) (e : ServeEnding) (run : Around E M B) (first : Option (List ℕ)) → (why ≡ refusals.Crew → e ≡ CrewRefused)
+      → (why ≡ refusals.NoMemory → e ≡ NoMemory) → Refuses order why run → ComesToServe order e run first first
+  comes_refusal refusals.Crew order e run first crew memory over =
+      subst (λ (x : ServeEnding). ComesToServe order x run first first) (sym (crew refl)) (over, refl)
+  comes_refusal refusals.NoMemory order e run first crew memory over =
+      subst (λ (x : ServeEnding). ComesToServe order x run first first) (sym (memory refl)) (inr over, refl)
+
+-- where there is no book of lines, none comes back
+module _ {B Z : Type 0} (book : B → BookTold Z) where
+  pub no_line_shown : (modules : Modules) (count : ℕ) (posters : List PostEnd) (failed : Bool) (empty lines : Option B) → is_some empty ≡ false
+      → ShowLines modules count posters failed (option_map book empty) (option_map book lines) → lines ≡ None
+  no_line_shown modules count posters failed (Some b) lines none shows = absurd (let e = none in cc)
+  no_line_shown modules count posters failed None (Some b) none shows = absurd shows
+  no_line_shown modules count posters failed None None none shows = refl
+
+  pub no_line_back : (why : HouseRefusal) (empty lines : Option B) → is_some empty ≡ false → LinesBack why (option_map book empty) (option_map book lines) → lines ≡ None
+  no_line_back why (Some b) lines none back = absurd (let e = none in cc)
+  no_line_back why None (Some b) none back = absurd back
+  no_line_back why None None none back = refl

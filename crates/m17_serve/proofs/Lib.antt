@@ -4,10 +4,6 @@ mod Asking
 mod NewOnes
 mod Printing
 mod Told
+mod Knowing
 mod Endings
-mod Gating
-mod ByRules
-mod Passing
-mod OffBoard
-mod BoardEndings
-mod BoardByRules
+mod Hearing

@@ -1,5 +1,5 @@
 -- What `serve` asks the ports for.
-use Rattle.std.specs.Prelude.{ℕ, zero, suc, ◌*◌, List, [], ◌∷◌, ◌++◌, map, codes, decimal, string_bytes, vec_len, Option, None, Some}
+use Rattle.std.specs.Prelude.{ℕ, zero, suc, ◌*◌, List, [], ◌∷◌, ◌++◌, length, map, codes, decimal, string_bytes, vec_len, Option, None, Some}
 use Rattle.std.specs.List.{range_with_len}
 use Rattle.std.specs.Option.{option_map}
 use Rattle.m17_control.specs.Modules.{letters_of}
@@ -36,14 +36,28 @@ shelf_questions order None = []
 shelf_questions order (Some folder) =
     map Book (trace_names order folder) ++ map Book (book_names order folder)
 
--- All that is asked, in order: the links, and then, where a folder is named, the trace of each link and the book of each
--- module.
-abbrev pub questions_of : ServeOrder → List Question
-questions_of order =
-    link_questions (map string_bytes order.binds.items) (until_of order.seconds)
-    ++ shelf_questions order (option_map string_bytes order.book)
-
 -- The number of the call that comes `more` calls after this one: one that has come to 2^64 - 1 stays there.
 abbrev pub call_after : ℕ → ℕ → ℕ
 call_after first zero = first
 call_after first (suc more) = next_number (call_after first more)
+
+-- What is asked for the devices, in order: the links, and then, where a folder is named, the trace of each link and the book
+-- of each module.
+abbrev pub device_questions : ServeOrder → List Question
+device_questions order =
+    link_questions (map string_bytes order.binds.items) (until_of order.seconds)
+    ++ shelf_questions order (option_map string_bytes order.book)
+
+-- the book of the lines of a board, where one is named
+abbrev pub board_questions : Option (List ℕ) → List Question
+board_questions None = []
+board_questions (Some name) = Book name ∷ []
+
+-- All that is asked, in order: the devices, and then, where a board is named, the book of its lines.
+abbrev pub questions_of : ServeOrder → List Question
+questions_of order =
+    device_questions order ++ board_questions (option_map string_bytes order.board)
+
+-- the number of the call that hands out that book, where `first` is that of the first link
+abbrev pub board_call : ServeOrder → ℕ → ℕ
+board_call order first = call_after first (length (device_questions order))

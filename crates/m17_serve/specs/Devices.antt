@@ -1,23 +1,20 @@
 -- What is told of the devices of a reflector, and which they are.
-use Rattle.std.specs.Prelude.{◌≡◌, ◌↔◌, ℕ, ◌*◌, List, length, string_bytes, vec_len, slice_get, Option, Some, IsSome}
+use Rattle.std.specs.Prelude.{◌≡◌, ◌↔◌, ℕ, ◌*◌, List, length, map, string_bytes, vec_len, slice_get, Option, None, Some, IsSome}
 use Rattle.std.specs.List.{All}
 use Rattle.std.specs.Option.{option_map}
 use Rattle.m17_ports.specs.declared.shelf.Shelf.{Shelf}
-use Rattle.m17_ports.specs.Book.{BookTold, IsNewBook, shelf_told}
+use Rattle.m17_ports.specs.Book.{BookTold, IsNewBook}
 use Rattle.m17_ports.specs.Ear.{EarTold, IsNewEar}
 use Rattle.m17_ports.specs.Mouth.{IsNewMouth, MouthTold}
 use Rattle.m17_control.specs.Modules.{letters_of}
 use Rattle.m17_words.specs.declared.order.ServeOrder.{ServeOrder}
+pub use Rattle.m17_board_run.specs.Kept.{told_of_shelf}
 use Rattle.m17_reflect.specs.declared.returned.HouseRefusal.{HouseRefusal}
 use Rattle.m17_reflect.specs.declared.returned.Refused.{Refused}
 use Rattle.m17_reflect.specs.declared.returned.Returned.{Returned}
 use Rattle.m17_reflect.specs.Run.{Devices, Handed}
 use Rattle.m17_reflect.specs.Views.{Kinds, devices_of, handed_of, kinds_back, kinds_refused}
 use Rattle.m17_serve.specs.Asked.{call_after}
-
--- what a book that may be missing tells, by what is told of books; where it is missing its label is None
-abbrev pub told_of_shelf : {B Z : Type 0} → (B → BookTold Z) → Shelf B → BookTold (Option Z)
-told_of_shelf book shelf = shelf_told (option_map book shelf.inner)
 
 module _ {E M B X Y Z : Type 0} where
   -- What the devices of a reflector tell, by what is told of each kind: an ear, a mouth and a trace for each link, and a
@@ -67,3 +64,29 @@ pub record AreNew {X Y Z : Type 0} (order : ServeOrder) (first : ℕ) (d : Devic
       d.books
   pub traces_there : AreThere (option_map string_bytes order.book) d.traces
   pub books_there : AreThere (option_map string_bytes order.book) d.books
+
+-- The book of the lines of a board is new, as the call with this number hands it out, where a board is named; and else there
+-- is none.
+abbrev pub IsNewBoard : {Z : Type 0} → Option (List ℕ) → ℕ → Option (BookTold Z) → Type 0
+IsNewBoard (Some name) call (Some lines) = IsNewBook call lines
+IsNewBoard (Some name) call None = ⊥
+IsNewBoard None call (Some lines) = ⊥
+IsNewBoard None call None = Unit {0}
+
+-- the labels of ears and of mouths
+abbrev pub ear_labels : {L : Type 0} → List (EarTold L) → List L
+ear_labels ears = map (λ ear. ear.device.label) ears
+
+abbrev pub mouth_labels : {L : Type 0} → List (MouthTold L) → List L
+mouth_labels mouths = map (λ mouth. mouth.device.label) mouths
+
+-- this is known of each label, by its place
+abbrev pub Known : {L : Type 0} → (ℕ → L → Type 0) → List L → Type 0
+Known {L} known labels =
+    (i : ℕ) (label : L) → slice_get labels i ≡ Some label → known i label
+
+-- this is known of ears, and this of mouths
+pub record AreOf {E M B : Type 0} (ears : ℕ → E → Type 0) (mouths : ℕ → M → Type 0)
+    (devices : Devices E M B) : Type 0 where
+  pub ears_are : Known ears (ear_labels devices.ears)
+  pub mouths_are : Known mouths (mouth_labels devices.mouths)

@@ -1,5 +1,6 @@
 -- What `serve` does, and how it ends.
-use Rattle.std.specs.Prelude.{◌≡◌, ◌⊎◌, ℕ, ◌<◌, ◌≤◌, Bool, List, ◌++◌, vec_len, Option, None, Some, IfSome, if◌then◌else◌}
+use Rattle.std.specs.Prelude.{◌≡◌, ◌⊎◌, ℕ, ◌<◌, ◌≤◌, Bool, ◌||◌, List, ◌++◌, string_bytes, vec_len, Option, None, Some, IfSome, if◌then◌else◌}
+use Rattle.std.specs.Option.{option_map}
 use Rattle.m17_io.specs.Faults.{HasRisen}
 use Rattle.m17_io.specs.Sink.{AppendsPrefix}
 use Rattle.m17_ports.specs.Book.{BookTold}
@@ -7,23 +8,21 @@ use Rattle.m17_ports.specs.Ear.{EarTold}
 use Rattle.m17_ports.specs.Mouth.{MouthTold}
 use Rattle.m17_ports.specs.Ports.{HasAsked, PortsTold}
 use Rattle.m17_control.specs.Modules.{letters_of}
-use Rattle.m17_gate.specs.declared.rule.Rule.{Rule}
 use Rattle.m17_plan.specs.declared.plan.Plan.{Plan}
 use Rattle.m17_plan.specs.Planned.{IsPlan}
 use Rattle.m17_words.specs.declared.order.ServeOrder.{ServeOrder}
 use Rattle.m17_talk.specs.Devices.{FailsAmong}
+use Rattle.m17_board_run.specs.Boarded.{run_on_board, LinesBack, RanOnBoard}
+use Rattle.m17_board_run.specs.declared.kept.KeptLabel.{KeptLabel}
 use Rattle.m17_reflect.specs.declared.returned.HouseRefusal.{HouseRefusal}
 use Rattle.m17_reflect.specs.declared.returned.HouseRefusal.TheVariants as refusals
-use Rattle.m17_reflect.specs.Headline.{Headline}
 use Rattle.m17_reflect.specs.Patience.{SomeLost, SomeRose}
-use Rattle.m17_reflect.specs.Laws.{AreSameDevices}
 use Rattle.m17_reflect.specs.Run.{Devices, Run, Handed}
 use Rattle.m17_serve.specs.declared.served.ServeEnding.{ServeEnding}
 use Rattle.m17_serve.specs.declared.served.ServeEnding.TheVariants.{Finished, LinkLost, BookFailed, WriteFailed, PortFailed, CrewRefused, NoMemory}
 use Rattle.m17_serve.specs.declared.served.Served.{Served}
-use Rattle.m17_serve.specs.Asked.{questions_of}
-use Rattle.m17_serve.specs.Devices.{AreNew, house_back, refused_back}
-use Rattle.m17_serve.specs.Gates.{behind_gates}
+use Rattle.m17_serve.specs.Asked.{board_call, questions_of}
+use Rattle.m17_serve.specs.Devices.{AreNew, AreOf, IsNewBoard, house_back, refused_back}
 use Rattle.m17_serve.specs.Lines.{module_lines}
 
 -- the plan of the words: nothing waits for room, and no tapes are kept
@@ -47,12 +46,13 @@ pub record IsServable (order : ServeOrder) : Type 0 where
 
 -- What is told of a run of the command beside its lines: of the ports before it and after it, and what it hands back.
 -- That is the devices with what went through the threads, where the reflector ran, and the devices with the reason, where
--- it refused to.
+-- it refused to; and the book of the lines of a board.
 pub record Around (E M B : Type 0) : Type 0 where
   pub before : PortsTold
   pub after : PortsTold
   pub house : Option (Devices E M (Option B) × Handed)
   pub refused : Option (Devices E M (Option B) × HouseRefusal)
+  pub board : Option (BookTold B)
 
 -- what is told of the run that came to `served`; `ear`, `mouth` and `book` say what each kind of device tells
 abbrev pub around : {E M B X Y Z : Type 0} → (E → EarTold X) → (M → MouthTold Y)
@@ -62,18 +62,13 @@ around ear mouth book before after served = record {
   after = after;
   house = house_back ear mouth book served.house;
   refused = refused_back ear mouth book served.refused;
+  board = option_map book served.board;
 }
 
 module _ {E M B : Type 0} where
-  -- what a run of the reflector over these devices shows
-  abbrev pub run_told : ServeOrder → Devices E M (Option B) → Devices E M (Option B) → Handed
-      → Run E M (Option B)
-  run_told order before after handed =
-      record { plan = serve_plan order; before = before; after = after; handed = handed }
-
   -- nothing is handed back
   abbrev pub HandsNothing : Around E M B → Type 0
-  HandsNothing run = (run.house ≡ None) × (run.refused ≡ None)
+  HandsNothing run = (run.house ≡ None) × (run.refused ≡ None) × (run.board ≡ None)
 
   -- no port was asked for anything, and nothing is handed back
   abbrev pub AsksNothing : Around E M B → Type 0
@@ -85,78 +80,76 @@ module _ {E M B : Type 0} where
   FailsAtPort order run =
       FailsAmong (questions_of order) run.before run.after × HandsNothing run
 
-  -- The reflector refused to run over the devices that the ports handed out, for this reason. They are handed back, still
-  -- new.
+  -- The ports handed out these devices, which were new, and the book of the lines of a board, new too, where one is named.
+  pub record AreOpened (order : ServeOrder) (before after : PortsTold)
+      (new : Devices E M (Option B)) (empty : Option (BookTold B)) : Type 0 where
+    pub asked : HasAsked (questions_of order) before after
+    pub no_fault : after.faults ≡ before.faults
+    pub are_new : AreNew order before.calls new
+    pub board : IsNewBoard (option_map string_bytes order.board) (board_call order before.calls)
+        empty
+
+  -- The reflector refused to run over the devices that the ports handed out, or the crew refused to start the watch of the
+  -- board, for this reason. The devices are handed back, still new, and so is the book of the lines, but where it is the
+  -- watch that was refused.
   pub record Refuses (order : ServeOrder) (why : HouseRefusal) (run : Around E M B) : Type 0 where
-    pub asked : HasAsked (questions_of order) run.before run.after
-    pub no_fault : run.after.faults ≡ run.before.faults
     pub devices : Devices E M (Option B)
-    pub are_new : AreNew order run.before.calls devices
+    pub empty : Option (BookTold B)
+    pub opened : AreOpened order run.before run.after devices empty
     pub handed_back : run.refused ≡ Some (devices, why)
     pub none : run.house ≡ None
+    pub lines : LinesBack why empty run.board
 
--- What the reflector sees of its devices may be more than they themselves tell, as an ear behind a gate is: `seen` says
--- what it is of them.
-module _ {E X M B : Type 0} where
-  -- The reflector ran over the devices that the ports handed out, which were new, and the same devices are handed back:
-  -- the headline holds of the run over what it saw of them.
-  pub record ServesBy (seen : Devices E M (Option B) → Devices X M (Option B)) (order : ServeOrder)
-      (run : Around E M B) (devices : Devices E M (Option B)) (handed : Handed) : Type 0 where
-    pub asked : HasAsked (questions_of order) run.before run.after
-    pub no_fault : run.after.faults ≡ run.before.faults
+  -- The reflector ran over the devices that the ports handed out, and the same devices are handed back: the headline holds
+  -- of that run, and the lines of the board show what was posted, where one is named, and whether a write of a line failed.
+  pub record Serves (order : ServeOrder) (run : Around E M B) (devices : Devices E M (Option B))
+      (handed : Handed) (lines_failed : Bool) : Type 0 where
     pub new : Devices E M (Option B)
-    pub are_new : AreNew order run.before.calls new
-    pub headline : Headline (run_told order (seen new) (seen devices) handed)
-    pub same_devices : AreSameDevices (seen new) (seen devices)
+    pub empty : Option (BookTold B)
+    pub opened : AreOpened order run.before run.after new empty
+    pub on_board : RanOnBoard (serve_plan order) new devices handed lines_failed empty run.board
     pub handed_back : run.house ≡ Some (devices, handed)
     pub none : run.refused ≡ None
 
--- the same where it saw the devices themselves
-abbrev pub Serves : {E M B : Type 0} → ServeOrder → Around E M B → Devices E M (Option B) → Handed
-    → Type 0
-Serves order run devices handed = ServesBy (λ d. d) order run devices handed
+  -- what such a run of the reflector shows
+  abbrev pub run_told : (order : ServeOrder) (run : Around E M B) (devices : Devices E M (Option B))
+      (handed : Handed) (failed : Bool) → Serves order run devices handed failed
+      → Run E M (KeptLabel B)
+  run_told order run devices handed failed serves =
+      run_on_board (serve_plan order) serves.on_board.posters serves.new devices handed
 
--- how the command ends where the reflector ran and its lines were written: a lost link comes before a failed book
+-- How a run ends whose lines were printed: a lost link comes before a failed book, and a board that failed is one.
 abbrev pub ending_by : Bool → Bool → ServeEnding
 ending_by lost book_failed =
     if lost then LinkLost else (if book_failed then BookFailed else Finished)
 
-abbrev pub ending_of : Handed → ServeEnding
-ending_of handed = ending_by handed.lost handed.book_failed
+-- A board failed only where its count of faults rose, as what the lines show says (`ShowsBoard`).
+abbrev pub ending_of : Handed → Bool → ServeEnding
+ending_of handed lines_failed = ending_by handed.lost (handed.book_failed || lines_failed)
 
 -- the lines of a run
 abbrev pub lines_of : ServeOrder → Handed → List ℕ
 lines_of order handed = module_lines (letters_of order.modules) handed.admitted handed.missed
 
-module _ {E X M B : Type 0} where
+module _ {E M B : Type 0} where
   -- The reflector ran, its lines were appended to what stood written, and this is how the command ends then.
-  abbrev pub EndsBy : (Devices E M (Option B) → Devices X M (Option B)) → ServeOrder → ServeEnding
-      → Around E M B → Option (List ℕ) → Option (List ℕ) → Type 0
-  EndsBy seen order ending run first written =
-      (devices : Devices E M (Option B)) × (handed : Handed)
-      × ServesBy seen order run devices handed
-      × (ending ≡ ending_of handed) × ((before : List ℕ) → first ≡ Some before
+  abbrev pub EndsServe : ServeOrder → ServeEnding → Around E M B → Option (List ℕ)
+      → Option (List ℕ) → Type 0
+  EndsServe order ending run first written =
+      (devices : Devices E M (Option B)) × (handed : Handed) × (lines_failed : Bool)
+      × Serves order run devices handed lines_failed
+      × (ending ≡ ending_of handed lines_failed) × ((before : List ℕ) → first ≡ Some before
       → written ≡ Some (before ++ lines_of order handed))
 
   -- The reflector ran, and a first part of its lines was appended.
-  abbrev pub CutsBy : (Devices E M (Option B) → Devices X M (Option B)) → ServeOrder
-      → Around E M B → Option (List ℕ) → Option (List ℕ) → Type 0
-  CutsBy seen order run first written =
-      (devices : Devices E M (Option B)) × (handed : Handed)
-      × ServesBy seen order run devices handed
+  abbrev pub CutsServe : ServeOrder → Around E M B → Option (List ℕ) → Option (List ℕ) → Type 0
+  CutsServe order run first written =
+      (devices : Devices E M (Option B)) × (handed : Handed) × (lines_failed : Bool)
+      × Serves order run devices handed lines_failed
       × ((before : List ℕ) → first ≡ Some before
       → AppendsPrefix before (lines_of order handed) written)
 
-module _ {E M B : Type 0} where
-  -- the same where the reflector saw the devices themselves
-  abbrev pub EndsServe : ServeOrder → ServeEnding → Around E M B → Option (List ℕ)
-      → Option (List ℕ) → Type 0
-  EndsServe order ending run first written = EndsBy (λ d. d) order ending run first written
-
-  abbrev pub CutsServe : ServeOrder → Around E M B → Option (List ℕ) → Option (List ℕ) → Type 0
-  CutsServe order run first written = CutsBy (λ d. d) order run first written
-
-  -- What each ending of `serve` says. Nothing is written before the reflector has run. Want of memory comes before the
+  -- What each ending of `serve` says. Nothing is printed before the reflector has run. Want of memory comes before the
   -- ports are asked for anything, or before anything was heard.
   abbrev pub ComesToServe : ServeOrder → ServeEnding → Around E M B → Option (List ℕ)
       → Option (List ℕ) → Type 0
@@ -170,23 +163,10 @@ module _ {E M B : Type 0} where
   ComesToServe order NoMemory run first written =
       (AsksNothing run ⊎ Refuses order refusals.NoMemory run) × (written ≡ first)
 
-  -- The same by rules: each ear stood behind a gate of them, and the headline holds of what was heard behind the gates.
-  abbrev pub ComesByRules : List Rule → ServeOrder → ServeEnding → Around E M B
-      → Option (List ℕ) → Option (List ℕ) → Type 0
-  ComesByRules rules order Finished run first written =
-      EndsBy (behind_gates rules) order Finished run first written
-  ComesByRules rules order LinkLost run first written =
-      EndsBy (behind_gates rules) order LinkLost run first written
-  ComesByRules rules order BookFailed run first written =
-      EndsBy (behind_gates rules) order BookFailed run first written
-  ComesByRules rules order WriteFailed run first written =
-      CutsBy (behind_gates rules) order run first written
-  ComesByRules rules order PortFailed run first written =
-      FailsAtPort order run × (written ≡ first)
-  ComesByRules rules order CrewRefused run first written =
-      Refuses order refusals.Crew run × (written ≡ first)
-  ComesByRules rules order NoMemory run first written =
-      (AsksNothing run ⊎ Refuses order refusals.NoMemory run) × (written ≡ first)
+  -- This is known of the ears and the mouths that are handed back, if any are.
+  abbrev pub AreKnown : (ℕ → E → Type 0) → (ℕ → M → Type 0) → Around E M B → Type 0
+  AreKnown ears mouths run = IfSome run.house (λ back. AreOf ears mouths back.0)
+      × IfSome run.refused (λ back. AreOf ears mouths back.0)
 
 -- The reflector never ran.
 abbrev pub NeverRan : ServeEnding → Type 0
@@ -223,9 +203,17 @@ pub record HasCauses (ending : ServeEnding) (before after : Counts) : Type 0 whe
   pub sink : RoseWhere (ending ≡ WriteFailed) before.sink after.sink
   pub sink_counted : before.sink ≤ after.sink
 
--- Nothing stood against a run of the reflector: no link's list ended in 16 faults, and no count of a trace or a book rose.
-pub record IsUntroubled {E M B : Type 0} (run : Run E M B) (headline : Headline run) : Type 0
-  where
-    pub no_link_lost : ¬ SomeLost headline.carried_out.links
-    pub no_trace_failed : ¬ SomeRose (λ book. book.faults) run.before.traces run.after.traces
-    pub no_book_failed : ¬ SomeRose (λ book. book.faults) run.before.books run.after.books
+-- Nothing stood against a run of the reflector: no link's list ended in 16 faults, and no count of a trace, a book or the book
+-- of a board's lines rose.
+pub record IsUntroubled {E M B : Type 0} (order : ServeOrder) (run : Around E M B)
+    (devices : Devices E M (Option B)) (handed : Handed) (lines_failed : Bool)
+    (serves : Serves order run devices handed lines_failed) : Type 0 where
+  pub no_link_lost : ¬ SomeLost serves.on_board.ran.headline.carried_out.links
+  pub no_trace_failed : ¬ SomeRose (λ book. book.faults)
+      (run_told order run devices handed lines_failed serves).before.traces
+      (run_told order run devices handed lines_failed serves).after.traces
+  pub no_book_failed : ¬ SomeRose (λ book. book.faults)
+      (run_told order run devices handed lines_failed serves).before.books
+      (run_told order run devices handed lines_failed serves).after.books
+  pub no_lines_failed : (empty lines : BookTold B) → serves.empty ≡ Some empty
+      → run.board ≡ Some lines → ¬ HasRisen empty.faults lines.faults

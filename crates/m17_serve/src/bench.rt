@@ -2,20 +2,21 @@
 ghost use Rattle.std.specs.Prelude.{◌≡◌, Ok};
 ghost use Rattle.m17_serve.specs.Served.{IsServable};
 
-use crate::{Served, serve};
+use crate::{KnownPorts, Served, serve};
 use m17_callsign::{Address, CallAddress};
 use m17_control::{Control, ModuleLetter, Modules, write};
 use m17_crew::Crew;
-use m17_gate::{Rules, read_rules};
-use m17_memory::{BytesSink, BytesSource};
+use m17_memory::BytesSink;
 use m17_port_memory::{ListBook, ListMouth, ScriptEar, ScriptPorts};
+use m17_ports::Ports;
 use m17_samples::{ab1cd, frame, n0call};
-use m17_values::{Gram, Heard, Peer};
+use m17_values::{Failed, Gram, Heard, Peer};
 use m17_words::ServeOrder;
 use std::alloc::Global;
 use std::process::Abort;
 use std::sync::Wait;
 use std::thread::Threads;
+use std::time::Clock;
 
 /// What a run came to.
 pub(crate) type Done = Served<ScriptEar, ListMouth, ListBook>;
@@ -31,8 +32,20 @@ fn text(rt: &impl Abort, alloc: Global, text: &str) -> String {
     must(rt, String::from_str(alloc, text))
 }
 
-/// The reflector M17-TST with module A over one link, with this folder.
-pub(crate) fn order(rt: &impl Abort, alloc: Global, book: Option<&str>) -> ServeOrder
+fn text_of(rt: &impl Abort, alloc: Global, given: Option<&str>) -> Option<String> {
+    match given {
+        Some(given) => Some(text(rt, alloc, given)),
+        None => None,
+    }
+}
+
+/// The reflector M17-TST with module A over one link, with this folder and this board.
+pub(crate) fn order(
+    rt: &impl Abort,
+    alloc: Global,
+    book: Option<&str>,
+    board: Option<&str>,
+) -> ServeOrder
     ensures { IsServable result }
 {
     let modules = match Modules::read("A") {
@@ -43,21 +56,21 @@ pub(crate) fn order(rt: &impl Abort, alloc: Global, book: Option<&str>) -> Serve
     let address = Address::new(0x13_89F9_BAED).expect(rt, "an address");
     let call = CallAddress::new(address).expect(rt, "a callsign");
     let binds = must(rt, Vec::from_array(alloc, [text(rt, alloc, "x")]));
-    let book = match book {
-        Some(folder) => Some(text(rt, alloc, folder)),
-        None => None,
-    };
     ServeOrder {
         call,
         modules,
         parrots: Modules::none(),
         places: 4,
         seconds: None,
-        book,
+        book: text_of(rt, alloc, book),
         binds,
         limit: 180_000,
         rules: false,
-        board: None,
+        board: text_of(rt, alloc, board),
+        fill: false,
+        guard: true,
+        pace: 100,
+        stop: None,
     }
 }
 
@@ -203,15 +216,23 @@ fn ports(rt: &impl Abort, alloc: Global, hears: Hears, fails: Fails) -> ScriptPo
     ports_over(rt, alloc, hears, fails.mouth, books, fails.ports)
 }
 
-/// These rules.
-pub(crate) fn said_rules(rt: &impl Abort, alloc: Global, rules: &str) -> Rules {
-    let bytes = must(rt, rules.as_bytes().to_vec(alloc));
-    let mut source = BytesSource::new(bytes, Vec::new(alloc));
-    must(rt, read_rules(alloc, &mut source))
+// Of script ports nothing more is known than ports promise.
+impl KnownPorts for ScriptPorts {
+    ghost ears = { λ _ _ _. Unit {0} };
+
+    ghost mouths = { λ _ _ _. Unit {0} };
+
+    fn known_link(
+        &mut self,
+        bind: &str,
+        until: Option<u64>,
+    ) -> Result<(ScriptEar, ListMouth), Failed> {
+        self.link(bind, until)
+    }
 }
 
 /// Runs the reflector over such ports: what it came to, and whether this text was printed.
-pub(crate) fn run<C: Crew, R: Threads + Wait + Abort + Copy + Send + 'static>(
+pub(crate) fn run<C: Crew, R: Threads + Wait + Clock + Abort + Copy + Drop + Send + 'static>(
     rt: &R,
     alloc: Global,
     book: Option<&str>,
@@ -220,7 +241,7 @@ pub(crate) fn run<C: Crew, R: Threads + Wait + Abort + Copy + Send + 'static>(
     crew: &mut C,
     text: &str,
 ) -> (Done, bool) {
-    let order = order(rt, alloc, book);
+    let order = order(rt, alloc, book, None);
     let mut ports = ports(rt, alloc, hears, fails);
     let mut sink = must(
         rt,

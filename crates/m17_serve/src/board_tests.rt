@@ -1,10 +1,10 @@
 //! What no clause says of a run with a board: that its last line comes to all records of an evening, with books of the
-//! modules and without, by rules and without, and where the board fails or can't be had.
-use crate::bench::{Hears, book_that, let_go, must, order, ports_over, said_rules};
-use crate::{Boarded, ServeEnding, serve_on_board, serve_on_board_by_rules};
+//! modules and without, and where the board fails or can't be had.
+use crate::bench::{Done, Hears, book_that, let_go, must, order, ports_over};
+use crate::{ServeEnding, serve};
 use m17_crew::{Crew, RefusingCrew, StdCrew};
 use m17_memory::BytesSink;
-use m17_port_memory::{ListBook, ListMouth, ScriptEar};
+use m17_port_memory::ListBook;
 use std::alloc::Global;
 use std::process::Abort;
 use std::sync::Wait;
@@ -13,21 +13,11 @@ use std::time::Clock;
 
 const ALL_TOLD: &[u8] = b"A records 8 admitted 4 at 160 talker none\n";
 
-// What is told of an evening of which the listener is not heard.
-const TALKER_TOLD: &[u8] = b"A records 6 admitted 4 at 160 talker none\n";
-
 const LINE: &str = "A admitted 4 missed 0\n";
 
-const NO_RULES: &str = "";
-
-const NO_LISTENER: &str = "deny any * N0*\n";
-
-type Done = Boarded<ScriptEar, ListMouth, ListBook>;
-
-// The folder of the trace and the book, if any, the rules, if any, the calls of the ports and of the board that fail, and
-// then the ending, what is printed, and how the board ends, if it comes back.
+// The folder of the trace and the book, if any, the calls of the ports and of the board that fail, and then the ending, what
+// is printed, and how the board ends, if it comes back.
 type Row = (
-    Option<&'static str>,
     Option<&'static str>,
     &'static [u64],
     &'static [u64],
@@ -54,18 +44,12 @@ fn run<C: Crew, R: Threads + Wait + Clock + Abort + Copy + Drop + Send + 'static
     row: &Row,
     crew: &mut C,
 ) -> (Done, bool) {
-    let (folder, rules, ports, board, _, text, _) = *row;
-    let order = order(rt, alloc, folder);
+    let (folder, ports, board, _, text, _) = *row;
+    let order = order(rt, alloc, folder, Some("b"));
     let books = books(rt, alloc, folder, board);
     let mut ports = ports_over(rt, alloc, Hears::Evening, &[], books, ports);
     let mut sink = must(rt, BytesSink::make(alloc, 100, Vec::new(alloc)));
-    let done = match rules {
-        None => serve_on_board(rt, alloc, &order, "b", &mut ports, crew, &mut sink),
-        Some(rules) => {
-            let rules = said_rules(rt, alloc, rules);
-            serve_on_board_by_rules(rt, alloc, &order, "b", &rules, &mut ports, crew, &mut sink)
-        }
-    };
+    let done = serve(rt, alloc, &order, &mut ports, crew, &mut sink);
     (done, sink.bytes() == text.as_bytes())
 }
 
@@ -85,9 +69,9 @@ fn comes_of<R: Threads + Wait + Clock + Abort + Copy + Drop + Send + 'static>(
     row: &Row,
 ) -> bool {
     let (done, printed) = run(rt, alloc, row, &mut StdCrew::new());
-    let as_wanted = done.served.ending == row.4 && ends_so(done.board.as_ref(), row.6);
-    let ran = done.served.house.is_some() == (row.4 != ServeEnding::PortFailed);
-    let_go(done.served);
+    let as_wanted = done.ending == row.3 && ends_so(done.board.as_ref(), row.5);
+    let ran = done.house.is_some() == (row.3 != ServeEnding::PortFailed);
+    let_go(done);
     printed && as_wanted && ran
 }
 
@@ -102,52 +86,17 @@ fn expect<R: Threads + Wait + Clock + Abort + Copy + Drop + Send + 'static>(
     }
 }
 
-#[test]
-fn the_last_line_of_a_board_tells_all_of_an_evening(rt: HostRuntime) {
-    use ServeEnding::Finished;
-    const ROWS: [Row; 4] = [
-        (Some("d"), None, &[], &[], Finished, LINE, Some(ALL_TOLD)),
-        (None, None, &[], &[], Finished, LINE, Some(ALL_TOLD)),
-        (
-            Some("d"),
-            Some(NO_RULES),
-            &[],
-            &[],
-            Finished,
-            LINE,
-            Some(ALL_TOLD),
-        ),
-        (
-            None,
-            Some(NO_LISTENER),
-            &[],
-            &[],
-            Finished,
-            LINE,
-            Some(TALKER_TOLD),
-        ),
-    ];
-    expect(&rt, rt.alloc(), &ROWS);
-}
-
-#[test]
-fn a_board_that_fails_is_told_as_a_failed_book(rt: HostRuntime) {
-    use ServeEnding::BookFailed;
-    const ROWS: [Row; 2] = [
-        (Some("d"), None, &[], &[0], BookFailed, LINE, Some(b"")),
-        (None, Some(NO_RULES), &[], &[0], BookFailed, LINE, Some(b"")),
-    ];
-    expect(&rt, rt.alloc(), &ROWS);
-}
-
 // The board is asked for behind the link, the trace and the book, and alone behind the link.
 #[test]
-fn a_board_that_cannot_be_had_ends_the_run(rt: HostRuntime) {
-    use ServeEnding::PortFailed;
-    const ROWS: [Row; 3] = [
-        (Some("d"), None, &[3], &[], PortFailed, "", None),
-        (None, None, &[1], &[], PortFailed, "", None),
-        (Some("d"), Some(NO_RULES), &[3], &[], PortFailed, "", None),
+fn a_board_tells_all_of_an_evening_or_how_it_failed(rt: HostRuntime) {
+    use ServeEnding::{BookFailed, Finished, PortFailed};
+    const ROWS: [Row; 6] = [
+        (Some("d"), &[], &[], Finished, LINE, Some(ALL_TOLD)),
+        (None, &[], &[], Finished, LINE, Some(ALL_TOLD)),
+        (Some("d"), &[], &[0], BookFailed, LINE, Some(b"")),
+        (None, &[], &[0], BookFailed, LINE, Some(b"")),
+        (Some("d"), &[3], &[], PortFailed, "", None),
+        (None, &[1], &[], PortFailed, "", None),
     ];
     expect(&rt, rt.alloc(), &ROWS);
 }
@@ -155,15 +104,7 @@ fn a_board_that_cannot_be_had_ends_the_run(rt: HostRuntime) {
 // The watch, a receiver, a worker and the sender: the board comes back unwritten, but where the watch was refused.
 #[test]
 fn a_board_comes_back_where_its_watch_had_begun(rt: HostRuntime) {
-    const ROW: Row = (
-        Some("d"),
-        None,
-        &[],
-        &[],
-        ServeEnding::CrewRefused,
-        "",
-        None,
-    );
+    const ROW: Row = (Some("d"), &[], &[], ServeEnding::CrewRefused, "", None);
     for start in 0..4 {
         let refuses = must(&rt, Vec::from_array(rt.alloc(), [start]));
         let (done, printed) = run(&rt, rt.alloc(), &ROW, &mut RefusingCrew::new(refuses));
@@ -171,8 +112,8 @@ fn a_board_comes_back_where_its_watch_had_begun(rt: HostRuntime) {
             Some(board) => start > 0 && board.bytes().is_empty(),
             None => start == 0,
         };
-        let refused = done.served.refused.is_some() && done.served.ending == ROW.4;
-        let_go(done.served);
+        let refused = done.refused.is_some() && done.ending == ROW.3;
+        let_go(done);
         assert!(rt; printed && back && refused, "start {start}");
     }
 }

@@ -1,32 +1,36 @@
 //! A run of the reflector over devices that were handed out, and its lines.
-ghost use Rattle.std.specs.Prelude.{◌≡◌, ℕ, IfSome, IsSome, None, Option, OnOk, OnErr, vec_len};
+ghost use Rattle.std.specs.Prelude.{◌≡◌, ◌≢◌, ◌||◌, ℕ, Contains, IfSome, IsSome, None, OnOk, OnErr, is_some, length, option_map, vec_len};
 ghost use Rattle.m17_control.specs.Modules.{letters_of};
+ghost use Rattle.m17_ports.specs.Ports.{next_number, PortsTold};
 ghost use Rattle.m17_print.specs.Endings.{Grows};
-ghost use Rattle.m17_reflect.specs.Laws.{DevicesStay};
+ghost use Rattle.m17_board_run.specs.Board.{IsMade};
+ghost use Rattle.m17_reflect.specs.Laws.{AreSameDevices};
+ghost use Rattle.m17_reflect.specs.Views.{kinds_back, kinds_refused};
 ghost use Rattle.m17_reflect.specs.declared.returned.HouseRefusal.TheVariants as refusals;
-ghost use Rattle.m17_serve.specs.Devices.{house_back, house_told, refused_back};
-ghost use Rattle.m17_serve.specs.Served.{counts, ending_by, serve_plan, HasCauses, IsServable, NeverAsked, NeverRan};
-ghost use Rattle.m17_serve.specs.Steps.{kinds_opened, AreFresh, ComesOf};
+ghost use Rattle.m17_serve.specs.Devices.{house_told};
+ghost use Rattle.m17_serve.specs.Served.{around, counts, ending_by, serve_plan, AreOpened, ComesToServe, HasCauses, IsServable, NeverAsked, NeverRan};
+ghost use Rattle.m17_serve.specs.Steps.{kinds_opened, AreFresh};
 
 use crate::line::print_modules;
 use crate::opening::Opened;
 use crate::{ServeEnding, Served};
+use m17_board_run::{Board, reflect_on_board};
 use m17_crew::Crew;
 use m17_io::Sink;
 use m17_plan::Plan;
 use m17_ports::{Book, Ear, Mouth};
-use m17_reflect::laws::devices_stay;
-use m17_reflect::{HouseRefusal, reflect};
+use m17_reflect::HouseRefusal;
 use m17_values::Failed;
 use m17_words::ServeOrder;
 use std::alloc::Global;
 use std::sync::Wait;
 use std::thread::Threads;
+use std::time::Clock;
 
-// Runs the reflector of the words over new devices, each job in a thread of its own, and writes a line for each module, in
-// order of these letters.
+// Runs the reflector of the words over new devices, with this board, each job in a thread of its own, and writes a line for
+// each module, in order of these letters.
 pub(crate) fn carry_out<
-    R: Threads + Wait + Copy + Send + 'static,
+    R: Threads + Wait + Clock + Copy + Drop + Send + 'static,
     E: Ear + Drop + Send + 'static,
     M: Mouth + Drop + Send + 'static,
     B: Book + Drop + Send + 'static,
@@ -38,30 +42,41 @@ pub(crate) fn carry_out<
     order: &ServeOrder,
     letters: &[u8],
     opened: Opened<E, M, B>,
+    board: Board<B, R>,
     crew: &mut C,
     out: &mut K,
 ) -> Served<E, M, B>
+where
+    B::Label: 'static,
     requires servable { IsServable order.now }
     requires letters { letters.now ≡ letters_of order.now.modules }
     requires fresh { AreFresh order.now (house_told E.told M.told B.told (kinds_opened opened)) }
+    requires lines { is_some opened.lines ≡ is_some order.now.board }
+    requires board { IsMade (vec_len order.now.binds) (length (letters_of order.now.modules))
+        (is_some order.now.board) board }
     ensures causes { (ports : ℕ) → HasCauses result.ending
         (counts ports (C.refusals crew.old) (K.told out.old).faults)
         (counts ports (C.refusals crew.new) (K.told out.new).faults) }
-    ensures ended { ComesOf order.now (house_told E.told M.told B.told (kinds_opened opened))
-        result.ending (house_back E.told M.told B.told result.house)
-        (refused_back E.told M.told B.told result.refused)
+    // What the ending says holds of ports that handed these devices out.
+    ensures ended { (before after : PortsTold) → AreOpened order.now before after
+        (house_told E.told M.told B.told (kinds_opened opened)) (option_map B.told opened.lines)
+        → ComesToServe order.now result.ending (around E.told M.told B.told before after result)
         (K.told out.old).written (K.told out.new).written }
-    // As many ears come back, and where nothing was run those that were handed in.
-    ensures count { IfSome result.house (λ house. vec_len house.ears ≡ vec_len opened.ears) }
-    ensures same_ears { IfSome result.refused (λ refused. refused.ears.items ≡ opened.ears.items) }
-    ensures one { IsSome result.house → result.refused ≡ None }
+    // The devices that come back are those that were handed in.
+    ensures same_devices { IfSome result.house (λ house.
+        AreSameDevices (house_told E.told M.told B.told (kinds_opened opened))
+        (house_told E.told M.told B.told (kinds_back house))) }
+    ensures same { IfSome result.refused (λ refused. kinds_refused refused ≡ kinds_opened opened) }
     ensures appended { Grows (K.told out.old).written (K.told out.new).written }
     ensures untouched { NeverRan result.ending → out.new ≡ out.old }
-    ensures unasked { NeverAsked result.ending → crew.new ≡ crew.old }
+    ensures unasked { NeverAsked result.ending → result.board ≡ None → crew.new ≡ crew.old }
+    ensures watch { result.refused ≢ None → IsSome order.now.board → result.board ≡ None
+        → C.starts crew.new ≡ next_number (C.starts crew.old) }
+    ensures withheld { Contains (C.refuses crew.old) (C.starts crew.old) → result.board ≡ None }
+    ensures unnamed { order.now.board ≡ None → result.board ≡ None }
 {
-    of_runs::<E, M, B>();
     let plan = plan_of(order);
-    let ran = reflect(
+    let ran = reflect_on_board(
         rt,
         alloc,
         &plan,
@@ -69,37 +84,34 @@ pub(crate) fn carry_out<
         opened.mouths,
         opened.traces,
         opened.books,
+        opened.lines,
+        board,
         crew,
     );
     match ran {
-        Ok(house) => {
-            let admitted = house.admitted.as_slice();
-            let missed = house.missed.as_slice();
+        Ok(ran) => {
+            let admitted = ran.house.admitted.as_slice();
+            let missed = ran.house.missed.as_slice();
             let printed = print_modules(letters, admitted, missed, out);
+            let book_failed = is_either(ran.house.book_failed, ran.lines_failed);
             Served {
-                ending: ending_of(house.lost, house.book_failed, printed),
-                house: Some(house),
+                ending: ending_of(ran.house.lost, book_failed, printed),
+                house: Some(ran.house),
                 refused: None,
+                board: ran.lines,
             }
         }
-        Err(refused) => Served {
-            ending: ending_for(refused.why),
+        Err(back) => Served {
+            ending: ending_for(back.refused.why),
             house: None,
-            refused: Some(refused),
+            refused: Some(back.refused),
+            board: back.lines,
         },
     }
 }
 
-// What becomes of the devices of a run.
-#[inline]
-fn of_runs<E: Ear, M: Mouth, B: Book>()
-    ensures { DevicesStay E.Label M.Label (Option B.Label) }
-{
-    devices_stay::<E::Label, M::Label, Option<B::Label>>();
-}
-
 // The plan of the words.
-pub(crate) fn plan_of(order: &ServeOrder) -> Plan
+fn plan_of(order: &ServeOrder) -> Plan
     ensures { result ≡ serve_plan order.now }
 {
     Plan {
@@ -114,7 +126,7 @@ pub(crate) fn plan_of(order: &ServeOrder) -> Plan
 }
 
 // How the command ends where the reflector ran.
-pub(crate) fn ending_of(lost: bool, book_failed: bool, printed: Result<(), Failed>) -> ServeEnding
+fn ending_of(lost: bool, book_failed: bool, printed: Result<(), Failed>) -> ServeEnding
     ensures ok { OnOk printed (result ≡ ending_by lost book_failed) }
     ensures err { OnErr printed (result ≡ ServeEnding.WriteFailed) }
 {
@@ -131,7 +143,7 @@ pub(crate) fn ending_of(lost: bool, book_failed: bool, printed: Result<(), Faile
 }
 
 // How it ends where the reflector refused to run.
-pub(crate) fn ending_for(why: HouseRefusal) -> ServeEnding
+fn ending_for(why: HouseRefusal) -> ServeEnding
     ensures crew { why ≡ refusals.Crew → result ≡ ServeEnding.CrewRefused }
     ensures memory { why ≡ refusals.NoMemory → result ≡ ServeEnding.NoMemory }
 {
@@ -139,4 +151,11 @@ pub(crate) fn ending_for(why: HouseRefusal) -> ServeEnding
         HouseRefusal::Crew => ServeEnding::CrewRefused,
         HouseRefusal::NoMemory => ServeEnding::NoMemory,
     }
+}
+
+// Whether one of the two holds.
+fn is_either(one: bool, other: bool) -> bool
+    ensures { result ≡ (one || other) }
+{
+    one || other
 }

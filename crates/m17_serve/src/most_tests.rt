@@ -2,8 +2,8 @@
 //! its traces and books. A body that finds none for more than some number is proved.
 ghost use Rattle.m17_serve.specs.Served.{IsServable};
 
-use crate::bench::{must, said_rules};
-use crate::{ServeEnding, serve, serve_by_rules};
+use crate::bench::{let_go, must};
+use crate::{ServeEnding, serve};
 use m17_callsign::{Address, CallAddress};
 use m17_control::Modules;
 use m17_crew::StdCrew;
@@ -14,6 +14,7 @@ use std::alloc::Global;
 use std::process::Abort;
 use std::sync::Wait;
 use std::thread::Threads;
+use std::time::Clock;
 
 fn texts(rt: &impl Abort, alloc: Global) -> Vec<String> {
     let mut texts = Vec::new(alloc);
@@ -23,8 +24,8 @@ fn texts(rt: &impl Abort, alloc: Global) -> Vec<String> {
     texts
 }
 
-// Four links, all modules and all places, and a folder.
-fn order(rt: &impl Abort, alloc: Global) -> ServeOrder
+// Four links, all modules and all places, a folder, and a board or none.
+fn order(rt: &impl Abort, alloc: Global, board: bool) -> ServeOrder
     ensures { IsServable result }
 {
     let modules = must(rt, Modules::read("ABCDEFGHIJKLMNOPQRSTUVWXYZ"));
@@ -43,7 +44,15 @@ fn order(rt: &impl Abort, alloc: Global) -> ServeOrder
         binds,
         limit: 180_000,
         rules: false,
-        board: None,
+        board: if board {
+            Some(must(rt, String::from_str(alloc, "board")))
+        } else {
+            None
+        },
+        fill: false,
+        guard: true,
+        pace: 100,
+        stop: None,
     }
 }
 
@@ -58,7 +67,7 @@ fn links(rt: &impl Abort, alloc: Global) -> Vec<(ScriptEar, ListMouth)> {
 
 fn books(rt: &impl Abort, alloc: Global) -> Vec<ListBook> {
     let mut books = Vec::new(alloc);
-    for _made in 0..30 {
+    for _made in 0..31 {
         must(
             rt,
             books.push(must(rt, ListBook::make(alloc, 64, Vec::new(alloc)))),
@@ -67,29 +76,32 @@ fn books(rt: &impl Abort, alloc: Global) -> Vec<ListBook> {
     books
 }
 
-// How it ended, by no rules where it has gates, and how many bytes were printed.
-fn run<R: Threads + Wait + Abort + Copy + Send + 'static>(
+// How it ended, with a board or without, and how many bytes were printed.
+fn run<R: Threads + Wait + Clock + Abort + Copy + Drop + Send + 'static>(
     rt: &R,
     alloc: Global,
-    gates: bool,
+    board: bool,
 ) -> (ServeEnding, usize) {
-    let order = order(rt, alloc);
+    let order = order(rt, alloc, board);
     let mut ports = ScriptPorts::new(links(rt, alloc), books(rt, alloc), Vec::new(alloc));
     let mut sink = must(rt, BytesSink::make(alloc, 1_000, Vec::new(alloc)));
-    let mut crew = StdCrew::new();
-    let served = if gates {
-        let rules = said_rules(rt, alloc, "");
-        serve_by_rules(rt, alloc, &order, &rules, &mut ports, &mut crew, &mut sink)
-    } else {
-        serve(rt, alloc, &order, &mut ports, &mut crew, &mut sink)
-    };
-    (served.ending, sink.bytes().len())
+    let served = serve(
+        rt,
+        alloc,
+        &order,
+        &mut ports,
+        &mut StdCrew::new(),
+        &mut sink,
+    );
+    let ending = served.ending;
+    let_go(served);
+    (ending, sink.bytes().len())
 }
 
 // A line of 22 bytes for each module.
 #[test]
 fn a_reflector_has_4_links_26_modules_and_256_places(rt: HostRuntime) {
-    for gates in [false, true] {
-        assert!(rt; run(&rt, rt.alloc(), gates) == (ServeEnding::Finished, 26 * 22));
+    for board in [false, true] {
+        assert!(rt; run(&rt, rt.alloc(), board) == (ServeEnding::Finished, 26 * 22));
     }
 }

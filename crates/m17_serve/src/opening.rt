@@ -1,15 +1,16 @@
 //! The devices of a run, as the ports hand them out.
-ghost use Rattle.std.specs.Prelude.{◌≡◌, ◌↔◌, ◌≤◌, [], All, IfSome, IsSome, None, length, map, string_bytes, option_map, vec_len, vec_capacity, IfOk, OnOk};
+ghost use Rattle.std.specs.Prelude.{◌≡◌, ◌↔◌, ◌≤◌, [], All, IfSome, IsSome, None, is_some, length, map, string_bytes, option_map, vec_len, vec_capacity, IfOk, OnOk};
 ghost use Rattle.m17_control.specs.Modules.{letters_of};
 ghost use Rattle.m17_ports.specs.declared.question.Question.TheVariants as questions;
 ghost use Rattle.m17_ports.specs.Book.{IsNewBook};
 ghost use Rattle.m17_ports.specs.Ear.{IsNewEar};
 ghost use Rattle.m17_ports.specs.Mouth.{IsNewMouth};
 ghost use Rattle.m17_ports.specs.Ports.{FailsLast};
-ghost use Rattle.m17_serve.specs.Asked.{call_after, link_questions, questions_of, shelf_questions, until_of};
-ghost use Rattle.m17_serve.specs.Devices.{AreNew, AreNewOnes, house_told, told_of_shelf};
+ghost use Rattle.m17_serve.specs.Asked.{board_call, board_questions, call_after, device_questions, link_questions, questions_of, shelf_questions, until_of};
+ghost use Rattle.m17_serve.specs.Devices.{AreNew, AreNewOnes, IsNewBoard, Known, ear_labels, house_told, mouth_labels, told_of_shelf};
 ghost use Rattle.m17_serve.specs.Steps.{AreNames, Asks, HasRooms, kinds_opened};
 
+use crate::KnownPorts;
 use crate::letters::room;
 use crate::names::Names;
 use m17_ports::{Ports, Shelf};
@@ -27,6 +28,7 @@ pub(crate) struct Opened<E, M, B> {
     pub mouths: Vec<M>,
     pub traces: Vec<Shelf<B>>,
     pub books: Vec<Shelf<B>>,
+    pub lines: Option<B>,
 }
 
 // Room for the devices of this number of links and of modules.
@@ -42,11 +44,12 @@ pub(crate) fn make_rooms<E: Drop, M: Drop, B: Drop>(
         mouths: room(alloc, links)?,
         traces: room(alloc, links)?,
         books: room(alloc, modules)?,
+        lines: None,
     })
 }
 
 // Opens the links of these places, in order.
-pub(crate) fn open_links<P: Ports>(
+pub(crate) fn open_links<P: KnownPorts>(
     binds: &[String],
     until: Option<u64>,
     ports: &mut P,
@@ -63,10 +66,15 @@ pub(crate) fn open_links<P: Ports>(
         (length binds.now) (map P.Ear.told ears.new.items)) }
     ensures mouths { OnOk result (AreNewOnes IsNewMouth (P.told ports.old).calls
         (length binds.now) (map P.Mouth.told mouths.new.items)) }
+    ensures known_ears { OnOk result (Known (P.ears ports.old)
+        (ear_labels (map P.Ear.told ears.new.items))) }
+    ensures known_mouths { OnOk result
+        (Known (P.mouths ports.old)
+        (mouth_labels (map P.Mouth.told mouths.new.items))) }
     ensures fails_last { FailsLast P.told ports.old ports.new }
 {
     for bind in binds {
-        let (ear, mouth) = match ports.link(bind.as_str(), until) {
+        let (ear, mouth) = match ports.known_link(bind.as_str(), until) {
             Ok(link) => link,
             Err(failed) => return Err(failed),
         };
@@ -142,8 +150,26 @@ fn open_shelves<P: Ports>(
     }
 }
 
-// The devices of a run, in the order of its questions.
-pub(crate) fn open<P: Ports>(
+// Opens the book of the lines of a board, where one is named.
+fn open_lines<P: Ports>(order: &ServeOrder, ports: &mut P) -> Result<Option<P::Book>, Failed>
+    ensures asks { Asks result (board_questions (option_map string_bytes order.now.board))
+        (P.told ports.old) (P.told ports.new) }
+    ensures new { IfOk result (λ lines. IsNewBoard (option_map string_bytes order.now.board)
+        (P.told ports.old).calls (option_map P.Book.told lines)) }
+    ensures there { IfOk result (λ lines. is_some lines ≡ is_some order.now.board) }
+    ensures fails_last { FailsLast P.told ports.old ports.new }
+{
+    match &order.board {
+        Some(name) => match ports.book(name.as_str()) {
+            Ok(lines) => Ok(Some(lines)),
+            Err(failed) => Err(failed),
+        },
+        None => Ok(None),
+    }
+}
+
+// The links and the shelves of a run.
+fn open_devices<P: KnownPorts>(
     order: &ServeOrder,
     names: &Names,
     modules: usize,
@@ -154,10 +180,16 @@ pub(crate) fn open<P: Ports>(
     requires modules { modules ≡ length (letters_of order.now.modules) }
     requires rooms { HasRooms (vec_len order.now.binds) modules rooms }
     requires seconds { IfSome order.now.seconds (λ seconds. seconds ≤ 1000000) }
-    ensures asks { Asks result (questions_of order.now)
+    ensures asks { Asks result (device_questions order.now)
         (P.told ports.old) (P.told ports.new) }
     ensures new { IfOk result (λ opened. AreNew order.now (P.told ports.old).calls
         (house_told P.Ear.told P.Mouth.told P.Book.told (kinds_opened opened))) }
+    ensures known_ears { IfOk result (λ opened.
+        Known (P.ears ports.old)
+        (ear_labels (map P.Ear.told opened.ears.items))) }
+    ensures known_mouths { IfOk result (λ opened.
+        Known (P.mouths ports.old)
+        (mouth_labels (map P.Mouth.told opened.mouths.items))) }
     ensures fails_last { FailsLast P.told ports.old ports.new }
 {
     let mut rooms = rooms;
@@ -176,6 +208,49 @@ pub(crate) fn open<P: Ports>(
         &mut rooms.books,
     ) {
         Ok(()) => Ok(rooms),
+        Err(failed) => Err(failed),
+    }
+}
+
+// The devices of a run, in the order of its questions, and the book of the lines of its board.
+pub(crate) fn open<P: KnownPorts>(
+    order: &ServeOrder,
+    names: &Names,
+    modules: usize,
+    ports: &mut P,
+    rooms: Opened<P::Ear, P::Mouth, P::Book>,
+) -> Result<Opened<P::Ear, P::Mouth, P::Book>, Failed>
+    requires names { AreNames order.now names.now }
+    requires modules { modules ≡ length (letters_of order.now.modules) }
+    requires rooms { HasRooms (vec_len order.now.binds) modules rooms }
+    requires seconds { IfSome order.now.seconds (λ seconds. seconds ≤ 1000000) }
+    ensures asks { Asks result (questions_of order.now)
+        (P.told ports.old) (P.told ports.new) }
+    ensures new { IfOk result (λ opened. AreNew order.now (P.told ports.old).calls
+        (house_told P.Ear.told P.Mouth.told P.Book.told (kinds_opened opened))) }
+    ensures board { IfOk result (λ opened. IsNewBoard (option_map string_bytes order.now.board)
+        (board_call order.now (P.told ports.old).calls) (option_map P.Book.told opened.lines)) }
+    ensures there { IfOk result (λ opened. is_some opened.lines ≡ is_some order.now.board) }
+    ensures known_ears { IfOk result (λ opened.
+        Known (P.ears ports.old)
+        (ear_labels (map P.Ear.told opened.ears.items))) }
+    ensures known_mouths { IfOk result (λ opened.
+        Known (P.mouths ports.old)
+        (mouth_labels (map P.Mouth.told opened.mouths.items))) }
+    ensures fails_last { FailsLast P.told ports.old ports.new }
+{
+    let opened = match open_devices(order, names, modules, ports, rooms) {
+        Ok(opened) => opened,
+        Err(failed) => return Err(failed),
+    };
+    match open_lines(order, ports) {
+        Ok(lines) => Ok(Opened {
+            ears: opened.ears,
+            mouths: opened.mouths,
+            traces: opened.traces,
+            books: opened.books,
+            lines,
+        }),
         Err(failed) => Err(failed),
     }
 }

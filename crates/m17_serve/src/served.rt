@@ -42,7 +42,7 @@ impl ServeEnding {
 }
 
 /// What `serve` came to: its ending, and the devices, with what went through the threads where the reflector ran, and with
-/// the reason where it refused to.
+/// the reason where it refused to; and with a board the book of its lines.
 #[derive(Drop)]
 pub struct Served<E, M, B> {
     /// How it ended.
@@ -51,4 +51,6 @@ pub struct Served<E, M, B> {
     pub house: Option<Returned<E, M, Shelf<B>>>,
     /// What it handed back where it refused to run.
     pub refused: Option<Refused<E, M, Shelf<B>>>,
+    /// Where the lines of the board were written. Some exactly where the watch of a board was joined.
+    pub board: Option<B>,
 }

@@ -13,6 +13,7 @@ use std::alloc::Global;
 use std::process::Abort;
 use std::sync::Wait;
 use std::thread::Threads;
+use std::time::Clock;
 
 const LINE: &str = "A admitted 4 missed 0\n";
 
@@ -174,7 +175,7 @@ type Row = (
 );
 
 // Whether what a row wants comes of it with this crew.
-fn comes_of<C: Crew, R: Threads + Wait + Abort + Copy + Send + 'static>(
+fn comes_of<C: Crew, R: Threads + Wait + Clock + Abort + Copy + Drop + Send + 'static>(
     rt: &R,
     alloc: Global,
     row: &Row,
@@ -188,7 +189,11 @@ fn comes_of<C: Crew, R: Threads + Wait + Abort + Copy + Send + 'static>(
 }
 
 // Runs the reflector by each of these rows, and demands what comes of it.
-fn expect<R: Threads + Wait + Abort + Copy + Send + 'static>(rt: &R, alloc: Global, rows: &[Row]) {
+fn expect<R: Threads + Wait + Clock + Abort + Copy + Drop + Send + 'static>(
+    rt: &R,
+    alloc: Global,
+    rows: &[Row],
+) {
     for (i, row) in rows.iter().enumerate() {
         assert!(rt; comes_of(rt, alloc, row, &mut StdCrew::new()), "row {i}");
     }

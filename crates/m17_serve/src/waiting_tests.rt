@@ -1,6 +1,6 @@
 //! A line of the board comes before the end: the book of the module waits for one at its third write.
-use crate::bench::{Hears, book_that, let_go, must, order, ports_over};
-use crate::{ServeEnding, serve_on_board};
+use crate::bench::{Hears, book_that, must, order, ports_over};
+use crate::{KnownPorts, ServeEnding, serve};
 use crossbeam_utils::Backoff;
 use m17_crew::StdCrew;
 use m17_memory::BytesSink;
@@ -118,6 +118,20 @@ impl Ports for WaitingPorts {
     }
 }
 
+impl KnownPorts for WaitingPorts {
+    ghost ears = { λ _ _ _. Unit {0} };
+
+    ghost mouths = { λ _ _ _. Unit {0} };
+
+    fn known_link(
+        &mut self,
+        bind: &str,
+        until: Option<u64>,
+    ) -> Result<(ScriptEar, ListMouth), Failed> {
+        self.link(bind, until)
+    }
+}
+
 // Whether a line came while the book of the module waited.
 fn came(house: &Returned<ScriptEar, ListMouth, Shelf<WaitingBook>>) -> bool {
     match house.books.as_slice() {
@@ -129,7 +143,7 @@ fn came(house: &Returned<ScriptEar, ListMouth, Shelf<WaitingBook>>) -> bool {
 #[test]
 fn a_line_comes_before_the_end(rt: HostRuntime) {
     let alloc = rt.alloc();
-    let order = order(&rt, alloc, Some("d"));
+    let order = order(&rt, alloc, Some("d"), Some("b"));
     let books = ["trace", "book", "lines"].map(|_| book_that(&rt, alloc, &[]));
     let books = must(&rt, Vec::from_array(alloc, books));
     let lines = must(&rt, Arc::new(alloc, AtomicU64::new(0)));
@@ -140,19 +154,18 @@ fn a_line_comes_before_the_end(rt: HostRuntime) {
         parts: must(&rt, Vec::from_array(alloc, parts)),
     };
     let mut sink = must(&rt, BytesSink::make(alloc, 100, Vec::new(alloc)));
-    let done = serve_on_board(
+    let done = serve(
         &rt,
         alloc,
         &order,
-        "b",
         &mut ports,
         &mut StdCrew::new(),
         &mut sink,
     );
-    let seen = match &done.served.house {
+    let seen = match &done.house {
         Some(house) => came(house),
         None => false,
     };
-    assert!(rt; seen && done.served.ending == ServeEnding::Finished);
+    assert!(rt; seen && done.ending == ServeEnding::Finished);
     drop(done);
 }

@@ -16,7 +16,7 @@ use Rattle.m17_words.specs.Words.{word_of, Gives, Names}
 abbrev pub first_of : Command → FirstWord
 first_of command.Judge = Judge
 first_of command.Show = Show
-first_of (command.Replay call modules parrots places summary limit) = Replay
+first_of (command.Replay call modules parrots places summary limit threads) = Replay
 first_of (command.Make seed count) = Make
 first_of command.Check = Check
 first_of command.Migrate = Migrate
@@ -27,7 +27,7 @@ first_of (command.Bridge order) = Bridge
 pub word_is : (given : Command) → word_of given ≡ text_of_first (first_of given)
 word_is command.Judge = refl
 word_is command.Show = refl
-word_is (command.Replay call modules parrots places summary limit) = refl
+word_is (command.Replay call modules parrots places summary limit threads) = refl
 word_is (command.Make seed count) = refl
 word_is command.Check = refl
 word_is command.Migrate = refl
@@ -73,7 +73,7 @@ pub gives : (words : List Text) (given : Command) → Gives words given
     → Takes (table_of_word (first_of given)) words × IsGiven (first_of given) (found (table_of_word (first_of given)) words) given
 gives words command.Judge h = (h, refl)
 gives words command.Show h = (h, refl)
-gives words (command.Replay call modules parrots places summary limit) h = h
+gives words (command.Replay call modules parrots places summary limit threads) h = h
 gives words (command.Make seed count) h = h
 gives words command.Check h = (h, refl)
 gives words command.Migrate h = (h, refl)
@@ -93,7 +93,7 @@ pub named : (word : FirstWord) (words : List Text) → Takes (table_of_word word
     → IsGiven word (found (table_of_word word) words) given → Names (text_of_first word ∷ words) given
 named Judge words taken given is = subst (λ (given : Command). Names (codes "judge" ∷ words) given) (sym is) (refl, taken)
 named Show words taken given is = subst (λ (given : Command). Names (codes "show" ∷ words) given) (sym is) (refl, taken)
-named Replay words taken (command.Replay call modules parrots places summary limit) is = (refl, (taken, is))
+named Replay words taken (command.Replay call modules parrots places summary limit threads) is = (refl, (taken, is))
 named Replay words taken _ is = absurd is
 named Make words taken (command.Make seed count) is = (refl, (taken, is))
 named Make words taken _ is = absurd is

@@ -61,15 +61,16 @@ same_binds found o o' a b = let e : Some (map string_bytes o'.binds.items) ≡ S
 one_given : SetsAreTheirLetters → EachAddressHasOneCallsign → EachTextIsOfOnePeer → (word : FirstWord) (found : List Row) (given other : Command) → IsGiven word found given → IsGiven word found other → SameCommand given other
 one_given law calls peers Judge found given other a b = subst (λ (given : Command). SameCommand given other) (sym a) b
 one_given law calls peers Show found given other a b = subst (λ (given : Command). SameCommand given other) (sym a) b
-one_given law calls peers Replay found (command.Replay c m p n s l) (command.Replay c' m' p' n' s' l') a b =
+one_given law calls peers Replay found (command.Replay c m p n s l r) (command.Replay c' m' p' n' s' l' r') a b =
     let call : c' ≡ c = calls.one_address _ _ _ b.call_is a.call_is in
     let modules : m' ≡ m = same_modules law _ m m' a.modules_are b.modules_are in
     let parrots : p' ≡ p = same_parrots law _ m m' p p' a.parrots_are b.parrots_are in
     let places : n' ≡ n = b.places_are.value ∙ sym a.places_are.value in
     let summaries : s' ≡ s = one_truth s' s (λ h. a.summary_is.1 (b.summary_is.0 h)) (λ h. b.summary_is.1 (a.summary_is.0 h)) in
     let limits : l' ≡ l = one_limit _ l l' a.limit_is b.limit_is in
+    let threads : r' ≡ r = one_truth r' r (λ h. a.threads_are.1 (b.threads_are.0 h)) (λ h. b.threads_are.1 (a.threads_are.0 h)) in
     cc
-one_given law calls peers Replay found (command.Replay c m p n s l) _ a b = absurd b
+one_given law calls peers Replay found (command.Replay c m p n s l r) _ a b = absurd b
 one_given law calls peers Replay found _ other a b = absurd a
 one_given law calls peers Make found (command.Make seed count) (command.Make seed' count') a b =
     ap₂ command.Make (b.seed_is.value ∙ sym a.seed_is.value) (b.count_is.value ∙ sym a.count_is.value)
@@ -99,6 +100,10 @@ one_given law calls peers Serve found (command.Serve o) (command.Serve o') a b =
   limit = one_limit _ o.limit o'.limit a.limit_is b.limit_is;
   rules = one_truth o'.rules o.rules (λ h. a.rules_are.1 (b.rules_are.0 h)) (λ h. b.rules_are.1 (a.rules_are.0 h));
   board = b.board_is ∙ sym a.board_is;
+  fill = one_truth o'.fill o.fill (λ h. a.fill_is.1 (b.fill_is.0 h)) (λ h. b.fill_is.1 (a.fill_is.0 h));
+  guard = one_truth o'.guard o.guard (λ h. a.guard_is.1 (b.guard_is.0 h)) (λ h. b.guard_is.1 (a.guard_is.0 h));
+  pace = b.pace_is.value ∙ sym a.pace_is.value;
+  stop = b.stop_is ∙ sym a.stop_is;
 }
 one_given law calls peers Serve found (command.Serve o) _ a b = absurd b
 one_given law calls peers Serve found _ other a b = absurd a
@@ -111,6 +116,7 @@ one_given law calls peers Bridge found (command.Bridge o) (command.Bridge o') a 
   far_peer = peers o'.far_peer o.far_peer _ b.far_peer_is a.far_peer_is;
   far_letter = one_letter _ o.far_letter o'.far_letter a.far_module_is b.far_module_is;
   seconds = one_number _ _ _ o.seconds o'.seconds a.seconds_are b.seconds_are;
+  stop = b.stop_is ∙ sym a.stop_is;
 }
 one_given law calls peers Bridge found (command.Bridge o) _ a b = absurd b
 one_given law calls peers Bridge found _ other a b = absurd a

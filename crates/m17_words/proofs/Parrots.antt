@@ -36,7 +36,7 @@ same_parrots text m m' (Some t) p named named' some = (
 -- where there is no plan, there is no replay and no run of the reflector
 pub no_replay : (found : List Row) → ((plan : Plan) → IsPlan found (codes "M17-TST") plan → ⊥)
     → (command : Command) → IsReplayWith found command → ⊥
-no_replay found none (Replay call modules parrots places summary limit) replay = none
+no_replay found none (Replay call modules parrots places summary limit threads) replay = none
     (record { call = call; modules = modules; parrots = parrots; places = places; limit = limit })
     (record {
       call_is = replay.call_is;

@@ -28,6 +28,7 @@ pub record SameBridge (o o' : BridgeOrder) : Type 0 where
   pub far_peer : o'.far_peer ≡ o.far_peer
   pub far_letter : o'.far_letter ≡ o.far_letter
   pub seconds : o'.seconds ≡ o.seconds
+  pub stop : option_map string_bytes o'.stop ≡ option_map string_bytes o.stop
 
 pub record SameServe (o o' : ServeOrder) : Type 0 where
   pub call : o'.call ≡ o.call
@@ -40,13 +41,17 @@ pub record SameServe (o o' : ServeOrder) : Type 0 where
   pub limit : o'.limit ≡ o.limit
   pub rules : o'.rules ≡ o.rules
   pub board : option_map string_bytes o'.board ≡ option_map string_bytes o.board
+  pub fill : o'.fill ≡ o.fill
+  pub guard : o'.guard ≡ o.guard
+  pub pace : o'.pace ≡ o.pace
+  pub stop : option_map string_bytes o'.stop ≡ option_map string_bytes o.stop
 
 -- The commands are one, with the same values.
 abbrev pub SameCommand : Command → Command → Type 0
 SameCommand Judge other = other ≡ Judge
 SameCommand Show other = other ≡ Show
-SameCommand (Replay call modules parrots places summary limit) other =
-    other ≡ Replay call modules parrots places summary limit
+SameCommand (Replay call modules parrots places summary limit threads) other =
+    other ≡ Replay call modules parrots places summary limit threads
 SameCommand (Make seed count) other = other ≡ Make seed count
 SameCommand Check other = other ≡ Check
 SameCommand Migrate other = other ≡ Migrate

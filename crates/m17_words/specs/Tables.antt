@@ -53,6 +53,7 @@ replay_table = table_of (codes "replay") (
     ∷ option (codes "places")
     ∷ flag (codes "summary")
     ∷ option (codes "limit")
+    ∷ flag (codes "threads")
     ∷ [])
 
 unfoldable pub make_table : App
@@ -85,6 +86,7 @@ bridge_table = table_of (codes "bridge") (
     ∷ needed (codes "far-peer")
     ∷ needed (codes "far-module")
     ∷ option (codes "for")
+    ∷ option (codes "stop")
     ∷ [])
 
 unfoldable pub serve_table : App
@@ -99,6 +101,10 @@ serve_table = table_of (codes "serve") (
     ∷ option (codes "limit")
     ∷ flag (codes "rules")
     ∷ option (codes "board")
+    ∷ flag (codes "fill-crc")
+    ∷ flag (codes "no-guard")
+    ∷ option (codes "pace")
+    ∷ option (codes "stop")
     ∷ [])
 
 -- the words that such a command takes, and what it finds among them, are known from `clap`'s own definitions

@@ -1,5 +1,5 @@
 -- The values of options and arguments: which texts they are, and their bounds.
-use Rattle.std.specs.Prelude.{◌≡◌, ℕ, Bool, false, ◌*◌, ◌≤◌, ◌↔◌, List, [], ◌∷◌, All, Contains, IsTrue, codes, Option, None, Some}
+use Rattle.std.specs.Prelude.{◌≡◌, ◌≢◌, ℕ, Bool, false, ◌*◌, ◌≤◌, ◌↔◌, List, [], ◌∷◌, All, Contains, IsTrue, codes, Option, None, Some}
 use Rattle.std.specs.Str.Parse.{IsNumeral, digits_value}
 use Rattle.m17_control.specs.declared.modules.Modules.{Modules}
 use Rattle.m17_control.specs.Forms.{IsModule}
@@ -27,6 +27,14 @@ IsLimit text limit = (seconds : ℕ) × IsNumber 0 86400 text seconds × (limit 
 abbrev pub limit_unnamed : ℕ
 limit_unnamed = 180
 
+-- The text is a number of frames in any second for one peer, 100,000 at the most.
+abbrev pub IsPace : List ℕ → ℕ → Type 0
+IsPace text pace = IsNumber 0 100000 text pace
+
+-- those frames where the words name none
+abbrev pub pace_unnamed : ℕ
+pace_unnamed = 100
+
 -- The text names these modules: letters from A to Z, each once.
 pub record NamesModules (text : List ℕ) (modules : Modules) : Type 0 where
   pub is_text : IsModulesText text
@@ -47,3 +55,7 @@ NamesLetter text letter = IsModule letter × (text ≡ letter ∷ [])
 -- a flag is there
 abbrev pub IsFlagged : Option (List ℕ) → Bool → Type 0
 IsFlagged text there = IsTrue there ↔ (text ≡ Some (codes "true"))
+
+-- what a flag takes away is there, since the flag isn't
+abbrev pub IsUnlessFlagged : Option (List ℕ) → Bool → Type 0
+IsUnlessFlagged text there = IsTrue there ↔ (text ≢ Some (codes "true"))

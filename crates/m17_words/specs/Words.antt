@@ -11,13 +11,13 @@ use Rattle.m17_words.specs.declared.order.BridgeOrder.{BridgeOrder}
 use Rattle.m17_words.specs.declared.command.Command.{Command}
 use Rattle.m17_words.specs.declared.command.Command.TheVariants.{Judge, Show, Replay, Make, Check, Migrate, Talk, Serve, Bridge}
 use Rattle.m17_words.specs.Tables.{judge_table, show_table, replay_table, make_table, check_table, migrate_table, talk_table, serve_table, bridge_table, Takes, found, text_of, text_or, texts_of}
-use Rattle.m17_words.specs.Values.{IsLimit, IsNumber, IsNumberIfAny, NamesLetter, NamesModules, NamesParrots, IsFlagged, limit_unnamed}
+use Rattle.m17_words.specs.Values.{IsLimit, IsNumber, IsNumberIfAny, NamesLetter, NamesModules, NamesParrots, IsFlagged, IsPace, IsUnlessFlagged, limit_unnamed, pace_unnamed}
 
 -- the word that names a command
 abbrev pub word_of : Command → Text
 word_of Judge = codes "judge"
 word_of Show = codes "show"
-word_of (Replay call modules parrots places summary limit) = codes "replay"
+word_of (Replay call modules parrots places summary limit threads) = codes "replay"
 word_of (Make seed count) = codes "make"
 word_of Check = codes "check"
 word_of Migrate = codes "migrate"
@@ -33,9 +33,10 @@ pub record ReplayOptions : Type 0 where
   pub places : ℕ
   pub summary : Bool
   pub limit : ℕ
+  pub threads : Bool
 
 -- The values of a replay: its own callsign, the modules, which of them are parrots, the places, whether the summary is
--- printed, and the limit on talking.
+-- printed, the limit on talking, and whether it runs over threads.
 pub record IsReplay (found : List Row) (o : ReplayOptions) : Type 0 where
   pub call_is : IsCallsignOf (text_or found (codes "call") (codes "M17-TST")) o.call
   pub modules_are : NamesModules (text_or found (codes "modules") (codes "ABC")) o.modules
@@ -43,15 +44,17 @@ pub record IsReplay (found : List Row) (o : ReplayOptions) : Type 0 where
   pub places_are : IsNumber 1 256 (text_or found (codes "places") (codes "64")) o.places
   pub summary_is : IsFlagged (text_of found (codes "summary")) o.summary
   pub limit_is : IsLimit (text_or found (codes "limit") (decimal limit_unnamed)) o.limit
+  pub threads_are : IsFlagged (text_of found (codes "threads")) o.threads
 
-abbrev pub options : ℕ → Modules → Modules → ℕ → Bool → ℕ → ReplayOptions
-options call modules parrots places summary limit = record {
+abbrev pub options : ℕ → Modules → Modules → ℕ → Bool → ℕ → Bool → ReplayOptions
+options call modules parrots places summary limit threads = record {
   call = call;
   modules = modules;
   parrots = parrots;
   places = places;
   summary = summary;
   limit = limit;
+  threads = threads;
 }
 
 -- the values of a made evening: the seed, and how many entries
@@ -71,7 +74,7 @@ pub record IsTalk (found : List Row) (order : TalkOrder) : Type 0 where
   pub book_is : option_map string_bytes order.book ≡ text_of found (codes "book")
 
 -- The values of a bridge: its callsign; on each side where its link is bound, the reflector, and the module that it asks
--- for; and for how long it runs.
+-- for; for how long it runs; and the file whose end stops it.
 pub record IsBridge (found : List Row) (order : BridgeOrder) : Type 0 where
   pub call_is : IsCallsignOf (text_or found (codes "call") []) order.call
   pub near_is : string_bytes order.near ≡ text_or found (codes "near") []
@@ -81,10 +84,12 @@ pub record IsBridge (found : List Row) (order : BridgeOrder) : Type 0 where
   pub far_peer_is : IsTextOf order.far_peer (text_or found (codes "far-peer") [])
   pub far_module_is : NamesLetter (text_or found (codes "far-module") []) order.far_letter
   pub seconds_are : IsNumberIfAny 1 1000000 (text_of found (codes "for")) order.seconds
+  pub stop_is : option_map string_bytes order.stop ≡ text_of found (codes "stop")
 
 -- The values of a run of the reflector: its callsign, the modules, which of them are parrots, the places, for how long it
 -- serves, the folder of its traces and books, where its links are bound, one to four, the limit on talking, whether it serves
--- by rules of callsigns, and its board.
+-- by rules of callsigns, its board, whether a CRC is filled in, whether its links are guarded, how many frames in any second
+-- one peer is sent, and the file whose end stops it.
 pub record IsServe (found : List Row) (order : ServeOrder) : Type 0 where
   pub call_is : IsCallsignOf (text_or found (codes "call") []) order.call
   pub modules_are : NamesModules (text_or found (codes "modules") (codes "ABC")) order.modules
@@ -98,11 +103,15 @@ pub record IsServe (found : List Row) (order : ServeOrder) : Type 0 where
   pub limit_is : IsLimit (text_or found (codes "limit") (decimal limit_unnamed)) order.limit
   pub rules_are : IsFlagged (text_of found (codes "rules")) order.rules
   pub board_is : option_map string_bytes order.board ≡ text_of found (codes "board")
+  pub fill_is : IsFlagged (text_of found (codes "fill-crc")) order.fill
+  pub guard_is : IsUnlessFlagged (text_of found (codes "no-guard")) order.guard
+  pub pace_is : IsPace (text_or found (codes "pace") (decimal pace_unnamed)) order.pace
+  pub stop_is : option_map string_bytes order.stop ≡ text_of found (codes "stop")
 
 -- the same of a command
 abbrev pub IsReplayWith : List Row → Command → Type 0
-IsReplayWith found (Replay call modules parrots places summary limit) =
-    IsReplay found (options call modules parrots places summary limit)
+IsReplayWith found (Replay call modules parrots places summary limit threads) =
+    IsReplay found (options call modules parrots places summary limit threads)
 IsReplayWith found _ = ⊥
 
 abbrev pub IsMakeWith : List Row → Command → Type 0
@@ -125,8 +134,8 @@ IsBridgeWith found _ = ⊥
 abbrev pub Gives : List Text → Command → Type 0
 Gives words Judge = Takes judge_table words
 Gives words Show = Takes show_table words
-Gives words (Replay call modules parrots places summary limit) = Takes replay_table words
-    × IsReplay (found replay_table words) (options call modules parrots places summary limit)
+Gives words (Replay call modules parrots places summary limit threads) = Takes replay_table words
+    × IsReplay (found replay_table words) (options call modules parrots places summary limit threads)
 Gives words (Make seed count) = Takes make_table words × IsMake (found make_table words) seed count
 Gives words Check = Takes check_table words
 Gives words Migrate = Takes migrate_table words

@@ -19,7 +19,7 @@ fn peer(port: u16) -> Peer {
 }
 
 // A bridge of AB1CD between module A at 10.0.0.9:17000 and module B at 10.0.0.9:17001.
-fn bridge(rt: &impl Abort, alloc: Global, seconds: Option<u64>) -> Command {
+fn bridge(rt: &impl Abort, alloc: Global, seconds: Option<u64>, stop: Option<String>) -> Command {
     Command::Bridge(BridgeOrder {
         call: call(rt, "AB1CD"),
         near: text(rt, alloc, "x"),
@@ -29,6 +29,7 @@ fn bridge(rt: &impl Abort, alloc: Global, seconds: Option<u64>) -> Command {
         far_peer: peer(17_001),
         far_letter: ModuleLetter::new(b'B').expect(rt, "a module"),
         seconds,
+        stop,
     })
 }
 
@@ -37,15 +38,22 @@ const NEEDED: &str = "bridge --call AB1CD --near x --near-peer 10.0.0.9:17000 --
 
 #[test]
 fn a_bridge_has_what_its_words_say(rt: HostRuntime) {
-    const LINE: &str = "bridge --for=01000000 --far-module=B --far-peer=10.0.0.9:17001 --far=y \
+    const LINE: &str =
+        "bridge --stop=f --for=01000000 --far-module=B --far-peer=10.0.0.9:17001 --far=y \
                         --near-module=A --near-peer=10.0.0.9:17000 --near=x --call=AB1CD";
     let alloc = rt.alloc();
-    expect(&rt, alloc, &[NEEDED], &bridge(&rt, alloc, None));
-    expect(&rt, alloc, &[LINE], &bridge(&rt, alloc, Some(1_000_000)));
+    expect(&rt, alloc, &[NEEDED], &bridge(&rt, alloc, None, None));
+    let stop = Some(text(&rt, alloc, "f"));
+    expect(
+        &rt,
+        alloc,
+        &[LINE],
+        &bridge(&rt, alloc, Some(1_000_000), stop),
+    );
 }
 
 // Words behind those that a bridge has to have, and whether they are taken.
-const MORE: [(&str, bool); 15] = [
+const MORE: [(&str, bool); 20] = [
     ("", true),
     (" --", true),
     (" --for 1", true),
@@ -55,6 +63,11 @@ const MORE: [(&str, bool); 15] = [
     (" --for=", false),
     (" --for", false),
     (" --for 1 --for 1", false),
+    (" --stop f", true),
+    (" --stop=", true),
+    (" --stop", false),
+    (" --stop f --stop g", false),
+    (" --pace 1", false),
     (" --near z", false),
     (" --listen", false),
     (" --book b", false),

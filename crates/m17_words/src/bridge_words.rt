@@ -7,7 +7,7 @@ ghost use Rattle.m17_words.specs.Words.{IsBridge, IsBridgeWith};
 
 use crate::clap_words::{text_of, text_or};
 use crate::serve_words::SECONDS_MAX;
-use crate::talk_words::owned;
+use crate::talk_words::{book_of, owned};
 use crate::{BridgeOrder, Command, WordsRefusal, values};
 use clap::ArgMatches;
 use m17_callsign::CallAddress;
@@ -72,6 +72,7 @@ fn bridge_with(
 {
     let near = owned(alloc, text_or(matches, "near", ""))?;
     let far = owned(alloc, text_or(matches, "far", ""))?;
+    let stop = book_of(alloc, text_of(matches, "stop"))?;
     Ok(Command::Bridge(BridgeOrder {
         call: values.call,
         near,
@@ -81,5 +82,6 @@ fn bridge_with(
         far_peer: values.far_peer,
         far_letter: values.far_letter,
         seconds: values.seconds,
+        stop,
     }))
 }

@@ -1,7 +1,7 @@
 ghost use Rattle.std.specs.Prelude.{◌≡◌, ℕ, List, true, map, string_bytes, option_map, unwrap_or, IfOk};
 ghost use Rattle.clap.specs.Words.{app_of, found_of, rows_of};
 ghost use Rattle.m17_words.specs.Tables.{IsSimple, Takes, found, text_of, text_or, texts_of};
-ghost use Rattle.m17_words.specs.Values.{IsFlagged};
+ghost use Rattle.m17_words.specs.Values.{IsFlagged, IsUnlessFlagged};
 
 use crate::WordsRefusal;
 use clap::error::ErrorKind;
@@ -51,6 +51,13 @@ pub(crate) fn is_there(matches: &ArgMatches, name: &str) -> bool
     ensures { IsFlagged (text_of (rows_of (found_of matches.now)) name.now) result }
 {
     matches!(text_of(matches, name), Some("true"))
+}
+
+// Whether what a flag takes away is there.
+pub(crate) fn is_unless(matches: &ArgMatches, name: &str) -> bool
+    ensures { IsUnlessFlagged (text_of (rows_of (found_of matches.now)) name.now) result }
+{
+    !is_there(matches, name)
 }
 
 // All texts that were found for an argument, in order, if there are any.

@@ -10,7 +10,8 @@ pub enum Command {
     /// `show`: what the bytes of hex lines are.
     Show,
     /// `replay`: what a reflector does with a trace, line by line, or its summary. `call` is the reflector's callsign,
-    /// `parrots` are among the `modules`, there are 1 to 256 `places`, and the `limit` on talking is in milliseconds.
+    /// `parrots` are among the `modules`, there are 1 to 256 `places`, and the `limit` on talking is in milliseconds. It
+    /// runs in one thread, or over those of the reflector where there are to be `threads`.
     Replay {
         call: CallAddress,
         modules: Modules,
@@ -18,6 +19,7 @@ pub enum Command {
         places: u32,
         summary: bool,
         limit: u64,
+        threads: bool,
     },
     /// `make`: the trace of an evening, drawn from a seed, with 0 to 100,000 entries.
     Make {

@@ -40,6 +40,8 @@ pub struct BridgeOrder {
     pub far_letter: ModuleLetter,
     /// For how many seconds it runs, 1 to 1,000,000; until it is stopped where none are named.
     pub seconds: Option<u64>,
+    /// The file whose end stops it, where it has one: any text, which the ports understand.
+    pub stop: Option<String>,
 }
 
 /// What `serve` is to do, as its words say it.
@@ -65,4 +67,12 @@ pub struct ServeOrder {
     pub rules: bool,
     /// The name of its board, where it keeps one: any text, which the ports understand.
     pub board: Option<String>,
+    /// Whether a stream packet that comes with a CRC of 0000 has it filled in before it is heard.
+    pub fill: bool,
+    /// Whether each link has a guard, which doesn't hear an echo.
+    pub guard: bool,
+    /// How many frames in any second one peer is sent at the most, 100,000 at the most. 0 means that there is no such bound.
+    pub pace: u32,
+    /// The file whose end stops it, where it has one: any text, which the ports understand.
+    pub stop: Option<String>,
 }

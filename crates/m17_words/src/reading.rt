@@ -85,6 +85,7 @@ fn replay_of(matches: &ArgMatches) -> Result<Command, WordsRefusal>
             places: plan.places,
             summary: is_there(matches, "summary"),
             limit: plan.limit,
+            threads: is_there(matches, "threads"),
         }),
         None => Err(WordsRefusal::Refused),
     }

@@ -5,7 +5,8 @@ use m17_control::Modules;
 
 #[test]
 fn what_is_left_out_has_its_default(rt: HostRuntime) {
-    const LINES: [&str; 3] = [
+    const LINES: [&str; 4] = [
+        "serve --pace 100 --call M17-TST x",
         "serve --call M17-TST x",
         "serve x --call=M17-TST",
         "serve --places 064 --call M17-TST --modules ABC -- x",
@@ -22,6 +23,10 @@ fn what_is_left_out_has_its_default(rt: HostRuntime) {
         limit: 180_000,
         rules: false,
         board: None,
+        fill: false,
+        guard: true,
+        pace: 100,
+        stop: None,
     });
     expect(&rt, alloc, &LINES, &wanted);
 }
@@ -29,8 +34,8 @@ fn what_is_left_out_has_its_default(rt: HostRuntime) {
 #[test]
 fn each_value_stands_in_the_order(rt: HostRuntime) {
     const LINES: [&str; 2] = [
-        "serve --call M17-TST --modules AZ --parrots Z --places 256 --for 1000000 --book d --limit 86400 --rules --board e a b c d",
-        "serve a --limit=086400 --for=1000000 --rules b --board=e --book=d --parrots=Z c --modules=ZA --places=256 d --call=M17-TST",
+        "serve --call M17-TST --modules AZ --parrots Z --places 256 --for 1000000 --book d --limit 86400 --rules --board e --fill-crc --no-guard --pace 100000 --stop f a b c d",
+        "serve a --stop=f --no-guard --limit=086400 --for=1000000 --rules b --pace=0100000 --fill-crc --board=e --book=d --parrots=Z c --modules=ZA --places=256 d --call=M17-TST",
     ];
     let alloc = rt.alloc();
     let binds = ["a", "b", "c", "d"].map(|bind| text(&rt, alloc, bind));
@@ -45,12 +50,16 @@ fn each_value_stands_in_the_order(rt: HostRuntime) {
         limit: 86_400_000,
         rules: true,
         board: Some(text(&rt, alloc, "e")),
+        fill: true,
+        guard: false,
+        pace: 100_000,
+        stop: Some(text(&rt, alloc, "f")),
     });
     expect(&rt, alloc, &LINES, &wanted);
 }
 
 // Words behind `serve`, and whether they are taken.
-const SERVES: [(&str, bool); 37] = [
+const SERVES: [(&str, bool); 51] = [
     ("--call M17-TST a b c d", true),
     ("--call M17-TST a b c d e", false),
     ("--call M17-TST", false),
@@ -85,6 +94,20 @@ const SERVES: [(&str, bool); 37] = [
     ("--call M17-TST --board= a", true),
     ("--call M17-TST --board d --board d a", false),
     ("--call M17-TST a --board", false),
+    ("--call M17-TST --fill-crc a", true),
+    ("--call M17-TST --fill-crc --fill-crc a", false),
+    ("--call M17-TST --fill-crc= a", false),
+    ("--call M17-TST --no-guard a", true),
+    ("--call M17-TST --no-guard --no-guard a", false),
+    ("--call M17-TST --guard a", false),
+    ("--call M17-TST --pace 0 a", true),
+    ("--call M17-TST --pace 100001 a", false),
+    ("--call M17-TST --pace +1 a", false),
+    ("--call M17-TST --pace= a", false),
+    ("--call M17-TST --stop= a", true),
+    ("--call M17-TST --stop f --stop f a", false),
+    ("--call M17-TST a --stop", false),
+    ("--call M17-TST --threads a", false),
     ("--call M17-TST --bind a", false),
     ("--call M17-TST -- -a --b", true),
     ("--call M17-TST -h", false),

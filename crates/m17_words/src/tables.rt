@@ -31,6 +31,7 @@ const REPLAY: &[(&str, Kind)] = &[
     ("places", Kind::Value),
     ("summary", Kind::Flag),
     ("limit", Kind::Value),
+    ("threads", Kind::Flag),
 ];
 
 const MAKE: &[(&str, Kind)] = &[("seed", Kind::Argument), ("count", Kind::Argument)];
@@ -54,6 +55,7 @@ const BRIDGE: &[(&str, Kind)] = &[
     ("far-peer", Kind::Needed),
     ("far-module", Kind::Needed),
     ("for", Kind::Value),
+    ("stop", Kind::Value),
 ];
 
 const SERVE: &[(&str, Kind)] = &[
@@ -67,6 +69,10 @@ const SERVE: &[(&str, Kind)] = &[
     ("limit", Kind::Value),
     ("rules", Kind::Flag),
     ("board", Kind::Value),
+    ("fill-crc", Kind::Flag),
+    ("no-guard", Kind::Flag),
+    ("pace", Kind::Value),
+    ("stop", Kind::Value),
 ];
 
 // The table of a command.

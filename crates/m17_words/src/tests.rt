@@ -74,6 +74,7 @@ fn replay(
     places: u32,
     summary: bool,
     limit: u64,
+    threads: bool,
 ) -> Command {
     Command::Replay {
         call: call(rt, name),
@@ -82,6 +83,7 @@ fn replay(
         places,
         summary,
         limit,
+        threads,
     }
 }
 
@@ -95,15 +97,24 @@ fn values_that_are_left_out_have_their_defaults(rt: HostRuntime) {
         "replay --modules ABC --call=M17-TST",
         "replay --limit 180",
     ];
-    let defaults = replay(&rt, "M17-TST", "ABC", Modules::none(), 64, false, 180_000);
+    let defaults = replay(
+        &rt,
+        "M17-TST",
+        "ABC",
+        Modules::none(),
+        64,
+        false,
+        180_000,
+        false,
+    );
     expect(&rt, rt.alloc(), &LINES, &defaults);
 }
 
 #[test]
 fn each_value_is_read(rt: HostRuntime) {
     const REPLAYS: [&str; 2] = [
-        "replay --call=-A --modules ZB --parrots Z --places 256 --summary --limit 0",
-        "replay --limit=0 --summary --places=00000000000000000256 --parrots=Z --modules=ZB --call=-A",
+        "replay --call=-A --modules ZB --parrots Z --places 256 --summary --limit 0 --threads",
+        "replay --threads --limit=0 --summary --places=00000000000000000256 --parrots=Z --modules=ZB --call=-A",
     ];
     const MAKES: [&str; 2] = [
         "make 18446744073709551615 100000",
@@ -120,7 +131,7 @@ fn each_value_is_read(rt: HostRuntime) {
         &rt,
         alloc,
         &REPLAYS,
-        &replay(&rt, "-A", "ZB", parrots, 256, true, 0),
+        &replay(&rt, "-A", "ZB", parrots, 256, true, 0, true),
     );
     expect(&rt, alloc, &MAKES, &MOST);
     expect(&rt, alloc, &["make 0 0"], &LEAST);
@@ -132,7 +143,7 @@ fn each_value_is_read(rt: HostRuntime) {
 
 // Words that name no command: no word of a command, another case, help and the version, too many words and too few, a
 // value twice or none, values out of bounds, signs, digits of other scripts, parrots that are no modules.
-const REFUSED: [&str; 53] = [
+const REFUSED: [&str; 56] = [
     "",
     "judges",
     "Judge",
@@ -161,6 +172,9 @@ const REFUSED: [&str; 53] = [
     "replay --summary=true",
     "replay --summary --summary",
     "replay --unknown",
+    "replay --threads=true",
+    "replay --threads --threads",
+    "replay --stop f",
     "replay --place 64",
     "replay --places",
     "replay --places 64 --places 64",

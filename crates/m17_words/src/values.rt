@@ -4,7 +4,7 @@ ghost use Rattle.m17_values.specs.declared.peer.Peer.{Peer};
 ghost use Rattle.m17_control.specs.declared.modules.Modules.{Modules};
 ghost use Rattle.m17_control.specs.Modules.{serves};
 ghost use Rattle.m17_peer.specs.Text.{IsTextOf};
-ghost use Rattle.m17_words.specs.Values.{IsLimit, IsNumber, IsNumberIfAny, NamesLetter, NamesModules, NamesParrots};
+ghost use Rattle.m17_words.specs.Values.{IsLimit, IsNumber, IsNumberIfAny, IsPace, NamesLetter, NamesModules, NamesParrots};
 
 use m17_callsign::{CallAddress, encode};
 use m17_control::{ModuleLetter, Modules};
@@ -12,6 +12,9 @@ use m17_values::Peer;
 
 /// For how many seconds a stream may be let go on at the most, where there is a limit on talking.
 const LIMIT_SECONDS_MAX: u64 = 86_400;
+
+/// The most frames in any second for one peer, where there is such a bound.
+const PACE_MAX: u64 = 100_000;
 
 // The number that a text of decimal digits writes, where it is within these bounds.
 pub(crate) fn number(text: &str, least: u64, most: u64) -> Option<u64>
@@ -51,6 +54,17 @@ pub(crate) fn limit(text: &str) -> Option<u64>
 {
     match number(text, 0, LIMIT_SECONDS_MAX) {
         Some(seconds) => Some(1000 * seconds),
+        None => None,
+    }
+}
+
+// How many frames in any second one peer is sent at the most, of a text.
+pub(crate) fn pace(text: &str) -> Option<u32>
+    ensures some { IfSome result (IsPace text.now) }
+    ensures none { IfNone result ((pace : ℕ) → ¬ IsPace text.now pace) }
+{
+    match number(text, 0, PACE_MAX) {
+        Some(frames) => Some(frames as u32),
         None => None,
     }
 }

@@ -1,21 +1,21 @@
-use Rattle.m17_app.specs.Status.{Streams, count_from, streams}
-use Rattle.m17_app.proofs.ReplayRuns.{has_memory, no_run, ran, some_memory}
+use Rattle.std.proofs.Common.{Bool, sym, subst}
+use Rattle.m17_app.specs.Replayed.{replay_terms}
+use Rattle.m17_app.specs.Status.{Count, beside, count_from, streams}
+use Rattle.m17_app.specs.Terms.{RunsCommand}
 use Rattle.m17_app.proofs.run_replay.run_replay.Goals as goal
 
-pub returns-in-Ok-clause-runs : goal.returns-in-Ok-clause-runs
-returns-in-Ok-clause-runs g c = λ ports.
-    let mid : Streams = streams (g.S.Input.told c.replay.new.input) (g.K.Sink.told c.replay.new.out) in
-    ran c.args.plan.now c.args.summary c.in-Ok.ending c.conclude.result _ mid _ ports (count_from _ _) c.traces_are_exact.ensures c.lost_by_sixteen_faults.ensures
-    c.in-Ok.ensures.crew c.in-Ok.ensures.ended c.in-Ok.ensures.causes c.replay.ensures.appended c.in-Ok.ensures.unwritten
-    (rw c.into_ending.ensures at (c.conclude.ensures.concluded (has_memory c.in-Ok.ending _ c.into_ending.ensures) mid.source))
+pub returns-then-threads-clause-runs : goal.returns-then-threads-clause-runs
+returns-then-threads-clause-runs g c = λ ports.
+    let crew : Count = count_from (g.C.Crew.refusals c.args.crew.now) (g.C.Crew.refusals c.run_over_threads.new.crew) in
+    subst (λ (threads : Bool). RunsCommand (replay_terms c.args.plan.now c.args.summary threads crew) c.run_over_threads.result
+    (streams (g.S.Input.told c.args.input.now) (g.K.Sink.told c.args.out.now))
+    (streams (g.S.Input.told c.run_over_threads.new.input) (g.K.Sink.told c.run_over_threads.new.out)) (beside (count_from ports ports) crew))
+    (sym c.if-threads.true) (c.run_over_threads.ensures.runs ports)
 
-pub returns-in-Ok-clause-unasked : goal.returns-in-Ok-clause-unasked
-returns-in-Ok-clause-unasked g c is =
-    let mid : Streams = streams (g.S.Input.told c.replay.new.input) (g.K.Sink.told c.replay.new.out) in
-    absurd (some_memory c.in-Ok.ending c.conclude.result mid _
-    (rw c.into_ending.ensures at (c.conclude.ensures.concluded (has_memory c.in-Ok.ending _ c.into_ending.ensures) mid.source)) is)
-
-pub returns-in-Err-clause-runs : goal.returns-in-Err-clause-runs
-returns-in-Err-clause-runs g c = λ ports.
-    no_run c.args.plan.now c.args.summary _ _ ports (count_from _ _) c.traces_are_exact.ensures c.lost_by_sixteen_faults.ensures c.in-Err.ensures.untouched
-    c.in-Err.ensures.no_fault.0 c.in-Err.ensures.no_fault.1 c.in-Err.ensures.crew
+pub returns-else-threads-clause-runs : goal.returns-else-threads-clause-runs
+returns-else-threads-clause-runs g c = λ ports.
+    let crew : Count = count_from (g.C.Crew.refusals c.args.crew.now) (g.C.Crew.refusals c.args.crew.now) in
+    subst (λ (threads : Bool). RunsCommand (replay_terms c.args.plan.now c.args.summary threads crew) c.run_in_one_thread.result
+    (streams (g.S.Input.told c.args.input.now) (g.K.Sink.told c.args.out.now))
+    (streams (g.S.Input.told c.run_in_one_thread.new.input) (g.K.Sink.told c.run_in_one_thread.new.out)) (beside (count_from ports ports) crew))
+    (sym c.if-threads.false) (c.run_in_one_thread.ensures ports (g.C.Crew.refusals c.args.crew.now))

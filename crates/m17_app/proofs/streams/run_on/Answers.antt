@@ -12,24 +12,24 @@ untold = streams (record { left = None; at_hand = false; faults = 0 }) (record {
 
 pub returns-clause-refused : goal.returns-clause-refused
 returns-clause-refused g c = λ are.
-    let told = c.run.ensures.refused are in
-    refused_code told.0 c.run.result.status _ _ _ told.1 told.2
+    let told = c.run-done.ensures.refused are in
+    refused_code told.0 c.run-done.result.0.status _ _ _ told.1 told.2
 
 pub returns-clause-port_failed : goal.returns-clause-port_failed
-returns-clause-port_failed g c five = ports_failed _ c.run.result.status _ _ _ c.run.ensures.runs five
+returns-clause-port_failed g c five = ports_failed _ c.run-done.result.0.status _ _ _ c.run-done.ensures.runs five
 
 pub returns-clause-crew_refused : goal.returns-clause-crew_refused
-returns-clause-crew_refused g c six = crew_failed _ c.run.result.status _ _ _ c.run.ensures.runs six
+returns-clause-crew_refused g c six = crew_failed _ c.run-done.result.0.status _ _ _ c.run-done.ensures.runs six
 
 pub returns-clause-unasked : goal.returns-clause-unasked
 returns-clause-unasked g c seventy unnamed =
-    let told = c.run.ensures.runs in
-    c.run.ensures.unasked seventy (none_back g.Q.Book.Book.told c.run.result.board (no_board _ told.0 _ _ _ told.2 unnamed))
+    let told = c.run-done.ensures.runs in
+    c.run-done.ensures.unasked seventy (none_back g.Q.Book.Book.told c.run-done.result.0.board (no_board _ told.0 _ _ _ told.2 unnamed))
 
 pub returns-clause-ran : goal.returns-clause-ran
 returns-clause-ran g c =
-    let told = c.run.ensures.runs in
-    (told.0, told.1, record { before = _; after = _; talk = _; house = _; refused = _; bridge = _; board = _; shelves = of_shelves g.Q.Ear.Ear.told g.Q.Mouth.Mouth.told g.Q.Book.Book.told c.run.result; ran = told.2 })
+    let told = c.run-done.ensures.runs in
+    (told.0, told.1, record { before = _; after = _; talk = _; house = _; refused = _; bridge = _; board = _; shelves = of_shelves g.Q.Ear.Ear.told g.Q.Mouth.Mouth.told g.Q.Book.Book.told c.run-done.result.0; ran = told.2 })
 
 pub returns-in_default-clause-ran : goal.returns-in_default-clause-ran
 returns-in_default-clause-ran g c = (

@@ -5,6 +5,6 @@ use Rattle.m17_disk.proofs.writing.gather.Goals as goal
 pub loop-preserved : goal.loop-preserved
 loop-preserved g c = record {
   slips = search rules;
-  bytes = gathered c.args.slips.now.popped c.loop.slips.popped c.try_pop.new.self.popped c.loop.batch.items
+  bytes = gathered c.args.slips.now.popped c.loop.slips.popped c.try_pop.new.self.popped c.loop.bytes.items
       c.try_extend_from_slice.new.self.items c.in-Some.slip c.loop.invariant.bytes (search rules) (search rules);
 }

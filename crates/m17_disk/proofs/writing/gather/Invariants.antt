@@ -6,5 +6,5 @@ use Rattle.m17_disk.proofs.writing.gather.Given as goal
 abbrev pub invariant-loop : goal.invariant-loop
 invariant-loop g l = record {
   slips : l.slips ≡ record l.fn.slips { popped = l.slips.popped };
-  bytes : joined l.slips.popped ≡ joined l.fn.slips.popped ++ l.batch.items;
+  bytes : joined l.slips.popped ≡ joined l.fn.slips.popped ++ l.bytes.items;
 }

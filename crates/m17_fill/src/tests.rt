@@ -1,0 +1,94 @@
+ghost use Rattle.std.specs.Prelude.{◌≡◌, Ok};
+
+use crate::{Filling, FillingPorts};
+use m17_port_memory::{ListMouth, ScriptEar, ScriptPorts};
+use m17_ports::{Ear, Ports};
+use m17_samples::{frame, peer};
+use m17_values::{Gram, Heard};
+use std::alloc::Global;
+use std::process::Abort;
+
+/// What was made, which a test cannot go on without.
+fn must<T, E: Drop, R: Abort>(rt: &R, made: Result<T, E>) -> T
+    ensures { made ≡ Ok result }
+{
+    made.ok().expect(rt, "made")
+}
+
+/// A stream packet whose CRC is 0: frame 5 of stream 1234 hex.
+fn unfilled() -> [u8; 54] {
+    let mut bytes = m17_stream::write(&frame(0x1234, 5, false));
+    bytes[52] = 0;
+    bytes[53] = 0;
+    bytes
+}
+
+/// What an ear hears that fills in CRCs, or doesn't, when these bytes come.
+fn heard<R: Abort>(rt: &R, alloc: Global, fills: bool, bytes: &[u8]) -> Option<Gram> {
+    let came = Heard::Datagram {
+        from: peer(1),
+        at: 7,
+        bytes: Gram::of(bytes),
+    };
+    let script = must(rt, Vec::from_array(alloc, [came]));
+    let mut ear = Filling::with(ScriptEar::new(script), fills);
+    let told = ear.hear();
+    let _ear = ear.into_inner();
+    match told {
+        Heard::Datagram { from, at, bytes } if from == peer(1) && at == 7 => Some(bytes),
+        _ => None,
+    }
+}
+
+#[test]
+fn only_zeros_are_filled_in(rt: HostRuntime) {
+    let good = m17_stream::write(&frame(0x1234, 5, false));
+    let zeros = unfilled();
+    let mut wrong = unfilled();
+    wrong[53] = 1;
+    let mut other = unfilled();
+    other[3] = b'_';
+    let mut long = [0; 55];
+    long[..54].copy_from_slice(&zeros);
+    for (came, wanted) in [
+        (zeros.as_slice(), good.as_slice()),
+        (good.as_slice(), good.as_slice()),
+        (wrong.as_slice(), wrong.as_slice()),
+        (other.as_slice(), other.as_slice()),
+        (long.as_slice(), long.as_slice()),
+        (&zeros[..53], &zeros[..53]),
+        (b"", b""),
+    ] {
+        assert!(rt; heard(&rt, rt.alloc(), true, came) == Some(Gram::of(wanted)));
+        assert!(rt; heard(&rt, rt.alloc(), false, came) == Some(Gram::of(came)));
+    }
+}
+
+/// What the ear of a link of ports hears first that fill in CRCs, or don't.
+fn first_heard<R: Abort>(rt: &R, alloc: Global, fills: bool) -> Option<Gram> {
+    let came = Heard::Datagram {
+        from: peer(1),
+        at: 7,
+        bytes: Gram::of(&unfilled()),
+    };
+    let ear = ScriptEar::new(must(rt, Vec::from_array(alloc, [came])));
+    let mouth = must(rt, ListMouth::make(alloc, 1, Vec::new(alloc)));
+    let links = must(rt, Vec::from_array(alloc, [(ear, mouth)]));
+    let inner = ScriptPorts::new(links, Vec::new(alloc), Vec::new(alloc));
+    let mut ports = FillingPorts::with(inner, false);
+    ports.set_fills(fills);
+    let link = ports.link("a", None);
+    let _ports = ports.into_inner();
+    let (mut ear, _mouth) = must(rt, link);
+    match ear.hear() {
+        Heard::Datagram { bytes, .. } => Some(bytes),
+        _ => None,
+    }
+}
+
+#[test]
+fn ears_of_ports_fill_in_where_these_do(rt: HostRuntime) {
+    let good = m17_stream::write(&frame(0x1234, 5, false));
+    assert!(rt; first_heard(&rt, rt.alloc(), true) == Some(Gram::of(&good)));
+    assert!(rt; first_heard(&rt, rt.alloc(), false) == Some(Gram::of(&unfilled())));
+}

@@ -1,0 +1,4 @@
+pub mod Pace
+pub mod Paced
+-- for proofs alone
+pub mod Memory
