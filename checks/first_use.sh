@@ -156,7 +156,7 @@ until_there() {
 
 # slow_rt: what stands for rt proves until the file `go` is there, with a process beside it.
 slow_rt() {
-    sed "s|^all) .*|all) sleep 100 \& echo \$! >'$PWD/beside'; until [ -e '$PWD/go' ]; do sleep 0.1; done; kill \$!; cat '$PWD/tools/told' ;;|" \
+    sed "s|^all) .*|all) sleep 100 \& echo \$! >'$PWD/written'; mv '$PWD/written' '$PWD/beside'; until [ -e '$PWD/go' ]; do sleep 0.1; done; kill \$!; cat '$PWD/tools/told' ;;|" \
         tools/rt >slow && cp slow tools/rt
 }
 
@@ -174,15 +174,27 @@ stopped_build() {
         rm -rf tree tools calls beside && make_tree tree && slow_rt || return 1
         PATH=$PWD/tools:/usr/bin:/bin $at_terminal tree/m17 judge <"$top/examples/judge.bin" >got 2>err &
         launcher=$!
-        until_there beside && [ -s beside ] || return 1
-        kill -$signal $launcher
-        wait $launcher
-        [ $? -eq 70 ] && has err 'stopped' && [ ! -s got ] || return 1
-        sleep 0.5
-        ! goes_on "$(cat beside)" && [ ! -e tree/crates/m17_app/out/m17.sources ] || {
-            echo "after $signal to m17 what it had started went on"
+        until_there beside || {
+            echo "for a minute m17 did not begin to build"
             return 1
         }
+        kill -$signal $launcher
+        wait $launcher
+        ended=$?
+        [ $ended -eq 70 ] && has err 'stopped' && [ ! -s got ] || {
+            echo "after $signal m17 ended with $ended"
+            return 1
+        }
+        waited=0
+        while goes_on "$(cat beside)"; do
+            waited=$((waited + 1))
+            [ $waited -lt 100 ] || {
+                echo "ten seconds after $signal to m17 what it had started went on"
+                return 1
+            }
+            sleep 0.1
+        done
+        [ ! -e tree/crates/m17_app/out/m17.sources ] || return 1
         find tree/crates/m17_app/out -name 'm17.sources*' | grep . && return 1
     done
     : >go
