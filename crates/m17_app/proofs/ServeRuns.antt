@@ -26,13 +26,13 @@ use Rattle.m17_reflect.specs.declared.returned.HouseRefusal.TheVariants as refus
 use Rattle.m17_reflect.specs.Links.{Link}
 use Rattle.m17_reflect.specs.Run.{Handed}
 use Rattle.m17_pace.specs.Paced.{PacesSeen, places_at}
-use Rattle.m17_rules.specs.declared.failure.RulesFailure.{RulesFailure}
-use Rattle.m17_rules.specs.declared.failure.RulesFailure.TheVariants as failures
-use Rattle.m17_rules.specs.declared.failure.RulesReason.{RulesReason}
-use Rattle.m17_rules.specs.Endings.{rules_ending}
-use Rattle.m17_rules.specs.Laws.{NoRulesAreRefused}
-use Rattle.m17_rules.specs.Reasons.{rules_reason_words}
-use Rattle.m17_rules.specs.Taking.{SaysFailure, fault_told}
+use Rattle.m17_gate.specs.declared.failure.RulesFailure.{RulesFailure}
+use Rattle.m17_gate.specs.declared.failure.RulesFailure.TheVariants as failures
+use Rattle.m17_gate.specs.declared.failure.RulesReason.{RulesReason}
+use Rattle.m17_gate.specs.Endings.{rules_ending}
+use Rattle.m17_gate.specs.Laws.{NoRulesAreRefused}
+use Rattle.m17_gate.specs.Reasons.{rules_reason_words}
+use Rattle.m17_gate.specs.Taking.{SaysFailure, fault_told}
 use Rattle.m17_words.specs.declared.order.ServeOrder.{ServeOrder}
 use Rattle.m17_serve.specs.declared.served.ServeEnding.{ServeEnding}
 use Rattle.m17_serve.specs.declared.served.ServeEnding.TheVariants as endings
