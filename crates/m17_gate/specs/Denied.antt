@@ -12,15 +12,17 @@ use Rattle.m17_gate.specs.Gated.{gated}
 use Rattle.m17_directory.specs.Entries.{Entry, SaysEach, Setup}
 use Rattle.m17_directory.specs.Routed.{routed}
 
--- What an event of the module with this letter asks of a gate: to listen or to connect there, or to speak.
+-- What an event of the module with this letter asks of a gate: to listen or to connect there, or
+-- to speak.
 abbrev pub asked_of : ℕ → Body → Option Asked
 asked_of letter (Join member peer callsign listen after) =
     Some (if listen then Listens callsign letter else Connects callsign letter)
 asked_of letter (Packet member packet) = Some (Talks packet.lsd.src)
 asked_of letter _ = None
 
--- Of the entries that say what was heard behind a gate, each event that they route to a module is allowed there: no Join
--- of a callsign that is denied for its kind and this module, and no Packet of a sender that is denied.
+-- Of the entries that say what was heard behind a gate, each event that they route to a module is
+-- allowed there: no Join of a callsign that is denied for its kind and this module, and no Packet
+-- of a sender that is denied.
 abbrev pub DeniedNeverReachesAModule : Type 0
 DeniedNeverReachesAModule =
     (rules : List Rule) (heard : List Heard) (setup : Setup) (entries : List Entry) (letter : ℕ)

@@ -20,12 +20,13 @@ refusal_told place Kind = refusals.Line place parts.Kind
 refusal_told place Modules = refusals.Line place parts.Modules
 refusal_told place Pattern = refusals.Line place parts.Pattern
 
--- The text is refused at this place, for this reason: it is too large, or this is its first refused line, and the reason
--- names the first refused part of that.
+-- The text is refused at this place, for this reason: it is too large, or this is its first
+-- refused line, and the reason names the first refused part of that.
 abbrev pub RefusesRules : List ℕ → ℕ → RulesReason → Type 0
 RefusesRules text place reason = IsRefused text (refusal_told place reason)
 
--- what a failure says of the text: where and why it is refused; a device that failed and want of memory say nothing
+-- what a failure says of the text: where and why it is refused; a device that failed and want of
+-- memory say nothing
 abbrev pub SaysFailure : RulesFailure → List ℕ → Type 0
 SaysFailure (Refused place reason) text = RefusesRules text place reason
 SaysFailure (Device fault) text = Unit {0}

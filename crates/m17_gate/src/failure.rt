@@ -11,7 +11,8 @@ pub enum RulesReason {
     Act,
     /// Its second part is not `conn`, `lstn`, `talk` or `any`.
     Kind,
-    /// Its third part is neither `*` nor letters of modules, each once; or it is letters, and the rule is about who speaks.
+    /// Its third part is neither `*` nor letters of modules, each once; or it is letters, and the
+    /// rule is about who speaks.
     Modules,
     /// What stands behind is neither a callsign nor what one may begin with and a `*`.
     Pattern,
@@ -20,8 +21,8 @@ pub enum RulesReason {
 /// Why there are no rules.
 #[derive(Clone, Copy, Debug, PartialEq, Eq)]
 pub enum RulesFailure {
-    /// The input is no text of rules. `place` is the first line that is refused, counted from 0, or, where the text is
-    /// too large, the first byte too many.
+    /// The input is no text of rules. `place` is the first line that is refused, counted from 0,
+    /// or, where the text is too large, the first byte too many.
     Refused { place: u64, reason: RulesReason },
     /// A device failed: the source, or the sink where it was to hand on what it held back.
     Device(Fault),

@@ -9,10 +9,10 @@ use m17_io::{Input, Sink};
 use m17_values::NoMemory;
 use std::alloc::Global;
 
-/// The rules that the input has, all that it has left. Before it would wait for more, the sink hands on what it holds
-/// back; nothing is written. Else why there are none: `Refused` with the first refused line and its first refused part, or
-/// with the place of the first byte too many; `Device` where one failed; `NoMemory` where there was none for the text or
-/// its rules.
+/// The rules that the input has, all that it has left. Before it would wait for more, the sink
+/// hands on what it holds back; nothing is written. Else why there are none: `Refused` with the
+/// first refused line and its first refused part, or with the place of the first byte too many;
+/// `Device` where one failed; `NoMemory` where there was none for the text or its rules.
 pub fn take_rules<S: Input<K>, K: Sink>(
     alloc: Global,
     input: &mut S,

@@ -1,4 +1,5 @@
-//! What no clause says: how inputs are taken that come in pieces or fail, and the words of each reason.
+//! What no clause says: how inputs are taken that come in pieces or fail, and the words of each
+//! reason.
 use crate::tests::must;
 use crate::{RulesFailure, RulesReason, take_rules};
 use m17_io::Fault;
@@ -7,7 +8,8 @@ use m17_print::{Ending, Line};
 use std::alloc::Global;
 use std::process::Abort;
 
-// Why there are no rules in this input, whose source fails at these calls; none where there are some.
+// Why there are no rules in this input, whose source fails at these calls; none where there are
+// some.
 fn failure<R: Abort>(rt: &R, alloc: Global, text: Vec<u8>, fails: &[u64]) -> Option<RulesFailure> {
     let mut source = BytesSource::new(text, must(rt, fails.to_vec(alloc)));
     let mut sink = must(rt, BytesSink::make(alloc, 0, Vec::new(alloc)));
