@@ -4,8 +4,8 @@
 //! refused part of every other; that `allowed` answers by the first rule that fits; that a `Gate`,
 //! an ear over another one, tells what the other one tells but for what is denied, in place of
 //! which nothing is heard; and, in `laws`, that no event which a link (`m17_directory`) routes
-//! behind a gate is a Join or a Packet that is denied. What becomes of what is heard is left to
-//! the crates above. A callsign in a packet is what its sender wrote there.
+//! behind a gate is a Join or a Packet that is denied. That a link hears what its gate tells is
+//! left to `m17_serve`. A callsign in a packet is what its sender wrote there.
 #![tactic(auto)]
 
 mod asked;
