@@ -20,19 +20,19 @@ use Rattle.m17_control.specs.declared.modules.Modules.{Modules}
 use Rattle.m17_gate.specs.declared.rule.Rule.{Rule}
 use Rattle.m17_gate.specs.Links.{rules_at}
 use Rattle.m17_gate.specs.Text.{AreRules}
+use Rattle.m17_gate.specs.declared.failure.RulesFailure.{RulesFailure}
+use Rattle.m17_gate.specs.declared.failure.RulesFailure.TheVariants as failures
+use Rattle.m17_gate.specs.declared.failure.RulesReason.{RulesReason}
+use Rattle.m17_gate.specs.Endings.{rules_ending}
+use Rattle.m17_gate.specs.Laws.{NoRulesAreRefused}
+use Rattle.m17_gate.specs.Reasons.{rules_reason_words}
+use Rattle.m17_gate.specs.Taking.{SaysFailure, fault_told}
 use Rattle.m17_board.specs.Ends.{PostEnd}
 use Rattle.m17_board_run.specs.Boarded.{ShowLines}
 use Rattle.m17_reflect.specs.declared.returned.HouseRefusal.TheVariants as refusals
 use Rattle.m17_reflect.specs.Links.{Link}
 use Rattle.m17_reflect.specs.Run.{Handed}
 use Rattle.m17_pace.specs.Paced.{PacesSeen, places_at}
-use Rattle.m17_rules.specs.declared.failure.RulesFailure.{RulesFailure}
-use Rattle.m17_rules.specs.declared.failure.RulesFailure.TheVariants as failures
-use Rattle.m17_rules.specs.declared.failure.RulesReason.{RulesReason}
-use Rattle.m17_rules.specs.Endings.{rules_ending}
-use Rattle.m17_rules.specs.Laws.{NoRulesAreRefused}
-use Rattle.m17_rules.specs.Reasons.{rules_reason_words}
-use Rattle.m17_rules.specs.Taking.{SaysFailure, fault_told}
 use Rattle.m17_words.specs.declared.order.ServeOrder.{ServeOrder}
 use Rattle.m17_serve.specs.declared.served.ServeEnding.{ServeEnding}
 use Rattle.m17_serve.specs.declared.served.ServeEnding.TheVariants as endings

@@ -7,9 +7,9 @@ use Rattle.m17_reflect.specs.declared.returned.HouseRefusal.TheVariants as refus
 use Rattle.m17_reflect.specs.Run.{Handed}
 use Rattle.m17_gate.specs.declared.rule.Rule.{Rule}
 use Rattle.m17_gate.specs.Text.{AreRules}
-use Rattle.m17_rules.specs.declared.failure.RulesReason.{RulesReason}
-use Rattle.m17_rules.specs.Reasons.{rules_reason_words}
-use Rattle.m17_rules.specs.Taking.{RefusesRules}
+use Rattle.m17_gate.specs.declared.failure.RulesReason.{RulesReason}
+use Rattle.m17_gate.specs.Reasons.{rules_reason_words}
+use Rattle.m17_gate.specs.Taking.{RefusesRules}
 use Rattle.m17_words.specs.declared.order.ServeOrder.{ServeOrder}
 use Rattle.m17_serve.specs.declared.served.ServeEnding.{ServeEnding}
 use Rattle.m17_serve.specs.Endings.{serve_ending}

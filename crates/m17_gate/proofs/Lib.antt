@@ -6,3 +6,5 @@ pub mod PatternLemmas
 pub mod QuickLemmas
 pub mod ReadLemmas
 pub mod TextLemmas
+mod Refusals
+mod Routes

@@ -1,5 +1,6 @@
 -- What no rules, and the rule that denies everything, make of what is asked and heard.
 use Rattle.std.proofs.Common.{◌≡◌, ℕ, Bool, false, cond, List, [], ◌∷◌, Option, None, Some, refl, sym, ap, ◌∙◌}
+use Rattle.std.proofs.lemmas.Option.{same_Some}
 use Rattle.std.specs.Prelude.{not, is_some, option_map}
 use Rattle.m17_values.specs.declared.heard.Heard.{Heard}
 use Rattle.m17_values.specs.declared.heard.Heard.TheVariants.{Datagram, Quiet, Fault, End}
@@ -76,14 +77,11 @@ heard_as told ear = record {
 }
 
 -- a new ear is new behind a gate
-same_value : (x y : List Heard) → Some x ≡ Some y → x ≡ y
-same_value x y e = cc
-
 starts_empty : (rules : List Rule) (told : Option (List Heard)) → StartsEmpty told
     → StartsEmpty (option_map (gated rules) told)
 starts_empty rules None starts all e = absurd (nothing_told all e)
 starts_empty rules (Some said) starts all e =
-    sym (same_value (gated rules said) all e) ∙ ap (gated rules) (starts said refl)
+    sym (same_Some (gated rules said) all e) ∙ ap (gated rules) (starts said refl)
 
 numbered : (rules : List Rule) (mark : Option EarMark) (call : ℕ)
     → IsNumbered (ear_number mark) call → IsNumbered (ear_number (gated_mark rules mark)) call

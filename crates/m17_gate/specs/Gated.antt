@@ -2,6 +2,7 @@
 use Rattle.std.specs.Prelude.{◌≡◌, ℕ, Bool, not, List, replicate, map, Option, None, Some, option_map, if◌then◌else◌}
 use Rattle.std.proofs.Common.{zero, suc, ◌∷◌, ◌++◌, refl, sym, ap, subst, ◌∙◌, inl, inr}
 use Rattle.std.proofs.lemmas.List.{map-append, take-map}
+use Rattle.std.proofs.lemmas.Option.{same_Some}
 use Rattle.m17_values.specs.declared.heard.Heard.{Heard}
 use Rattle.m17_values.specs.declared.heard.Heard.TheVariants.{Datagram, Quiet, Fault, End}
 use Rattle.m17_ports.specs.Ear.{EarTold, FollowsScript}
@@ -52,9 +53,6 @@ gate_told told gate = record {
 }
 
 -- An ear behind a gate follows the script of the ear, behind the gate. For proofs alone.
-option_value : {A : Type 0} (x y : A) → Some x ≡ Some y → x ≡ y
-option_value x y e = cc
-
 pub gated-ends : (rules : List Rule) (n : ℕ) → gated rules (replicate n End) ≡ replicate n End
 gated-ends rules zero = refl
 gated-ends rules (suc n) = ap (λ (rest : List Heard). End ∷ rest) (gated-ends rules n)
@@ -80,9 +78,9 @@ gated-follows rules None told follows script entries is said = follows_none scri
 gated-follows rules (Some own) None follows script entries is said = absurd
     (nothing_told entries said)
 gated-follows rules (Some own) (Some told) follows script entries is said =
-    subst (λ (s : List Heard). FollowsScript s entries) (option_value (gated rules own) script is)
+    subst (λ (s : List Heard). FollowsScript s entries) (same_Some (gated rules own) script is)
     (subst (λ (e : List Heard). FollowsScript (gated rules own) e)
-    (option_value (gated rules told) entries said)
+    (same_Some (gated rules told) entries said)
     (gated-script rules own told (follows own told refl refl)))
 
 pub gate-follows : (rules : List Rule) (mark : Option EarMark) (told : Option (List Heard))

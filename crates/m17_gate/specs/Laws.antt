@@ -1,4 +1,4 @@
--- What a gate does to packets, by the packets that bytes spell.
+-- That no text of rules is refused; what a gate does to packets, by the packets that bytes spell.
 use Rattle.std.specs.Prelude.{◌≡◌, ℕ, true, List, [], None, Contains, if◌then◌else◌}
 use Rattle.m17_values.specs.declared.heard.Heard.{Heard}
 use Rattle.m17_values.specs.declared.heard.Heard.TheVariants.{Datagram, Quiet}
@@ -7,10 +7,18 @@ use Rattle.m17_ports.specs.Ear.{EarTold}
 use Rattle.m17_control.specs.Forms.{Spells, Refuses}
 use Rattle.m17_control.specs.declared.packet.Packet.{Packet}
 use Rattle.m17_control.specs.declared.packet.Refusal.{Refusal}
+use Rattle.m17_gate.specs.declared.failure.RulesReason.{RulesReason}
 use Rattle.m17_gate.specs.declared.rule.Rule.{Rule}
+use Rattle.m17_gate.specs.Text.{AreRules}
+use Rattle.m17_gate.specs.Taking.{RefusesRules}
 use Rattle.m17_gate.specs.Asking.{asked_by, asked_in}
 use Rattle.m17_gate.specs.Fits.{allows}
 use Rattle.m17_gate.specs.Gated.{gated_entry, gated}
+
+-- No text of rules is refused.
+abbrev pub NoRulesAreRefused : Type 0
+NoRulesAreRefused = (text : List ℕ) (rules : List Rule) (place : ℕ) (reason : RulesReason)
+    → AreRules text rules → RefusesRules text place reason → ⊥
 
 -- The first ear tells of what was heard, of faults and of its mark what the second does.
 pub record IsHeardAs {K L : Type 0} (gate : EarTold K) (ear : EarTold L) : Type 0 where

@@ -1,10 +1,17 @@
-//! What a gate does to packets, for callers to cite by name. Each is a function without
-//! arguments, which does nothing and ensures the law.
+//! What holds of all texts, and what a gate does to packets, for callers to cite by name. Each is
+//! a function without arguments, which does nothing and ensures the law.
 ghost use Rattle.std.specs.Prelude.{[]};
+ghost use Rattle.m17_gate.specs.Denied.{DeniedNeverReachesAModule};
 ghost use Rattle.m17_gate.specs.Gated.{gate_told};
-ghost use Rattle.m17_gate.specs.Laws.{BytesAskAsPackets, GateIsExact, DeniedIsNotHeard, IsHeardAs, NoRulesLetAllThrough};
+ghost use Rattle.m17_gate.specs.Laws.{BytesAskAsPackets, GateIsExact, DeniedIsNotHeard, IsHeardAs, NoRulesAreRefused, NoRulesLetAllThrough};
 
 use m17_ports::Ear;
+
+/// No text of rules is refused.
+#[inline]
+pub fn no_rules_are_refused()
+    ensures { NoRulesAreRefused }
+{}
 
 /// The bytes of a datagram ask what the packet asks that they spell, and nothing where they spell
 /// none.
@@ -37,3 +44,11 @@ pub fn no_rules_change_nothing<E: Ear>()
     ensures ears { (ear : E)
         → IsHeardAs (gate_told E.told (record { inner = ear; rules = [] })) (E.told ear) }
 {}
+
+/// No event that a link behind a gate routes to a module is a Join whose callsign is not allowed
+/// there, to connect or to listen as it does, or a Packet whose sender is not allowed to speak.
+pub fn denied_never_reaches_a_module()
+    ensures { DeniedNeverReachesAModule }
+{
+    denied_is_not_heard();
+}

@@ -1,6 +1,6 @@
 ghost use Rattle.std.specs.Prelude.{◌≡◌, ◌≢◌, ◌≤◌, ℕ, List, [], Some, Result, Ok, Err, IfOk, IfErr, MatchResult, length, take, vec_len};
-ghost use Rattle.m17_io.specs.Faults.{HasCause, HasRisen};
-ghost use Rattle.m17_io.specs.Fill.{IsFilled};
+ghost use Rattle.m17_io.specs.Faults.{HasCauses, HasRisen};
+ghost use Rattle.m17_io.specs.Tied.{fault_of};
 ghost use Rattle.m17_gate.specs.Text.{AreRules, IsRefused, content_of, is_ruled};
 ghost use Rattle.m17_gate.specs.Steps.{AddsLine, StopsAt};
 ghost use Rattle.m17_gate.specs.declared.refusal.RulesRefusal.{RulesRefusal};
@@ -8,8 +8,8 @@ ghost use Rattle.m17_gate.specs.declared.refusal.RulesRefusal.{RulesRefusal};
 use crate::line::{place_of, read_line};
 use crate::nowhere::Nowhere;
 use crate::{Rules, RulesRefusal};
-use m17_io::{Source, fill};
-use m17_values::{Failed, NoMemory};
+use m17_io::{Fault, Input, Sink, Source, fill};
+use m17_values::NoMemory;
 use std::alloc::Global;
 
 /// How many bytes a rule text has at most.
@@ -33,52 +33,47 @@ pub fn read_rules<S: Source>(alloc: Global, s: &mut S) -> Result<Rules, RulesRef
     ensures err { IfErr result (λ refusal. (text : List ℕ) → (S.told s.old).left ≡ Some text
         → IsRefused text refusal) }
 {
-    let mut room = match room_of(alloc, MOST_BYTES + 1) {
+    let mut room = match room_of(alloc) {
         Ok(room) => room,
         Err(NoMemory) => return Err(RulesRefusal::NoMemory),
     };
-    read_with(alloc, s, room.as_mut_slice())
-}
-
-/// The same with room for one byte more than a rule text may have.
-fn read_with<S: Source>(alloc: Global, s: &mut S, room: &mut [u8]) -> Result<Rules, RulesRefusal>
-    requires { length room.old ≡ 65537 }
-    ensures counted { (S.told s.old).faults ≤ (S.told s.new).faults }
-    ensures fault { result ≡ Err RulesRefusal.ReadFault
-        → HasRisen (S.told s.old).faults (S.told s.new).faults }
-    ensures no_fault { result ≢ Err RulesRefusal.ReadFault
-        → (S.told s.new).faults ≡ (S.told s.old).faults }
-    ensures ok { IfOk result (λ rules. (text : List ℕ) → (S.told s.old).left ≡ Some text
-        → AreRules text rules) }
-    ensures to_the_end { IfOk result (λ _. (text : List ℕ) → (S.told s.old).left ≡ Some text
-        → (S.told s.new).left ≡ Some []) }
-    ensures err { IfErr result (λ refusal. (text : List ℕ) → (S.told s.old).left ≡ Some text
-        → IsRefused text refusal) }
-{
-    match read_into(s, room) {
-        Ok(have) => rules_in(alloc, room, have),
-        Err(Failed) => Err(RulesRefusal::ReadFault),
+    match read_with(alloc, s, &mut Nowhere, room.as_mut_slice()) {
+        Ok(read) => read,
+        Err(_) => Err(RulesRefusal::ReadFault),
     }
 }
 
-/// Room for this many bytes.
-fn room_of(alloc: Global, size: usize) -> Result<Vec<u8>, NoMemory>
-    ensures { IfOk result (λ room. vec_len room ≡ size) }
+/// Room for one byte more than a rule text may have, by which it is seen where there are too many.
+pub(crate) fn room_of(alloc: Global) -> Result<Vec<u8>, NoMemory>
+    ensures { IfOk result (λ room. vec_len room ≡ 65537) }
 {
-    let room = vec![in alloc; 0u8; size]?;
+    let room = vec![in alloc; 0u8; MOST_BYTES + 1]?;
     Ok(room)
 }
 
-/// Fills the room from the source, and answers how many bytes came.
-fn read_into<S: Source>(s: &mut S, room: &mut [u8]) -> Result<usize, Failed>
-    ensures cause { HasCause (S.told s.old).faults (S.told s.new).faults result }
-    ensures within { IfOk result (λ n. n ≤ length room.old) }
-    ensures filled { IfOk result (λ n. (bytes : List ℕ) → (S.told s.old).left ≡ Some bytes
-        → IsFilled bytes n room.old room.new (S.told s.new).left) }
+/// Reads rules through such a room, all that the input has left, or answers which device failed.
+/// Before it would wait for more, the sink hands on what it holds back.
+pub(crate) fn read_with<S: Input<K>, K: Sink>(
+    alloc: Global,
+    input: &mut S,
+    out: &mut K,
+    room: &mut [u8],
+) -> Result<Result<Rules, RulesRefusal>, Fault>
+    requires { length room.old ≡ 65537 }
+    ensures causes { HasCauses ((S.told input.old).faults, (K.told out.old).faults)
+        ((S.told input.new).faults, (K.told out.new).faults) (fault_of result) }
+    ensures no_fault { IfOk result (λ read. read ≢ Err RulesRefusal.ReadFault) }
+    ensures ok { IfOk result (λ read. IfOk read (λ rules. (text : List ℕ)
+        → (S.told input.old).left ≡ Some text → AreRules text rules)) }
+    ensures to_the_end { IfOk result (λ read. IfOk read (λ _. (text : List ℕ)
+        → (S.told input.old).left ≡ Some text → (S.told input.new).left ≡ Some [])) }
+    ensures err { IfOk result (λ read. IfErr read (λ refusal. (text : List ℕ)
+        → (S.told input.old).left ≡ Some text → IsRefused text refusal)) }
+    ensures nothing_written { (K.told out.new).written ≡ (K.told out.old).written }
 {
-    match fill(s, &mut Nowhere, room) {
-        Ok(have) => Ok(have),
-        Err(_) => Err(Failed),
+    match fill(input, out, room) {
+        Ok(have) => Ok(rules_in(alloc, room, have)),
+        Err(fault) => Err(fault),
     }
 }
 

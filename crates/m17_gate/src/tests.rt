@@ -19,7 +19,7 @@ const PEER: Peer = Peer {
 };
 
 /// What was made, which a test cannot go on without.
-fn must<T, E: Drop, R: Abort>(rt: &R, made: Result<T, E>) -> T
+pub(crate) fn must<T, E: Drop, R: Abort>(rt: &R, made: Result<T, E>) -> T
     ensures { made ≡ Ok result }
 {
     made.ok().expect(rt, "made")

@@ -1,4 +1,0 @@
-pub mod Reasons
-pub mod Taking
-pub mod Endings
-pub mod Laws

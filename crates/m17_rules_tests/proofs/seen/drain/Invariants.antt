@@ -1,5 +1,0 @@
-use Rattle.std.proofs.Common.{length}
-use Rattle.m17_rules_tests.proofs.seen.drain.Given as goal
-
-abbrev pub decreases-loop-dispatch : goal.decreases-loop-dispatch
-decreases-loop-dispatch l = length l.post
