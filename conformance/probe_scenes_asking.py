@@ -5,7 +5,6 @@ from probe_wire import ACKN, DISC, NACK
 
 TABLE = "directory.md#what-becomes-of-a-packet"
 SAID = "protocol.md#control-packets"
-FORMS = "protocol.md#control-packets"
 
 
 def each_lets_in(play, kind):
@@ -68,7 +67,7 @@ def other_module(play):
     play.answered(mover, since, ACKN)
 
 
-@scene("asking.not-served", TABLE, FORMS, modules=0, members=1, wants="unserved")
+@scene("asking.not-served", TABLE, SAID, modules=0, members=1, wants="unserved")
 def not_served(play):
     """A CONN or LSTN to a module that isn't served is answered by NACK, of four bytes."""
     for kind in ("CONN", "LSTN"):
@@ -177,10 +176,10 @@ def other_call(play):
 @scene("asking.denied", "rules.md#what-is-allowed", modules=0, members=1, wants="denied")
 def denied(play):
     """What a rule of callsigns denies is not heard: there is no answer, no NACK either."""
-    one = play.member("one", play.run.modules[0])
+    one = play.member("one")
     for kind in ("CONN", "LSTN"):
         stranger = play.stranger("denied-" + kind, beside=one)
         stranger.call = play.run.options.denied
-        stranger.says(kind, play.run.modules[0])
+        stranger.says(kind, play.somewhere)
         play.settles_beside()
         play.answered(stranger, 0)

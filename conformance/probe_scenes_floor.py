@@ -207,7 +207,7 @@ def leave(play):
     play.hears(ear, opened, second)
 
 
-@scene("floor.move", VERDICT, modules=2)
+@scene("floor.move", VERDICT, "directory.md#what-becomes-of-a-packet", modules=2)
 def move(play):
     """A talker that moves to another module gives the floor of its old one up at once."""
     one, two, ear = play.member("one"), play.member("two"), play.member("ear")

@@ -7,10 +7,11 @@ from probe_wire import with_crc
 
 GIVES = "module.md#what-an-event-gives-in-this-order"
 GETS = "module.md#what-a-member-gets"
+SAID = "protocol.md#control-packets"
 FRAME = 0.04
 
 
-@scene("on.each", GETS, members=5)
+@scene("on.each", GETS, SAID, members=5)
 def each(play):
     """Each other member hears each admitted packet once, in order, byte for byte, also who joined to listen only."""
     one = play.member("one")
@@ -36,7 +37,7 @@ def talker(play):
     play.hears(ear, *heard)
 
 
-@scene("on.any-fields", "protocol.md#link-setup-data", GETS, members=2)
+@scene("on.any-fields", "protocol.md#link-setup-data", SAID, members=2)
 def any_fields(play):
     """No value of the fields of link setup data is refused or changed: destination, source, type and meta go on as they are."""
     one, ear = play.member("one"), play.member("ear")
@@ -53,7 +54,7 @@ def any_fields(play):
     play.hears(ear, *heard)
 
 
-@scene("on.payload", GETS, members=2)
+@scene("on.payload", "protocol.md#the-stream-packet", SAID, members=2)
 def payload(play):
     """The payload goes on as it is, whatever bytes it has."""
     one, ear = play.member("one"), play.member("ear")

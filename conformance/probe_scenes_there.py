@@ -16,7 +16,7 @@ LATEST = SILENCE / 2  # seconds between two words of who is kept; where this mac
 @scene("there.ping", "module.md#what-an-event-gives-in-this-order", SAID, modules=0, members=1, seconds=7)
 def ping(play):
     """Each member is asked by a PING of ten bytes, with the reflector's own address, each three seconds."""
-    one = play.member("one", play.run.modules[0])
+    one = play.member("one")
     since = len(one.came)
     play.pause(2 * PINGS + OFF)
     came = [heard for heard in one.came[since:] if heard.data[:4] == b"PING"]
@@ -32,8 +32,8 @@ def ping(play):
 def is_of_the_reflector(play, kind, data, *others):
     """Whether it has ten bytes and the reflector's own callsign: the one that was told, or else one that is none of others."""
     name = play.run.options.name
-    froms = [play.run.address_of(other) for other in others]
-    is_right = data == control(kind, name) if name else data[4:] not in froms and not words(data).startswith("refused")
+    of_others = [control(kind, other) for other in others]
+    is_right = data == control(kind, name) if name else data not in of_others and not words(data).startswith("refused")
     if len(data) != 10 or not is_right:
         raise Differs("a %s came as %s: %s" % (kind, data.hex().upper(), words(data)))
 
@@ -41,7 +41,7 @@ def is_of_the_reflector(play, kind, data, *others):
 @scene("there.pong", TABLE, SAID, modules=0, members=1)
 def pong(play):
     """A member's PING is answered by a PONG of ten bytes with the reflector's own address, whatever its From is."""
-    one = play.member("one", play.run.modules[0])
+    one = play.member("one")
     joined = len(one.came)
     for call in (one.call, play.run.next_call()):
         since = len(one.came)
@@ -58,7 +58,7 @@ def pong(play):
 def stays(play):
     """A peer that was not heard for less than 30 seconds stays: after twelve it is still a member."""
     began = play.now()
-    one = play.member("one", play.run.modules[0], answers=False)
+    one = play.member("one", answers=False)
     since = len(one.came)
     play.pause(12)
     play.needs(play.now() - began < SILENCE - SLACK, "whether it was silent for too long")
@@ -92,7 +92,7 @@ def disc_of_another(play):
 
 
 def unanswered(play, *sent):
-    one = play.member("one", play.run.modules[0])
+    one = play.member("one")
     stranger = play.stranger("stranger", beside=one)
     for data in sent:
         stranger.send(data)
@@ -153,7 +153,7 @@ def ends_by_silence(play, client, heard_from, heard_by):
 @scene("there.silence", TIME, SAID, modules=0, members=1, level=USUAL, seconds=31)
 def silence(play):
     """A peer that was not heard for 30 seconds leaves, and is told so by a DISC of ten bytes."""
-    one = play.member("one", play.run.modules[0], answers=False)
+    one = play.member("one", answers=False)
     heard_from = play.now()
     ends_by_silence(play, one, heard_from, play.settle(one))
 
@@ -161,7 +161,7 @@ def silence(play):
 @scene("there.rubbish-is-silence", TIME, modules=0, members=1, level=USUAL, seconds=31)
 def rubbish_is_silence(play):
     """Bytes that are no packet don't count as heard: a peer that sends rubbish leaves after 30 seconds."""
-    one = play.member("one", play.run.modules[0], answers=False)
+    one = play.member("one", answers=False)
     heard_from, heard_by = play.now(), play.settle(one)
     for part in range(1, 10):
         play.until(heard_by + 3 * part)
@@ -172,8 +172,8 @@ def rubbish_is_silence(play):
 @scene("there.kept", TIME, modules=0, members=2, level=USUAL, seconds=34)
 def kept(play):
     """Each packet of a known peer counts as heard, a PONG as well as an ACKN: it is a member still after 33 seconds."""
-    for_pong = play.member("pong", play.run.modules[0], answers=False)
-    for_ackn = play.member("ackn", play.run.modules[0], answers=False)
+    for_pong = play.member("pong", answers=False)
+    for_ackn = play.member("ackn", answers=False)
     since = len(for_pong.came), len(for_ackn.came)
     began = before = play.now()
     for part in (6, 12, 18, 24):
