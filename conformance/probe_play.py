@@ -13,6 +13,7 @@ import time
 from packets import encode
 from probe_wire import END_BIT, Client, frame, stream_id, words
 
+FRAME = 0.04  # seconds of voice that a frame has
 FLOOR = 1.6  # seconds without an admitted frame, and the floor is free
 MEMORY = 10.0  # seconds for which a stream is remembered
 SLACK = 0.06  # seconds, for clocks that go by milliseconds or by links

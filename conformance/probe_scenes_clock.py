@@ -1,11 +1,10 @@
 """Scenes of the floor by the clock: 1.6 seconds of silence, ten seconds of memory, and the limit on talking."""
 
+from probe_pages import HOLDER, VERDICT
 from probe_play import FLOOR, MEMORY, SLACK, ms
 from probe_scene import FULL, scene
 
 BEFORE_LIMIT = 0.4  # seconds before the limit at which the last frame is said
-VERDICT = "floor.md#the-verdict-on-a-packet"
-HOLDER = "floor.md#who-has-the-floor"
 
 
 def tries_to_take(play, two, held, seconds):

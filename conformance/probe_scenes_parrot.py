@@ -1,12 +1,11 @@
 """Scenes of a parrot module: what it plays back, when, and with which numbers."""
 
-from probe_play import FLOOR, LATE, SLACK, Differs, Overdue, compare, ms
+from probe_pages import NUMBERS, RECORDING, STREAM_PACKET
+from probe_play import FLOOR, FRAME, LATE, SLACK, Differs, Overdue, compare, ms
 from probe_scene import FULL, scene
 from probe_wire import END_BIT, stream_id, with_crc, words
 
-PLAYS = "module.md#what-happens-to-a-recording"
 DELAY = 1.0
-FRAME = 0.04
 BEHIND = 0.3  # seconds in which it is seen that no more echoes come
 HELD = 750
 
@@ -61,7 +60,7 @@ def hears_the_talk_alone(play, ear, talk, said):
     play.hears(ear, *said)
 
 
-@scene("parrot.plays", PLAYS, "protocol.md#the-stream-packet", parrot=True, members=2, seconds=2.5)
+@scene("parrot.plays", RECORDING, STREAM_PACKET, parrot=True, members=2, seconds=2.5)
 def plays(play):
     """A second after its last frame a talker is sent what it said, a frame each 40 ms: with the complement of the stream id,
     its right CRC, and all else as it was. Others hear the talk alone."""
@@ -75,7 +74,7 @@ def plays(play):
     hears_the_talk_alone(play, ear, talk, said)
 
 
-@scene("parrot.silence", PLAYS, parrot=True, members=2, seconds=4, talks=2)
+@scene("parrot.silence", RECORDING, parrot=True, members=2, seconds=4, talks=2)
 def silence(play):
     """A recording of a stream that falls silent is closed when the floor is free, after 1.6 seconds, and played back a second
     later; the last frame has the end bit."""
@@ -88,7 +87,7 @@ def silence(play):
     are_in_time(came, said[-1].at + FLOOR, moment + FLOOR)
 
 
-@scene("parrot.last-talker", PLAYS, parrot=True, members=2, seconds=2)
+@scene("parrot.last-talker", RECORDING, parrot=True, members=2, seconds=2)
 def last_talker(play):
     """There is one recording: where a second talker speaks before the first is played back, the second alone is."""
     one, two = play.member("one"), play.member("two")
@@ -103,7 +102,7 @@ def last_talker(play):
     are_played(play, one, echoes(one, [first, second]), [])
 
 
-@scene("parrot.interrupted", PLAYS, parrot=True, members=2, seconds=3)
+@scene("parrot.interrupted", RECORDING, parrot=True, members=2, seconds=3)
 def interrupted(play):
     """A talker that begins anew during its own echo ends the echo; its new talk is played back after it."""
     one = play.member("one")
@@ -123,7 +122,7 @@ def interrupted(play):
     are_played(play, one, came, said)
 
 
-@scene("parrot.leaves", PLAYS, parrot=True, members=2, seconds=2)
+@scene("parrot.leaves", RECORDING, parrot=True, members=2, seconds=2)
 def leaves(play):
     """When the talker leaves, all is forgotten: it is sent nothing, and when it comes again nothing either."""
     one = play.member("one")
@@ -138,7 +137,7 @@ def leaves(play):
     are_played(play, one, echoes(one, [talk]), [])
 
 
-@scene("parrot.half-a-minute", "module.md#the-numbers", PLAYS, parrot=True, members=2, level=FULL, seconds=55, talks=20)
+@scene("parrot.half-a-minute", NUMBERS, RECORDING, parrot=True, members=2, level=FULL, seconds=55, talks=20)
 def half_a_minute(play):
     """A recording holds 750 frames, half a minute; what comes behind them is admitted and not held, and the last frame that
     is held has the end bit."""

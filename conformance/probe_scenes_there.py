@@ -1,19 +1,17 @@
 """Scenes of being there: PING and PONG, silence, and what strangers get."""
 
+from probe_pages import CONTROL, GIVES, PACKETS, TIME
 from probe_play import ANSWER, LATE, SLACK, Differs, Missing, Overdue, ms
 from probe_scene import USUAL, scene
 from probe_wire import ACKN, DISC, NACK, control, words
 
-TABLE = "directory.md#what-becomes-of-a-packet"
-TIME = "directory.md#time"
-SAID = "protocol.md#control-packets"
 PINGS = 3.0
 OFF = 0.5  # how far two PINGs may be from three seconds apart
 SILENCE = 30.0
 LATEST = SILENCE / 2  # seconds between two words of who is kept; where this machine took longer, nothing is told by it
 
 
-@scene("there.ping", "module.md#what-an-event-gives-in-this-order", SAID, modules=0, members=1, seconds=7)
+@scene("there.ping", GIVES, CONTROL, modules=0, members=1, seconds=7)
 def ping(play):
     """Each member is asked by a PING of ten bytes, with the reflector's own address, each three seconds."""
     one = play.member("one")
@@ -38,7 +36,7 @@ def is_of_the_reflector(play, kind, data, *others):
         raise Differs("a %s came as %s: %s" % (kind, data.hex().upper(), words(data)))
 
 
-@scene("there.pong", TABLE, SAID, modules=0, members=1)
+@scene("there.pong", PACKETS, CONTROL, modules=0, members=1)
 def pong(play):
     """A member's PING is answered by a PONG of ten bytes with the reflector's own address, whatever its From is."""
     one = play.member("one")
@@ -66,7 +64,7 @@ def stays(play):
     play.settle()
 
 
-@scene("there.own-words", TABLE, members=2)
+@scene("there.own-words", PACKETS, members=2)
 def own_words(play):
     """A member's ACKN, NACK and PONG are not answered, and it stays a member."""
     one, two = play.member("one"), play.member("two")
@@ -80,7 +78,7 @@ def own_words(play):
     play.answered(two, since)
 
 
-@scene("there.disc-of-another", TABLE, SAID, members=1)
+@scene("there.disc-of-another", PACKETS, CONTROL, members=1)
 def disc_of_another(play):
     """The From field of a DISC isn't compared with the peer's callsign: it leaves."""
     one = play.member("one")
@@ -100,25 +98,25 @@ def unanswered(play, *sent):
     play.answered(stranger, 0)
 
 
-@scene("there.stranger-ping", TABLE, modules=0, members=1, seconds=0.3)
+@scene("there.stranger-ping", PACKETS, modules=0, members=1, seconds=0.3)
 def stranger_ping(play):
     """A stranger's PING is not answered."""
     unanswered(play, control("PING", play.run.next_call()))
 
 
-@scene("there.stranger-words", TABLE, modules=0, members=1, seconds=0.3)
+@scene("there.stranger-words", PACKETS, modules=0, members=1, seconds=0.3)
 def stranger_words(play):
     """A stranger's PONG, ACKN and NACK are not answered."""
     unanswered(play, control("PONG", play.run.next_call()), ACKN, NACK)
 
 
-@scene("there.stranger-disc-of-four", TABLE, modules=0, members=1, seconds=0.3)
+@scene("there.stranger-disc-of-four", PACKETS, modules=0, members=1, seconds=0.3)
 def stranger_disc_of_four(play):
     """A stranger's DISC of four bytes is not answered, else two reflectors could answer each other for ever."""
     unanswered(play, DISC)
 
 
-@scene("there.stranger-disc", TABLE, modules=0, members=0)
+@scene("there.stranger-disc", PACKETS, modules=0, members=0)
 def stranger_disc(play):
     """A stranger's DISC of ten bytes is answered by one of four."""
     stranger = play.stranger("stranger")
@@ -127,7 +125,7 @@ def stranger_disc(play):
     play.answered(stranger, 0, DISC)
 
 
-@scene("there.stranger-frame", TABLE, members=1, seconds=0.3)
+@scene("there.stranger-frame", PACKETS, members=1, seconds=0.3)
 def stranger_frame(play):
     """A stranger's stream packet is heard by nobody, and is not answered."""
     ear = play.member("ear")
@@ -150,7 +148,7 @@ def ends_by_silence(play, client, heard_from, heard_by):
     is_of_the_reflector(play, "DISC", gone.data, client.call)
 
 
-@scene("there.silence", TIME, SAID, modules=0, members=1, level=USUAL, seconds=31)
+@scene("there.silence", TIME, CONTROL, modules=0, members=1, level=USUAL, seconds=31)
 def silence(play):
     """A peer that was not heard for 30 seconds leaves, and is told so by a DISC of ten bytes."""
     one = play.member("one", answers=False)
