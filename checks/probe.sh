@@ -19,7 +19,8 @@ check "the sections that the probe's scenes name are there, and PROBE.md has eac
 probe_words() {
     needs python3
     for words in 8.8.8.8:17000 '[2001:4860:4860::8888]:17000' localhost:17000 127.0.0.1 '127.0.0.1:1 --modules AA' \
-        '127.0.0.1:1 --modules A --parrot B' '127.0.0.1:1 --quick --full' '127.0.0.1:1 --call n0call'; do
+        '127.0.0.1:1 --modules A --parrot B' '127.0.0.1:1 --quick --full' '127.0.0.1:1 --call n0call' \
+        '127.0.0.1:1 --only flor' '127.0.0.1:1 --quick --only there.kept'; do
         # shellcheck disable=SC2086  # words
         python3 -B "$top/conformance/probe" $words >said 2>&1
         [ $? -eq 2 ] || {

@@ -106,7 +106,7 @@ def main():
         for name, fault in sorted(FAULTS.items()):
             print("%-42s %s" % (name, " ".join(fault.scenes)))
         return
-    reflector.Link.denies = lambda link, peer: None
+    reflector.Link.denies = lambda link, peer: None  # who is denied is told nothing, but for a fault
     if options.fault:
         FAULTS[options.fault].plant()
     served = Served(options)

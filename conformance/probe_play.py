@@ -10,8 +10,10 @@ differs only where it would at each moment between these, and the slack.
 
 import time
 
+from packets import encode
 from probe_wire import END_BIT, Client, frame, stream_id, words
 
+FRAME = 0.04  # seconds of voice that a frame has
 FLOOR = 1.6  # seconds without an admitted frame, and the floor is free
 MEMORY = 10.0  # seconds for which a stream is remembered
 SLACK = 0.06  # seconds, for clocks that go by milliseconds or by links
@@ -56,7 +58,7 @@ class Talk:
         self.said_at = None  # when a frame was said last, if that had no end bit
 
     def make(self, number, last=False, **fields):
-        return frame(self.sid, number, last, self.play.source_of(self.client), **fields)
+        return frame(self.sid, number, last, encode(self.client.call), **fields)
 
     def say(self, number, last=False, **fields):
         return self.send(self.make(number, last, **fields))
@@ -73,7 +75,7 @@ class Play:
     def __init__(self, run, modules):
         self.run = run
         self.modules = modules  # letters that this play has for itself
-        self.somewhere = modules[0] if modules else run.modules[0]
+        self.somewhere = modules[0] if modules else run.modules[0]  # where its members are, but those that name a module
         self.log = []
         self.clients = []
         self.sids = set()
@@ -89,9 +91,9 @@ class Play:
         return client
 
     def member(self, name, module=None, kind="CONN", answers=True):
-        """A client that is let in to a module, by default the first that the play has."""
+        """A client that is let in to a module, by default the first that the play has, or else of the reflector."""
         client = self.stranger(name, answers)
-        self.joins(client, module or self.modules[0], kind)
+        self.joins(client, module or self.somewhere, kind)
         return client
 
     def joins(self, client, module, kind="CONN"):
@@ -100,9 +102,6 @@ class Play:
         if not client.wait_for_kind(b"ACKN", ANSWER, since):
             raise Unsettled("%s was not let in to %s" % (client.name, module))
         client.is_member = True
-
-    def source_of(self, client):
-        return int.from_bytes(self.run.address_of(client.call), "big")
 
     def talk(self, client, like=None):
         """A new stream of a client, with the id of another one where that is given."""
@@ -179,13 +178,18 @@ class Play:
 
     # ---- what came
 
+    @property
+    def said(self):
+        """All that its clients said."""
+        return {line.data for line in self.log if line.way == ">"}
+
     def hears(self, client, *frames, own=False):
         """Whether it heard just these frames of this play's streams, each once, in order, byte for byte. Its own ones are left
         out, but where they are asked for."""
         client.read(0)
         sids = self.sids if own else {talk.sid for talk in self.talks if talk.client is not client}
         got = [heard.data for heard in client.new_frames() if stream_id(heard.data) in sids]
-        compare(client.name, got, [sent.data for sent in frames])
+        compare(client.name, got, [sent.data for sent in frames], self.said)
 
     def answered(self, client, since, *wanted):
         """Whether from that place on it was answered by just these datagrams. PINGs, stream packets and as many PONGs as it
@@ -232,17 +236,21 @@ class Play:
             client.close()
 
 
-def compare(name, got, wanted):
+def compare(name, got, wanted, said, missing=Missing):
+    """Whether just these frames came, each once, in order. Where one was lost, others that were said may have been heard for
+    that, since it took no floor. So what is missing counts first, but for bytes that nobody can have said."""
     if got == wanted:
         return
-    for data in got:
-        if data not in wanted:
-            same = [other for other in wanted if other[4:6] + other[34:36] == data[4:6] + data[34:36]]
-            how = "other bytes than were sent in" if same else "what may not be heard:"
-            raise Differs("%s heard %s %s" % (name, how, words(data)))
-        if got.count(data) > wanted.count(data):
-            raise Differs("%s heard more than once: %s" % (name, words(data)))
+    others = [data for data in got if data not in wanted]
+    for data in others:
+        if data not in said:
+            raise Differs("%s heard other bytes than were said: %s" % (name, words(data)))
     for data in wanted:
         if data not in got:
-            raise Missing("%s did not hear %s" % (name, words(data)))
+            raise missing("%s did not hear %s%s" % (name, words(data), ", but " + words(others[0]) if others else ""))
+    if others:
+        raise Differs("%s heard what may not be heard: %s" % (name, words(others[0])))
+    for data in got:
+        if got.count(data) > wanted.count(data):
+            raise Differs("%s heard more than once: %s" % (name, words(data)))
     raise Differs("%s heard the frames in another order" % name)

@@ -5,7 +5,6 @@ import threading
 import time
 from collections import namedtuple
 
-from packets import encode
 from probe_play import Differs, Missing, Play, Unsettled
 from probe_watch import Beat, Watch
 from probe_wire import Client
@@ -13,15 +12,13 @@ from probe_wire import Client
 LETTERS = "ABCDEFGHIJKLMNOPQRSTUVWXYZ"
 KEEPS, DIFFERS, UNKNOWN = "keeps", "differs", "not known"
 LONGEST_SHORT_LIMIT = 15  # seconds: a longer limit on talking is waited for with --full alone
-LONGEST_TALK = 20  # seconds that the longest talk of a scene takes
 FIRST_ANSWER = 5
 
 LACKS = {
     "unserved": "each letter is a module that is served",
     "denied": "no callsign is denied",
-    "short limit": "the limit on talking is none, or above %d seconds" % LONGEST_SHORT_LIMIT,
+    "short limit": "the limit on talking is none, below two seconds, or above %d" % LONGEST_SHORT_LIMIT,
     "long limit": "the limit on talking is none, or up to %d seconds" % LONGEST_SHORT_LIMIT,
-    "long talks": "the limit on talking is too short for it",
 }
 
 Result = namedtuple("Result", "scene verdict how tries log")
@@ -65,10 +62,6 @@ class Run:
     def next_address(self, place):
         return self.addresses[place % len(self.addresses)]
 
-    @staticmethod
-    def address_of(call):
-        return encode(call).to_bytes(6, "big")
-
     @property
     def plain(self):
         return [letter for letter in self.modules if letter not in self.parrots]
@@ -106,6 +99,7 @@ class Run:
         if not found:
             raise Unanswered("nobody is let in there")
         self.modules = self.modules or found
+        self.parrots = "".join(letter for letter in self.parrots if letter in self.modules)
         self.unserved = next((letter for letter in LETTERS if letter not in self.modules), None)
 
     @staticmethod
@@ -129,12 +123,13 @@ class Run:
         lacking = {
             "unserved": self.unserved is None,
             "denied": options.denied is None,
-            "short limit": not 1 < options.limit <= LONGEST_SHORT_LIMIT,
+            "short limit": not 2 <= options.limit <= LONGEST_SHORT_LIMIT,
             "long limit": options.limit <= LONGEST_SHORT_LIMIT,
-            "long talks": 0 < options.limit <= LONGEST_TALK,
         }
         if wants and lacking[wants]:
             return LACKS[wants]
+        if 0 < options.limit <= scene.talks:
+            return "the limit on talking is too short for it"
         if len(letters) < max(scene.modules, not scene.parrot):
             return "too few modules"
         return "too few places" if scene.members > self.places else None
@@ -152,7 +147,7 @@ class Run:
     @property
     def places(self):
         """How many its scenes may take; what is left is for beats."""
-        return max(2, self.options.places * 7 // 8)
+        return self.options.places - self.options.places // 8
 
     # ---- whether anything was late
 

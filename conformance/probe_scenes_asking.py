@@ -1,11 +1,8 @@
 """Scenes of asking: CONN, LSTN and DISC, and their answers."""
 
+from probe_pages import ALLOWED, CALLSIGNS, CONTROL, GETS, PACKETS, STRANGERS, VERDICT
 from probe_scene import scene
 from probe_wire import ACKN, DISC, NACK
-
-TABLE = "directory.md#what-becomes-of-a-packet"
-SAID = "protocol.md#control-packets"
-FORMS = "protocol.md#control-packets"
 
 
 def each_lets_in(play, kind):
@@ -19,19 +16,19 @@ def each_lets_in(play, kind):
         play.goes(client)
 
 
-@scene("asking.conn", SAID, modules=0, members=1)
+@scene("asking.conn", CONTROL, modules=0, members=1)
 def conn(play):
     """A CONN to a module that is served is answered by ACKN, of four bytes."""
     each_lets_in(play, "CONN")
 
 
-@scene("asking.lstn", SAID, modules=0, members=1)
+@scene("asking.lstn", CONTROL, modules=0, members=1)
 def lstn(play):
     """A LSTN to a module that is served is answered by ACKN, of four bytes."""
     each_lets_in(play, "LSTN")
 
 
-@scene("asking.again", TABLE, members=2)
+@scene("asking.again", PACKETS, members=2)
 def again(play):
     """A CONN with its own module, callsign and kind is answered by ACKN, and the peer stays the same member: it still has
     the floor."""
@@ -51,7 +48,7 @@ def again(play):
     play.hears(two, opened, ended)
 
 
-@scene("asking.other-module", TABLE, "module.md#what-a-member-gets", modules=2, members=3)
+@scene("asking.other-module", PACKETS, GETS, modules=2, members=3)
 def other_module(play):
     """A member that asks for another module leaves its own without a DISC, and joins the other one by ACKN: it hears that
     one, and its old one no more."""
@@ -68,7 +65,7 @@ def other_module(play):
     play.answered(mover, since, ACKN)
 
 
-@scene("asking.not-served", TABLE, FORMS, modules=0, members=1, wants="unserved")
+@scene("asking.not-served", PACKETS, CONTROL, modules=0, members=1, wants="unserved")
 def not_served(play):
     """A CONN or LSTN to a module that isn't served is answered by NACK, of four bytes."""
     for kind in ("CONN", "LSTN"):
@@ -78,7 +75,7 @@ def not_served(play):
         play.answered(stranger, 0, NACK)
 
 
-@scene("asking.not-served-member", TABLE, members=2, wants="unserved")
+@scene("asking.not-served-member", PACKETS, members=2, wants="unserved")
 def not_served_member(play):
     """A member that asks for a module that isn't served is answered by NACK, and its membership stays."""
     one, two = play.member("one"), play.member("two")
@@ -91,7 +88,7 @@ def not_served_member(play):
     play.answered(two, since, NACK)
 
 
-@scene("asking.disc", TABLE, SAID, members=1)
+@scene("asking.disc", PACKETS, CONTROL, members=1)
 def disc(play):
     """A member's DISC of ten bytes is answered by one of four."""
     one = play.member("one")
@@ -102,7 +99,7 @@ def disc(play):
     play.answered(one, since, DISC)
 
 
-@scene("asking.disc-of-four", TABLE, SAID, members=2)
+@scene("asking.disc-of-four", PACKETS, CONTROL, members=2)
 def disc_of_four(play):
     """A member's DISC of four bytes lets it leave too, and is answered by one of four."""
     one, ear = play.member("one"), play.member("ear")
@@ -117,7 +114,7 @@ def disc_of_four(play):
     play.hears(ear)
 
 
-@scene("asking.second-port", "service.md#strangers", members=2)
+@scene("asking.second-port", STRANGERS, members=2)
 def second_port(play):
     """A member is an address and a port, and not a callsign: two ports with one callsign are two members, which hear one
     another."""
@@ -132,7 +129,7 @@ def second_port(play):
     play.hears(two, first)
 
 
-@scene("asking.group", "protocol.md#addresses-and-callsigns", members=2)
+@scene("asking.group", CALLSIGNS, members=2)
 def group(play):
     """The callsign of a group stands where a callsign may stand: a CONN from one is answered by ACKN."""
     one, many = play.member("one"), play.stranger("group")
@@ -146,7 +143,7 @@ def group(play):
     play.answered(many, 0, ACKN)
 
 
-@scene("asking.other-kind", TABLE, "floor.md#the-verdict-on-a-packet", members=2)
+@scene("asking.other-kind", PACKETS, VERDICT, members=2)
 def other_kind(play):
     """A member that asks for its module by the other kind joins anew by it: who listened may speak after a CONN, and who
     spoke may not after a LSTN."""
@@ -160,7 +157,7 @@ def other_kind(play):
     play.hears(ear, spoken)
 
 
-@scene("asking.other-call", TABLE, "floor.md#the-verdict-on-a-packet", members=2)
+@scene("asking.other-call", PACKETS, VERDICT, members=2)
 def other_call(play):
     """A member that asks for its module with another callsign leaves and joins anew: the floor that it had is free."""
     one, two = play.member("one"), play.member("two")
@@ -174,13 +171,13 @@ def other_call(play):
     play.hears(two, opened)
 
 
-@scene("asking.denied", "rules.md#what-is-allowed", modules=0, members=1, wants="denied")
+@scene("asking.denied", ALLOWED, modules=0, members=1, wants="denied")
 def denied(play):
     """What a rule of callsigns denies is not heard: there is no answer, no NACK either."""
-    one = play.member("one", play.run.modules[0])
+    one = play.member("one")
     for kind in ("CONN", "LSTN"):
         stranger = play.stranger("denied-" + kind, beside=one)
         stranger.call = play.run.options.denied
-        stranger.says(kind, play.run.modules[0])
+        stranger.says(kind, play.somewhere)
         play.settles_beside()
         play.answered(stranger, 0)

@@ -2,12 +2,10 @@
 
 import random
 
+from probe_pages import CRC, PACKETS, REFUSALS
 from probe_scene import scene
 from probe_wire import control, with_crc, words
 
-REFUSED = "protocol.md#why-bytes-are-refused"
-TABLE = "directory.md#what-becomes-of-a-packet"
-CRC = "protocol.md#the-crc"
 DRAWN = 60
 AT_ONCE = 20  # datagrams, so that no buffer runs over for them
 NO_CRC = b"\0\0"
@@ -38,7 +36,7 @@ def refuses(play, make):
     play.answered(stranger, 0)
 
 
-@scene("bad.length", REFUSED, TABLE, members=3, seconds=0.4)
+@scene("bad.length", REFUSALS, PACKETS, members=3, seconds=0.4)
 def length(play):
     """What has not 4, 10, 11 or 54 bytes is no packet, also where one stands at its beginning."""
 
@@ -49,7 +47,7 @@ def length(play):
     refuses(play, make)
 
 
-@scene("bad.magic", REFUSED, TABLE, members=3, seconds=0.4)
+@scene("bad.magic", REFUSALS, PACKETS, members=3, seconds=0.4)
 def magic(play):
     """What begins with no magic of its length is no packet."""
 
@@ -61,7 +59,7 @@ def magic(play):
     refuses(play, make)
 
 
-@scene("bad.address", REFUSED, TABLE, members=3, seconds=0.4)
+@scene("bad.address", REFUSALS, PACKETS, members=3, seconds=0.4)
 def address(play):
     """A control packet whose From has no callsign is no packet: 0, broadcast, a group's # without letters, and the like."""
     letter = play.somewhere.encode()
@@ -74,7 +72,7 @@ def address(play):
     refuses(play, make)
 
 
-@scene("bad.module", REFUSED, TABLE, members=3, seconds=0.4)
+@scene("bad.module", REFUSALS, PACKETS, members=3, seconds=0.4)
 def module(play):
     """A module's letter is one of A to Z, in upper case; a CONN with another byte there is no packet, and has no NACK."""
 
@@ -85,7 +83,7 @@ def module(play):
     refuses(play, make)
 
 
-@scene("bad.crc", CRC, TABLE, members=3, seconds=0.4)
+@scene("bad.crc", CRC, PACKETS, members=3, seconds=0.4)
 def wrong_crc(play):
     """A stream packet whose CRC isn't that of its bytes 0 to 51 is refused: nobody hears it, and it takes no floor."""
 
@@ -114,7 +112,7 @@ def crc_zero(play):
         play.hears(ear)
 
 
-@scene("bad.drawn", REFUSED, TABLE, members=3, seconds=1)
+@scene("bad.drawn", REFUSALS, PACKETS, members=3, seconds=1)
 def drawn(play):
     """Drawn bytes of any length, from none to a whole datagram, are answered by nothing, and the reflector lives."""
     draw = random.Random(play.run.next_sid())
@@ -125,7 +123,7 @@ def drawn(play):
     refuses(play, make)
 
 
-@scene("bad.drawn-tails", REFUSED, TABLE, members=3, seconds=1)
+@scene("bad.drawn-tails", REFUSALS, PACKETS, members=3, seconds=1)
 def drawn_tails(play):
     """Drawn bytes behind a magic are answered by nothing where they are no packet, and the reflector lives."""
     draw = random.Random(play.run.next_sid())

@@ -1,11 +1,10 @@
 """Scenes of the floor by the clock: 1.6 seconds of silence, ten seconds of memory, and the limit on talking."""
 
+from probe_pages import HOLDER, VERDICT
 from probe_play import FLOOR, MEMORY, SLACK, ms
 from probe_scene import FULL, scene
 
 BEFORE_LIMIT = 0.4  # seconds before the limit at which the last frame is said
-VERDICT = "floor.md#the-verdict-on-a-packet"
-HOLDER = "floor.md#who-has-the-floor"
 
 
 def tries_to_take(play, two, held, seconds):
@@ -17,7 +16,7 @@ def tries_to_take(play, two, held, seconds):
     play.needs(moment - held.at < FLOOR - SLACK, "%s after the last frame" % ms(moment - held.at))
 
 
-@scene("clock.held", HOLDER, seconds=1.5)
+@scene("clock.held", HOLDER, seconds=1.5, talks=2)
 def held(play):
     """A stream that falls silent keeps the floor for less than 1.6 seconds: 1.4 seconds after its frame it is busy."""
     one, two, ear = play.member("one"), play.member("two"), play.member("ear")
@@ -62,7 +61,7 @@ def refused_holds_nothing(play):
     play.hears(one, second)
 
 
-@scene("clock.busy-holds-nothing", VERDICT, seconds=1.8)
+@scene("clock.busy-holds-nothing", VERDICT, seconds=1.8, talks=2)
 def busy_holds_nothing(play):
     """Packets that find the floor busy keep none: 1.6 seconds after the last admitted frame it is free all the same."""
     one, two, ear = play.member("one"), play.member("two"), play.member("ear")
@@ -76,7 +75,7 @@ def busy_holds_nothing(play):
     play.hears(ear, opened, second)
 
 
-@scene("clock.again", VERDICT, members=2, seconds=1.8)
+@scene("clock.again", VERDICT, members=2, seconds=1.8, talks=2)
 def again(play):
     """A talker whose 1.6 seconds are over goes on with the next number where the floor is free; a number that isn't ahead is
     still refused."""

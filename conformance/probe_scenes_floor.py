@@ -1,10 +1,8 @@
 """Scenes of the floor that are no matter of time: who may speak, and which of its frames are admitted."""
 
+from probe_pages import HOLDER, LAWS, PACKETS, STREAM_PACKET, VERDICT
 from probe_play import MEMORY, SLACK
 from probe_scene import scene
-
-VERDICT = "floor.md#the-verdict-on-a-packet"
-HOLDER = "floor.md#who-has-the-floor"
 
 
 @scene("floor.open", VERDICT, members=2)
@@ -103,7 +101,7 @@ def own_second(play):
     play.hears(ear, opened, ended, later)
 
 
-@scene("floor.two-at-once", "floor.md#laws")
+@scene("floor.two-at-once", LAWS)
 def two_at_once(play):
     """Of two that speak at once, frame by frame by turns, one is heard and the other isn't at all."""
     one, two, ear = play.member("one"), play.member("two"), play.member("ear")
@@ -144,7 +142,7 @@ def late(play):
     play.hears(ear, *heard)
 
 
-@scene("floor.wrap", VERDICT, "protocol.md#the-stream-packet", members=2)
+@scene("floor.wrap", VERDICT, STREAM_PACKET, members=2)
 def wrap(play):
     """Frame numbers run up to 32,767, and then comes 0 again: it is ahead."""
     one, ear = play.member("one"), play.member("ear")
@@ -154,7 +152,7 @@ def wrap(play):
     play.hears(ear, *heard)
 
 
-@scene("floor.ahead", VERDICT, "protocol.md#the-stream-packet", members=2)
+@scene("floor.ahead", VERDICT, STREAM_PACKET, members=2)
 def ahead(play):
     """A number is ahead where going up to it, round 32,768, takes 1 to 16,383 steps; 16,384 steps are too many."""
     one, ear = play.member("one"), play.member("ear")
@@ -207,7 +205,7 @@ def leave(play):
     play.hears(ear, opened, second)
 
 
-@scene("floor.move", VERDICT, modules=2)
+@scene("floor.move", VERDICT, PACKETS, modules=2)
 def move(play):
     """A talker that moves to another module gives the floor of its old one up at once."""
     one, two, ear = play.member("one"), play.member("two"), play.member("ear")

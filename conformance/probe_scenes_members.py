@@ -2,15 +2,13 @@
 
 import os
 
+from probe_pages import CONTROL, GETS, GIVES, HOLDER, LINK_SETUP, PACKETS, STREAM_PACKET
+from probe_play import FRAME
 from probe_scene import FULL, scene
 from probe_wire import with_crc
 
-GIVES = "module.md#what-an-event-gives-in-this-order"
-GETS = "module.md#what-a-member-gets"
-FRAME = 0.04
 
-
-@scene("on.each", GETS, members=5)
+@scene("on.each", GETS, CONTROL, members=5)
 def each(play):
     """Each other member hears each admitted packet once, in order, byte for byte, also who joined to listen only."""
     one = play.member("one")
@@ -36,7 +34,7 @@ def talker(play):
     play.hears(ear, *heard)
 
 
-@scene("on.any-fields", "protocol.md#link-setup-data", GETS, members=2)
+@scene("on.any-fields", LINK_SETUP, CONTROL, members=2)
 def any_fields(play):
     """No value of the fields of link setup data is refused or changed: destination, source, type and meta go on as they are."""
     one, ear = play.member("one"), play.member("ear")
@@ -53,7 +51,7 @@ def any_fields(play):
     play.hears(ear, *heard)
 
 
-@scene("on.payload", GETS, members=2)
+@scene("on.payload", STREAM_PACKET, CONTROL, members=2)
 def payload(play):
     """The payload goes on as it is, whatever bytes it has."""
     one, ear = play.member("one"), play.member("ear")
@@ -64,7 +62,7 @@ def payload(play):
     play.hears(ear, *heard)
 
 
-@scene("on.modules", "floor.md#who-has-the-floor", "directory.md#what-becomes-of-a-packet", modules=2, members=4)
+@scene("on.modules", HOLDER, PACKETS, modules=2, members=4)
 def modules_apart(play):
     """Two modules are two rooms: both have a talker at once, and each is heard in its own module alone."""
     here, there = play.modules

@@ -1,22 +1,20 @@
 """Scenes of being there: PING and PONG, silence, and what strangers get."""
 
+from probe_pages import CONTROL, GIVES, PACKETS, TIME
 from probe_play import ANSWER, LATE, SLACK, Differs, Missing, Overdue, ms
 from probe_scene import USUAL, scene
 from probe_wire import ACKN, DISC, NACK, control, words
 
-TABLE = "directory.md#what-becomes-of-a-packet"
-TIME = "directory.md#time"
-SAID = "protocol.md#control-packets"
 PINGS = 3.0
 OFF = 0.5  # how far two PINGs may be from three seconds apart
 SILENCE = 30.0
 LATEST = SILENCE / 2  # seconds between two words of who is kept; where this machine took longer, nothing is told by it
 
 
-@scene("there.ping", "module.md#what-an-event-gives-in-this-order", SAID, modules=0, members=1, seconds=7)
+@scene("there.ping", GIVES, CONTROL, modules=0, members=1, seconds=7)
 def ping(play):
     """Each member is asked by a PING of ten bytes, with the reflector's own address, each three seconds."""
-    one = play.member("one", play.run.modules[0])
+    one = play.member("one")
     since = len(one.came)
     play.pause(2 * PINGS + OFF)
     came = [heard for heard in one.came[since:] if heard.data[:4] == b"PING"]
@@ -32,16 +30,16 @@ def ping(play):
 def is_of_the_reflector(play, kind, data, *others):
     """Whether it has ten bytes and the reflector's own callsign: the one that was told, or else one that is none of others."""
     name = play.run.options.name
-    froms = [play.run.address_of(other) for other in others]
-    is_right = data == control(kind, name) if name else data[4:] not in froms and not words(data).startswith("refused")
+    of_others = [control(kind, other) for other in others]
+    is_right = data == control(kind, name) if name else data not in of_others and not words(data).startswith("refused")
     if len(data) != 10 or not is_right:
         raise Differs("a %s came as %s: %s" % (kind, data.hex().upper(), words(data)))
 
 
-@scene("there.pong", TABLE, SAID, modules=0, members=1)
+@scene("there.pong", PACKETS, CONTROL, modules=0, members=1)
 def pong(play):
     """A member's PING is answered by a PONG of ten bytes with the reflector's own address, whatever its From is."""
-    one = play.member("one", play.run.modules[0])
+    one = play.member("one")
     joined = len(one.came)
     for call in (one.call, play.run.next_call()):
         since = len(one.came)
@@ -58,7 +56,7 @@ def pong(play):
 def stays(play):
     """A peer that was not heard for less than 30 seconds stays: after twelve it is still a member."""
     began = play.now()
-    one = play.member("one", play.run.modules[0], answers=False)
+    one = play.member("one", answers=False)
     since = len(one.came)
     play.pause(12)
     play.needs(play.now() - began < SILENCE - SLACK, "whether it was silent for too long")
@@ -66,7 +64,7 @@ def stays(play):
     play.settle()
 
 
-@scene("there.own-words", TABLE, members=2)
+@scene("there.own-words", PACKETS, members=2)
 def own_words(play):
     """A member's ACKN, NACK and PONG are not answered, and it stays a member."""
     one, two = play.member("one"), play.member("two")
@@ -80,7 +78,7 @@ def own_words(play):
     play.answered(two, since)
 
 
-@scene("there.disc-of-another", TABLE, SAID, members=1)
+@scene("there.disc-of-another", PACKETS, CONTROL, members=1)
 def disc_of_another(play):
     """The From field of a DISC isn't compared with the peer's callsign: it leaves."""
     one = play.member("one")
@@ -92,7 +90,7 @@ def disc_of_another(play):
 
 
 def unanswered(play, *sent):
-    one = play.member("one", play.run.modules[0])
+    one = play.member("one")
     stranger = play.stranger("stranger", beside=one)
     for data in sent:
         stranger.send(data)
@@ -100,25 +98,25 @@ def unanswered(play, *sent):
     play.answered(stranger, 0)
 
 
-@scene("there.stranger-ping", TABLE, modules=0, members=1, seconds=0.3)
+@scene("there.stranger-ping", PACKETS, modules=0, members=1, seconds=0.3)
 def stranger_ping(play):
     """A stranger's PING is not answered."""
     unanswered(play, control("PING", play.run.next_call()))
 
 
-@scene("there.stranger-words", TABLE, modules=0, members=1, seconds=0.3)
+@scene("there.stranger-words", PACKETS, modules=0, members=1, seconds=0.3)
 def stranger_words(play):
     """A stranger's PONG, ACKN and NACK are not answered."""
     unanswered(play, control("PONG", play.run.next_call()), ACKN, NACK)
 
 
-@scene("there.stranger-disc-of-four", TABLE, modules=0, members=1, seconds=0.3)
+@scene("there.stranger-disc-of-four", PACKETS, modules=0, members=1, seconds=0.3)
 def stranger_disc_of_four(play):
     """A stranger's DISC of four bytes is not answered, else two reflectors could answer each other for ever."""
     unanswered(play, DISC)
 
 
-@scene("there.stranger-disc", TABLE, modules=0, members=0)
+@scene("there.stranger-disc", PACKETS, modules=0, members=0)
 def stranger_disc(play):
     """A stranger's DISC of ten bytes is answered by one of four."""
     stranger = play.stranger("stranger")
@@ -127,7 +125,7 @@ def stranger_disc(play):
     play.answered(stranger, 0, DISC)
 
 
-@scene("there.stranger-frame", TABLE, members=1, seconds=0.3)
+@scene("there.stranger-frame", PACKETS, members=1, seconds=0.3)
 def stranger_frame(play):
     """A stranger's stream packet is heard by nobody, and is not answered."""
     ear = play.member("ear")
@@ -150,10 +148,10 @@ def ends_by_silence(play, client, heard_from, heard_by):
     is_of_the_reflector(play, "DISC", gone.data, client.call)
 
 
-@scene("there.silence", TIME, SAID, modules=0, members=1, level=USUAL, seconds=31)
+@scene("there.silence", TIME, CONTROL, modules=0, members=1, level=USUAL, seconds=31)
 def silence(play):
     """A peer that was not heard for 30 seconds leaves, and is told so by a DISC of ten bytes."""
-    one = play.member("one", play.run.modules[0], answers=False)
+    one = play.member("one", answers=False)
     heard_from = play.now()
     ends_by_silence(play, one, heard_from, play.settle(one))
 
@@ -161,7 +159,7 @@ def silence(play):
 @scene("there.rubbish-is-silence", TIME, modules=0, members=1, level=USUAL, seconds=31)
 def rubbish_is_silence(play):
     """Bytes that are no packet don't count as heard: a peer that sends rubbish leaves after 30 seconds."""
-    one = play.member("one", play.run.modules[0], answers=False)
+    one = play.member("one", answers=False)
     heard_from, heard_by = play.now(), play.settle(one)
     for part in range(1, 10):
         play.until(heard_by + 3 * part)
@@ -172,8 +170,8 @@ def rubbish_is_silence(play):
 @scene("there.kept", TIME, modules=0, members=2, level=USUAL, seconds=34)
 def kept(play):
     """Each packet of a known peer counts as heard, a PONG as well as an ACKN: it is a member still after 33 seconds."""
-    for_pong = play.member("pong", play.run.modules[0], answers=False)
-    for_ackn = play.member("ackn", play.run.modules[0], answers=False)
+    for_pong = play.member("pong", answers=False)
+    for_ackn = play.member("ackn", answers=False)
     since = len(for_pong.came), len(for_ackn.came)
     began = before = play.now()
     for part in (6, 12, 18, 24):

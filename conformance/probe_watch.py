@@ -58,11 +58,14 @@ class Beat(Late):
         self.client = Client("beat", call, address, [])
         self.module = module
         self.asked = None  # when the PING was sent whose PONG is waited for
+        self.is_over = False
 
     def run(self):
-        self.client.says("CONN", self.module)
-        while True:
+        pong = None
+        while not self.is_over:
             self.client.forgets()
+            if pong is None:
+                self.client.says("CONN", self.module)
             sent = self.client.pings_once()
             self.asked = sent.at
             pong = self.client.wait_for_kind(b"PONG", LOST, 0)
@@ -78,4 +81,5 @@ class Beat(Late):
         return super().seconds_since(moment)
 
     def leaves(self):
+        self.is_over = True
         self.client.says("DISC")

@@ -109,9 +109,7 @@ class Client:
         while True:
             try:
                 data, ancillary, _, _ = self.own.recvmsg(MOST_BYTES, 64, socket.MSG_DONTWAIT)
-            except BlockingIOError:
-                return
-            except OSError:
+            except OSError:  # nothing more is there, or nobody listens at the other end
                 return
             self.take(Heard(stamp_of(ancillary), data))
 

@@ -8,8 +8,8 @@
     python3 conformance/test_probe.py pages
 
 Each line is a reflector. The last one is `N passed, M failed`, and the status is 0 where none failed. A scene that stays not
-known is told, and fails nothing where they are few. `pages` looks whether the pages and sections that scenes name are there,
-and whether PROBE.md has each scene.
+known is told. It fails nothing where these are few, or where another scene finds the fault. `pages` looks whether the pages and
+sections that scenes name are there, and whether PROBE.md has each scene.
 """
 
 import argparse
@@ -72,7 +72,7 @@ def place(host, port):
 
 
 def is_there(host, port):
-    """Whether something answers a stranger's DISC there, or a CONN."""
+    """Whether something answers a CONN there, to a module that isn't served."""
     with socket.socket(socket.AF_INET6 if ":" in host else socket.AF_INET, socket.SOCK_DGRAM) as own:
         own.settimeout(0.2)
         own.connect((host, port))
@@ -180,20 +180,22 @@ def places_of(kind):
     }[kind]
 
 
-WITH_ALL = ["--book", ".", "--board", "board", "--rules"]
+FILES = ["--book", ".", "--board", "board"]
+RULES = "deny any * " + DENIED
 
-# What it is, where it is bound, its options, the rules of its input, and what the probe is told of it.
-# Options that a program may not have are tried, and then left out.
+# What it is, where it is bound, its options, its input, and what the probe is told of it.
 CASES = [
-    ("one link", "one link", [], None, []),
-    ("two links", "two links", [], None, []),
-    ("[::]", "IPv6 and IPv4", [], None, []),
-    ("a book, a board and rules", "one link", WITH_ALL, "deny any * " + DENIED, ["--denied", DENIED]),
-    ("few places", "one link", ["--places", "16"], None, ["--places", "16"]),
-    ("no limit", "one link", ["--limit", "0"], None, ["--limit", "0"]),
-    ("CRCs that are filled in", "one link", ["--fill-crc"], None, ["--fill-crc"]),
-    ("no guard", "one link", ["--no-guard"], None, []),
-    ("no pace", "one link", ["--pace", "0"], None, []),
+    ("one link", "one link", [], "", []),
+    ("two links", "two links", [], "", []),
+    ("[::]", "IPv6 and IPv4", [], "", []),
+    ("a book and a board", "one link", FILES, "", []),
+    ("rules that allow all", "one link", ["--rules"], "allow any * *", []),
+    ("few places", "one link", ["--places", "16"], "", ["--places", "16"]),
+    ("no limit", "one link", ["--limit", "0"], "", ["--limit", "0"]),
+    ("CRCs that are filled in", "one link", ["--fill-crc"], "", ["--fill-crc"]),
+    ("no guard", "one link", ["--no-guard"], "", []),
+    ("no pace", "one link", ["--pace", "0"], "", []),
+    ("all at once", "two links", [*FILES, "--fill-crc", "--rules"], RULES, ["--fill-crc", "--denied", DENIED]),
 ]
 
 # The same of the reflector in Python, without a fault.
@@ -218,12 +220,6 @@ def merged(words, others):
     return [part for pair in pairs.items() for part in pair] + rest
 
 
-def has_options(program, case):
-    """Whether the program takes these options: with a place that is none it fails at the port."""
-    command = [program, "serve", *merged(SERVED, case[2]), "x"]
-    return subprocess.run(command, stdin=subprocess.DEVNULL, stdout=subprocess.DEVNULL, check=False).returncode == 5
-
-
 def starts(program, case, folder):
     """A reflector that runs, and where it is asked. A port that was free may be somebody else's by now: then it ends, and
     others are tried."""
@@ -232,7 +228,7 @@ def starts(program, case, folder):
         bound, asked = places_of(kind)
         command = [program, "serve", *merged(SERVED, options), *bound]
         with tempfile.TemporaryFile() as text:
-            text.write((rules or "").encode())
+            text.write(rules.encode())
             text.seek(0)
             process = subprocess.Popen(command, stdin=text, stdout=subprocess.DEVNULL, cwd=folder)
         waits_until(lambda: process.poll() is not None or is_there(*asked[-1]), process)
@@ -268,7 +264,7 @@ def keeps(program, level, stalled, case):
 
 
 def finds(name):
-    """Whether just the scenes that are meant for a fault differ."""
+    """Whether just the scenes that are meant for a fault differ. One of them has to; others may be not known."""
     fault = FAULTS[name]
     is_long = bool(LONG & set(fault.scenes))
     differs, unknown = probed(["--fault", name], ["--only", "there"] if is_long else ["--quick"])
@@ -277,7 +273,9 @@ def finds(name):
         more, _ = probed(["--fault", name], ["--only", ",".join(unseen), "--jobs", "4"])
         differs = {**more, **differs}
     unknown = {scene: how for scene, how in unknown.items() if scene not in differs}
-    missed = {scene: "was not found" for scene in fault.scenes if scene not in differs and scene not in unknown}
+    is_found = any(scene in differs for scene in fault.scenes)
+    unseen = [scene for scene in fault.scenes if scene not in differs]
+    missed = {scene: "did not find it" for scene in unseen if not is_found or scene not in unknown}
     others = {scene: how for scene, how in differs.items() if scene not in fault.scenes + fault.may}
     return "%s: found by %s" % (name, " ".join(sorted(differs)) or "none"), {**missed, **others}, unknown
 
@@ -350,8 +348,7 @@ def programs_of(options):
     level = [] if options.usual else ["--quick"]
     program = os.path.abspath(options.program)
     cases = [(None, case) for case in CASES] + [("the reflector", CASES[0]), ("the probe", CASES[0])]
-    cases = [(who, case) for who, case in cases if case[0].startswith(options.only) and has_options(program, case)]
-    return [(keeps, program, level, who, case) for who, case in cases]
+    return [(keeps, program, level, who, case) for who, case in cases if case[0].startswith(options.only)]
 
 
 def faults_of(options):
