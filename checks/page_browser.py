@@ -80,6 +80,10 @@ def keeps_silent(run):
 
 def looks(browser, pictures):
     """At each width and colour all fits, and all texts can be told from what is behind them."""
+    browser.look(NARROWEST, "dark")
+    browser.awaits(is_so("A", "talks", "M7QRS"))
+    wide = browser.value("document.documentElement.scrollWidth")
+    assert wide <= NARROWEST, f"{wide} points on the narrowest screen"
     for width, scheme in SCREENS:
         browser.look(width, scheme)
         browser.awaits(f"{is_so('A', 'talks', 'M7QRS')} && {is_so('B', 'silent', 'K2DEF')}")
@@ -91,9 +95,6 @@ def looks(browser, pictures):
         faint = [each for each in texts if each[1] < 4.5]
         assert len(texts) > 100 and not faint, (width, scheme, faint)
         assert browser.value("document.getElementById('hold').getBoundingClientRect().height") >= 24
-    browser.look(NARROWEST, "dark")
-    wide = browser.value("document.documentElement.scrollWidth")
-    assert wide <= NARROWEST, f"{wide} points on the narrowest screen"
 
 
 def told_of_talk(browser):
