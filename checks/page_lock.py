@@ -159,7 +159,7 @@ def share(script):
     assert views.notes_part(looks.watcher.status(), 0).count("(0 %)") == 1
     looks.watcher.look(0)
     shares = [each["data"]["share"] for each in told]
-    assert len(shares) > 5 and shares == sorted(shares) and 0 < shares[0] < shares[-1] <= 1, shares
+    assert len(shares) > 5 and shares == sorted(shares) and 0 == shares[0] < shares[-1] <= 1, shares
     assert {each["data"]["state"] for each in told} == {"reading"}
     assert f"({int(100 * shares[0])} %)" in views.notes_part(told[0], 0)
     last = looks.watcher.done()

@@ -87,11 +87,11 @@ class Watcher:
 
     def __init__(self, options, tell=lambda status: None):
         self.options, self.tell = options, tell
-        self.folder = Folder(options.folder, self, has_traces=False)
+        self.folder = Folder(options.folder, self, has_traces=False, pulse=self.pulse)
         self.board = Board(options.board or os.path.join(options.folder, "board"))
         self.run, self.heard = None, deque(maxlen=HEARD_MOST)
         self.lock, self.missed, self.trouble = "unknown", {}, None
-        self.read_at = self.locked_at = self.told_at = None
+        self.read_at = self.locked_at = self.told_at = self.looked_at = None
         # When what is told was read: by the count of time that nobody sets, and by the clock.
         self.fresh = time.monotonic(), time.time()
         self.pulses, self.is_reading, self.is_there, self.closed = 0, True, False, None
@@ -108,14 +108,20 @@ class Watcher:
         self.run.note(moment, *event[1:])
         self.run.moment = moment
         self.pulses += 1
-        if self.pulses % PULSE == 0 and time.monotonic() - self.told_at >= READING:
-            self.is_reading, self.fresh = True, (time.monotonic(), time.time())
+        if self.pulses % PULSE == 0:
             self.run.start = self.folder.start
+            self.pulse()
+
+    def pulse(self):
+        """Tells how far it is, where a look takes long."""
+        now = time.monotonic()
+        if now - max(self.told_at, self.looked_at) >= READING:
+            self.is_reading, self.fresh = True, (now, time.time())
             self.tell(self.status())
 
     def look(self, settling):
         """Reads what has come, and says whether there is something to tell."""
-        now = time.monotonic()
+        now = self.looked_at = time.monotonic()
         if self.told_at is None:
             self.told_at = now
         has_come = self.look_at_lock(now)
