@@ -15,7 +15,7 @@ import sys
 import time
 
 sys.dont_write_bytecode = True
-from page_scene import BUSY, TIMED_OUT, Page, Scene, Talker  # noqa: E402
+from page_scene import BUSY, STOPPED, TIMED_OUT, Page, Scene, Talker  # noqa: E402
 from starved import tried  # noqa: E402
 
 # What may stand in a page that needs nothing else, and has no script and no style in itself.
@@ -142,15 +142,39 @@ def talk_scene(page, first):
     assert "B member HOTSPOT" not in list(lines_of(told)), told
 
 
+def told_of(page, name):
+    return [module[name] for module in page.status()["modules"]]
+
+
+def says_missed():
+    with open("said", "w", encoding="ascii") as said:
+        said.write("A admitted 3 missed 7\nB admitted 3 missed 0\n")
+
+
+def stop_scene(page, folder):
+    """One that is stopped lets all go before it ends."""
+    stopped = Scene(folder, "AB")
+    os.symlink(folder, "next")
+    os.rename("next", "now")
+    stopped.join("B", 7, "OE1ZZZ")
+    talks(page, stopped, "B", 7, "OE1ZZZ", "run runs", "B talks OE1ZZZ by OE1ZZZ")
+    stopped.leave("B", 7, STOPPED)
+    stopped.end()
+    awaits(page, "run ended", "B quiet", "heard OE1ZZZ B stopped")
+
+
 def restart_scene(page, first):
     """The lock is read and never taken; the run ends; another one begins where the link leads to then."""
     assert not is_lockable("one/lock")
     started = page.status()["run"]["start"]
     talks(page, first, "A", 0, "AB1CD", "A talks AB1CD by AB1CD", stream=4)
+    assert told_of(page, "missed") == [None, None]
     first.end()
-    awaits(page, "run ended", "heard AB1CD A silent")
-    told = page.status()
-    assert all(module["members"] == [] for module in told["modules"]) and told["modules"][0]["missed"] == 7, told
+    awaits(page, "run ended", "A quiet", "heard AB1CD A silent")
+    # What stands there yet is said by a run before.
+    assert told_of(page, "missed") == [None, None] and told_of(page, "members") == [[], []]
+    says_missed()
+    page.awaits(lambda: told_of(page, "missed") == [7, 0], "word of the frames that it missed")
     for _ in range(150):
         assert is_lockable("one/lock"), "the page has the lock"
         time.sleep(0.01)
@@ -164,15 +188,17 @@ def restart_scene(page, first):
 
 
 def anew_in_talk(page, run):
-    """In the same folder, while somebody talks, and by a program that has no such lock; a page that hears of it seconds later has
-    the talk as silent."""
+    """In the same folder, while somebody talks, and by a program that locks nothing, of which the records tell; a page that hears
+    of it seconds later has the talk as silent."""
     for _ in range(TRIES):
         run.join("C", 5, "PA3GHI")
         talks(page, run, "C", 5, "PA3GHI", "C talks PA3GHI by PA3GHI")
         run.end()
         os.remove("two/lock")
-        Scene("two", "AC", is_locked=False)
-        awaits(page, "run unknown", "C quiet", "A quiet")
+        again = Scene("two", "AC", is_locked=False)
+        awaits(page, "run ended", "C quiet", "A quiet")
+        again.join("C", 5, "PA3GHI")
+        awaits(page, "run unknown", "C member PA3GHI")
         ended = page.awaits(lambda: page.status()["heard"][0]["ended"], "an end of the talk")
         if ended == "restart":
             return
@@ -183,14 +209,15 @@ def anew_in_talk(page, run):
 
 
 def scene(script, _readme):
-    with open("said", "w", encoding="ascii") as said:
-        said.write("A admitted 3 missed 7\nB admitted 3 missed 0\n")
+    says_missed()
+    os.utime("said", (1000, 1000))
     page = Page(script, "now", "--call", "M17-TST", "--parrots", "BC", "--said", "said")
     awaits(page, "run unknown", "data no folder")
     first = Scene("one", "AB")
     os.symlink("one", "now")
     talk_scene(page, first)
     restart_scene(page, first)
+    stop_scene(page, "three")
     # By another name for the folder that goes away.
     os.remove("now")
     awaits(page, "data no folder")

@@ -44,7 +44,7 @@ places_of_page() {
 check "m17-page answers others while hundreds listen, say half a line or read nothing, and holds no old page" places_of_page
 
 lock_of_page() {
-    tries page_lock.py failed writes locked left share closed names
+    tries page_lock.py failed both writes locked left share closed stale names
 }
 check "m17-page knows behind a start that failed that nobody runs, leaves out books of earlier runs, and says what it hasn't read" lock_of_page
 

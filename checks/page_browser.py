@@ -11,10 +11,11 @@ import time
 
 sys.dont_write_bytecode = True
 from browser import PATIENCE, Browser  # noqa: E402
-from page_scene import Page, Scene, Talker  # noqa: E402
+from page_scene import TIMED_OUT, Page, Scene, Talker  # noqa: E402
 from starved import SKIPPED, Starved, tried  # noqa: E402
 
 SCREENS = [(width, scheme) for width in (390, 1280) for scheme in ("light", "dark")]
+NARROWEST = 320
 # Each text that is seen, with its contrast to what is behind it; the colours are as the page is drawn.
 CONTRASTS = """(() => {
   const numbers = text => text.match(/[0-9.]+/g).map(Number);
@@ -54,6 +55,8 @@ def evening(folder):
         letter = "AABAC"[number % 5]
         place, call = talkers[letter][number % len(talkers[letter])]
         run.talk(letter, place, call, 20_000 + 360_000 * number, 30 + 37 * number % 200, number % 6 != 3, 100 + number)
+    run.talk("B", 6, "K2DEF", 9_000_000, 50, False, 200)
+    run.say("B", 6, "K2DEF", 50, 200, moment=9_002_000, verdict=TIMED_OUT)
     return run
 
 
@@ -77,6 +80,10 @@ def keeps_silent(run):
 
 def looks(browser, pictures):
     """At each width and colour all fits, and all texts can be told from what is behind them."""
+    browser.look(NARROWEST, "dark")
+    browser.awaits(is_so("A", "talks", "M7QRS"))
+    wide = browser.value("document.documentElement.scrollWidth")
+    assert wide <= NARROWEST, f"{wide} points on the narrowest screen"
     for width, scheme in SCREENS:
         browser.look(width, scheme)
         browser.awaits(f"{is_so('A', 'talks', 'M7QRS')} && {is_so('B', 'silent', 'K2DEF')}")

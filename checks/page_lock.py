@@ -2,7 +2,7 @@
 """Tries what contrib/m17-page knows of a reflector that doesn't run, of books of runs before, of long ones while it reads them, and
 of what it can't read, by its own modules.
 
-usage: page_lock.py failed|writes|locked|left|share|closed|names SCRIPT
+usage: page_lock.py failed|both|writes|locked|left|share|closed|stale|names SCRIPT
 """
 
 import fcntl
@@ -10,6 +10,7 @@ import importlib
 import os
 import shutil
 import sys
+import time
 
 sys.dont_write_bytecode = True
 from made_books import join  # noqa: E402
@@ -71,6 +72,28 @@ def failed(script):
     assert looks.state() == "ended"
 
 
+def both(script):
+    """The program's own lock, on a file in the folder, and that of the unit, on the folder itself: where there is such a file it
+    alone counts, and behind either a folder in which nothing is locked has nobody."""
+    looks = Looks(script, "now")
+    starts("first")
+    assert looks.state() == "unknown"
+    run = Scene("first", "AB")
+    assert looks.state() == "runs"
+    run.end()
+    assert looks.state() == "ended"
+    starts("second")
+    assert [looks.state(), looks.state()] == ["ended"] * 2
+    own = locks("second")
+    assert looks.state() == "runs"
+    run = Scene("second", "AB")
+    assert looks.state() == "runs"
+    run.end()
+    assert looks.state() == "ended"
+    os.close(own)
+    assert looks.state() == "ended"
+
+
 def writes(script):
     """Where records come though nobody has locked the folder, it isn't known whether somebody runs."""
     looks = Looks(script, "now")
@@ -123,7 +146,8 @@ def left(script):
 
 
 def share(script):
-    """While long books are read the status says how much of them is, and the page says it; then no more."""
+    """While long books are read the status says how much of them is, and the page says it; then no more. What is half read is no
+    figure for monitors."""
     run = Scene("long", "AB", ago=9000)
     data = b"".join(join(0, 1000 + at, at % 200, "AB1CD") for at in range(20_000))
     for letter in "AB":
@@ -135,11 +159,13 @@ def share(script):
     assert views.notes_part(looks.watcher.status(), 0).count("(0 %)") == 1
     looks.watcher.look(0)
     shares = [each["data"]["share"] for each in told]
-    assert len(shares) > 5 and shares == sorted(shares) and 0 < shares[0] < shares[-1] <= 1, shares
+    assert len(shares) > 5 and shares == sorted(shares) and 0 == shares[0] < shares[-1] <= 1, shares
     assert {each["data"]["state"] for each in told} == {"reading"}
     assert f"({int(100 * shares[0])} %)" in views.notes_part(told[0], 0)
     last = looks.watcher.done()
     assert last["data"]["share"] is None and last["data"]["state"] == "whole" and views.notes_part(last, 0) == ""
+    figures = [views.metrics_of(each, 0).decode("ascii") for each in (told[-1], last)]
+    assert [text.count("m17_records_total{") for text in figures] == [0, 2] and "m17_run_seconds " in figures[0], figures
 
 
 def closed(script):
@@ -167,6 +193,29 @@ def closed(script):
     assert told["data"]["problems"] == [] and len(told["modules"]) == 2, told
 
 
+def stale(script):
+    """What can't be read makes what is told no newer."""
+    Scene("kept", "A", is_locked=False)
+    looks, server, told = Looks(script, "kept"), importlib.import_module("m17_server"), []
+    looks.state()
+    before = looks.watcher.status()["data"]["read"]
+
+    def fails(_settling):
+        time.sleep(0.02)
+        raise OSError(5, "Input/output error")
+
+    def publish(status):
+        told.append(status)
+        raise KeyboardInterrupt
+
+    looks.watcher.look = fails
+    try:
+        server.watch(looks.watcher, publish)
+    except KeyboardInterrupt:
+        pass
+    assert told[0]["data"]["read"] == before and "Input/output error" in told[0]["data"]["problems"][0], told[0]["data"]
+
+
 def names(script):
     """A board and a folder whose names are no UTF-8 are told of as well as may be, on the page and as data."""
     folder = os.fsdecode(b"no\xffsuch")
@@ -178,7 +227,8 @@ def names(script):
     assert b"bo\\\\xfe<b>ard" in view.data() and view.figures()
 
 
-TRIES = {"failed": failed, "writes": writes, "locked": locked, "left": left, "share": share, "closed": closed, "names": names}
+TRIES = {"failed": failed, "both": both, "writes": writes, "locked": locked, "left": left, "share": share, "closed": closed,
+         "stale": stale, "names": names}
 
 if __name__ == "__main__":
     tried(TRIES[sys.argv[1]], sys.argv[2])

@@ -19,7 +19,7 @@ from made_books import BUSY, CONTINUED, OPENED, TIMED_OUT, join, leave, packet  
 from make import END_BIT, book_header, stream_packet  # noqa: E402
 from starved import Wait  # noqa: E402
 
-ASKED = 1
+ASKED, STOPPED = 1, 4
 # In seconds, on a machine that does much else; whoever talks says a frame so often.
 PATIENCE, FRAME = 120, 0.04
 # The status with which a page ends whose port somebody else has.

@@ -230,10 +230,12 @@ class Source:
             return self.is_whole()
         return (status.st_dev, status.st_ino) == self.key and self.is_whole()
 
-    def items(self):
-        """Each whole item from `place` up to `limit`, and the place behind it."""
-        place, held = self.place, b""
+    def items(self, place, pulse=None):
+        """Each whole item from this place up to `limit`, and the place behind it. `pulse` is called for each piece of the file."""
+        held = b""
         while place + len(held) < self.limit:
+            if pulse:
+                pulse()
             begin = place + len(held)
             more = os.pread(self.file.fileno(), min(READ_AT_ONCE, self.limit - begin), begin)
             if not more:
@@ -250,7 +252,7 @@ class Source:
     def read(self):
         """The same, and takes them as read. A file that is none of its kind is told of, and read no more."""
         try:
-            for item, place in self.items():
+            for item, place in self.items(self.place):
                 self.place = place
                 self.tail = (self.tail + item)[-KEPT_TAIL:]
                 yield item
@@ -266,7 +268,8 @@ class Book(Source):
 
     def __init__(self, path, letter, real=None):
         super().__init__(path, real)
-        self.letter = letter
+        # `ahead` is the place behind the last whole record that was looked at, read or not, and its moment.
+        self.letter, self.ahead = letter, (0, 0)
 
     def size_of(self, data, at, place):
         if place == 0:
@@ -281,16 +284,16 @@ class Book(Source):
             raise Broken(f"kind {data[at]:02X}")
         return RECORDS[data[at]]
 
-    def start(self):
+    def start(self, pulse=None):
         """When the reflector started, by what `look` found: when the book was changed last, less the moment of the last
         whole record. The head counts as a record of moment 0."""
-        moment = self.moment
+        self.ahead = max(self.ahead, (self.place, self.moment))
         try:
-            for item, _ in self.items():
-                moment = number(item[10:18]) if len(item) > HEAD_MOST else 0
+            for item, place in self.items(self.ahead[0], pulse):
+                self.ahead = place, number(item[10:18]) if len(item) > HEAD_MOST else 0
         except Broken:
             pass
-        return self.changed // 1_000_000 - moment
+        return self.changed // 1_000_000 - self.ahead[1]
 
     def events(self):
         for record in self.read():

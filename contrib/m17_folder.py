@@ -17,10 +17,12 @@ SETTLING = 0.5
 class Folder:
     """Follows the books of a folder, and its traces where they are wanted, also behind a restart: in the same folder or,
     where the path is a link, in another one. A file that is another one now tells of a new run of the reflector. The reader
-    is told `begins(letters)` of a run and its modules, and `takes(moment, event)` of each event, in order of moments."""
+    is told `begins(letters)` of a run and its modules, and `takes(moment, event)` of each event, in order of moments. `pulse` is
+    called while a long book is looked through for its start."""
 
-    def __init__(self, path, reader, start=None, has_traces=True):
+    def __init__(self, path, reader, start=None, has_traces=True, pulse=None):
         self.path, self.reader, self.start, self.is_told = path, reader, start, start is not None
+        self.pulse = pulse
         self.names = re.compile(r"[A-Z]\.book|link[0-3]\.trace" if has_traces else r"[A-Z]\.book")
         self.clock, self.moments = Clock(), Moments()
         # `left` are the files of runs before that lie there still: of a module that is not served any more.
@@ -104,7 +106,7 @@ class Folder:
             return
         for book in sorted(self.books.values(), key=lambda book: book.changed):
             if is_first or book.limit > book.place:
-                self.start = self.clock.better_start(None if is_first else self.start, book.start())
+                self.start = self.clock.better_start(None if is_first else self.start, book.start(self.pulse))
                 is_first = False
 
     def state(self):

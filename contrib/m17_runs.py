@@ -5,8 +5,8 @@
 from m17_books import END_BIT, VERDICTS, WHYS, callsign, number
 
 # How an over ended: its last packet came; none came for so long that the floor was free; the limit on talking ended it; its
-# member left; the reflector began anew.
-LET_GO, SILENT, TIMED_OUT, LEFT, RESTART = "let go", "silent", "timed out", "left", "restart"
+# member left; the reflector ended in order, and said so; it began anew without that.
+LET_GO, SILENT, TIMED_OUT, LEFT, STOPPED, RESTART = "let go", "silent", "timed out", "left", "stopped", "restart"
 # In milliseconds: after so long without an admitted packet the floor is free, and so long is a frame.
 FREE, FRAME = 1600, 40
 # Where a Join says whether it is to listen only.
@@ -55,7 +55,7 @@ class Run:
     def leave(self, moment, key, cause):
         over = self.overs.get(key[0])
         if over and over.member == key:
-            self.end(key[0], LEFT)
+            self.end(key[0], STOPPED if cause == STOPPED else LEFT)
         self.leaves(moment, key, self.members.pop(key, Member("?", 0)), cause)
 
     def packet(self, moment, key, verdict, packet):

@@ -158,6 +158,7 @@ def watch(watcher, publish):
                 publish(watcher.done())
         except Exception as error:  # noqa: BLE001
             watcher.trouble = f"what the reflector writes could not be read: {type(error).__name__}: {error}"
+            # What is told now is as old as it was.
             publish(watcher.status())
             time.sleep(1)
         time.sleep(REST)
@@ -168,7 +169,7 @@ async def run(options, say):
     server = Server(options, watcher.status())
 
     def publish(status):
-        loop.call_soon_threadsafe(server.publish, status, time.monotonic())
+        loop.call_soon_threadsafe(server.publish, status, watcher.fresh[0])
 
     watcher.tell = publish
     loop.set_exception_handler(lambda _loop, context: say(context["message"]))

@@ -87,14 +87,16 @@ class Watcher:
 
     def __init__(self, options, tell=lambda status: None):
         self.options, self.tell = options, tell
-        self.folder = Folder(options.folder, self, has_traces=False)
+        self.folder = Folder(options.folder, self, has_traces=False, pulse=self.pulse)
         self.board = Board(options.board or os.path.join(options.folder, "board"))
         self.run, self.heard = None, deque(maxlen=HEARD_MOST)
         self.lock, self.missed, self.trouble = "unknown", {}, None
-        self.read_at = self.locked_at = self.told_at = None
+        self.read_at = self.locked_at = self.told_at = self.looked_at = None
+        # When what is told was read: by the count of time that nobody sets, and by the clock.
+        self.fresh = time.monotonic(), time.time()
         self.pulses, self.is_reading, self.is_there, self.closed = 0, True, False, None
-        # Whether who runs locks the folder itself; how much had come when it was found free, None while it is locked.
-        self.locks_folder, self.come_when_free = options.locked, None
+        # Whether who runs here is known to lock; how much had come when nobody had locked, None while somebody has.
+        self.locks, self.come_when_free = options.locked, None
 
     def begins(self, letters):
         if self.run:
@@ -106,14 +108,20 @@ class Watcher:
         self.run.note(moment, *event[1:])
         self.run.moment = moment
         self.pulses += 1
-        if self.pulses % PULSE == 0 and time.monotonic() - self.told_at >= READING:
-            self.is_reading = True
+        if self.pulses % PULSE == 0:
             self.run.start = self.folder.start
+            self.pulse()
+
+    def pulse(self):
+        """Tells how far it is, where a look takes long."""
+        now = time.monotonic()
+        if now - max(self.told_at, self.looked_at) >= READING:
+            self.is_reading, self.fresh = True, (now, time.time())
             self.tell(self.status())
 
     def look(self, settling):
         """Reads what has come, and says whether there is something to tell."""
-        now = time.monotonic()
+        now = self.looked_at = time.monotonic()
         if self.told_at is None:
             self.told_at = now
         has_come = self.look_at_lock(now)
@@ -141,7 +149,7 @@ class Watcher:
         return before != self.lock
 
     def find_lock(self):
-        """Where who runs was seen to lock the folder itself, one that is not locked has nobody: also a new one, in which a start
+        """Where who runs was seen to lock, a folder in which nothing is locked has nobody: also a new one, in which a start
         failed. Where records come all the same, somebody writes them who locks nothing."""
         lock = lock_of(self.options.folder)
         if lock == "held" and self.lock != "held":
@@ -149,11 +157,10 @@ class Watcher:
             time.sleep(MOMENT)
             lock = lock_of(self.options.folder)
         if lock == "held":
-            self.come_when_free = None
-            self.locks_folder = self.options.locked or not os.path.lexists(os.path.join(self.options.folder, "lock"))
+            self.locks, self.come_when_free = True, None
         if self.come_when_free is not None and self.pulses > self.come_when_free:
-            self.locks_folder = self.options.locked
-        return "free" if lock == "none" and self.locks_folder else lock
+            self.locks = self.options.locked
+        return "free" if lock == "none" and self.locks else lock
 
     def state(self):
         return STATE_OF_LOCK.get(self.lock, UNKNOWN)
@@ -167,8 +174,11 @@ class Watcher:
         except OSError:
             return {}
         try:
-            size = os.fstat(file).st_size
-            said = os.pread(file, SAID_MOST, max(0, size - SAID_MOST))
+            status = os.fstat(file)
+            # A run that was killed said nothing: what stands there then is of one before.
+            if self.run and status.st_mtime_ns // 1_000_000 < self.run.start:
+                return {}
+            said = os.pread(file, SAID_MOST, max(0, status.st_size - SAID_MOST))
         except OSError:
             return {}
         finally:
@@ -178,7 +188,7 @@ class Watcher:
 
     def done(self):
         """What was read is whole."""
-        self.is_reading, self.trouble = False, None
+        self.is_reading, self.trouble, self.fresh = False, None, (time.monotonic(), time.time())
         return self.status()
 
     def status(self):
@@ -201,7 +211,7 @@ class Watcher:
         state = "reading" if self.is_reading else "whole" if self.is_there else "no folder"
         if state == "whole" and not self.run and not self.board.modules:
             state = "empty"
-        told = {"state": state, "share": self.share(), "read": int(1000 * time.time()), "changed": max(changes, default=None)}
+        told = {"state": state, "share": self.share(), "read": int(1000 * self.fresh[1]), "changed": max(changes, default=None)}
         return {**told, "problems": self.problems()}
 
     def share(self):
@@ -243,6 +253,8 @@ class Watcher:
 
     def talk(self, letter, glance):
         """Who talks in the module, by the board where that has more records than the book, or fell silent, and since when."""
+        if self.state() == ENDED:
+            return self.talk_of(QUIET)
         latest = self.run.latest.get(letter) if self.run else None
         if glance and glance.records > (self.run.records.get(letter, 0) if self.run else 0):
             if glance.talker is None:

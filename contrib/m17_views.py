@@ -55,7 +55,8 @@ def utc_of(moment):
 def clock(moment, now):
     """The time of day in UTC, with the day where that is another one than now; moments are in milliseconds since 1970."""
     at, today = utc_of(moment), utc_of(now)
-    text = time.strftime("%H:%M:%S" if at[:3] == today[:3] else f"{at.tm_mday}\u00a0%b %H:%M", at)
+    day = f'<span class="day">{at.tm_mday}\u00a0{time.strftime("%b", at)}</span> '
+    text = time.strftime("%H:%M:%S", at) if at[:3] == today[:3] else day + time.strftime("%H:%M", at)
     return f'<time datetime="{time.strftime("%Y-%m-%dT%H:%M:%SZ", at)}">{text}</time>'
 
 
@@ -81,10 +82,12 @@ def figures_part(status):
     modules = status["modules"]
     members = [module["members"] for module in modules]
     known = sum(len(each) for each in members if each is not None)
+    talking = [told(module["module"]) for module in modules if module["state"] == TALKS]
+    where = f' <span class="where">in {", ".join(talking)}</span>' if talking else ""
     figures = (
         ("Members", "–" if modules and all(each is None for each in members) else f"{known:,}"),
         ("Modules", len(modules)),
-        ("Talking now", sum(module["state"] == TALKS for module in modules)),
+        ("Talking now", f"{len(talking)}{where}"),
         ("Packets admitted", f"{sum(module['admitted'] for module in modules):,}"),
     )
     return "".join(f"<div><dt>{name}</dt><dd>{value}</dd></div>" for name, value in figures)
@@ -302,8 +305,10 @@ def page_of(status, parts, every, is_still):
 
 
 def metrics_of(status, age):
-    """The figures in the text form of Prometheus."""
-    now, modules, lines = int(1000 * time.time()), status["modules"], []
+    """The figures in the text form of Prometheus. Of books that are half read there are none: who adds up how a figure rises would
+    take it for one that began anew."""
+    now, lines = int(1000 * time.time()), []
+    modules = [] if status["data"]["state"] == "reading" else status["modules"]
 
     def put(name, kind, what, samples):
         lines.extend((f"# HELP m17_{name} {what}", f"# TYPE m17_{name} {kind}"))
