@@ -252,4 +252,4 @@ check "each part of small traces and books, and each of them with a byte changed
 check "evenings over 26 modules and in crowds are the same over threads" \
     compared --only replay-all-letters,replay-crowd --cases 120 --threads
 check "whole made evenings, very many peers and very long traces have their text, over threads too" \
-    compared --large --only make-evening,evening,trace-long,trace-crowded,trace-one-entry-more --threads
+    compared --large --only make-evening,evening,trace-long,trace-crowded,trace-most-entries,trace-one-entry-more --threads
