@@ -240,9 +240,16 @@ check_says() {
 }
 check "check says of a book that it is legal, or where it is not; input and output may fail" check_says
 
-# What another implementation of the same rules says of inputs of each kind.
-conformance_vectors() {
+# compared WORD..: the program is compared with the reference of conformance/, which is another implementation of the rules.
+compared() {
     needs python3
-    python3 "$top/conformance/compare.py" --program "$program" --vectors "$top/conformance/vectors"
+    python3 "$top/conformance/compare.py" --program "$program" "$@"
 }
-check "each vector of conformance/ has its bytes and its status" conformance_vectors
+check "each vector of conformance/ has its bytes and its status, a replay in one thread and over threads" \
+    compared --vectors "$top/conformance/vectors" --threads
+check "words are taken or refused as conformance/words.txt says" compared --words "$top/conformance/words.txt"
+check "each part of small traces and books, and each of them with a byte changed, is read by the rule" compared --torn
+check "evenings over 26 modules and in crowds are the same over threads" \
+    compared --only replay-all-letters,replay-crowd --cases 120 --threads
+check "whole made evenings, very many peers and very long traces have their text, over threads too" \
+    compared --large --only make-evening,evening,trace-long,trace-crowded,trace-most-entries,trace-one-entry-more --threads

@@ -15,6 +15,11 @@ def joined(moment, place, generation=0, listens=0, callsign="AB1CD"):
     return book_record(1, 0, 0, moment, (place, generation), bytes([listens]) + encode(callsign).to_bytes(6, "big"))
 
 
+def joined_as(address):
+    """A join of who has this address, or of nobody where that is no callsign's."""
+    return book_record(1, 0, 0, 0, (0, 0), b"\0" + address.to_bytes(6, "big"))
+
+
 def left(moment, place, generation=0, why=1):
     return book_record(2, 0, 0, moment, (place, generation), bytes([why]))
 
@@ -73,6 +78,10 @@ BOOKS = (
         ),
         "A group's callsign is one as that of a station is.",
     ),
+    ("first-callsign", book(joined_as(1)), "The least address of a station."),
+    ("no-callsign", book(joined_as(0)), "The address below it is no callsign's."),
+    ("no-group", book(joined_as(0xEE6B28000000)), "Nor is that between stations and groups."),
+    ("behind-groups", book(joined_as(0xF46109000000)), "Nor that behind the last group."),
     ("last-moment", book(joined(MOST, 0), judged(MOST, 0, stream(1, 0), 1)), "The last moment."),
     # moments and members
     ("moment", book(joined(10, 0), joined(9, 0, 1)), "A moment that falls, and then a held place."),

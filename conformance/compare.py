@@ -6,6 +6,8 @@
     python3 conformance/compare.py --program ./m17 --vectors conformance/vectors
     python3 conformance/compare.py --program ./m17 --large
     python3 conformance/compare.py --program ./m17 --each-byte
+    python3 conformance/compare.py --program ./m17 --torn
+    python3 conformance/compare.py --program ./m17 --words conformance/words.txt
 
 Ends with the line `N passed, M failed` and with status 0 where none failed, else 1.
 """
@@ -23,8 +25,9 @@ import breaches
 import generate
 import made
 import reference
+import torn
 from files import ONE, TRACE_MAGIC, TWO, book_head
-from traces import FAULT
+from traces import FAULT, quiet
 
 Result = collections.namedtuple("Result", "status output has_errors")
 Case = collections.namedtuple("Case", "kind name words data expected again")
@@ -59,6 +62,9 @@ def parse_options():
     parser.add_argument("--vectors", help="compare with the files of this folder, without the reference")
     parser.add_argument("--large", action="store_true", help="compare on the inputs at the limits of size")
     parser.add_argument("--each-byte", action="store_true", help="compare `check` on changed books")
+    parser.add_argument("--torn", action="store_true", help="compare on each part of small files, and each byte changed")
+    parser.add_argument("--words", help="compare with this table of words that are taken or refused")
+    parser.add_argument("--threads", action="store_true", help="run each `replay` with --threads too")
     parser.add_argument("--without", help="commands that the program doesn't have, between commas, or `none`")
     parser.add_argument("--list", action="store_true", help="print the kinds of cases and end")
     return parser.parse_args()
@@ -117,6 +123,23 @@ def large_case(name):
     return Case("large", "large-" + name, words, data, run_reference(words, data), again)
 
 
+def torn_case(number):
+    name, words, data = TORN[number]
+    words = [word.encode() for word in words]
+    return Case("torn", "torn-%d" % number, words, data, run_reference(words, data), "--torn # " + name)
+
+
+def words_case(line):
+    """A status, and words that have it without any input. What `serve`, `talk` and `bridge` are told is their port."""
+    status, *given = line.split(" ")
+    words = [b"" if word == '""' else word.encode() for word in given]
+    said = {"2": b"words refused\n", "5": b"port failed\n"}.get(status)
+    expected = Result(int(status), said, False) if said else run_reference(words, b"")
+    if expected.status != int(status):
+        expected = Result(int(status), b"as the table says", False)
+    return Case("words", "words", words, b"", expected, "--words %s # %s" % (options.words, line))
+
+
 def changed_case(number):
     name, data = EACH_BYTE[number]
     words = [b"check"]
@@ -125,6 +148,8 @@ def changed_case(number):
 
 # The masks flip a low bit, a middle one and the highest, so that each kind, verdict and bound is met from both sides.
 EACH_BYTE = list(breaches.with_each_byte_changed((1, 2, 0x10, 0x80)))
+
+TORN = list(torn.inputs())
 
 LARGE = {
     "judge-most": (["judge"], lambda: bytes(64000000)),
@@ -140,7 +165,10 @@ LARGE = {
     "book-most-bytes": (["check"], lambda: book_head(65, 0) + b"\t" * 67108855),
     "old-book-one-byte-more": (["migrate"], lambda: bytes(67108865)),
     "old-book-most-bytes": (["migrate"], lambda: ONE.magic + b"A" + b"\t" * 67108855),
+    "trace-long": (["replay", "--summary", "--places", "1"], lambda: torn.asking(2) + quiet(0) * 66000),
+    "trace-crowded": (["replay", "--summary", "--places", "256"], lambda: torn.asking(300) + quiet(0) * 10),
     "make-most": (["make", "1", "100000"], lambda: b""),
+    "make-evening": (["make", "17", "20000"], lambda: b""),
     "evening": (["replay", "--summary"], lambda: b"".join(made.make(17, 20000))),
     "evening-lines": (["replay"], lambda: b"".join(made.make(18, 20000))),
     "evening-of-parrots": (
@@ -155,6 +183,9 @@ def tried(task):
     make_case, key = task
     case = make_case(key)
     got = run_program(case.words, case.data)
+    if options.threads and case.words[:1] == [b"replay"] and not differ(case.expected, got):
+        case = case._replace(words=[b"replay", b"--threads"] + case.words[1:])
+        got = run_program(case.words, case.data)
     if not differ(case.expected, got):
         return case.kind, got.has_errors, None
     if options.shrink and make_case is not vector_case:
@@ -266,8 +297,13 @@ def tasks():
         return [(vector_case, path) for path in paths if is_vector_selected(path)]
     if options.each_byte:
         return [(changed_case, number) for number in range(len(EACH_BYTE))]
+    if options.torn:
+        return [(torn_case, number) for number in range(len(TORN)) if is_selected(TORN[number][1][0])]
+    if options.words:
+        with open(options.words) as file:
+            return [(words_case, line) for line in file.read().split("\n") if line and line[0] != "#"]
     if options.large:
-        return [(large_case, name) for name in LARGE if is_selected(LARGE[name][0][0])]
+        return [(large_case, name) for name in LARGE if is_large_selected(name)]
     if options.case is not None:
         return [(drawn_case, options.case)]
     return [(drawn_case, index) for index in range(options.cases)]
@@ -275,6 +311,11 @@ def tasks():
 
 def is_selected(command):
     return any(kind.split("-")[0] == command for kind in options.kinds)
+
+
+def is_large_selected(name):
+    """By its command, or by the beginning of its own name."""
+    return any(name.startswith(one) for one in named()) or is_selected(LARGE[name][0][0])
 
 
 def is_vector_selected(path):
@@ -309,7 +350,7 @@ def selected_kinds():
 def main():
     set_options(parse_options())
     options.kinds = selected_kinds()
-    if options.list or not options.kinds:
+    if options.list or not (options.kinds or options.large or options.torn or options.words):
         print("\n".join(generate.KINDS))
         return 0 if options.list else 1
     counts = {}

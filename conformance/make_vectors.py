@@ -143,7 +143,20 @@ vector(
     "One carriage return before the end of a line is dropped, an empty line has no bytes, both cases of digits are"
     " read, the last line needs no line feed, and a line may have 256 digits.",
 )
+vector(
+    "show-types",
+    "show",
+    lines(*(with_lsd((0xFFFFFFFFFFFF, encode("AB1CD")), kind, bytes(14)) for kind in (5, 3, 0, 0x0785, 0xFACE))),
+    "The fields of TYPE: stream or packet, voice, data, both or reserved, and the numbers behind them.",
+)
+vector(
+    "show-lengths",
+    "show",
+    lines(bytes(53), bytes(64), bytes(128), conn("AB1CD", "A") + b"A", b"DISC" + bytes(7)) + b"0" * 106,
+    "Bytes that no packet has so many of, up to those of the longest line; and a magic for another length.",
+)
 vector("show-odd", "show", b"41434B4E\nzzz\n", "An odd number of bytes comes before what they are.")
+vector("show-odd-first", "show", b"4", "So it does in the first line, without its end.")
 vector("show-digit", "show", b"41434B4E\n4g\n41434B4E\n", "A byte that is no hex digit ends the run.")
 vector("show-long", "show", b"0" * 257 + b"\n", "A line of more than 256 bytes, before it is odd.")
 vector("show-two-carriage-returns", "show", b"4142\r\r\n", "Only one carriage return is dropped.")
@@ -265,6 +278,25 @@ EVENING = trace(
     datagram(160, P1, stream(0x1234, 3, True)),
 )
 vector("replay-nothing", "replay", trace(), "A trace without entries.")
+vector("replay-made", "replay", b"".join(made.make(0, 2)), "The trace of `make 0 2`: two hotspots join.")
+vector("replay-made-summary", "replay --summary", b"".join(made.make(0, 2)), "The same, counted.")
+vector(
+    "replay-turned-away",
+    "replay",
+    trace(
+        datagram(0, P2, lstn("N0CALL", "A")),
+        datagram(0, P2, stream(1, 0)),
+        datagram(0, P3, stream(2, 0)),
+        datagram(0, P3, conn("AB1CD", "D")),
+    ),
+    "Who joined to listen, who isn't connected, and who asks for a module that isn't served.",
+)
+vector(
+    "replay-elsewhere-and-again",
+    "replay --summary",
+    trace(*(datagram(10 * n, P1, conn("AB1CD", module)) for n, module in enumerate("ABB"))),
+    "A peer that moves and asks again gets an ACKN each time, and one DISC at the end.",
+)
 vector("replay-evening", "replay", EVENING, "A talker, and a listener that comes and goes.")
 vector(
     "replay-evening-summary",
@@ -538,6 +570,19 @@ vector(
     ),
     "A new recording takes the place of one whose echoes have begun.",
 )
+vector(
+    "replay-parrot-most",
+    "replay --modules A --parrots A --summary",
+    trace(
+        datagram(0, P1, conn("AB1CD", "A")),
+        *(datagram(40 * number, P1, stream(0x1234, number, number == 750)) for number in range(751)),
+        *(quiet(31000 + 40 * number) for number in range(351)),
+        datagram(45000, P1, pong("AB1CD")),
+        *(quiet(31000 + 40 * number) for number in range(351, 750)),
+    ),
+    "Of 751 frames 750 come back, and one at each event; a PONG keeps the peer meanwhile.",
+)
+vector("trace-nothing", "replay", b"", "No bytes are no trace.")
 vector("trace-cut-header", "replay", b"M17X", "A header that is cut and already wrong is cut.")
 vector("trace-wrong-header", "replay", b"M17TRACX" + FAULT, "The first byte of a header that differs.")
 vector("trace-cut-entry", "replay", trace(quiet(0), datagram(0, P1, disc()))[:-1], "A refused trace has no other line.")

@@ -267,7 +267,7 @@ def pieces_of(words, read):
         seed, count = read_words(rest, (), (), 2)[1]
         return make(read_number(seed, 0, 2**64 - 1), read_number(count, 0, 100000))
     if command == "replay":
-        options, _ = read_words(rest, ("call", "modules", "parrots", "places", "limit"), ("summary",), 0)
+        options, _ = read_words(rest, ("call", "modules", "parrots", "places", "limit"), ("summary", "threads"), 0)
         return as_lines(replay(read_plan(options), "summary" in options, read()))
     if command == "serve":
         options, _ = read_words(rest, ("call",), ("rules",), 1)

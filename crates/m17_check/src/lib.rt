@@ -12,6 +12,3 @@ mod reason;
 
 pub use check_command::check;
 pub use reason::CheckReason;
-
-#[cfg(test)]
-mod tests;

@@ -110,6 +110,3 @@ pub fn judge<S: Input<K>, K: Sink>(
         None => Ok(look_past(input, out)),
     }
 }
-
-#[cfg(test)]
-mod tests;

@@ -17,6 +17,3 @@ mod talk;
 
 pub use make_command::{ENTRIES_MAX, make};
 pub use maker::Maker;
-
-#[cfg(test)]
-mod tests;

@@ -12,6 +12,3 @@ mod reason;
 
 pub use migrate_command::migrate;
 pub use reason::MigrateReason;
-
-#[cfg(test)]
-mod tests;

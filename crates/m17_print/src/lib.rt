@@ -17,6 +17,3 @@ pub use ending::{Ending, NoReason, Reason, TextEnding};
 pub use kind::{KIND_COUNT, Kind};
 pub use line::Line;
 pub use verdict::verdict_word;
-
-#[cfg(test)]
-mod tests;

@@ -27,10 +27,3 @@ pub use reason::TraceReason;
 pub use replay_command::{replay, replay_over_threads};
 pub use summary_lines::{make_entries_line, make_kind_line, make_peer_line};
 pub use verdict_line::make_verdict_line;
-
-#[cfg(test)]
-mod lines_tests;
-#[cfg(test)]
-mod many_tests;
-#[cfg(test)]
-mod tests;

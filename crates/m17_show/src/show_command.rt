@@ -162,6 +162,3 @@ fn end_at_limit<S: Input<K>, K: Sink>(
         Err(Fault::Write) => TextEnding::WriteFailed,
     }
 }
-
-#[cfg(test)]
-mod tests;
