@@ -1,7 +1,8 @@
-//! A watch writes a line while somebody posts, and ends when it is told to.
+//! A watch writes a line while somebody posts, and ends when it is told to; and the end of its board writes the last lines.
+ghost use Rattle.m17_board.specs.Ends.{IsPair};
 
 use crate::bench::{join, must, one_pair};
-use m17_board::Poster;
+use m17_board::{Eye, Poster};
 use m17_board_watch::Watch;
 use m17_control::Modules;
 use m17_crew::{Order, Work};
@@ -109,4 +110,43 @@ fn a_line_comes_while_the_watch_goes_on(rt: HostRuntime) {
         watch.book.inner.bytes() == b"A records 1 admitted 0 at 10 talker none\n".as_slice()
     );
     drop(watch);
+}
+
+// The ends of a module of which one record was posted, with this moment.
+fn joined<R: Wait + Abort>(rt: &R, alloc: Global, moment: u64) -> (Poster, Eye)
+    ensures { IsPair result.0 result.1 }
+{
+    let (mut poster, eye) = one_pair(rt, alloc);
+    poster.post(rt, &join(rt, moment, 0));
+    (poster, eye)
+}
+
+// Whatever came first.
+#[test]
+fn the_last_lines_come_in_order_of_letters(rt: HostRuntime) {
+    let alloc = rt.alloc();
+    let (z, of_z) = joined(&rt, alloc, 10);
+    let (c, of_c) = joined(&rt, alloc, 20);
+    let (a, of_a) = joined(&rt, alloc, 30);
+    let modules = must(&rt, Modules::read("CZA"));
+    assert!(rt; modules.count() == 3);
+    let (_, order) = must(&rt, make_one(alloc, 4));
+    let watch = Watch {
+        modules,
+        eyes: must(&rt, Vec::from_array(alloc, [of_a, of_c, of_z])),
+        last: must(&rt, Vec::from_array(alloc, [0, 0, 0])),
+        book: must(&rt, ListBook::make(alloc, 256, Vec::new(alloc))),
+        failed: false,
+        order,
+        clock: rt,
+    };
+    let posters = must(&rt, Vec::from_array(alloc, [a, c, z]));
+    let mut glances = must(&rt, Vec::with_capacity(alloc, 3));
+    let (book, failed) = watch.end(&rt, alloc, posters, &mut glances);
+    assert!(rt; !failed);
+    assert!(rt;
+        book.bytes()
+            == b"A records 1 admitted 0 at 30 talker none\nC records 1 admitted 0 at 20 talker none\nZ records 1 admitted 0 at 10 talker none\n".as_slice()
+    );
+    drop(book);
 }

@@ -20,7 +20,7 @@ use Rattle.m17_board_watch.specs.Ending.{IsFresh, TellsIn, GoesOn, HasLast}
 use Rattle.m17_board_watch.specs.declared.watch.Watch.{Watch}
 use Rattle.m17_board_watch.proofs.Lines.{written, retell, lines_of, tell_first, index_set}
 
-map_get : {A B : Type 0} (f : A → B) (xs : List A) (i : ℕ) (y : B) → slice_get (map f xs) i ≡ Some y → (x : A) × (slice_get xs i ≡ Some x) × (y ≡ f x)
+pub map_get : {A B : Type 0} (f : A → B) (xs : List A) (i : ℕ) (y : B) → slice_get (map f xs) i ≡ Some y → (x : A) × (slice_get xs i ≡ Some x) × (y ≡ f x)
 map_get f [] i y at = absurd (none-some y at)
 map_get f (x ∷ xs) zero y at = (x, refl, sym (same_Some (f x) y at))
 map_get f (x ∷ xs) (suc i) y at = map_get f xs i y at

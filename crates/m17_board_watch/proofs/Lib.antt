@@ -2,3 +2,4 @@ mod Looks
 mod Lines
 mod Ends
 mod Closing
+mod Order

@@ -73,8 +73,8 @@ last_on before lines more place number (inl e) = inl e
 last_on before lines more place number (inr h) = inr (h.0, Contains-append_left lines more h.0 h.1, h.2, h.3)
 
 module _ {B L : Type 0} (told : B → BookTold L) (modules : Modules) (from : Shown B) (law : BooksAreWrittenInTurn L) where
-  none : from.failed ≡ false → Wrote told modules from from []
-  none fresh = record {
+  pub none : (Tells : ℕ → Glance → Type 0) → from.failed ≡ false → WroteBy Tells told modules from from []
+  none Tells fresh = record {
     text = subst (λ (b : Bool). HasText (told from.book) [] b (told from.book)) (sym fresh) (law.nothing (told from.book));
     of_modules = λ k d lt. absurd (omega arith);
     tell = λ k d lt. absurd (omega arith);
@@ -183,7 +183,7 @@ module _ {B L : Type 0} (told : B → BookTold L) (modules : Modules) (from : Sh
 
   -- what was written, look by look
   pub lines_of : from.failed ≡ false → (to : Shown B) → Watched told modules from to → (lines : List BoardLine) × Wrote told modules from to lines
-  lines_of fresh to not_yet = ([], none fresh)
+  lines_of fresh to not_yet = ([], none (HasSeen from.eyes) fresh)
   lines_of fresh to (one_look a b letter place before at looked) = let t = lines_of fresh a before in one_more a b letter place at looked t.0 t.1
 
 -- what an eye saw is what is shown of a first part

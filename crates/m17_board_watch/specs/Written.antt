@@ -98,3 +98,26 @@ pub record ShowsBoard {L : Type 0} (modules : Modules) (posters : List PostEnd) 
   pub failed_line : failed ≡ true → lines ≢ []
   pub begin : ShowBegin modules posters lines
   pub whole : failed ≡ false → ShowPosts modules posters lines
+
+-- the first line is of a module before the second's, by its letter
+abbrev pub IsBefore : BoardLine → BoardLine → Type 0
+IsBefore a b = a.letter < b.letter
+
+-- the glance is at all that the poster at this place posted
+abbrev pub TellsAll : List PostEnd → ℕ → Glance → Type 0
+TellsAll posters place glance = (poster : PostEnd)
+    × (slice_get posters place ≡ Some poster) × (glance ≡ glance_of poster.posted)
+
+-- What the end of a board writes behind the lines of its watch: a line of each module of which more was posted than its last
+-- line says, in order of letters, each of all that was posted; or, where a write failed, a beginning of such lines.
+pub record WritesLast {L : Type 0} (modules : Modules) (posters : List PostEnd) (last : List ℕ)
+    (failed : Bool) (before after : BookTold L) : Type 0 where
+  pub lines : List BoardLine
+  pub text : HasText before (lines_text lines) failed after
+  pub in_order : AllPairs IsBefore lines
+  pub of_modules : All (λ line. IsPlaceOf modules line.letter line.place) lines
+  pub tell : All (λ line. TellsAll posters line.place line.glance) lines
+  pub above : All (λ line. slice_index last line.place < line.glance.records) lines
+  pub each : failed ≡ false → (place : ℕ) (poster : PostEnd)
+      → slice_get posters place ≡ Some poster → slice_index last place < length poster.posted
+      → (line : BoardLine) × Contains lines line × (line.place ≡ place)

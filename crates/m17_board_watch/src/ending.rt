@@ -3,8 +3,8 @@ ghost use Rattle.std.specs.Prelude.{◌≡◌, ◌+◌, ◌<◌, ◌≤◌, [], 
 ghost use Rattle.m17_control.specs.Modules.{letters_before, letters_of};
 ghost use Rattle.m17_board.specs.Ends.{AreOfOneBoard};
 ghost use Rattle.m17_board_watch.specs.Shows.{shown_of, IsPlaceOf, WatchDid};
-ghost use Rattle.m17_board_watch.specs.Ending.{IsFresh, GoesOn, HasLast};
-ghost use Rattle.m17_board_watch.specs.Written.{ShowsBoard};
+ghost use Rattle.m17_board_watch.specs.Ending.{IsFresh, GoesInOrder, GoesOn, HasLast, InOrder};
+ghost use Rattle.m17_board_watch.specs.Written.{ShowsBoard, WritesLast};
 
 use crate::watch::Watch;
 use m17_board::{Glance, Poster, close_into};
@@ -32,6 +32,9 @@ impl<B: Book, T: Drop> Watch<B, T> {
         // Of what the watch was before, as a job, its lines and these show all that was posted.
         ensures shows { (j : Watch B T) → WatchDid B.told j self → IsFresh j
             → ShowsBoard self.modules posters.items result.1 (B.told j.book) (B.told result.0) }
+        // Behind what the watch wrote come these lines, in order of letters.
+        ensures last { self.failed ≡ false → WritesLast self.modules posters.items self.last.items
+            result.1 (B.told self.book) (B.told result.0) }
     {
         books_are_written_in_turn::<B::Label>();
         let Watch {
@@ -76,7 +79,10 @@ impl<B: Book, T: Drop> Watch<B, T> {
             (shown_of self.new) }
         ensures last { self.new.failed ≡ false
             → HasLast glances.now self.new.last.items (length glances.now) }
+        ensures in_order { self.old.failed ≡ false → InOrder B.told self.old.modules glances.now 91
+            (shown_of self.old) (shown_of self.new) }
     {
+        books_are_written_in_turn::<B::Label>();
         let mut place = 0;
         for letter in b'A'..b'Z' + 1 {
             place = self.write_last_for(letter, place, glances);
@@ -96,6 +102,8 @@ impl<B: Book, T: Drop> Watch<B, T> {
             (shown_of self.new) }
         ensures last { self.new.failed ≡ false → HasLast glances.now self.old.last.items place
             → HasLast glances.now self.new.last.items result }
+        ensures in_order { GoesInOrder B.told self.old.modules glances.now letter (shown_of self.old)
+            (shown_of self.new) }
         ensures modules { self.new.modules ≡ self.old.modules }
         ensures as_many { vec_len self.new.last ≡ vec_len self.old.last }
         ensures failed { self.new.failed ≡ false → self.old.failed ≡ false }
@@ -116,6 +124,8 @@ impl<B: Book, T: Drop> Watch<B, T> {
             (shown_of self.new) }
         ensures last { self.new.failed ≡ false → HasLast glances.now self.old.last.items place
             → HasLast glances.now self.new.last.items (place + 1) }
+        ensures in_order { GoesInOrder B.told self.old.modules glances.now letter (shown_of self.old)
+            (shown_of self.new) }
         ensures modules { self.new.modules ≡ self.old.modules }
         ensures as_many { vec_len self.new.last ≡ vec_len self.old.last }
         ensures failed { self.new.failed ≡ false → self.old.failed ≡ false }

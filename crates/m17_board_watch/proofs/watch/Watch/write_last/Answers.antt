@@ -1,9 +1,10 @@
-use Rattle.std.proofs.Common.{◌≡◌, ◌+◌, ℕ, length, sym, ap, ◌∙◌, subst, arith}
+use Rattle.std.proofs.Common.{◌≡◌, ◌+◌, ℕ, length, refl, sym, ap, ◌∙◌, subst, arith}
 use Rattle.m17_control.specs.Modules.{letters_before, letters_of}
 use Rattle.m17_control.specs.declared.modules.Modules.{Modules}
 use Rattle.m17_board_watch.specs.Shows.{shown_of}
-use Rattle.m17_board_watch.specs.Ending.{GoesOn, HasLast}
+use Rattle.m17_board_watch.specs.Ending.{GoesInOrder, GoesOn, HasLast, InOrder}
 use Rattle.m17_board_watch.proofs.Closing.{goes_on}
+use Rattle.m17_board_watch.proofs.Order.{nothing_yet}
 use Rattle.m17_board_watch.proofs.watch.Watch.write_last.Goals as goal
 
 pub write_last_for-place-requires-clause-numbers : goal.write_last_for-place-requires-clause-numbers
@@ -13,6 +14,16 @@ write_last_for-place-requires-clause-numbers g c =
 pub write_last_for-place-requires-clause-glances : goal.write_last_for-place-requires-clause-glances
 write_last_for-place-requires-clause-glances g c =
     c.requires.glances ∙ sym (ap (λ (m : Modules). length (letters_of m)) c.loop-letter.invariant.modules_are)
+
+pub loop-letter-init : goal.loop-letter-init
+loop-letter-init g c = record {
+  at = refl;
+  on = λ eyes from lines w. (lines, w);
+  last = λ ok place glance lt is. absurd (omega arith);
+  in_order = λ fresh. nothing_yet g.B.Book.told c.args.self.now.modules c.args.glances.now c.books_are_written_in_turn.ensures (shown_of c.args.self.now) fresh;
+  modules_are = refl;
+  as_many = refl;
+}
 
 pub loop-letter-preserved : goal.loop-letter-preserved
 loop-letter-preserved g c =
@@ -25,6 +36,7 @@ loop-letter-preserved g c =
       on = goes_on g.B.Book.told c.args.self.now.modules c.args.glances.now (shown_of c.args.self.now) was now before.on
           (subst (λ (m : Modules). GoesOn g.B.Book.told m c.args.glances.now was now) before.modules_are step.on);
       last = λ ok. step.last ok (before.last (step.failed ok));
+      in_order = λ ok. subst (λ (m : Modules). GoesInOrder g.B.Book.told m c.args.glances.now c.loop-letter.letter was now) before.modules_are step.in_order (shown_of c.args.self.now) (before.in_order ok);
       modules_are = step.modules ∙ before.modules_are;
       as_many = step.as_many ∙ before.as_many;
     }
@@ -35,3 +47,8 @@ returns-clause-last g c ok =
     let all : c.loop-letter.place ≡ length c.args.glances.now =
     c.loop-letter.invariant.at ∙ ap (λ (n : ℕ). length (letters_before c.args.self.now.modules n)) end ∙ sym c.requires.glances in
     subst (HasLast c.args.glances.now c.loop-letter.self.last.items) all (c.loop-letter.invariant.last ok)
+
+pub returns-clause-in_order : goal.returns-clause-in_order
+returns-clause-in_order g c ok =
+    let end : c.loop-letter.letter ≡ 91 = omega (arith, c.loop-letter-test.false, c.loop-letter.auto.letter-end) in
+    subst (λ (n : ℕ). InOrder g.B.Book.told c.args.self.now.modules c.args.glances.now n (shown_of c.args.self.now) (shown_of c.loop-letter.self)) end (c.loop-letter.invariant.in_order ok)
