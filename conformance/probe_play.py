@@ -136,8 +136,7 @@ class Play:
         if not self.run.answers_pings:
             self.until(time.monotonic() + UNANSWERED)
             return time.monotonic()
-        self.ask([client for client in members if client.has_sent])
-        moment = time.monotonic()
+        moment = self.ask([client for client in members if client.has_sent])
         self.ask(members)
         for client in members:
             client.has_sent = False
@@ -149,6 +148,7 @@ class Play:
         return 0 if self.run.answers_pings else UNANSWERED
 
     def ask(self, members):
+        """Asks each by a PING, and waits for the PONGs; when the last of them came."""
         for client in members:
             client.pings_once()
         for client in members:
@@ -158,6 +158,7 @@ class Play:
                 client.read(left)
                 if left <= 0 and client.pongs < client.pings:
                     raise Missing("a PING of %s, a member, had no PONG" % client.name)
+        return max((client.pong_at for client in members), default=time.monotonic())
 
     def settles_beside(self):
         """The same, and until all has come that was to come to strangers beside members. An answer to a stranger may be said

@@ -8,6 +8,7 @@ from probe_wire import END_BIT, stream_id, with_crc, words
 DELAY = 1.0
 BEHIND = 0.3  # seconds in which it is seen that no more echoes come
 HELD = 750
+MORE = 10  # frames of a talk that is longer than that; as often it is seen that the floor is still held
 
 
 def echo_of(data, last):
@@ -144,12 +145,11 @@ def half_a_minute(play):
     one, ear = play.member("one"), play.member("ear")
     talk = play.talk(one)
     said = []
-    for number in range(HELD + 10):
-        play.pause(FRAME / 2)
-        said.append(talk.say(number, last=number == HELD + 9))
-        if number % 25 == 24:
-            play.settles_while_held(said[-26 if number > 25 else 0])
-    moment = play.settles_while_held(said[-11])
+    for first in range(0, HELD + MORE, MORE):
+        for number in range(first, first + MORE):
+            play.pause(FRAME / 2)
+            said.append(talk.say(number, last=number == HELD + MORE - 1))
+        moment = play.settles_while_held(said[max(0, first - 1)])
     play.needs(not play.run.options.limit or moment - said[0].at < play.run.options.limit - SLACK, "whether the limit was over")
     came = waits_for_echoes(play, one, [talk], HELD, moment + DELAY + FRAME * (HELD - 1))
     are_played(play, one, came, said[:HELD])

@@ -77,6 +77,7 @@ class Client:
         self.is_member = False
         self.came = []
         self.pings = self.pongs = 0  # how many PINGs it sent, and PONGs that came
+        self.pong_at = None  # when the last PONG came
         self.judged = 0  # how much of what came was looked at for frames
         self.has_sent = False
         self.own = socket.socket(socket.AF_INET6 if ":" in to[0] else socket.AF_INET, socket.SOCK_DGRAM)
@@ -117,7 +118,9 @@ class Client:
         self.came.append(heard)
         self.log.append(Line(heard.at, self.name, "<", heard.data))
         kind = heard.data[:4]
-        self.pongs += kind == b"PONG"
+        if kind == b"PONG":
+            self.pongs += 1
+            self.pong_at = heard.at
         if kind == b"PING" and self.answers:
             self.send(control("PONG", self.call))
 
