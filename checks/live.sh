@@ -4,7 +4,7 @@
 
 # boards WORD..: starts a reflector of A, M and Z with a board, and waits until its file is there.
 boards() {
-    timeout 60 "$program" serve --call M17-TST --modules AMZ --board board "$@" "127.0.0.1:$port" </dev/null >served &
+    timeout 300 "$program" serve --call M17-TST --modules AMZ --board board "$@" "127.0.0.1:$port" </dev/null >served &
     server=$!
     has_bytes board 0
 }
@@ -14,7 +14,7 @@ has_line() {
     tries=0
     until grep -q "$1" followed; do
         tries=$((tries + 1))
-        [ $tries -lt 400 ] || {
+        [ $tries -lt 1200 ] || {
             echo "no line is $1:"
             tail -n 3 followed
             return 1
@@ -39,29 +39,31 @@ rises() {
     awk '!/^[AZ] records [0-9]+ admitted [0-9]+ at [0-9]+ talker (none|AB1CD|N0CALL)$/ || $3 <= last[$1] { print; exit 1 } { last[$1] = $3 }' "$1"
 }
 
-# shows PORT TEXT: waits until the page says so.
+# shows PORT TEXT: waits until the page says so. It ends with 77 where the machine had no time for that.
 shows() {
-    timeout 120 python3 -B "$top/checks/page.py" shows "$@"
+    timeout 300 python3 -B "$top/checks/page.py" shows "$@"
 }
 
-# followed_by WORD..: with these words the board is followed by tail, and by the page, while somebody talks in the first module
-# and somebody else in the last one.
+# followed_by WORD..: with these words the board is followed by tail, and by the page, which answers by then, while somebody talks
+# in the first module and somebody else in the last one.
 followed_by() {
     free_ports
-    rm -rf kept board && mkdir kept && boards --for 30 "$@" || return 1
+    rm -rf kept board && mkdir kept || return 1
+    place=$(python3 -c 'import socket; s = socket.socket(); s.bind(("127.0.0.1", 0)); print(s.getsockname()[1])') || return 1
+    timeout 600 "$top/contrib/m17-page" --port "$place" --board board kept &
+    page=$!
+    shows "$place" 'run unknown' || return
+    holds && boards --stop stop "$@" || return 1
     tail -n +1 -f board >followed &
     follower=$!
-    place=$(python3 -c 'import socket; s = socket.socket(); s.bind(("127.0.0.1", 0)); print(s.getsockname()[1])') || return 1
-    timeout 60 "$top/contrib/m17-page" --port "$place" --board board kept &
-    page=$!
     joins script talker "127.0.0.1:$port"
     talker=$!
     prog talk --call N0CALL --module Z --bind 127.0.0.1:0 --to "127.0.0.1:$port" <last_script >last_talker &
     last=$!
-    has_line '^A records [0-9]* admitted [0-9]* at [0-9]* talker AB1CD$' && shows "$place" 'A talks AB1CD' || return 1
-    has_line '^Z records [0-9]* admitted [0-9]* at [0-9]* talker N0CALL$' && shows "$place" 'Z talks N0CALL' || return 1
+    has_line '^A records [0-9]* admitted [0-9]* at [0-9]* talker AB1CD$' && shows "$place" 'A talks AB1CD' || return
+    has_line '^Z records [0-9]* admitted [0-9]* at [0-9]* talker N0CALL$' && shows "$place" 'Z talks N0CALL' || return
     wait $talker && said talker 'closed asked kept 0' && wait $last && said last_talker 'closed asked kept 0' || return 1
-    kill -0 "$server" || return 1
+    kill -0 "$server" && lets_go || return 1
     ends 0 'A admitted 375 missed 0\nM admitted 0 missed 0\nZ admitted 375 missed 0\n' && kill $page || return 1
     for letter in A Z; do
         has_line "^$letter records 377 admitted 375 at [0-9]* talker none\$" || return 1
@@ -71,7 +73,8 @@ followed_by() {
 }
 followed_board() {
     needs python3 awk
-    long_talk AB1CD >script && long_talk N0CALL >last_script && followed_by && followed_by --book kept || return 1
+    long_talk AB1CD >script && long_talk N0CALL >last_script || return 1
+    followed_by && followed_by --book kept || return
     prog check <kept/A.book | grep -q '^legal 377 records' && prog check <kept/Z.book | grep -q '^legal 377 records'
 }
 check "serve --board has a line for each change while it runs, and the page shows who talks" followed_board
@@ -84,12 +87,12 @@ board_that_fails() {
     [ -f kept/A.book ] && [ ! -s kept/A.book ] || return 1
     [ -c /dev/full ] || return 0
     frames 0 >script
-    serves --modules A --board /dev/full --for 4 "127.0.0.1:$port" || return 1
+    holds && serves --modules A --board /dev/full --stop stop "127.0.0.1:$port" || return 1
     stays listener "127.0.0.1:$port" --listen
     listener=$!
     joined 1 || return 1
     joins script talker "127.0.0.1:$port"
-    wait $! && wait $listener && said talker 'closed asked kept 0' && said listener 'closed dropped kept 3' || return 1
+    wait $! && lets_go && wait $listener && said talker 'closed asked kept 0' && said listener 'closed dropped kept 3' || return 1
     ends 8 'A admitted 3 missed 0\nbook failed\n'
 }
 check "a board that cannot be opened gives 5, and one that cannot be written 8 at the end" board_that_fails

@@ -251,6 +251,7 @@ def board(script, _readme):
     awaits(page, "data empty")
     falls_silent(page, tells(lone, "N0CALL"), "A talks N0CALL", "A silent N0CALL", "A quiet")
     assert page.module("A")["members"] is None and page.module("A")["records"] > 1
+    assert "The board doesn’t tell who was heard." in page.asks("/")[2].decode("utf-8")
     with Talker(tells(lone, '<b>&"')):
         awaits(page, 'A talks <b>&"')
         text = page.asks("/")[2].decode("utf-8")

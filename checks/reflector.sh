@@ -162,9 +162,20 @@ check "serve --rules reads its rules before a port is asked for, and says where 
 serves() {
     needs python3
     rm -rf kept && mkdir kept || return 1
-    timeout 60 "$program" serve --call M17-TST --book kept "$@" <"${rules:-/dev/null}" >served &
+    timeout 300 "$program" serve --call M17-TST --book kept "$@" <"${rules:-/dev/null}" >served &
     server=$!
     joined 0
+}
+
+# holds: makes the FIFO `stop`, for a reflector that goes on, with `--stop stop`, until `lets_go`: so a slow machine has the time
+# that it needs. Whatever starts behind it must not hold the FIFO, so a process of its own does.
+holds() {
+    rm -f stop && mkfifo stop || return 1
+    sleep 600 >stop &
+    holder=$!
+}
+lets_go() {
+    kill "$holder"
 }
 
 # joined COUNT: waits until so many have joined module A. A join has 37 bytes in its book.
@@ -177,7 +188,7 @@ has_bytes() {
     tries=0
     until [ -f "$1" ] && [ "$(wc -c <"$1")" -ge "$2" ]; do
         tries=$((tries + 1))
-        [ $tries -lt 400 ] || {
+        [ $tries -lt 1200 ] || {
             echo "$1 never had $2 bytes"
             return 1
         }

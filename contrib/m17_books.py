@@ -20,6 +20,7 @@ MAGIC_BYTES = 8
 HEAD_MOST = max(version.head for version in VERSIONS)
 # Of each kind the whole length of a record.
 RECORDS = {1: 37, 2: 31, 3: 97}
+LEAVE = 2
 WHYS = ("asked", "moved", "silent", "stopped", "replaced")
 VERDICTS = ("opened", "continued", "busy", "repeat", "late", "after-end", "not-member", "listen-only", "timed-out")
 LETTERS = " ABCDEFGHIJKLMNOPQRSTUVWXYZ0123456789-/."
@@ -268,8 +269,9 @@ class Book(Source):
 
     def __init__(self, path, letter, real=None):
         super().__init__(path, real)
-        # `ahead` is the place behind the last whole record that was looked at, read or not, and its moment.
-        self.letter, self.ahead = letter, (0, 0)
+        # `ahead` is the place behind the last whole record that was looked at, read or not, and its moment; `came_of` has for each
+        # link the last entry of its trace that a Join or a packet came of.
+        self.letter, self.ahead, self.came_of = letter, (0, 0), {}
 
     def size_of(self, data, at, place):
         if place == 0:
@@ -287,13 +289,18 @@ class Book(Source):
     def start(self, pulse=None):
         """When the reflector started, by what `look` found: when the book was changed last, less the moment of the last
         whole record. The head counts as a record of moment 0."""
-        self.ahead = max(self.ahead, (self.place, self.moment))
+        (place, moment), item, latest = max(self.ahead, (self.place, self.moment)), b"", {}
         try:
-            for item, place in self.items(self.ahead[0], pulse):
-                self.ahead = place, number(item[10:18]) if len(item) > HEAD_MOST else 0
+            for item, place in self.items(place, pulse):
+                if item[0] != LEAVE:
+                    latest[item[1]] = item
         except Broken:
             pass
-        return self.changed // 1_000_000 - self.ahead[1]
+        if item:
+            moment = number(item[10:18]) if len(item) > HEAD_MOST else 0
+        self.ahead = place, moment
+        self.came_of.update((link, number(each[2:10])) for link, each in latest.items() if len(each) > HEAD_MOST)
+        return self.changed // 1_000_000 - moment
 
     def events(self):
         for record in self.read():
@@ -308,7 +315,8 @@ class Trace(Source):
 
     def __init__(self, path, link, real=None):
         super().__init__(path, real)
-        self.link = link
+        # `ahead` is the place behind the last whole entry that was looked at, read or not, and how many there are up to it.
+        self.link, self.ahead = link, (0, 0)
 
     def size_of(self, data, at, place):
         if place == 0:
@@ -326,6 +334,16 @@ class Trace(Source):
             raise Broken(f"family {data[at + 9]:02X}")
         length = at + (16 if data[at + 9] == 4 else 28)
         return length + 1 - at + data[length] if length < len(data) else 0
+
+    def has(self, index):
+        """Whether the entry is there, by what `look` found, or none is to come."""
+        self.ahead = max(self.ahead, (self.place, self.index))
+        try:
+            for item, place in self.items(self.ahead[0]):
+                self.ahead = place, self.ahead[1] + (item != TRACE_MAGIC)
+        except Broken:
+            return True
+        return bool(self.why) or self.ahead[1] > index
 
     def events(self):
         for item in self.read():

@@ -10,8 +10,9 @@ import time
 
 from m17_books import Book, Clock, Moments, Trace, is_regular, open_waitless
 
-# How long a reflector that starts has for opening its files, in seconds.
-SETTLING = 0.5
+# How long a reflector that starts has for opening its files, in seconds; and for an entry of a trace behind a record that came
+# of it, since each file has a thread that writes it.
+SETTLING, BEHIND, GLANCE = 0.5, 2, 0.02
 
 
 class Folder:
@@ -27,8 +28,8 @@ class Folder:
         self.clock, self.moments = Clock(), Moments()
         # `left` are the files of runs before that lie there still: of a module that is not served any more.
         self.books, self.traces, self.left = {}, {}, []
-        # Why files could not be opened, by their names.
-        self.closed = {}
+        # Why files could not be opened, by their names; how long the traces were that were waited for in vain.
+        self.closed, self.waited = {}, {}
         self.has_begun = self.is_stale = False
 
     def sources(self):
@@ -42,23 +43,23 @@ class Folder:
         return [path for path in (os.path.join(self.path, name) for name in names) if is_regular(path)]
 
     def look(self, settling=SETTLING):
-        """Reads what has come. It says whether anything was read."""
+        """Reads what has come. It says whether anything was read. Where nothing is to settle the folder is taken as it is."""
         if self.is_stale or not all(book.is_current() for book in self.books.values()):
             self.books = {letter: book for letter, book in self.books.items() if book.is_whole()}
             self.traces = {link: trace for link, trace in self.traces.items() if trace.is_whole()}
-            self.follow()
+            self.follow(settling)
             time.sleep(settling)
             self.begin()
         elif not self.books and any(path.endswith(".book") for path in self.files()):
             time.sleep(settling)
             self.begin()
-        return bool(self.books) and self.follow()
+        return bool(self.books) and self.follow(settling)
 
     def begin(self):
         """Opens all files but those of the runs before, and begins a new one."""
         self.left = [source for source in (*self.left, *self.sources()) if source.is_current()]
         old = [source.path for source in self.left]
-        self.books, self.traces, self.is_stale = {}, {}, False
+        self.books, self.traces, self.waited, self.is_stale = {}, {}, {}, False
         paths = [path for path in self.files() if path not in old]
         self.closed = {name: why for name, why in self.closed.items() if os.path.join(self.path, name) in paths}
         for path in paths:
@@ -87,11 +88,13 @@ class Folder:
         self.closed.pop(name, None)
         return source
 
-    def follow(self):
-        """Takes what books and traces have now, in order of moments. The traces are looked at behind the books, whose
-        records come of entries that were written before."""
+    def follow(self, settling):
+        """Takes what books and traces have now, in order of moments. The traces are looked at behind the books, until they have
+        the entries that the records came of."""
         for source in self.sources():
             source.look()
+        if settling and self.traces:
+            self.await_traces([book for book in self.books.values() if book.limit > book.place])
         has_come = any(source.limit > source.place for source in self.sources())
         self.take_start()
         events = [source.events() for source in (*self.traces.values(), *self.books.values())]
@@ -100,6 +103,23 @@ class Folder:
         if self.books:
             self.moments.take(max(source.moment for source in self.sources()), self.start, has_come)
         return has_come
+
+    def await_traces(self, books):
+        for book in books:
+            book.start()
+        until = time.monotonic() + BEHIND
+        while behind := [trace for trace in self.traces.values() if self.is_behind(trace, books)]:
+            if time.monotonic() >= until:
+                self.waited.update((trace.link, trace.limit) for trace in behind)
+                return
+            time.sleep(GLANCE)
+            for trace in behind:
+                trace.look()
+
+    def is_behind(self, trace, books):
+        """Whether the trace has not yet what records of these books came of, unless that was waited for in vain."""
+        index = max((book.came_of.get(trace.link, -1) for book in books), default=-1)
+        return not trace.has(index) and self.waited.get(trace.link) != trace.limit
 
     def take_start(self, is_first=False):
         if self.is_told:

@@ -23,6 +23,7 @@ FEW = 3
 OLD = 5
 STATES = {RUNS: "Running", ENDED: "Not running", UNKNOWN: "Not known whether it runs"}
 MARKS = {TALKS: "Talks", IS_SILENT: "Silent", QUIET: "Quiet"}
+UNTOLD = "The board doesn’t tell who was heard."
 DATA_STATES = {
     "reading": "The books are still being read ({percent} %): what stands here is not whole yet.",
     "no folder": "The folder of the reflector isn’t there, or can’t be looked into.",
@@ -104,7 +105,9 @@ def talk_lines(module, latest, now):
     if state == IS_SILENT:
         when = f"no packet since {clock(module['since'], now)} · {span(module['milliseconds'] / 1000)}{via}"
         return f'<p class="talk">{mark} {call(module["talker"], "strong")}</p><p class="small">{when}</p>'
-    when = f"last heard: {call(latest['callsign'], 'b')}, {clock(latest['begin'], now)}" if latest else "nobody was heard lately"
+    when = UNTOLD if module["members"] is None else "nobody was heard lately"
+    if latest:
+        when = f"last heard: {call(latest['callsign'], 'b')}, {clock(latest['begin'], now)}"
     return f'<p class="talk">{mark} <span>Nobody talks</span></p><p class="small">{when}</p>'
 
 
@@ -154,7 +157,8 @@ def heard_row(each, now):
 
 def heard_part(status, now):
     if not status["heard"]:
-        return '<tr><td colspan="5" class="none">Nobody was heard yet.</td></tr>'
+        has_books = not status["modules"] or any(module["members"] is not None for module in status["modules"])
+        return f'<tr><td colspan="5" class="none">{"Nobody was heard yet." if has_books else UNTOLD}</td></tr>'
     return "".join(heard_row(each, now) for each in status["heard"])
 
 
