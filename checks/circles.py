@@ -371,6 +371,7 @@ def main():
         return 2
     faults, chosen = [], [scene for scene in SCENES if not words[1:] or scene.__name__ in words[1:]]
     if os.geteuid():
+        print(f"without root {sum(scene in FORGED for scene in chosen)} scenes are left out: nobody else can forge a CONN")
         chosen = [scene for scene in chosen if scene not in FORGED]
     threads = [threading.Thread(target=tried, args=(scene, words[0], faults)) for scene in chosen]
     for thread in threads:

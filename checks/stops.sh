@@ -24,7 +24,7 @@ knows_stop() {
 # that is killed.
 # shellcheck disable=SC2034
 ending='
-import contextlib, os, signal, subprocess, sys, time
+import contextlib, os, shutil, signal, subprocess, sys, time
 names, book, size, words = sys.argv[1].split("+"), sys.argv[2], int(sys.argv[3]), sys.argv[4:]
 
 def kill_all(why):
@@ -50,6 +50,9 @@ with open("told", "wb") as told:
                 os.killpg(run.pid, getattr(signal, "SIG" + name[4:]))
         elif name.startswith("rest"):
             time.sleep(float(name[4:]))
+        elif name == "gone":
+            for folder in os.listdir("made"):
+                shutil.rmtree(os.path.join("made", folder))
         else:
             run.send_signal(getattr(signal, "SIG" + name))
     try:
@@ -163,6 +166,9 @@ hanging() {
     [ "$(ended TERM book 1 serve x)" = -15 ] && no_trace && rm book || return 1
     # a second signal, once it is one, does not wait
     [ "$(ended TERM+rest5+INT book 1 serve x)" != 0 ] && no_trace && rm book || return 1
+    # also where somebody removes its FIFO
+    [ "$(ended gone+TERM book 1 serve x)" = -15 ] && no_trace && rm book || return 1
+    [ "$(ended gone+TERM+rest5+INT book 1 serve x)" != 0 ] && no_trace && rm book || return 1
     # all other commands end at once
     [ "$(ended TERM book 1 talk x)" = -15 ] && no_trace
 }

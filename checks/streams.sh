@@ -121,3 +121,87 @@ live_pipe() {
     at_once show line_and_piece rest disc
 }
 check "a line comes out before the program waits for more, also in the middle of the next" live_pipe
+
+# full_before_more WORD FIRST: whether a line that cannot be written ends it before anything more comes.
+full_before_more() {
+    rm -f in && mkfifo in || return 1
+    prog "$1" <in >/dev/full &
+    running=$!
+    exec 3>in
+    cat "$2" >&3
+    wait $running
+    ended=$?
+    exec 3>&-
+    [ $ended -eq 4 ] || {
+        echo "$1 ended with $ended after $2"
+        return 1
+    }
+}
+
+failed_flush() {
+    needs mkfifo timeout
+    head -c 64 "$top/examples/judge.bin" >record
+    printf '44495343\n4449' >line_and_piece
+    full_before_more judge record && full_before_more show line_and_piece
+}
+check "a line that cannot be written ends judge and show before they wait for more" failed_flush
+
+# torn_output WORD..: whether it ends with 4 where a file may have no more bytes, which are then those of its whole text.
+torn_output() {
+    prog "$@" <in >whole
+    (
+        trap '' XFSZ
+        # shellcheck disable=SC3045
+        ulimit -f 2
+        prog "$@" <in >torn
+    )
+    ended=$?
+    size=$(wc -c <torn)
+    [ $ended -eq 4 ] && [ $((size % 512)) -eq 0 ] && [ "$size" -gt 0 ] && [ "$size" -lt "$(wc -c <whole)" ] &&
+        cmp -n "$size" torn whole || {
+        echo "$*: status $ended, $size bytes"
+        return 1
+    }
+}
+
+torn_outputs() {
+    # shellcheck disable=SC3045  # shells that lack it skip the check
+    (ulimit -f 2) 2>/dev/null || {
+        echo "the size of files cannot be limited here"
+        exit 77
+    }
+    : >in
+    torn_output make 1 1000 || return 1
+    cp whole in
+    torn_output replay && torn_output replay --threads && torn_output replay --threads --modules A || return 1
+    for copy in 1 2 3 4 5 6 7 8 9 10 11 12 13 14 15 16; do cat "$top/examples/judge.bin"; done >in
+    torn_output judge || return 1
+    for copy in 1 2 3 4 5 6 7 8; do cat "$top/examples/show.hex"; done >in
+    torn_output show || return 1
+    old=$top/conformance/vectors/migrate-legal.in
+    { cat "$old" && tail -c +10 "$old" && tail -c +10 "$old"; } >in
+    torn_output migrate
+}
+check "an output that is cut off by a limit ends with 4, and has just the first bytes of the text" torn_outputs
+
+# Each thread wants room, so that by these limits each start in turn is the first that is refused.
+refused_starts() {
+    # shellcheck disable=SC3045  # shells that lack it skip the check
+    (ulimit -v 100000) 2>/dev/null || {
+        echo "memory cannot be limited here"
+        exit 77
+    }
+    prog make 1 300 >trace && prog replay --modules ABC <trace >wanted || return 1
+    refused=0 ran=0
+    for most in 8000 12000 16000 20000 24000 28000 32000 36000 40000 48000 60000 100000; do
+        # shellcheck disable=SC2016  # the inner shell's words
+        sh -c 'ulimit -v "$0"; exec timeout 60 "$@"' $most "$program" replay --threads --modules ABC <trace >got
+        case $? in
+        0) ran=$((ran + 1)) && cmp got wanted || return 1 ;;
+        6) refused=$((refused + 1)) && printf 'crew refused\n' | cmp - got || return 1 ;;
+        *) return 1 ;;
+        esac
+    done
+    [ $refused -gt 3 ] && [ $ran -gt 1 ]
+}
+check "replay --threads without room for its threads ends with 6, and nothing is written" refused_starts

@@ -7,6 +7,7 @@ from packets import crc
 
 SECOND = 1000
 GUARD_MS = 10000
+GUARD_FRAMES = 16384
 
 
 def is_frame(data):
@@ -22,28 +23,30 @@ def filled(data):
 
 
 class Guard:
-    """An echo is a stream packet that the same peer sent within ten seconds, byte for byte, and since then one of another
-    stream, and no DISC."""
+    """An echo is a stream packet that the same peer sent at most ten seconds before, byte for byte, and since then one of another
+    stream, and no DISC. The last 16,384 stream packets of the link are looked at."""
 
     def __init__(self):
-        self.sent = {}  # by peer, the moments and bytes of its stream packets, the oldest first
+        self.sent = {}  # by peer, the moments, numbers and bytes of its stream packets, the oldest first
+        self.count = 0
 
     def is_echo(self, moment, peer, data):
-        if data[:4] == b"DISC":
+        if data[:4] == b"DISC" and len(data) in (4, 10):
             self.sent.pop(peer, None)
         if not is_frame(data):
             return False
         sent = self.sent.setdefault(peer, deque())
-        while sent and moment - sent[0][0] >= GUARD_MS:
+        while sent and (moment - sent[0][0] > GUARD_MS or self.count - sent[0][1] > GUARD_FRAMES):
             sent.popleft()
-        before = [place for place, (_, other) in enumerate(sent) if other == data]
-        is_one = bool(before) and any(other[4:6] != data[4:6] for _, other in list(sent)[before[0] :])
-        sent.append((moment, data))
+        before = [place for place, (_, _, other) in enumerate(sent) if other == data]
+        is_one = bool(before) and any(other[4:6] != data[4:6] for _, _, other in list(sent)[before[0] :])
+        sent.append((moment, self.count, data))
+        self.count += 1
         return is_one
 
 
 class Pace:
-    """At most so many frames to one peer in any second."""
+    """To one peer a frame passes where fewer than so many passed in the last second."""
 
     def __init__(self, most):
         self.most = most
@@ -53,7 +56,7 @@ class Pace:
         if not is_frame(data) or self.most == 0:
             return False
         told = self.told.setdefault(peer, deque())
-        while told and moment - told[0] >= SECOND:
+        while told and moment - told[0] > SECOND:
             told.popleft()
         if len(told) >= self.most:
             return True
