@@ -75,7 +75,8 @@ followed_by() {
     shows "$place" 'A talks AB1CD' && shows "$place" 'Z talks N0CALL'
     shown=$?
     : >enough
-    wait $talker && wait $last && [ $shown -eq 0 ] || return $shown
+    wait $talker && wait $last || return 1
+    [ $shown -eq 0 ] || return $shown
     has_line '^A records [0-9]* admitted [0-9]* at [0-9]* talker AB1CD$' || return 1
     has_line '^Z records [0-9]* admitted [0-9]* at [0-9]* talker N0CALL$' || return 1
     in_a=$(grep -c '^closed asked kept 0$' talker) in_z=$(grep -c '^closed asked kept 0$' last_talker)
