@@ -60,10 +60,18 @@ class Wait:
         self.pids = lambda: [os.getpid(), *pids()]
         self.began, self.before = time.monotonic(), threads_of(self.pids())
 
+    def waited(self):
+        """For how many of its seconds a thread had no processor."""
+        return max((now - self.before.get(thread, 0) for thread, now in threads_of(self.pids()).items()), default=0)
+
+    def goes_on(self, patience):
+        """Whether to wait still: so long, and three times as long where there is no processor."""
+        passed = time.monotonic() - self.began
+        return passed < patience or (passed < 3 * patience and self.waited() >= MUCH * passed)
+
     def fault(self, what, much=MUCH):
         """What to raise where it was in vain."""
-        passed = time.monotonic() - self.began
-        waited = max((now - self.before.get(thread, 0) for thread, now in threads_of(self.pids()).items()), default=0)
+        passed, waited = time.monotonic() - self.began, self.waited()
         if waited >= much * passed:
             return Starved(f"{what}: of {passed:.0f} seconds a thread waited {waited:.0f} for a processor")
         return AssertionError(f"there never was {what}")
