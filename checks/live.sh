@@ -23,15 +23,27 @@ has_line() {
     done
 }
 
-# long_talk CALLSIGN: the talk of fifteen seconds, 375 packets: long enough for a busy machine to look at the page meanwhile.
+# long_talk CALLSIGN NUMBER: the script of a talk of six seconds, 150 packets. One of another number has other packets.
 long_talk() {
     python3 -B -c '
 import sys
 sys.path.insert(0, sys.argv[1])
 from make import END_BIT, stream_packet
-for number in range(375):
-    packet = stream_packet(0x1234, number | END_BIT * (number == 374), sys.argv[2])
-    sys.stdout.buffer.write((40 * number).to_bytes(8, "big") + packet)' "$top/examples" "$1"
+which = int(sys.argv[3])
+for number in range(150):
+    packet = stream_packet(0x1234 + which, number | END_BIT * (number == 149), sys.argv[2], bytes([which % 256]) * 16)
+    sys.stdout.buffer.write((40 * number).to_bytes(8, "big") + packet)' "$top/examples" "$1" "$2"
+}
+
+# talks_on CALLSIGN MODULE FILE: such talks one after another until the file `enough` is there, since a busy machine may miss
+# one or two. FILE has a line of each.
+talks_on() {
+    talk=0
+    until [ -e enough ]; do
+        talk=$((talk + 1))
+        long_talk "$1" $talk >"$3.script" || return 1
+        prog talk --call "$1" --module "$2" --bind 127.0.0.1:0 --to "127.0.0.1:$port" <"$3.script" >>"$3" || return 1
+    done
 }
 
 # rises FILE: the lines are those of a board, those of a module with more records each time.
@@ -45,10 +57,10 @@ shows() {
 }
 
 # followed_by WORD..: with these words the board is followed by tail, and by the page, which answers by then, while somebody talks
-# in the first module and somebody else in the last one.
+# in the first module and somebody else in the last one. How many talks those had is in $in_a and $in_z.
 followed_by() {
     free_ports
-    rm -rf kept board && mkdir kept || return 1
+    rm -rf kept board enough talker last_talker && mkdir kept || return 1
     place=$(python3 -c 'import socket; s = socket.socket(); s.bind(("127.0.0.1", 0)); print(s.getsockname()[1])') || return 1
     timeout 600 "$top/contrib/m17-page" --port "$place" --board board kept &
     page=$!
@@ -56,26 +68,38 @@ followed_by() {
     holds && boards --stop stop "$@" || return 1
     tail -n +1 -f board >followed &
     follower=$!
-    joins script talker "127.0.0.1:$port"
+    talks_on AB1CD A talker &
     talker=$!
-    prog talk --call N0CALL --module Z --bind 127.0.0.1:0 --to "127.0.0.1:$port" <last_script >last_talker &
+    talks_on N0CALL Z last_talker &
     last=$!
-    has_line '^A records [0-9]* admitted [0-9]* at [0-9]* talker AB1CD$' && shows "$place" 'A talks AB1CD' || return
-    has_line '^Z records [0-9]* admitted [0-9]* at [0-9]* talker N0CALL$' && shows "$place" 'Z talks N0CALL' || return
-    wait $talker && said talker 'closed asked kept 0' && wait $last && said last_talker 'closed asked kept 0' || return 1
+    shows "$place" 'A talks AB1CD' && shows "$place" 'Z talks N0CALL'
+    shown=$?
+    : >enough
+    wait $talker && wait $last || return 1
+    [ $shown -eq 0 ] || return $shown
+    has_line '^A records [0-9]* admitted [0-9]* at [0-9]* talker AB1CD$' || return 1
+    has_line '^Z records [0-9]* admitted [0-9]* at [0-9]* talker N0CALL$' || return 1
+    in_a=$(grep -c '^closed asked kept 0$' talker) in_z=$(grep -c '^closed asked kept 0$' last_talker)
+    [ "$in_a" -eq "$(wc -l <talker)" ] && [ "$in_z" -eq "$(wc -l <last_talker)" ] || {
+        cat talker last_talker
+        return 1
+    }
     kill -0 "$server" && lets_go || return 1
-    ends 0 'A admitted 375 missed 0\nM admitted 0 missed 0\nZ admitted 375 missed 0\n' && kill $page || return 1
-    for letter in A Z; do
-        has_line "^$letter records 377 admitted 375 at [0-9]* talker none\$" || return 1
-        grep "^$letter" board | tail -n 1 | grep -q ' records 377 admitted 375 at [0-9]* talker none$' || return 1
-    done
+    ends 0 "A admitted $((150 * in_a)) missed 0\nM admitted 0 missed 0\nZ admitted $((150 * in_z)) missed 0\n" && kill $page || return 1
+    is_last A "$in_a" && is_last Z "$in_z" || return 1
     kill $follower && cmp followed board && rises board && ! grep '^M' board
+}
+
+# is_last MODULE TALKS: whether the last line of the module tells of so many talks, and was followed.
+is_last() {
+    counts="records $((152 * $2)) admitted $((150 * $2))"
+    has_line "^$1 $counts at [0-9]* talker none\$" && grep "^$1" board | tail -n 1 | grep -q " $counts at [0-9]* talker none\$"
 }
 followed_board() {
     needs python3 awk
-    long_talk AB1CD >script && long_talk N0CALL >last_script || return 1
     followed_by && followed_by --book kept || return
-    prog check <kept/A.book | grep -q '^legal 377 records' && prog check <kept/Z.book | grep -q '^legal 377 records'
+    prog check <kept/A.book | grep -q "^legal $((152 * in_a)) records" &&
+        prog check <kept/Z.book | grep -q "^legal $((152 * in_z)) records"
 }
 check "serve --board has a line for each change while it runs, and the page shows who talks" followed_board
 

@@ -160,6 +160,11 @@ told() {
     }
 }
 
+# short_of FILE: the lines without addresses, and without how long an over was, which on a busy machine is more than it should.
+short_of() {
+    sed 's/ from [0-9.:]*$/ from there/; s/ [0-9]*\.[0-9] s / so long /' "$1"
+}
+
 followed_log() {
     free_ports
     frames 0 >script
@@ -174,11 +179,11 @@ followed_log() {
     # One that begins now, and leaves out what was before.
     timeout 1 "$top/contrib/m17-log" --new kept >later
     [ ! -s later ] || return 1
-    sed 's/ from 127.0.0.1:[0-9]*$/ from there/' lines >short
+    short_of lines >short
     told short 'start modules AB
 A join AB1CD from there
 A begin AB1CD stream 1234
-A end AB1CD 0.1 s 3 packets
+A end AB1CD so long 3 packets
 A leave AB1CD asked' || return 1
     # The time is that of the clock, in UTC.
     joined_at=$(date -u -d "$(sed -n 's/ A join .*//p' lines)" +%s) &&
@@ -215,11 +220,11 @@ restarted_log() {
         ln -sfn two now && start && awaits lines ' start ' 3 && joins /dev/null again "127.0.0.1:$port" &&
         awaits lines ' leave ' 3 && awaits books ' leave ' 2 && killed || return 1
     kill $follows $books
-    sed 's/ from [0-9.:]*$//' lines >short
+    short_of lines | sed 's/ from there$//' >short
     told short 'start modules A
 A join AB1CD
 A begin AB1CD stream 1234
-A end AB1CD 1.0 s 25 packets
+A end AB1CD so long 25 packets
 A leave AB1CD restart
 start modules A
 A join AB1CD
@@ -296,6 +301,18 @@ A refused listen-only 2 N0CALL' || return 1
     made both && python3 -B "$top/checks/log_state.py" "$top/contrib/m17-log" both
 }
 check "m17-log --state goes on where it was: behind its own restart, one of the reflector, and at each event" continued_log
+
+# What is whole of a book or a trace that is cut anywhere, and how much is behind that.
+whole_parts() {
+    made kept || return 1
+    size=$(wc -c <kept/A.book)
+    for name in A.book link0.trace; do
+        timeout 300 "$top/contrib/m17-book" --whole kept/$name 2>why | cmp - kept/$name && grep -q ': 0 bytes behind' why || return 1
+    done
+    head -c 100 kept/A.book >cut.book && timeout 300 "$top/contrib/m17-book" --whole cut.book >got 2>why && head -c 91 kept/A.book | cmp - got &&
+        grep -q ': 9 bytes behind' why && [ "$size" -gt 100 ]
+}
+check "m17-book --whole writes what is whole of a book or a trace, and says how much is left out" whole_parts
 
 words_of_log() {
     needs python3

@@ -197,7 +197,7 @@ class Page:
 
     def awaits(self, is_so, what):
         wait = Wait(lambda: [self.process.pid] if self.process else [])
-        while time.monotonic() < wait.began + PATIENCE:
+        while wait.goes_on(PATIENCE):
             assert self.process is None or self.process.poll() in (None, NO_PORT), "the page has ended"
             if found := is_so():
                 return found
