@@ -64,7 +64,7 @@ class Beat(Late):
         pong = None
         while not self.is_over:
             self.client.forgets()
-            if pong is None:
+            if pong is None:  # so it begins, and goes on where it may be in no more
                 self.client.says("CONN", self.module)
             sent = self.client.pings_once()
             self.asked = sent.at
@@ -76,7 +76,7 @@ class Beat(Late):
     def seconds_since(self, moment):
         """The PONG that is waited for just now is counted too."""
         now = time.monotonic()
-        while self.asked is not None and self.asked < now:
+        while (self.asked or now) < now:
             time.sleep(WATCHED)
         return super().seconds_since(moment)
 

@@ -51,6 +51,7 @@ on.destination-is-broadcast parrot.no-end-bit bad.crc-is-not-looked-at
 UNKNOWN_AT_MOST = 6  # scenes of a run that may stay not known, on a machine that is too busy
 LONG = {"there.silence", "there.rubbish-is-silence", "there.kept"}  # scenes that --quick leaves out
 USUAL_PACE = 100  # frames a second
+MUCH = 2  # tasks that want a processor
 WAIT = 120
 STARTS = 5
 LONGEST = 900
@@ -359,15 +360,21 @@ def faults_of(options):
     return faultless + [(finds, name) for name in sorted(names, key=lambda name: not name.startswith(slow))]
 
 
+def jobs_at_once():
+    """How many reflectors at once: ten for each processor, fewer where each has had much to do for a minute."""
+    processors = os.cpu_count() or 1
+    waiting = os.getloadavg()[0] / processors
+    return max(1, int(10 * processors / max(1, waiting / MUCH)))
+
+
 def main():
-    jobs = 10 * (os.cpu_count() or 1)
     parser = argparse.ArgumentParser(description=__doc__, formatter_class=argparse.RawDescriptionHelpFormatter)
     parser.add_argument("what", choices=("program", "faults", "pages"))
     parser.add_argument("program", nargs="?")
     parser.add_argument("--only", default="", help="those whose names begin so")
     parser.add_argument("--few", action="store_true", help="%d of the faults; beside a program too" % len(FEW))
     parser.add_argument("--usual", action="store_true", help="what takes 30 seconds too")
-    parser.add_argument("--jobs", type=int, default=jobs, help="how many reflectors at once (%d: ten for each processor)" % jobs)
+    parser.add_argument("--jobs", type=int, default=jobs_at_once(), help="how many reflectors at once")
     options = parser.parse_args()
     if (options.what == "program") != bool(options.program):
         parser.error("program wants a program")
