@@ -273,6 +273,15 @@ def two_bridges(lab):
     circle(lab, (one, other))
 
 
+def guarded_bridges(lab):
+    """The same between reflectors that have no guard: those of the bridges are enough."""
+    (one,), (other,) = lab.reflector(words=("--no-guard",)), lab.reflector(words=("--no-guard",))
+    for call in ("BRIDGE-1", "BRIDGE-2"):
+        lab.bridge(one, other, call=call)
+    is_bridged(lab, one, other)
+    circle(lab, (one, other))
+
+
 def ring_of_bridges(lab):
     """Three reflectors in a ring of bridges."""
     ports = [lab.reflector()[0] for _ in range(3)]
@@ -347,7 +356,7 @@ def stranger(lab):
 
 
 FORGED = (two, three, many, two_links, own_links, both_kinds)
-SCENES = (*FORGED, two_bridges, ring_of_bridges, own_bridge, bridged_modules, gateway, again, stranger)
+SCENES = (*FORGED, two_bridges, guarded_bridges, ring_of_bridges, own_bridge, bridged_modules, gateway, again, stranger)
 
 
 def tried(scene, program, faults):

@@ -16,7 +16,8 @@ fn circle(rt: &impl Abort, alloc: Global) -> Vec<Heard> {
     let first = write(&frame(0x1111, 0, true));
     let second = write(&frame(0x2222, 0, true));
     let mut third = write(&frame(0x3333, 0, true));
-    third[52..].copy_from_slice(&[0, 0]);
+    third[52] = 0;
+    third[53] = 0;
     let heard = [
         came(0, 1, &JOIN),
         came(40, 1, &first),
