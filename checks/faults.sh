@@ -177,14 +177,14 @@ check "a peer whose port is closed harms nobody else" gone_peer
 # Room for the plan, and not for the stacks of 28 threads. The threads of files are started before the files are asked for.
 refused_threads() {
     # shellcheck disable=SC3045  # shells that lack it skip the check
-    (ulimit -v 100000) 2>/dev/null || {
+    (ulimit -v 120000) 2>/dev/null || {
         echo "memory cannot be limited here"
         exit 77
     }
     mkdir kept || return 1
     set -- serve --call M17-TST --modules ABCDEFGHIJKLMNOPQRSTUVWXYZ --for 1 127.0.0.1:0
-    gives 6 'crew refused\n' sh -c 'ulimit -v 100000; exec "$@"' sh timeout 60 "$program" "$@" || return 1
-    gives 5 'port failed\n' sh -c 'ulimit -v 100000; exec "$@"' sh timeout 60 "$program" "$@" --book kept || return 1
+    gives 6 'crew refused\n' sh -c 'ulimit -v 120000; exec "$@"' sh timeout 60 "$program" "$@" || return 1
+    gives 5 'port failed\n' sh -c 'ulimit -v 120000; exec "$@"' sh timeout 60 "$program" "$@" --book kept || return 1
     [ -z "$(find kept -type f -size +0)" ]
 }
 check "serve without room for its threads ends with 6 at once, or for those of its files with 5" refused_threads

@@ -127,7 +127,7 @@ def main():
         full = os.open("board", os.O_WRONLY | os.O_NONBLOCK)
         os.write(full, bytes(4096))
     port, seconds = free_port(), SERVES_SECONDS[hangs]
-    words = ["serve", "--call", "M17-TST", "--modules", "AB", "--for", str(seconds), "--book", "kept"]
+    words = ["serve", "--call", "M17-TST", "--modules", "AB", "--for", str(seconds), "--pace", "0", "--book", "kept"]
     words += ["--board", "board"] if hangs == "board" else []
     start = time.monotonic()
     serves = subprocess.Popen([program, *words, f"127.0.0.1:{port}"], stdout=subprocess.PIPE)

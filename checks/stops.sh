@@ -26,6 +26,9 @@ knows_stop() {
 ending='
 import contextlib, os, shutil, signal, subprocess, sys, time
 names, book, size, words = sys.argv[1].split("+"), sys.argv[2], int(sys.argv[3]), sys.argv[4:]
+# whoever runs the checks may ignore them, and a shell takes no signal that it was started to ignore
+for each in (signal.SIGHUP, signal.SIGINT, signal.SIGQUIT, signal.SIGTERM):
+    signal.signal(each, signal.SIG_DFL)
 
 def kill_all(why):
     with contextlib.suppress(ProcessLookupError):
