@@ -66,3 +66,21 @@ why_inputs() {
     is_said 1 'replay reads 1,000,000 entries and 67,108,864 bytes of a trace, and no more; m17-log reads any size' replay
 }
 check "of rules, a trace or a book that is refused m17-why says which line, how much is whole, or that it is too large" why_inputs
+
+# A folder of a file system that is mounted for reading only, which root may not write to either.
+why_read_only() {
+    needs python3 unshare
+    mkdir shut
+    unshare -m mount -t tmpfs -o ro none shut 2>/dev/null || {
+        echo "nothing may be mounted here"
+        exit 77
+    }
+    # shellcheck disable=SC2016
+    unshare -m sh -c 'mount -t tmpfs -o ro none shut && timeout 60 "$1" serve --call M17-TST --book shut 127.0.0.1:0
+        [ $? -eq 5 ] && "$2" 5 serve --call M17-TST --book shut 127.0.0.1:0' sh "$program" "$top/contrib/m17-why" </dev/null >said
+    grep -qx 'm17: --book shut: it is mounted for reading only' said || {
+        cat said
+        return 1
+    }
+}
+check "of a folder that is mounted for reading only m17-why says so" why_read_only
