@@ -40,6 +40,9 @@ why_ports() {
     is_said 5 '203.0.113.5:0: this machine has no such address' serve --call M17-TST 203.0.113.5:0 || return 1
     is_said 5 '--book none: there is no such folder, and none is made' serve --call M17-TST --book none 127.0.0.1:0 || return 1
     is_said 5 '--book file is no folder' serve --call M17-TST --book file 127.0.0.1:0 || return 1
+    mkdir kept && for name in A.book link0.trace; do
+        is_said 5 "--board kept/$name is a file of --book too" serve --call M17-TST --book kept --board kept/$name 127.0.0.1:0 || return 1
+    done
     is_said 5 '--stop none: there is no such file' serve --call M17-TST --stop none 127.0.0.1:0
 }
 check "of a port, an address, a folder or a file that cannot be opened m17-why says what is wrong" why_ports
