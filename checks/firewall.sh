@@ -8,27 +8,47 @@ callers_and_kept_out() {
         exit 77
     }
     cat >calls.py <<'END'
-import socket
-s = socket.socket(socket.AF_INET, socket.SOCK_DGRAM)
-r = socket.socket(socket.AF_INET, socket.SOCK_DGRAM)
-r.bind(("127.0.0.1", 17000))
+import socket, sys
+host = sys.argv[1]
+family = socket.AF_INET6 if ":" in host else socket.AF_INET
+s = socket.socket(family, socket.SOCK_DGRAM)
+r = socket.socket(family, socket.SOCK_DGRAM)
+r.bind((host, 17000))
 r.settimeout(1)
-s.sendto(bytes.fromhex("434F4E4E00001F24C4A941"), ("127.0.0.1", 17000))
+s.sendto(bytes.fromhex("434F4E4E0000009FDD5141"), (host, 17000))
 try:
     print("heard", len(r.recv(100)))
 except OSError:
     print("not heard")
 END
-    timeout 60 unshare -n sh -c "ip link set lo up && nft -f '$top/examples/m17.nft' && python3 calls.py &&
-        nft list set inet m17 callers4 && nft add element inet m17 kept_out4 '{ 127.0.0.1 timeout 1h }' && python3 calls.py" >got 2>&1 ||
+    cat >tries.sh <<'END'
+calls() {
+    python3 calls.py 127.0.0.1 && python3 calls.py 2001:db8:0:7::5
+}
+ip link set lo up && ip -6 address add 2001:db8:0:7::5/64 dev lo nodad && nft -f "$1" && calls || exit 1
+nft list set inet m17 callers4 && nft list set inet m17 callers6 || exit 1
+nft add element inet m17 kept_out4 '{ 127.0.0.1 timeout 1h }' && nft add element inet m17 kept_out6 '{ 2001:db8:0:7:: timeout 1h }' &&
+    calls || exit 1
+nft delete element inet m17 kept_out6 '{ 2001:db8:0:7:: }' && nft add element inet m17 kept_out6 '{ 2001:db8:0:7::5 }' && calls
+END
+    timeout 60 unshare -n sh tries.sh "$top/examples/m17.nft" >got 2>&1 ||
         {
             cat got
             grep -q 'not permitted\|not supported\|No such file' got && echo "nft may not work here" && exit 77
             return 1
         }
-    [ "$(grep -c '^heard 11$' got)" -eq 1 ] && [ "$(tail -n 1 got)" = 'not heard' ] && grep -qi '127.0.0.1 . 0x0*1f24c4a9' got || {
+    [ "$(grep -c '^heard 11$' got)" -eq 2 ] && [ "$(grep -c '^not heard$' got)" -eq 4 ] || {
         cat got
         return 1
     }
+    # The callsign out of what nft shows, as docs/service.md says it.
+    for caller in 127.0.0.1 2001:db8:0:7::5; do
+        number=$(sed -n "s/.*$caller \\. \\(0x[0-9a-f]*\\).*/\\1/p" got)
+        printf '434F4E4E%012X41\n' "$number" | prog show >shown
+        [ "$(cat shown)" = 'conn AB1CD A' ] || {
+            cat got shown
+            return 1
+        }
+    done
 }
 check "the firewall's sets name who called, with the callsign, and keep out whom they are told" callers_and_kept_out

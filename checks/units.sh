@@ -89,8 +89,8 @@ prepared_folders() {
     wait $! && has_bytes now/A.book 85 && said talker 'closed asked kept 0' || return 1
     # A second reflector is not prepared, and not started: neither by this unit nor by hand.
     sleep 1
-    if prepares; then return 1; fi
-    [ "$(readlink now)" = "$first" ] && [ "$(find . -type d -name '20*' | wc -l)" -eq 1 ] || return 1
+    if prepares 2>../why; then return 1; fi
+    grep -qx "another reflector writes to $first" ../why && [ "$(readlink now)" = "$first" ] && [ "$(find . -type d -name '20*' | wc -l)" -eq 1 ] || return 1
     if flock --nonblock --no-fork now true; then return 1; fi
     kill "$server" && ends 143 '' || return 1
     # The next start has a folder of its own, and with a file `traces` a trace.
