@@ -10,7 +10,7 @@ use Rattle.m17_values.specs.declared.heard.Heard.TheVariants.{Datagram, Quiet, F
 use Rattle.m17_values.specs.declared.peer.Peer.{Peer}
 use Rattle.m17_guard.specs.declared.memory.Memory.{Memory}
 use Rattle.m17_guard.specs.declared.memory.Slot.{Slot}
-use Rattle.m17_guard.specs.Echo.{is_frame, same_peer, is_echo, is_recent, is_disc, is_packet, is_packet_of, is_same, is_another, is_parting, up_to, older_than, packets, up_to_said, up_to_parted}
+use Rattle.m17_guard.specs.Echo.{is_echo, is_recent, is_frame, is_disc, is_packet, is_packet_of, is_same, is_of_another, is_parting, same_peer, stream_of, up_to, older_than, packets, up_to_said, up_to_parted}
 use Rattle.m17_guard.specs.Memory.{Agree, IsKept, IsRecord, IsLatest, Recalls, HasPut, HasLeft, at_order, slot_of, blank, is_of, is_kept, is_echo_at, with_left, with_left_slot}
 use Rattle.m17_guard.proofs.Back.{either, not-sub, order-le, order-older, up-is, up-here, up-past, old-here, old-past, at-here, at-more, at-older, at-low, more-packet, no-packet}
 use Rattle.m17_guard.proofs.Links.{slot-other, slot-same, kept-before}
@@ -29,7 +29,7 @@ said-in : (slots : List Slot) (count : ℕ) (past : List Heard) (peer : Peer) (b
     → up_to_said peer bytes past ≡ packet_in (slot_of slots (packets (up_to_said peer bytes past)))
     ∷ (asked.each (packets (up_to_said peer bytes past)) k).older
 said-in slots count past peer bytes asked k =
-    let T = is_another peer bytes in
+    let T = is_of_another peer (stream_of bytes) in
     let S = packets (up_to_said peer bytes past) in
     let head = some-first (up_to_said peer bytes past) k.some in
     let at : at_order S past ≡ head.0 ∷ head.1 = at-older T S past head.0 head.1
@@ -76,8 +76,8 @@ echo-is slots count past peer at bytes parted said asked few frame p s =
     let before = (Decides-ltb P S).0 (and-left (nat_lt P S) (last && recent) two) in
     let three = and-right (nat_lt P S) (last && recent) two in
     let late = (Decides-ltb (packets past) (S + 16384)).0 (and-left last recent three) in
-    let low = order-le (is_same peer bytes) (older_than (is_another peer bytes) past) in
-    let less = order-older (is_same peer bytes) (is_another peer bytes) past in
+    let low = order-le (is_same peer bytes) (older_than (is_of_another peer (stream_of bytes)) past) in
+    let less = order-older (is_same peer bytes) (is_of_another peer (stream_of bytes)) past in
     let least = order-le (is_same peer bytes) past in
     let ks : IsKept count S = record {
       some = omega arith;
@@ -128,6 +128,7 @@ record-stays : (count more order : ℕ) (past : List Heard) (e : Heard) (s : Slo
 record-stays count more order past e s le low sub parts r = record {
   older = r.older;
   there = at-more order e past (packet_in s) r.older r.there;
+  stream = r.stream;
   parted = let a = r.parted in omega arith;
   turned = let a = r.turned in omega arith;
   said = let a = r.said in omega arith;
@@ -161,12 +162,12 @@ asked-of m past r few = record {
 -- the next packet
 pub recalls-packet : (old new : Memory) (past : List Heard) (s : Slot)
     → Recalls old past → old.count < 2 ^ 64 - 1 → length old.slots.items ≡ 16384 → HasPut s old new
-    → is_packet (packet_in s) ≡ true → s.left ≡ false
+    → is_packet (packet_in s) ≡ true → s.stream ≡ stream_of s.bytes → s.left ≡ false
     → Agree old.count s.parted (packets (up_to_parted s.from past))
-    → Agree old.count s.turned (packets (up_to (is_another s.from s.bytes) past))
+    → Agree old.count s.turned (packets (up_to (is_of_another s.from (stream_of s.bytes)) past))
     → Agree old.count s.said (packets (up_to_said s.from s.bytes past))
     → Recalls new (packet_in s ∷ past)
-recalls-packet old new past s r few len put packet stays parted turned said =
+recalls-packet old new past s r few len put packet stream stays parted turned said =
     let one = more-packet (packet_in s) past packet in
     let counted : old.count ≡ packets past = let c = r.count in omega arith in
     let slots = put.slots in
@@ -191,6 +192,7 @@ recalls-packet old new past s r few len put packet stays parted turned said =
                 subst (λ (t : Slot). IsRecord new.count o (packet_in s ∷ past) t) (sym here) (record {
                   older = past;
                   there = at-here o (packet_in s) past packet (omega arith);
+                  stream = stream;
                   parted = omega arith;
                   turned = omega arith;
                   said = omega arith;
@@ -242,6 +244,7 @@ recalls-left old new past peer at bytes r len disc has =
                 (and-right (is_disc bytes) (same_peer s.from peer) y) in record {
                   older = one.older;
                   there = at-more o e past (packet_in s) one.older one.there;
+                  stream = one.stream;
                   parted = let a = one.parted in omega arith;
                   turned = let a = one.turned in omega arith;
                   said = let a = one.said in omega arith;
@@ -287,6 +290,7 @@ recalls-left old new past peer at bytes r len disc has =
                       subst (λ (t : Slot). IsRecord new.count o (e ∷ past) t) (sym here) (record {
                         older = one.older;
                         there = at-more o e past (packet_in s) one.older one.there;
+                        stream = one.stream;
                         parted = let a = one.parted in omega arith;
                         turned = let a = one.turned in omega arith;
                         said = let a = one.said in omega arith;

@@ -9,7 +9,7 @@ use Rattle.m17_values.specs.declared.heard.Heard.{Heard}
 use Rattle.m17_values.specs.declared.heard.Heard.TheVariants.{Datagram, Quiet, Fault, End}
 use Rattle.m17_values.specs.declared.peer.Peer.{Peer}
 use Rattle.m17_guard.specs.declared.memory.Slot.{Slot}
-use Rattle.m17_guard.specs.Echo.{is_frame, same_peer, is_packet, is_packet_of, is_same, is_another, is_parting, up_to, older_than, packets, up_to_said, up_to_parted}
+use Rattle.m17_guard.specs.Echo.{is_frame, is_packet, is_packet_of, is_same, is_of_another, is_parting, same_peer, stream_of, up_to, older_than, packets, up_to_said, up_to_parted}
 use Rattle.m17_guard.specs.Memory.{Agree, IsKept, IsRecord, IsLatest, at_order, slot_of, is_of, is_copy, parted_at, turned_at, said_at}
 use Rattle.m17_guard.proofs.Back.{either, IsSub, order-none, order-at, order-le, order-older, order-sub, up-is, up-head, up-here, up-past, up-skip, up-through, old-through, old-is, at-low, at-number, packet-at, more-packet}
 use Rattle.m17_guard.proofs.Telling.{and-left, and-right, and-both, and-first, and-second, clash, peer-is, copy-peer, copy-bytes}
@@ -31,21 +31,21 @@ same-of peer wanted (Quiet at) h = h
 same-of peer wanted Fault h = h
 same-of peer wanted End h = h
 
-pub another-of : (peer : Peer) (wanted : List ℕ) → IsSub (is_another peer wanted) (is_packet_of peer)
-another-of peer wanted (Datagram from at bytes) h =
+pub another-of : (peer : Peer) (stream : ℕ) → IsSub (is_of_another peer stream) (is_packet_of peer)
+another-of peer stream (Datagram from at bytes) h =
     and-both (is_frame bytes) (same_peer peer from)
-    (and-left (is_frame bytes) (same_peer peer from && not (bytes_eq bytes wanted)) h)
-    (and-left (same_peer peer from) (not (bytes_eq bytes wanted))
-    (and-right (is_frame bytes) (same_peer peer from && not (bytes_eq bytes wanted)) h))
-another-of peer wanted (Quiet at) h = h
-another-of peer wanted Fault h = h
-another-of peer wanted End h = h
+    (and-left (is_frame bytes) (same_peer peer from && not (stream_of bytes == stream)) h)
+    (and-left (same_peer peer from) (not (stream_of bytes == stream))
+    (and-right (is_frame bytes) (same_peer peer from && not (stream_of bytes == stream)) h))
+another-of peer stream (Quiet at) h = h
+another-of peer stream Fault h = h
+another-of peer stream End h = h
 
 pub same-packet : (peer : Peer) (bytes : List ℕ) → IsSub (is_same peer bytes) is_packet
 same-packet peer bytes e h = packet-of peer e (same-of peer bytes e h)
 
-pub another-packet : (peer : Peer) (wanted : List ℕ) → IsSub (is_another peer wanted) is_packet
-another-packet peer wanted e h = packet-of peer e (another-of peer wanted e h)
+pub another-packet : (peer : Peer) (stream : ℕ) → IsSub (is_of_another peer stream) is_packet
+another-packet peer stream e h = packet-of peer e (another-of peer stream e h)
 
 -- What a memory is asked over.
 pub record Asked (slots : List Slot) (count : ℕ) (past : List Heard) : Type 0 where
@@ -143,73 +143,77 @@ not-true b h = ap not h
 not-false : (b : Bool) → b ≡ false → not b ≡ true
 not-false b h = ap not h
 
--- the peer's latest packet with other bytes
+-- the peer's latest packet of another stream
 pub turned-is : (slots : List Slot) (count : ℕ) (past : List Heard) (peer : Peer)
-    (bytes : List ℕ) (latest : ℕ) → Asked slots count past → IsLatest slots count (is_of peer) latest
-    → Agree count (turned_at slots latest bytes) (packets (up_to (is_another peer bytes) past))
-turned-is slots count past peer bytes latest asked is = elim (eqb_tells latest 0) [
+    (stream latest : ℕ) → Asked slots count past → IsLatest slots count (is_of peer) latest
+    → Agree count (turned_at slots latest stream) (packets (up_to (is_of_another peer stream) past))
+turned-is slots count past peer stream latest asked is = elim (eqb_tells latest 0) [
   | inl z ↦ let low = (order-of slots count past (is_of peer) (is_packet_of peer) latest asked
       (packet-of peer) (of-tells peer) is).1 z.1 in
-      let less = order-sub (is_another peer bytes) (is_packet_of peer) past
-      (another-of peer bytes) in
+      let less = order-sub (is_of_another peer stream) (is_packet_of peer) past
+      (another-of peer stream) in
       let s = slot_of slots latest in
-      let here : turned_at slots latest bytes ≡ 0 = ap (λ (b : Bool). cond b 0
-      (cond (bytes_eq s.bytes bytes) s.turned latest)) z.0 in
-      subst (λ (n : ℕ). Agree count n (packets (up_to (is_another peer bytes) past))) (sym here)
+      let here : turned_at slots latest stream ≡ 0 = ap (λ (b : Bool). cond b 0
+      (cond (s.stream == stream) s.turned latest)) z.0 in
+      subst (λ (n : ℕ). Agree count n (packets (up_to (is_of_another peer stream) past))) (sym here)
       (omega arith)
   | inr z ↦ let pos : 0 < latest = let ne = z.1 in omega arith in
       let s = slot_of slots latest in
       let found = is.found pos in
       let r = asked.each latest found.0 in
-      let T = is_another peer bytes in
+      let T = is_of_another peer stream in
       let at-peer : peer ≡ s.from = peer-is peer s.from found.1 in
       let order = (order-of slots count past (is_of peer) (is_packet_of peer) latest asked
       (packet-of peer) (of-tells peer) is).0 pos in
       let up : up_to (is_packet_of peer) past ≡ packet_in s ∷ r.older =
       sym (up-is (is_packet_of peer) latest past (packet-of peer) order pos) ∙ r.there in
       let skip : up_to T past ≡ up_to T (packet_in s ∷ r.older) =
-      up-skip T (is_packet_of peer) past (another-of peer bytes) ∙ ap (up_to T) up in
+      up-skip T (is_packet_of peer) past (another-of peer stream) ∙ ap (up_to T) up in
       let p = packet-at latest past _ _ r.there in
-      let here : turned_at slots latest bytes ≡ cond (bytes_eq s.bytes bytes) s.turned latest =
-      ap (λ (b : Bool). cond b 0 (cond (bytes_eq s.bytes bytes) s.turned latest)) z.0 in
+      let here : turned_at slots latest stream ≡ cond (s.stream == stream) s.turned latest =
+      ap (λ (b : Bool). cond b 0 (cond (s.stream == stream) s.turned latest)) z.0 in
       subst (λ (n : ℕ). Agree count n (packets (up_to T past))) (sym here)
-      (subst (λ (l : List Heard). Agree count (cond (bytes_eq s.bytes bytes) s.turned latest) (packets l))
+      (subst (λ (l : List Heard). Agree count (cond (s.stream == stream) s.turned latest) (packets l))
       (sym skip)
-      (elim (either (bytes_eq s.bytes bytes)) [
-        | inl e ↦ let same : s.bytes ≡ bytes = (bytes_eq-Decides s.bytes bytes).0 e in
+      (elim (eqb_tells s.stream stream) [
+        | inl e ↦ let same : stream_of s.bytes ≡ stream = sym r.stream ∙ e.1 in
             let not-other : T (packet_in s) ≡ false =
-            and-second (is_frame s.bytes) (same_peer peer s.from && not (bytes_eq s.bytes bytes))
-            (and-second (same_peer peer s.from) (not (bytes_eq s.bytes bytes))
-            (not-true (bytes_eq s.bytes bytes) e)) in
+            and-second (is_frame s.bytes) (same_peer peer s.from && not (stream_of s.bytes == stream))
+            (and-second (same_peer peer s.from) (not (stream_of s.bytes == stream))
+            (not-true (stream_of s.bytes == stream) (eq-eqb (stream_of s.bytes) stream same))) in
             let turned : Agree count s.turned (packets (up_to T r.older)) =
-            subst (λ (l : List ℕ). Agree count s.turned (packets (up_to (is_another peer l) r.older))) same
+            subst (λ (n : ℕ). Agree count s.turned (packets (up_to (is_of_another peer n) r.older))) same
             (subst (λ (q : Peer). Agree count s.turned
-            (packets (up_to (is_another q s.bytes) r.older))) (sym at-peer) r.turned) in
+            (packets (up_to (is_of_another q (stream_of s.bytes)) r.older))) (sym at-peer) r.turned) in
             subst (λ (b : Bool). Agree count (cond b s.turned latest) (packets (up_to T (packet_in s ∷ r.older))))
-            (sym e)
+            (sym e.0)
             (subst (λ (l : List Heard). Agree count s.turned (packets l))
             (sym (up-past T (packet_in s) r.older not-other)) turned)
-        | inr e ↦ let other : T (packet_in s) ≡ true =
-            and-both (is_frame s.bytes) (same_peer peer s.from && not (bytes_eq s.bytes bytes)) p
-            (and-both (same_peer peer s.from) (not (bytes_eq s.bytes bytes)) found.1
-            (not-false (bytes_eq s.bytes bytes) e)) in
+        | inr e ↦ let differs : stream_of s.bytes ≢ stream = λ same. e.1 (r.stream ∙ same) in
+            let other : T (packet_in s) ≡ true =
+            and-both (is_frame s.bytes) (same_peer peer s.from && not (stream_of s.bytes == stream)) p
+            (and-both (same_peer peer s.from) (not (stream_of s.bytes == stream)) found.1
+            (not-false (stream_of s.bytes == stream) (elim (eqb_tells (stream_of s.bytes) stream) [
+              | inl w ↦ absurd (differs w.1)
+              | inr w ↦ w.0
+            ]))) in
             let number = at-number latest past _ _ r.there in
             let so : packets (up_to T (packet_in s ∷ r.older)) ≡ latest =
             ap packets (up-here T (packet_in s) r.older other)
             ∙ more-packet (packet_in s) r.older p ∙ number in
             subst (λ (b : Bool). Agree count (cond b s.turned latest) (packets (up_to T (packet_in s ∷ r.older))))
-            (sym e) (ap (λ (n : ℕ). max n (count - 16384)) (sym so))
+            (sym e.0) (ap (λ (n : ℕ). max n (count - 16384)) (sym so))
       ]))
 ]
 
 -- the latest packet of the same bytes before that
 pub said-is : (slots : List Slot) (count : ℕ) (past : List Heard) (peer : Peer) (bytes : List ℕ)
     (same turned : ℕ) → Asked slots count past → IsLatest slots count (is_copy peer bytes) same
-    → Agree count turned (packets (up_to (is_another peer bytes) past))
+    → Agree count turned (packets (up_to (is_of_another peer (stream_of bytes)) past))
     → Agree count (said_at slots same turned) (packets (up_to_said peer bytes past))
 said-is slots count past peer bytes same turned asked is agree =
     let S = is_same peer bytes in
-    let T = is_another peer bytes in
+    let T = is_of_another peer (stream_of bytes) in
     let s = slot_of slots same in
     let orders = order-of slots count past (is_copy peer bytes) S same asked
     (same-packet peer bytes) (copy-tells peer bytes) is in
@@ -249,18 +253,19 @@ said-is slots count past peer bytes same turned asked is agree =
                 let some : 0 < C = let g = ge.1 in omega arith in
                 let head = some-first (up_to T past) some in
                 let at-turn : at_order C past ≡ head.0 ∷ head.1 =
-                up-is T C past (another-packet peer bytes) refl some ∙ head.2 in
+                up-is T C past (another-packet peer (stream_of bytes)) refl some ∙ head.2 in
                 let apart : same ≢ C = λ eq.
                 let both : packet_in s ∷ r.older ≡ head.0 ∷ head.1 =
                 sym r.there ∙ ap (λ (n : ℕ). at_order n past) eq ∙ at-turn in
                 let first : packet_in s ≡ head.0 = cc in
                 let other : T (packet_in s) ≡ true = ap T first ∙ up-head T past head.0 head.1 head.2 in
-                let differs = and-right (same_peer peer s.from) (not (bytes_eq s.bytes bytes))
+                let differs = and-right (same_peer peer s.from) (not (stream_of s.bytes == stream_of bytes))
                 (and-right (is_frame s.bytes)
-                (same_peer peer s.from && not (bytes_eq s.bytes bytes)) other) in
-                clash (not (bytes_eq s.bytes bytes)) differs
-                (not-true (bytes_eq s.bytes bytes)
-                (and-right (same_peer peer s.from) (bytes_eq s.bytes bytes) found.1)) in
+                (same_peer peer s.from && not (stream_of s.bytes == stream_of bytes)) other) in
+                clash (not (stream_of s.bytes == stream_of bytes)) differs
+                (not-true (stream_of s.bytes == stream_of bytes)
+                (eq-eqb (stream_of s.bytes) (stream_of bytes)
+                (ap (λ (l : List ℕ). stream_of l) (copy-bytes peer bytes s found.1)))) in
                 let lt : packets (up_to S past) < C = let g = ge.1 in omega arith in
                 let so : packets (up_to_said peer bytes past) ≡ same =
                 ap (λ (l : List Heard). packets (up_to S l)) (old-is T past head.0 head.1 head.2)
@@ -273,19 +278,20 @@ said-is slots count past peer bytes same turned asked is agree =
 pub record Facts (count : ℕ) (past : List Heard) (peer : Peer) (bytes : List ℕ)
     (p t s : ℕ) : Type 0 where
   pub parted : Agree count p (packets (up_to_parted peer past))
-  pub turned : Agree count t (packets (up_to (is_another peer bytes) past))
+  pub turned : Agree count t (packets (up_to (is_of_another peer (stream_of bytes)) past))
   pub said : Agree count s (packets (up_to_said peer bytes past))
 
 pub facts-are : (slots : List Slot) (count : ℕ) (past : List Heard) (peer : Peer) (bytes : List ℕ)
-    (latest same parted turned said : ℕ) → Asked slots count past
-    → IsLatest slots count (is_of peer) latest
+    (stream latest same parted turned said : ℕ) → Asked slots count past
+    → stream ≡ stream_of bytes → IsLatest slots count (is_of peer) latest
     → IsLatest slots count (is_copy peer bytes) same → parted ≡ parted_at slots latest
-    → turned ≡ turned_at slots latest bytes → said ≡ said_at slots same turned
+    → turned ≡ turned_at slots latest stream → said ≡ said_at slots same turned
     → Facts count past peer bytes parted turned said
-facts-are slots count past peer bytes latest same parted turned said asked lat sa p t sd =
-    let turn : Agree count turned (packets (up_to (is_another peer bytes) past)) =
-    subst (λ (n : ℕ). Agree count n (packets (up_to (is_another peer bytes) past)))
-    (sym t) (turned-is slots count past peer bytes latest asked lat) in record {
+facts-are slots count past peer bytes stream latest same parted turned said asked st lat sa p t sd =
+    let turn : Agree count turned (packets (up_to (is_of_another peer (stream_of bytes)) past)) =
+    subst (λ (n : ℕ). Agree count n (packets (up_to (is_of_another peer (stream_of bytes)) past)))
+    (sym (t ∙ ap (turned_at slots latest) st))
+    (turned-is slots count past peer (stream_of bytes) latest asked lat) in record {
       parted = subst (λ (n : ℕ). Agree count n (packets (up_to_parted peer past))) (sym p)
           (parted-is slots count past peer latest asked lat);
       turned = turn;

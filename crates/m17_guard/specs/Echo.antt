@@ -1,6 +1,6 @@
 -- What is an echo. A list `past` is what an ear has heard so far, the latest entry first; moments
 -- are milliseconds.
-use Rattle.std.specs.Prelude.{◌==◌, ◌&&◌, ◌||◌, ℕ, ◌+◌, ◌-◌, ◌^◌, Bool, true, false, not, List, [], ◌∷◌, length, codes, nat_le, nat_lt, nat_eq, if◌then◌else◌}
+use Rattle.std.specs.Prelude.{◌==◌, ◌&&◌, ◌||◌, ℕ, ◌+◌, ◌-◌, ◌*◌, ◌^◌, Bool, true, false, not, List, [], ◌∷◌, length, codes, slice_index, nat_le, nat_lt, nat_eq, if◌then◌else◌}
 use Rattle.std.specs.Bool.{beq}
 use Rattle.std.specs.List.{starts_with}
 use Rattle.std.specs.Str.{bytes_eq}
@@ -23,13 +23,17 @@ same_peer a b = beq a.six b.six && (bytes_eq a.ip b.ip && a.port == b.port)
 abbrev pub is_frame : List ℕ → Bool
 is_frame bytes = length bytes == 54 && starts_with nat_eq bytes (codes "M17 ")
 
+-- the id of a packet's stream, bytes 4 and 5
+abbrev pub stream_of : List ℕ → ℕ
+stream_of bytes = 256 * slice_index bytes 4 + slice_index bytes 5
+
 -- The bytes of a DISC, with a callsign or without.
 abbrev pub is_disc : List ℕ → Bool
 is_disc bytes =
     (length bytes == 4 || length bytes == 10) && starts_with nat_eq bytes (codes "DISC")
 
 -- The entry is a stream packet; one of this peer; these bytes of this peer; a stream packet of
--- this peer with other bytes than these; a DISC of this peer.
+-- this peer and of another stream than this one; a DISC of this peer.
 abbrev pub is_packet : Heard → Bool
 is_packet (Datagram from at bytes) = is_frame bytes
 is_packet (Quiet at) = false
@@ -49,12 +53,12 @@ is_same peer wanted (Quiet at) = false
 is_same peer wanted Fault = false
 is_same peer wanted End = false
 
-abbrev pub is_another : Peer → List ℕ → Heard → Bool
-is_another peer wanted (Datagram from at bytes) =
-    is_frame bytes && (same_peer peer from && not (bytes_eq bytes wanted))
-is_another peer wanted (Quiet at) = false
-is_another peer wanted Fault = false
-is_another peer wanted End = false
+abbrev pub is_of_another : Peer → ℕ → Heard → Bool
+is_of_another peer stream (Datagram from at bytes) =
+    is_frame bytes && (same_peer peer from && not (stream_of bytes == stream))
+is_of_another peer stream (Quiet at) = false
+is_of_another peer stream Fault = false
+is_of_another peer stream End = false
 
 abbrev pub is_parting : Peer → Heard → Bool
 is_parting peer (Datagram from at bytes) = is_disc bytes && same_peer peer from
@@ -76,11 +80,11 @@ abbrev pub packets : List Heard → ℕ
 packets [] = 0
 packets (entry ∷ older) = (if is_packet entry then 1 else 0) + packets older
 
--- What was heard up to the last time that the peer sent these bytes before its latest packet with
--- others.
+-- What was heard up to the last time that the peer sent these bytes before its latest packet of
+-- another stream.
 abbrev pub up_to_said : Peer → List ℕ → List Heard → List Heard
 up_to_said peer bytes past =
-    up_to (is_same peer bytes) (older_than (is_another peer bytes) past)
+    up_to (is_same peer bytes) (older_than (is_of_another peer (stream_of bytes)) past)
 
 -- What was heard up to the peer's last stream packet before its latest DISC.
 abbrev pub up_to_parted : Peer → List Heard → List Heard
@@ -91,8 +95,8 @@ abbrev pub is_recent : ℕ → List Heard → Bool
 is_recent at (Datagram from moment bytes ∷ older) = nat_le at (moment + longest_ms)
 is_recent at _ = false
 
--- An echo: a stream packet whose very same bytes the peer sent before its latest packet with other
--- bytes, at most ten seconds ago, among the last 16,384 stream packets, and without a DISC of that
+-- An echo: a stream packet whose very same bytes the peer sent before its latest packet of another
+-- stream, at most ten seconds ago, among the last 16,384 stream packets, and without a DISC of that
 -- peer since. (Of a link that has heard 2^64 - 1 stream packets nothing is an echo.)
 abbrev pub is_echo : List Heard → Peer → ℕ → List ℕ → Bool
 is_echo past peer at bytes =

@@ -13,7 +13,7 @@ use Rattle.m17_values.specs.declared.peer.Peer.{Peer}
 use Rattle.m17_guard.specs.declared.memory.Memory.{Memory}
 use Rattle.m17_guard.specs.declared.memory.Slot.{Slot}
 use Rattle.m17_guard.specs.Follows.{past_then}
-use Rattle.m17_guard.specs.Echo.{is_echo, is_frame, same_peer, is_packet, is_packet_of, is_another, up_to, packets, up_to_said, up_to_parted}
+use Rattle.m17_guard.specs.Echo.{is_echo, is_frame, same_peer, is_packet, is_packet_of, is_of_another, up_to, packets, up_to_said, up_to_parted, stream_of}
 
 -- The bucket of a peer, and that of bytes of a peer.
 abbrev pub peer_bucket : RandomState → Peer → ℕ
@@ -29,6 +29,7 @@ blank = record {
   from = record { six = false; ip = []; port = 0 };
   at = 0;
   bytes = [];
+  stream = 0;
   parted = 0;
   turned = 0;
   said = 0;
@@ -104,15 +105,15 @@ abbrev pub is_kept : ℕ → ℕ → Bool
 is_kept count order = nat_lt 0 order && (nat_le order count && nat_lt count (order + 16384))
 
 -- What a peer's latest packet, if there is one, says of its last packet before its latest DISC, and
--- of its latest packet with other bytes than these; what the latest packet of the same bytes
+-- of its latest packet of another stream than this one; what the latest packet of the same bytes
 -- says of the latest one before that; and whether that one tells an echo.
 abbrev pub parted_at : List Slot → ℕ → ℕ
 parted_at slots latest = if latest == 0 then 0
     else (if (slot_of slots latest).left then latest else (slot_of slots latest).parted)
 
-abbrev pub turned_at : List Slot → ℕ → List ℕ → ℕ
-turned_at slots latest bytes = if latest == 0 then 0
-    else (if bytes_eq (slot_of slots latest).bytes bytes
+abbrev pub turned_at : List Slot → ℕ → ℕ → ℕ
+turned_at slots latest stream = if latest == 0 then 0
+    else (if (slot_of slots latest).stream == stream
     then (slot_of slots latest).turned else latest)
 
 abbrev pub said_at : List Slot → ℕ → ℕ → ℕ
@@ -139,9 +140,10 @@ Agree count a b = max a (count - 16384) ≡ max b (count - 16384)
 pub record IsRecord (count order : ℕ) (past : List Heard) (slot : Slot) : Type 0 where
   pub older : List Heard
   pub there : at_order order past ≡ Datagram slot.from slot.at slot.bytes ∷ older
+  pub stream : slot.stream ≡ stream_of slot.bytes
   pub parted : Agree count slot.parted (packets (up_to_parted slot.from older))
   pub turned : Agree count slot.turned
-      (packets (up_to (is_another slot.from slot.bytes) older))
+      (packets (up_to (is_of_another slot.from (stream_of slot.bytes)) older))
   pub said : Agree count slot.said (packets (up_to_said slot.from slot.bytes older))
   pub left : packets (up_to (is_packet_of slot.from) past) ≡ order
       → packets (up_to_parted slot.from past)

@@ -1,4 +1,4 @@
-ghost use Rattle.std.specs.Prelude.{◌≡◌};
+ghost use Rattle.std.specs.Prelude.{◌≡◌, length};
 ghost use Rattle.m17_guard.specs.Echo as echo;
 
 use m17_values::Peer;
@@ -18,6 +18,14 @@ pub(crate) fn is_disc(bytes: &[u8]) -> bool
     ensures { result ≡ echo.is_disc bytes.now }
 {
     (bytes.len() == 4 || bytes.len() == 10) && bytes.starts_with(b"DISC")
+}
+
+// The id of a packet's stream.
+pub(crate) fn stream_of(bytes: &[u8]) -> u16
+    requires { length bytes.now ≡ 54 }
+    ensures { result ≡ echo.stream_of bytes.now }
+{
+    256 * u16::from(bytes[4]) + u16::from(bytes[5])
 }
 
 // Whether it is the same peer.

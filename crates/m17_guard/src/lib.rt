@@ -1,7 +1,7 @@
 //! A decorator before an ear that ends what goes round. A guarded ear (`Guarded`)
 //! tells what the ear behind it does, but in place of an echo, that nothing came: a stream packet
-//! whose very same bytes the same peer sent within ten seconds before, and a packet with other bytes
-//! since. `GuardedPorts` hand out such ears. What is heard and said, and what becomes of it,
+//! whose very same bytes the same peer sent within ten seconds before, and a packet of another
+//! stream since. `GuardedPorts` hand out such ears. What is heard and said, and what becomes of it,
 //! is left to the crates above.
 #![tactic(auto)]
 

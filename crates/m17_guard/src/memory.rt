@@ -4,7 +4,7 @@ ghost use Rattle.m17_guard.specs.Echo as echo;
 ghost use Rattle.m17_guard.specs.Echo.{is_echo};
 ghost use Rattle.m17_guard.specs.Memory.{peer_bucket, bytes_bucket, peer_bucket_of, bytes_bucket_of, IsWhole, Remembers, Recalls, IsKept, IsLatest, HasLeft, HasPut, with_left, is_kept, is_of, is_copy, parted_at, turned_at, said_at, is_echo_at, slot_of, echoes};
 
-use crate::bytes::{is_disc, is_frame, same_peer};
+use crate::bytes::{is_disc, is_frame, same_peer, stream_of};
 use m17_values::{Gram, Heard, NoMemory, Peer};
 use std::alloc::Global;
 use std::hash::{BuildHasher, DefaultHasher, Hasher, RandomState};
@@ -16,14 +16,15 @@ const PLACES: u64 = 16_384;
 const LONGEST_MS: u64 = 10_000;
 
 // A stream packet that was heard. Others are named by their order: how many were heard up to them.
-// `parted` is that of its peer's last one before the latest DISC, `turned` that of its latest one with
-// other bytes, `said` that of the latest one of the same bytes before that; `left` says whether a
+// `parted` is that of its peer's last one before the latest DISC, `turned` that of the latest one of
+// another stream, `said` that of the latest one of the same bytes before that; `left` says whether a
 // DISC came since. `by_peer` and `by_bytes` lead to the one before in the same bucket.
 #[derive(Drop)]
 pub(crate) struct Slot {
     pub(crate) from: Peer,
     pub(crate) at: u64,
     pub(crate) bytes: Gram,
+    pub(crate) stream: u16,
     pub(crate) parted: u64,
     pub(crate) turned: u64,
     pub(crate) said: u64,
@@ -178,8 +179,9 @@ impl Memory {
         }
         let keys = self.keys;
         let (by_peer, by_bytes) = buckets_of(&keys, from, bytes);
+        let stream = stream_of(bytes);
         let latest = self.latest_of(from, by_peer);
-        let (parted, turned) = self.standing(latest, bytes);
+        let (parted, turned) = self.standing(latest, stream);
         let same = self.latest_same(from, bytes, by_bytes);
         let said = self.said_before(same, turned);
         let is_echo = self.is_echo(parted, said, at);
@@ -187,6 +189,7 @@ impl Memory {
             from: *from,
             at,
             bytes: Gram::of(bytes),
+            stream,
             parted,
             turned,
             said,
@@ -248,18 +251,18 @@ impl Memory {
     }
 
     // Of a peer whose latest packet this is: its last packet before its latest DISC, and its latest
-    // packet with other bytes than these.
-    fn standing(&self, latest: u64, bytes: &[u8]) -> (u64, u64)
+    // packet of another stream than this one.
+    fn standing(&self, latest: u64, stream: u16) -> (u64, u64)
         requires { IsWhole self.now }
         ensures parted { result.0 ≡ parted_at self.now.slots.items latest }
-        ensures turned { result.1 ≡ turned_at self.now.slots.items latest bytes.now }
+        ensures turned { result.1 ≡ turned_at self.now.slots.items latest stream }
     {
         if latest == 0 {
             return (0, 0);
         }
         let slot = self.slot(latest);
         let parted = if slot.left { latest } else { slot.parted };
-        let turned = if slot.bytes.bytes() == bytes {
+        let turned = if slot.stream == stream {
             slot.turned
         } else {
             latest
@@ -267,8 +270,8 @@ impl Memory {
         (parted, turned)
     }
 
-    // The latest packet of the same bytes before the peer turned to others, where `same` is the latest
-    // of all.
+    // The latest packet of the same bytes before the peer turned to another stream, where `same` is
+    // the latest of all.
     fn said_before(&self, same: u64, turned: u64) -> u64
         requires { IsWhole self.now }
         ensures { result ≡ said_at self.now.slots.items same turned }
@@ -346,6 +349,7 @@ fn blank() -> Slot
         },
         at: 0,
         bytes: Gram::of(&[]),
+        stream: 0,
         parted: 0,
         turned: 0,
         said: 0,

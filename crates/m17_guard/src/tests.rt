@@ -20,9 +20,9 @@ fn must<T, E: Drop, R: Abort>(rt: &R, made: Result<T, E>) -> T
 type Step = (u8, u64, Option<u8>, u8, bool);
 
 /// What is heard, entry by entry.
-const STEPS: [Step; 19] = [
+const STEPS: [Step; 16] = [
     (1, 0, Some(1), 7, true),
-    // what a peer repeats with nothing between
+    // what a peer repeats of its current stream
     (1, 10, Some(1), 7, true),
     (1, 20, Some(2), 7, true),
     // an echo, and one of an echo
@@ -33,10 +33,6 @@ const STEPS: [Step; 19] = [
     (1, 60, Some(1), 8, true),
     (2, 70, Some(1), 7, true),
     (2, 80, Some(2), 8, true),
-    // an echo within one stream
-    (3, 90, Some(5), 1, true),
-    (3, 91, Some(5), 2, true),
-    (3, 92, Some(5), 1, false),
     // after ten seconds
     (2, 10_070, Some(1), 7, false),
     (2, 20_071, Some(2), 8, true),

@@ -4,7 +4,7 @@ use Rattle.std.specs.List.{starts_with}
 use Rattle.std.proofs.lemmas.Bool.{eqb-true}
 use Rattle.m17_values.specs.declared.heard.Heard.{Heard}
 use Rattle.m17_values.specs.declared.heard.Heard.TheVariants.{Datagram}
-use Rattle.m17_guard.specs.Echo.{is_frame, packets, up_to, is_another, up_to_said, up_to_parted}
+use Rattle.m17_guard.specs.Echo.{is_frame, packets, stream_of, up_to, is_of_another, up_to_said, up_to_parted}
 use Rattle.m17_guard.specs.Memory.{bytes_bucket, Recalls, Agree, said_at, turned_at, parted_at}
 use Rattle.m17_guard.proofs.Recalling.{echo-is, asked-of, recalls-packet, whole-bytes}
 use Rattle.m17_guard.proofs.Standing.{facts-are}
@@ -23,9 +23,9 @@ returns-clause-echo c past recalls =
     let asked = asked-of m past recalls few in
     let from = c.args.from.now in
     let bytes = c.args.bytes.now in
-    let facts = facts-are m.slots.items m.count past from bytes
+    let facts = facts-are m.slots.items m.count past from bytes c.stream_of-stream.result
     c.latest_of-latest.result c.latest_same-same.result c.standing-parted.result.0
-    c.standing-parted.result.1 c.said_before-said.result asked
+    c.standing-parted.result.1 c.said_before-said.result asked c.stream_of-stream.ensures
     c.latest_of-latest.ensures c.latest_same-same.ensures c.standing-parted.ensures.parted
     c.standing-parted.ensures.turned c.said_before-said.ensures in
     c.is_echo-is_echo.ensures
@@ -40,17 +40,17 @@ returns-clause-recalls c past recalls =
     let asked = asked-of m past recalls few in
     let from = c.args.from.now in
     let bytes = c.args.bytes.now in
-    let facts = facts-are m.slots.items m.count past from bytes
+    let facts = facts-are m.slots.items m.count past from bytes c.stream_of-stream.result
     c.latest_of-latest.result c.latest_same-same.result c.standing-parted.result.0
-    c.standing-parted.result.1 c.said_before-said.result asked
+    c.standing-parted.result.1 c.said_before-said.result asked c.stream_of-stream.ensures
     c.latest_of-latest.ensures c.latest_same-same.ensures c.standing-parted.ensures.parted
     c.standing-parted.ensures.turned c.said_before-said.ensures in
     let eq : c.of.result ≡ bytes = c.of.ensures.first ∙ whole-bytes bytes c.requires.frame in
     subst (λ (l : List ℕ). Recalls c.put.new.self (Datagram from c.args.at l ∷ past)) eq
     (recalls-packet m c.put.new.self past _ recalls few c.requires.whole.slots c.put.ensures.put
     (ap (λ (l : List ℕ). is_frame l) eq ∙ c.requires.frame)
-    refl facts.parted
+    (c.stream_of-stream.ensures ∙ ap (λ (l : List ℕ). stream_of l) (sym eq)) refl facts.parted
     (subst (λ (l : List ℕ). Agree m.count c.standing-parted.result.1
-    (packets (up_to (is_another from l) past))) (sym eq) facts.turned)
+    (packets (up_to (is_of_another from (stream_of l)) past))) (sym eq) facts.turned)
     (subst (λ (l : List ℕ). Agree m.count c.said_before-said.result
     (packets (up_to_said from l past))) (sym eq) facts.said))
