@@ -7,17 +7,10 @@ set -e
 top=$(cd "$(dirname "$0")/.." && pwd)
 few=${FEW:-1000}
 many=${MANY:-11000}
-crates='values|fields|io|memory|ports|port_memory|callsign|crc|lsd|stream|control|samples|gate'
 work=$(mktemp -d)
 trap 'rm -rf "$work"' EXIT
-mkdir -p "$work/crates/m17_gate_bench/src"
-cp "$top/HANDLES" "$work/"
-for name in ${crates//|/ }; do
-    cp -r "$top/crates/m17_$name" "$work/crates/"
-done
+"$top/bench/copy-crates" "$work" m17_gate_bench m17_gate m17_streams m17_port_memory m17_ports m17_samples m17_stream m17_values
 cp "$top/bench/gate/main.rt.txt" "$work/crates/m17_gate_bench/src/main.rt"
-grep -E "^m17_($crates)[ :]" "$top/crates.txt" > "$work/crates.txt"
-echo 'm17_gate_bench: m17_gate m17_memory m17_port_memory m17_ports m17_samples m17_stream m17_values' >> "$work/crates.txt"
 cd "$work/crates/m17_gate_bench"
 rt run m17_gate_bench -- 10 1 10 > "$work/log" 2>&1 || { tail -20 "$work/log"; exit 1; }
 program=$work/crates/m17_gate_bench/out/m17_gate_bench

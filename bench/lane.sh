@@ -8,12 +8,8 @@ count=${COUNT:-2000000}
 rounds=${REPEAT:-3}
 work=$(mktemp -d)
 trap 'rm -rf "$work"' EXIT
-mkdir -p "$work/crates/m17_lane_bench/src"
-cp "$top/HANDLES" "$work/"
-cp -r "$top/crates/m17_values" "$top/crates/m17_lane" "$work/crates/"
+"$top/bench/copy-crates" "$work" m17_lane_bench m17_lane m17_values crossbeam_queue crossbeam_utils
 cp "$top/bench/lane/main.rt.txt" "$work/crates/m17_lane_bench/src/main.rt"
-grep -E '^m17_(values|lane)[ :]' "$top/crates.txt" > "$work/crates.txt"
-echo 'm17_lane_bench: m17_lane m17_values crossbeam_queue crossbeam_utils' >> "$work/crates.txt"
 cd "$work/crates/m17_lane_bench"
 rt run m17_lane_bench -- lane 1 1 > "$work/log" 2>&1 || { tail -20 "$work/log"; exit 1; }
 program=$work/crates/m17_lane_bench/out/m17_lane_bench

@@ -6,17 +6,10 @@ set -e
 top=$(cd "$(dirname "$0")/.." && pwd)
 few=${FEW:-100}
 many=${MANY:-1100}
-crates='values|callsign|crc|lsd|stream|control|floor|module'
 work=$(mktemp -d)
 trap 'rm -rf "$work"' EXIT
-mkdir -p "$work/crates/m17_module_bench/src"
-cp "$top/HANDLES" "$work/"
-for name in ${crates//|/ }; do
-    cp -r "$top/crates/m17_$name" "$work/crates/"
-done
+"$top/bench/copy-crates" "$work" m17_module_bench m17_module m17_control m17_stream m17_lsd m17_callsign m17_values
 cp "$top/bench/module/main.rt.txt" "$work/crates/m17_module_bench/src/main.rt"
-grep -E "^m17_($crates)[ :]" "$top/crates.txt" > "$work/crates.txt"
-echo 'm17_module_bench: m17_module m17_control m17_stream m17_lsd m17_callsign m17_values' >> "$work/crates.txt"
 cd "$work/crates/m17_module_bench"
 rt run m17_module_bench -- 4 2 10 > "$work/log" 2>&1 || { tail -20 "$work/log"; exit 1; }
 program=$work/crates/m17_module_bench/out/m17_module_bench

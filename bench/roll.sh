@@ -5,12 +5,8 @@ set -e
 here=$(CDPATH='' cd -- "$(dirname -- "$0")" && pwd)
 tree=$(mktemp -d)
 trap 'rm -rf "$tree"' EXIT
-mkdir -p "$tree/crates/roll_bench/src"
-cp -r "$here/../crates/m17_values" "$here/../crates/m17_roll" "$tree/crates/"
+"$here/copy-crates" "$tree" roll_bench m17_roll
 cp "$here/roll/main.rt.txt" "$tree/crates/roll_bench/src/main.rt"
-cp "$here/../HANDLES" "$tree/"
-grep -E '^m17_(values|roll)[ :]' "$here/../crates.txt" >"$tree/crates.txt"
-echo 'roll_bench: m17_roll' >>"$tree/crates.txt"
 cd "$tree/crates/roll_bench"
 : >stdin
 : >stdout

@@ -6,7 +6,8 @@ usage: circles.py PROGRAM [SCENE]..     all scenes, at the same time, in half a 
 
 In each scene reflectors are joined in a circle, by bridges, or as an attacker would: by CONNs that are forged in the name of
 the other one's port, for which it must be root. Somebody says streams of one frame each, which leave the floor free at once;
-others listen. No frame may be heard more often than four times, and five seconds after the last one nothing may be heard.
+others listen. Then somebody says one stream of frames that are ahead of each other in turn. No frame may be heard more often
+than four times, and five seconds after the last one nothing may be heard.
 Other scenes have what no guard may keep out: each frame is to be heard once.
 """
 
@@ -26,7 +27,7 @@ sys.path.insert(0, os.path.join(os.path.dirname(os.path.abspath(__file__)), ".."
 from make import END_BIT, address, crc, stream_packet  # noqa: E402
 
 HERE, HERE_6 = "127.0.0.1", "::1"
-MOST_TIMES = 4
+MOST_TIMES, TRIES = 4, 8
 # Seconds: until those who join and bridge are in; how long a circle has to end; how long nothing may be heard then.
 PATIENCE, REST, LISTENED = 30, 5, 2
 RUNS = 120
@@ -178,8 +179,8 @@ class Ear(threading.Thread):
         self.join()
 
 
-def is_cut(lab, talker, listeners, frames, pause):
-    """Says the frames, and whether each was heard, at most four times each, and none five seconds after the last."""
+def is_cut(lab, talker, listeners, frames, pause, most=MOST_TIMES):
+    """Says the frames, and whether each was heard, at most so many times each, and none five seconds after the last."""
     ear = Ear([talker, *listeners])
     for frame in frames:
         talker.say(frame)
@@ -190,7 +191,7 @@ def is_cut(lab, talker, listeners, frames, pause):
     for peer in listeners:
         peer.hears(0.1)
         times = max(peer.heard.values(), default=0)
-        assert peer.heard and times <= MOST_TIMES, f"of {len(frames)} frames {len(peer.heard)} were heard, one {times} times"
+        assert peer.heard and times <= most, f"{len(peer.heard)} frames were heard, one {times} times"
         peer.heard.clear()
     ear = Ear(listeners)
     time.sleep(LISTENED)
@@ -204,6 +205,18 @@ def circle(lab, ports, counts=(2, 40)):
     talker, listeners = lab.member(ports[0]), [lab.listener(port) for port in ports]
     for at, count in enumerate(counts):
         is_cut(lab, talker, listeners, streams(count, first=1 + 10_000 * at), 0.0005 if count > 1000 else 0)
+    one_stream(lab, ports[0], listeners)
+
+
+def one_stream(lab, port, listeners):
+    """By frames of one stream, of which each is ahead of the one before, and the first of the last; who says them leaves at
+    once, so that the floor is free when they come back."""
+    for at in range(TRIES):
+        talker = lab.member(port)
+        for number in (0, 10_922, 21_844):
+            talker.say(stream_packet(50_000 + at, number, "AB1CD"))
+        talker.say(b"DISC" + address("AB1CD"))
+    is_cut(lab, talker, listeners, [], 0, 2 * MOST_TIMES)
 
 
 def two(lab):

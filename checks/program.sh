@@ -249,7 +249,8 @@ check "each vector of conformance/ has its bytes and its status, a replay in one
     compared --vectors "$top/conformance/vectors" --threads
 check "words are taken or refused as conformance/words.txt says" compared --words "$top/conformance/words.txt"
 check "each part of small traces and books, and each of them with a byte changed, is read by the rule" compared --torn
+check "drawn talks, evenings, traces and books have the text that they should" compared --only judge,replay,check --cases 600
 check "evenings over 26 modules and in crowds are the same over threads" \
     compared --only replay-all-letters,replay-crowd --cases 120 --threads
 check "whole made evenings, very many peers and very long traces have their text, over threads too" \
-    compared --large --only make-evening,evening,trace-long,trace-crowded,trace-most-entries,trace-one-entry-more --threads
+    compared --large --only make-evening,evening,script,trace-long,trace-crowded,trace-most-entries,trace-one-entry-more --threads

@@ -23,8 +23,8 @@ def filled(data):
 
 
 class Guard:
-    """An echo is a stream packet that the same peer sent at most ten seconds before, byte for byte, and since then one of another
-    stream, and no DISC. The last 16,384 stream packets of the link are looked at."""
+    """An echo is a stream packet that the same peer sent at most ten seconds before, byte for byte, and since then one with other
+    bytes, and no DISC. The last 16,384 stream packets of the link are looked at."""
 
     def __init__(self):
         self.sent = {}  # by peer, the moments, numbers and bytes of its stream packets, the oldest first
@@ -39,7 +39,7 @@ class Guard:
         while sent and (moment - sent[0][0] > GUARD_MS or self.count - sent[0][1] > GUARD_FRAMES):
             sent.popleft()
         before = [place for place, (_, _, other) in enumerate(sent) if other == data]
-        is_one = bool(before) and any(other[4:6] != data[4:6] for _, _, other in list(sent)[before[0] :])
+        is_one = bool(before) and any(other != data for _, _, other in list(sent)[before[0] :])
         sent.append((moment, self.count, data))
         self.count += 1
         return is_one

@@ -26,6 +26,7 @@ import generate
 import made
 import reference
 import torn
+from draws import stream
 from files import ONE, TRACE_MAGIC, TWO, book_head
 from traces import FAULT, quiet
 
@@ -133,10 +134,10 @@ def words_case(line):
     """A status, and words that have it without any input. What `serve`, `talk` and `bridge` are told is their port."""
     status, *given = line.split(" ")
     words = [b"" if word == '""' else word.encode() for word in given]
-    said = {"2": b"words refused\n", "5": b"port failed\n"}.get(status)
-    expected = Result(int(status), said, False) if said else run_reference(words, b"")
+    expected = run_reference(words, b"")
     if expected.status != int(status):
-        expected = Result(int(status), b"as the table says", False)
+        said = {2: b"words refused\n", 5: b"port failed\n"}.get(int(status), b"what the table says")
+        expected = Result(int(status), said, False)
     return Case("words", "words", words, b"", expected, "--words %s # %s" % (options.words, line))
 
 
@@ -150,6 +151,10 @@ def changed_case(number):
 EACH_BYTE = list(breaches.with_each_byte_changed((1, 2, 0x10, 0x80)))
 
 TORN = list(torn.inputs())
+
+LETTERS = "ABCDEFGHIJKLMNOPQRSTUVWXYZ"
+
+TALK = "talk --call AB1CD --module A --bind x --to 10.0.0.9:17000".split()
 
 LARGE = {
     "judge-most": (["judge"], lambda: bytes(64000000)),
@@ -166,7 +171,12 @@ LARGE = {
     "old-book-one-byte-more": (["migrate"], lambda: bytes(67108865)),
     "old-book-most-bytes": (["migrate"], lambda: ONE.magic + b"A" + b"\t" * 67108855),
     "trace-long": (["replay", "--summary", "--places", "1"], lambda: torn.asking(2) + quiet(0) * 66000),
-    "trace-crowded": (["replay", "--summary", "--places", "256"], lambda: torn.asking(300) + quiet(0) * 10),
+    "trace-crowded": (
+        ["replay", "--summary", "--places", "256", "--modules", LETTERS],
+        lambda: torn.asking(300, LETTERS) + quiet(0) * 10,
+    ),
+    "script-most": (TALK, lambda: (bytes(8) + stream(1, 0)) * 16384),
+    "script-one-byte-more": (TALK, lambda: (bytes(8) + stream(1, 0)) * 16384 + b"\0"),
     "make-most": (["make", "1", "100000"], lambda: b""),
     "make-evening": (["make", "17", "20000"], lambda: b""),
     "evening": (["replay", "--summary"], lambda: b"".join(made.make(17, 20000))),

@@ -280,23 +280,26 @@ EVENING = trace(
 vector("replay-nothing", "replay", trace(), "A trace without entries.")
 vector("replay-made", "replay", b"".join(made.make(0, 2)), "The trace of `make 0 2`: two hotspots join.")
 vector("replay-made-summary", "replay --summary", b"".join(made.make(0, 2)), "The same, counted.")
+TURNED_AWAY = trace(
+    datagram(0, P2, lstn("N0CALL", "A")),
+    datagram(0, P2, stream(1, 0)),
+    datagram(0, P3, stream(2, 0)),
+    datagram(0, P3, conn("AB1CD", "D")),
+)
 vector(
     "replay-turned-away",
     "replay",
-    trace(
-        datagram(0, P2, lstn("N0CALL", "A")),
-        datagram(0, P2, stream(1, 0)),
-        datagram(0, P3, stream(2, 0)),
-        datagram(0, P3, conn("AB1CD", "D")),
-    ),
+    TURNED_AWAY,
     "Who joined to listen, who isn't connected, and who asks for a module that isn't served.",
 )
+vector("replay-turned-away-summary", "replay --summary", TURNED_AWAY, "The same: one NACK is said to the last.")
 vector(
     "replay-elsewhere-and-again",
     "replay --summary",
     trace(*(datagram(10 * n, P1, conn("AB1CD", module)) for n, module in enumerate("ABB"))),
     "A peer that moves and asks again gets an ACKN each time, and one DISC at the end.",
 )
+vector("replay-nothing-summary", "replay --summary", trace(), "The same, counted.")
 vector("replay-evening", "replay", EVENING, "A talker, and a listener that comes and goes.")
 vector(
     "replay-evening-summary",
@@ -381,6 +384,13 @@ vector(
     ),
     "Places are counted over all modules, a peer that moves has its own place, and what is given back is free at once.",
 )
+THIRD = trace(
+    *(datagram(0, peer, conn("AB1CD", "A")) for peer in (P1, P2, P3)),
+    datagram(0, P1, disc("AB1CD")),
+    datagram(0, P3, conn("AB1CD", "A")),
+)
+vector("replay-third", "replay --places 2", THIRD, "A third finds no place, and has one once the first has left.")
+vector("replay-third-summary", "replay --places 2 --summary", THIRD, "The same: it gets NACK, ACKN, and the DISC of the end.")
 vector(
     "replay-listener",
     "replay",
@@ -583,6 +593,25 @@ vector(
     "Of 751 frames 750 come back, and one at each event; a PONG keeps the peer meanwhile.",
 )
 vector("trace-nothing", "replay", b"", "No bytes are no trace.")
+# ---- talk, whose script is read before its port `x` is asked for
+
+TALK = "talk --call AB1CD --module A --bind x --to 10.0.0.9:17000"
+
+
+def script(*moments):
+    return b"".join(moment.to_bytes(8, "big") + stream(0x1234, index) for index, moment in enumerate(moments))
+
+
+vector("talk-nothing", TALK, b"", "A script without records.")
+vector("talk-script", TALK, script(5, 5, 6), "Each moment is no less than the one before.")
+vector("talk-falls", TALK, script(5, 4), "A moment that falls.")
+vector("talk-falls-cut", TALK, script(5, 4)[:70], "The same where the packet behind it is cut: the moment is judged at once.")
+vector("talk-cut-moment", TALK, script(5, 4)[:69], "An end inside of a moment.")
+vector("talk-cut-first", TALK, script(5)[:1], "An end inside of the first moment.")
+vector("talk-cut-packet", TALK, script(5, 5)[:123], "An end inside of a packet.")
+vector("talk-crc", TALK, script(5) + script(5)[:8] + spoiled_crc(stream(0x1234, 1)), "A packet is a field.")
+vector("talk-no-packet", TALK + " --listen --stay 5 --book b", bytes(62), "So is one of other bytes, whatever the other words.")
+
 vector("trace-cut-header", "replay", b"M17X", "A header that is cut and already wrong is cut.")
 vector("trace-wrong-header", "replay", b"M17TRACX" + FAULT, "The first byte of a header that differs.")
 vector("trace-cut-entry", "replay", trace(quiet(0), datagram(0, P1, disc()))[:-1], "A refused trace has no other line.")
@@ -675,7 +704,7 @@ the bytes of the standard output, and `NAME.status` the status with which the pr
 
 `show` reads datagrams in hex, `judge` moments, talkers and stream packets, `replay` what a link heard, and `check` what
 a module did; `inputs.txt` tells in words what the inputs of the last three hold. `serve --rules` reads rules of callsigns
-before it asks for its port `x`, which is none: `port failed` says that the text was taken. All of them are spelled out in
+before it asks for its port `x`, which is none: `port failed` says that the text was taken. So does `talk` its script. All of them are spelled out in
 `../make_vectors.py`, which writes this folder.
 
 | name | words | status | what it shows |

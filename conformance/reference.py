@@ -3,10 +3,11 @@
 
     reference.py judge|show|check|migrate|replay|make WORDS < input > output
     reference.py serve --call CALL --rules BIND < rules > output
+    reference.py talk WORDS < script > output
     reference.py bridge WORDS > output
 
-Of `serve` it has only what comes of the rules: none is refused, or `port failed`, since no BIND can be opened here. Of `bridge`
-it has the words alone; what a bridge does is in `bridges.py`.
+Of `serve` it has only what comes of the rules: none is refused, or `port failed`, since no BIND can be opened here; so it has
+of `talk` the words and the script, and of `bridge` the words; what a bridge does is in `bridges.py`.
 
 It shares no line with the reflector's own program and is there to be compared with it, so it is short and plain. The
 rules stand in `packets.py`, `reflector.py`, `files.py` and `made.py`; here are the commands and their words.
@@ -19,7 +20,7 @@ from collections import namedtuple
 
 from files import ONE, InputRefused, book_head, read_book, read_trace, value_bytes
 from made import make
-from packets import Refused, decode, encode, number, packet_text
+from packets import Refused, Stream, decode, encode, number, packet_text
 from reflector import Datagram, Floor, Link, Member, peer_text
 from rules import RulesRefused, read_rules
 
@@ -252,6 +253,33 @@ def read_bridge(rest):
         read_number(options["for"], 1, 1000000)
 
 
+def read_talk(rest):
+    needed = ("call", "module", "bind", "to")
+    options, _ = read_words(rest, needed + ("stay", "book"), ("listen",), 0)
+    if any(name not in options for name in needed) or encode(options["call"]) is None:
+        raise WordsRefused()
+    read_peer(options["to"])
+    read_number(options.get("stay", "0"), 0, 86400000)
+    if not re.fullmatch("[A-Z]", options["module"]):
+        raise WordsRefused()
+
+
+def read_script(data):
+    """Records of a moment, none below the one before, and a stream packet."""
+    before = 0
+    for index, at in enumerate(range(0, len(data), 62)):
+        if index == 16384:
+            raise InputRefused(at, "large")
+        record = data[at : at + 62]
+        if len(record) >= 8 and number(record[:8]) < before:
+            raise InputRefused(at, "field")
+        if len(record) < 62:
+            raise InputRefused(len(data), "cut")
+        before = number(record[:8])
+        if not isinstance(decode(record[8:]), Stream):
+            raise InputRefused(at + 8, "field")
+
+
 def pieces_of(words, read):
     """The pieces of output that the words ask for, one by one; `read()` gives the input."""
     if not words:
@@ -275,6 +303,10 @@ def pieces_of(words, read):
             raise WordsRefused()
         if "rules" in options:
             read_rules(read())
+        raise PortFailed()
+    if command == "talk":
+        read_talk(rest)
+        read_script(read())
         raise PortFailed()
     if command == "bridge":
         read_bridge(rest)

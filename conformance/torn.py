@@ -45,9 +45,10 @@ def old(data):
     return ONE.magic + data[8:9] + data[9 + TWO.limit_bytes :]
 
 
-def asking(peers):
-    """A trace in which so many peers ask for module A at once, each with another port."""
-    return TRACE_MAGIC + b"".join(datagram(0, (False, bytes(4), port), JOIN) for port in range(peers))
+def asking(peers, modules="A"):
+    """A trace in which so many peers ask at once, each with another port, for one module after another."""
+    calls = [named("CONN", encode("AB1CD"), modules[port % len(modules)]) for port in range(peers)]
+    return TRACE_MAGIC + b"".join(datagram(0, (False, bytes(4), port), call) for port, call in enumerate(calls))
 
 
 def changed(data, at, byte):

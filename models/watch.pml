@@ -1,4 +1,4 @@
-/* The watch of a board, and its Quit. Of crates/m17_board_watch/src: watch.rt (watch, look_at,
+/* The watch of a board, and its Quit. Of crates/m17_board/src: watch.rt (watch, look_at,
    write_line, hears_quit) and ending.rt (end).
 
    A worker posts POSTS records, and each post waits while a look has the cell. The watch looks,

@@ -7,25 +7,27 @@ use Rattle.m17_ports.specs.Ports.{PortsTold}
 use Rattle.m17_print.specs.declared.ending.Ending.{Ending}
 use Rattle.m17_print.specs.declared.ending.Ending.TheVariants as ways
 use Rattle.m17_print.specs.declared.ending.NoReason.{NoReason}
-use Rattle.m17_bridge.specs.declared.crossing.BridgeEnd.{BridgeEnd}
-use Rattle.m17_bridge.specs.declared.side.Side.{Side}
-use Rattle.m17_bridge.specs.declared.side.Side.TheVariants.{Near, Far}
-use Rattle.m17_bridge.specs.Sides.{of}
-use Rattle.m17_bridge.specs.CrossRun.{IsLost}
-use Rattle.m17_bridge.specs.CrossDevices.{DevicesTold}
+use Rattle.m17_client.specs.declared.crossing.BridgeEnd.{BridgeEnd}
+use Rattle.m17_client.specs.declared.side.Side.{Side}
+use Rattle.m17_client.specs.declared.side.Side.TheVariants.{Near, Far}
+use Rattle.m17_client.specs.Sides.{of}
+use Rattle.m17_client.specs.CrossRun.{IsLost}
+use Rattle.m17_client.specs.CrossDevices.{DevicesTold}
+use Rattle.m17_decorators.specs.declared.guarded.GuardLabel.{GuardLabel}
 use Rattle.m17_words.specs.declared.order.BridgeOrder.{BridgeOrder}
-use Rattle.m17_bridge_command.specs.declared.ending.BridgeEnding.{BridgeEnding}
-use Rattle.m17_bridge_command.specs.declared.ending.BridgeEnding.TheVariants as endings
-use Rattle.m17_bridge_command.specs.Endings.{bridge_ending}
-use Rattle.m17_bridge_command.specs.Bridged.{bridge_line, ending_of, failed_device, AreNew, Bridges, ComesToBridge, EndsBridge, Handed}
+use Rattle.m17_client_commands.specs.declared.bridge_command_ending.BridgeEnding.{BridgeEnding}
+use Rattle.m17_client_commands.specs.declared.bridge_command_ending.BridgeEnding.TheVariants as endings
+use Rattle.m17_client_commands.specs.BridgeCommandEndings.{bridge_ending}
+use Rattle.m17_client_commands.specs.Bridged.{bridge_line, ending_of, failed_device, AreNew, Bridges, ComesToBridge, EndsBridge, Handed}
 use Rattle.m17_app.specs.declared.status.Status.{Status}
 use Rattle.m17_app.specs.declared.status.Status.TheVariants.{WriteFailed, PortFailed, CrewRefused, LinkLost, NoMemory}
-use Rattle.m17_app.specs.Bridge.{bridge_last_line, bridge_status, bridge_terms, CutsBridge, RanBridge, TellsBridge}
+use Rattle.m17_app.specs.Bridge.{bridge_last_line, bridge_status, bridge_terms, AreGuarded, CutsBridge, RanBridge, TellsBridge}
 use Rattle.m17_app.specs.Status.{Beside, HasCause, Streams, RoseBy, WritesLast, beside, count_from}
 use Rattle.m17_app.specs.Terms.{RunsCommand}
 use Rattle.m17_app.specs.Written.{LeavesInput}
 use Rattle.m17_app.proofs.Statuses.{Told, is_write_failed, own_status}
 use Rattle.m17_app.proofs.Causes.{cause_from, counts, memory_cause, runs_by, stays}
+use Rattle.m17_app.proofs.BothGuards.{none_guarded}
 use Rattle.m17_app.proofs.Written.{adds_after, adds_part_after, part_longer, same_written}
 
 -- what an ending tells of the streams
@@ -138,16 +140,18 @@ module _ {E M : Type 0} where
   abbrev IsSmooth : BridgeOrder → Handed E M → Type 0
   IsSmooth order run = (end : BridgeEnd) (bridges : Bridges order end run) → ¬ IsLost bridges.crossed.turns
 
-  loses_none : (order : BridgeOrder) (run : Handed E M) (before after : Streams) → LeavesInput before after × TellsBridge order run LinkLost before after → IsSmooth order run → ⊥
-  loses_none order run before after (input, ran) smooth =
+module _ {E M : Type 0} where
+  loses_none : (order : BridgeOrder) (run : Handed (GuardLabel E) M) (before after : Streams)
+      → LeavesInput before after × AreGuarded run × TellsBridge order run LinkLost before after → IsSmooth order run → ⊥
+  loses_none order run before after (input, guarded, ran) smooth =
       smooth ran.end ran.bridges (ran.bridges.crossed.is_end.lost.0 (lost_flag ran.end.lost (sym ran.status_is)))
 
   -- the whole run
-  pub ran : (order : BridgeOrder) (ending : BridgeEnding) (status : Status) (before mid after : Streams) (run : Handed E M) (crew : ℕ) → mid.source ≡ before.source
-      → ComesToBridge order ending run before.sink.written mid.sink.written → HasCauses (counts before) (counts mid) (failed_device ending)
+  pub ran : (order : BridgeOrder) (ending : BridgeEnding) (status : Status) (before mid after : Streams) (run : Handed (GuardLabel E) M) (crew : ℕ) → mid.source ≡ before.source
+      → ComesToBridge order ending run before.sink.written mid.sink.written → AreGuarded run → HasCauses (counts before) (counts mid) (failed_device ending)
       → WritesLast (bridge_last_line ending) (bridge_status ending) status mid after
       → RunsCommand (bridge_terms order run) status before after (beside (count_from run.before.faults run.after.faults) (count_from crew crew))
-  ran order ending status before mid after run crew same came causes last =
+  ran order ending status before mid after run crew same came guarded causes last =
       let own : Status = bridge_status ending in
       let others : Beside = beside (count_from run.before.faults run.after.faults) (count_from crew crew) in
       let cause : HasCause status before after others = cause_from own (failed_device ending) (bridge_last_line ending) status before mid after others (told ending) causes last
@@ -159,13 +163,13 @@ module _ {E M : Type 0} where
             subst (λ (s : Status). TellsBridge order run s before after) (sym its)
             (own_tells order ending before mid after run (λ e. other (its ∙ e)) (last.whole other) came)
       ] in
-      runs_by (bridge_terms order run) status before after others cause ((last.input_untouched ∙ same), tells) (λ t _. t.1) (λ t. t.1)
-      (loses_none order run before after) (λ t _. t.1)
+      runs_by (bridge_terms order run) status before after others cause ((last.input_untouched ∙ same), guarded, tells) (λ t _. t.2) (λ t. t.2)
+      (loses_none order run before after) (λ t _. t.2)
 
   -- there was no memory
-  pub no_run : (order : BridgeOrder) (both : Streams) (run : Handed E M) (crew : ℕ) → run.after ≡ run.before → run.devices ≡ None
+  pub no_run : (order : BridgeOrder) (both : Streams) (run : Handed (GuardLabel E) M) (crew : ℕ) → run.after ≡ run.before → run.devices ≡ None
       → RunsCommand (bridge_terms order run) NoMemory both both (beside (count_from run.before.faults run.after.faults) (count_from crew crew))
   no_run order both run crew ports none =
       let others : Beside = beside (count_from run.before.faults run.after.faults) (count_from crew crew) in
       runs_by (bridge_terms order run) NoMemory both both others (memory_cause both both others refl refl (ap (λ (p : PortsTold). p.faults) ports) refl)
-      (refl, (ports, none, refl)) (λ t _. t.1) (λ t. t.1) (loses_none order run both both) (λ t _. t.1)
+      (refl, none_guarded run.devices none, (ports, none, refl)) (λ t _. t.2) (λ t. t.2) (loses_none order run both both) (λ t _. t.2)

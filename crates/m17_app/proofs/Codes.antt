@@ -77,7 +77,7 @@ module _ {E M B : Type 0} where
   not_words (Replay call modules parrots places summary limit threads) before after run tells = tells
   not_words (Talk order) before after run tells = tells
   not_words (Serve order) before after run tells = tells
-  not_words (Bridge order) before after run tells = tells.1
+  not_words (Bridge order) before after run tells = tells.2
 
   pub not_two : (command : Command) (status : Status) (before after : Streams) (run : Doing E M B) → Runs command status before after run → code_of status ≢ 2
   not_two command status before after run runs two =
@@ -93,7 +93,7 @@ module _ {E M B : Type 0} where
   no_start (Replay call modules parrots places summary limit threads) before after run none tells = none tells.0
   no_start (Talk order) before after run none tells = tells
   no_start (Serve order) before after run none tells = none tt
-  no_start (Bridge order) before after run none tells = tells.1
+  no_start (Bridge order) before after run none tells = tells.2
 
   pub not_six : (words : List (List ℕ)) (code : ℕ) (before after : Streams) (run : Doing E M B) → Tells code (λ status. RunsWords words status before after run)
       → code ≡ 6 → NameNoThreads words → ⊥

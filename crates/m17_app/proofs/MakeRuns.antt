@@ -4,7 +4,7 @@ use Rattle.std.proofs.lemmas.List.{append-nil, take_all}
 use Rattle.m17_io.specs.Faults.{HasRisen, HasCauses}
 use Rattle.m17_io.specs.Sink.{AppendsPrefix}
 use Rattle.m17_io.specs.Source.{SourceTold}
-use Rattle.m17_make.specs.Make.{make_text}
+use Rattle.m17_text_commands.specs.Make.{make_text}
 use Rattle.m17_print.specs.Endings.{words_refused_line}
 use Rattle.m17_app.specs.declared.status.Status.{Status}
 use Rattle.m17_app.specs.declared.status.Status.TheVariants.{Finished, WordsRefused, WriteFailed, PortFailed, CrewRefused}

@@ -32,7 +32,7 @@ use Rattle.m17_board_run.specs.Boarded.{ShowLines}
 use Rattle.m17_reflect.specs.declared.returned.HouseRefusal.TheVariants as refusals
 use Rattle.m17_reflect.specs.Links.{Link}
 use Rattle.m17_reflect.specs.Run.{Handed}
-use Rattle.m17_pace.specs.Paced.{PacesSeen, places_at}
+use Rattle.m17_decorators.specs.Paced.{PacesSeen, places_at}
 use Rattle.m17_words.specs.declared.order.ServeOrder.{ServeOrder}
 use Rattle.m17_serve.specs.declared.served.ServeEnding.{ServeEnding}
 use Rattle.m17_serve.specs.declared.served.ServeEnding.TheVariants as endings

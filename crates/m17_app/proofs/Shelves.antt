@@ -11,7 +11,7 @@ use Rattle.m17_app.specs.Fitted.{EarBehind, MouthBehind, behind_told, mouth_told
 use Rattle.m17_reflect.specs.declared.returned.Refused.{Refused}
 use Rattle.m17_reflect.specs.declared.returned.Returned.{Returned}
 use Rattle.m17_serve.specs.Devices.{house_back, refused_back, told_of_shelf}
-use Rattle.m17_talk.specs.Devices.{devices_told}
+use Rattle.m17_client_commands.specs.Devices.{devices_told}
 use Rattle.m17_app.specs.declared.done.Done.{Done}
 use Rattle.m17_app.specs.Started.{AreOfShelves, IsOfShelf}
 

@@ -8,16 +8,16 @@ use Rattle.m17_print.specs.declared.ending.Ending.{Ending}
 use Rattle.m17_print.specs.declared.ending.Ending.TheVariants as ways
 use Rattle.m17_client.specs.declared.talking.TalkEnd.{TalkEnd}
 use Rattle.m17_words.specs.declared.order.TalkOrder.{TalkOrder}
-use Rattle.m17_talk.specs.declared.ending.TalkEnding.{TalkEnding}
-use Rattle.m17_talk.specs.declared.ending.TalkEnding.TheVariants as endings
+use Rattle.m17_client_commands.specs.declared.talk_ending.TalkEnding.{TalkEnding}
+use Rattle.m17_client_commands.specs.declared.talk_ending.TalkEnding.TheVariants as endings
 use Rattle.m17_ports.specs.Ports.{PortsTold}
-use Rattle.m17_talk.specs.Devices.{DevicesTold}
-use Rattle.m17_talk.specs.declared.reason.ScriptReason.{ScriptReason}
-use Rattle.m17_talk.specs.Endings.{talk_ending}
-use Rattle.m17_talk.specs.Laws.{ScriptsAreExact}
-use Rattle.m17_talk.specs.Script.{Due, IsScript}
-use Rattle.m17_talk.specs.Talked.{ending_of, talk_line, failed_device, AsksNothing, ComesToTalk, EndsTalk, Handed, HasRun, Talks}
-use Rattle.m17_talk.specs.Talked as talked
+use Rattle.m17_client_commands.specs.Devices.{DevicesTold}
+use Rattle.m17_client_commands.specs.declared.reason.ScriptReason.{ScriptReason}
+use Rattle.m17_client_commands.specs.TalkEndings.{talk_ending}
+use Rattle.m17_client_commands.specs.Laws.{ScriptsAreExact}
+use Rattle.m17_client_commands.specs.Script.{Due, IsScript}
+use Rattle.m17_client_commands.specs.Talked.{ending_of, talk_line, failed_device, AsksNothing, ComesToTalk, EndsTalk, Handed, HasRun, Talks}
+use Rattle.m17_client_commands.specs.Talked as talked
 use Rattle.m17_app.specs.declared.status.Status.{Status}
 use Rattle.m17_app.specs.declared.status.Status.TheVariants.{InputRefused, WriteFailed, PortFailed, CrewRefused, LinkLost, BookFailed, NoMemory}
 use Rattle.m17_app.specs.Status.{Beside, HasCause, Streams, RoseBy, WritesLast, beside, count_from}

@@ -3,27 +3,27 @@ use Rattle.std.proofs.Common.{◌≡◌, ◌≢◌, ℕ, List, [], ◌++◌, Opt
 use Rattle.std.proofs.lemmas.List.{append-nil}
 use Rattle.m17_io.specs.Faults.{HasCauses}
 use Rattle.m17_book.specs.declared.record.Record.{Record}
-use Rattle.m17_check.specs.Check.{IsCheckText, IsLegalInput, PrintsCheck, SaysCheck}
-use Rattle.m17_check.specs.Laws.{LegalIsNotRefused}
-use Rattle.m17_check.specs.Reasons.{check_reason_words}
-use Rattle.m17_check.specs.declared.reason.CheckReason.{CheckReason}
+use Rattle.m17_text_commands.specs.Check.{IsCheckText, IsLegalInput, PrintsCheck, SaysCheck}
+use Rattle.m17_text_commands.specs.CheckLaws.{LegalIsNotRefused}
+use Rattle.m17_text_commands.specs.CheckReasons.{check_reason_words}
+use Rattle.m17_text_commands.specs.declared.check_reason.CheckReason.{CheckReason}
 use Rattle.m17_book.specs.Laws.{BookKept, BooksAreExact}
 use Rattle.m17_book.specs.Versions.{header_of}
 use Rattle.m17_book.specs.declared.version.Version.TheVariants.{One}
-use Rattle.m17_judge.specs.Judge.{IsJudgeText, IsTextOfRecords, PrintsJudge, SaysJudge}
-use Rattle.m17_judge.specs.Reasons.{judge_reason_words}
-use Rattle.m17_judge.specs.Records.{AreRecords, RefusesRecords}
-use Rattle.m17_judge.specs.declared.reason.JudgeReason.{JudgeReason}
-use Rattle.m17_judge.specs.declared.reason.JudgeReason.TheVariants.{Cut, Large}
-use Rattle.m17_migrate.specs.Migrate.{IsMigrated, IsOldBook, PrintsMigrate, SaysMigrate}
-use Rattle.m17_migrate.specs.Reasons.{migrate_reason_words, refusal_told}
-use Rattle.m17_migrate.specs.declared.reason.MigrateReason.{MigrateReason}
+use Rattle.m17_text_commands.specs.Judge.{IsJudgeText, IsTextOfRecords, PrintsJudge, SaysJudge}
+use Rattle.m17_text_commands.specs.JudgeReasons.{judge_reason_words}
+use Rattle.m17_text_commands.specs.Records.{AreRecords, RefusesRecords}
+use Rattle.m17_text_commands.specs.declared.judge_reason.JudgeReason.{JudgeReason}
+use Rattle.m17_text_commands.specs.declared.judge_reason.JudgeReason.TheVariants.{Cut, Large}
+use Rattle.m17_text_commands.specs.Migrate.{IsMigrated, IsOldBook, PrintsMigrate, SaysMigrate}
+use Rattle.m17_text_commands.specs.MigrateReasons.{migrate_reason_words, refusal_told}
+use Rattle.m17_text_commands.specs.declared.migrate_reason.MigrateReason.{MigrateReason}
 use Rattle.m17_print.specs.Endings.{failed_device, input_refused_line, text_ending, Comes, Grows}
 use Rattle.m17_print.specs.declared.ending.TextEnding.{TextEnding}
 use Rattle.m17_print.specs.declared.ending.TextEnding.TheVariants as endings
-use Rattle.m17_show.specs.Reasons.{show_reason_words}
-use Rattle.m17_show.specs.Show.{IsShowText, IsTextOfFirst, PrintsShow, SaysShow}
-use Rattle.m17_show.specs.declared.reason.ShowReason.{ShowReason}
+use Rattle.m17_text_commands.specs.ShowReasons.{show_reason_words}
+use Rattle.m17_text_commands.specs.Show.{IsShowText, IsTextOfFirst, PrintsShow, SaysShow}
+use Rattle.m17_text_commands.specs.declared.show_reason.ShowReason.{ShowReason}
 use Rattle.m17_app.specs.declared.status.Status.{Status}
 use Rattle.m17_app.specs.declared.status.Status.TheVariants.{InputRefused, WriteFailed, PortFailed, CrewRefused, NoMemory}
 use Rattle.m17_app.specs.Status.{Beside, HasCause, Streams, WritesLast, beside, count_from, status_of}

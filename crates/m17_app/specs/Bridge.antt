@@ -1,15 +1,16 @@
 -- What a run of `bridge` promises. It reads nothing, and takes memory for the guards of its links alone.
-use Rattle.std.specs.Prelude.{◌≡◌, ◌⊎◌, ℕ, ◌<◌, List, ◌++◌, None, Some}
+use Rattle.std.specs.Prelude.{◌≡◌, ◌⊎◌, ℕ, ◌<◌, List, ◌++◌, None, Some, true}
 use Rattle.m17_print.specs.Endings.{last_line, port_failed_line}
-use Rattle.m17_bridge.specs.declared.crossing.BridgeEnd.{BridgeEnd}
-use Rattle.m17_bridge.specs.declared.side.Side.{Side}
-use Rattle.m17_bridge.specs.Sides.{of}
-use Rattle.m17_bridge.specs.CrossRun.{IsLost}
-use Rattle.m17_bridge.specs.CrossDevices.{DevicesTold}
+use Rattle.m17_client.specs.declared.crossing.BridgeEnd.{BridgeEnd}
+use Rattle.m17_client.specs.declared.side.Side.{Side}
+use Rattle.m17_client.specs.Sides.{of}
+use Rattle.m17_client.specs.CrossRun.{IsLost}
+use Rattle.m17_client.specs.CrossDevices.{DevicesTold}
+use Rattle.m17_decorators.specs.declared.guarded.GuardLabel.{GuardLabel}
 use Rattle.m17_words.specs.declared.order.BridgeOrder.{BridgeOrder}
-use Rattle.m17_bridge_command.specs.declared.ending.BridgeEnding.{BridgeEnding}
-use Rattle.m17_bridge_command.specs.Endings.{bridge_ending}
-use Rattle.m17_bridge_command.specs.Bridged.{bridge_line, ending_of, Bridges, FailsAtPort, Handed}
+use Rattle.m17_client_commands.specs.declared.bridge_command_ending.BridgeEnding.{BridgeEnding}
+use Rattle.m17_client_commands.specs.BridgeCommandEndings.{bridge_ending}
+use Rattle.m17_client_commands.specs.Bridged.{bridge_line, ending_of, Bridges, FailsAtPort, Handed}
 use Rattle.m17_app.specs.declared.status.Status.{Status}
 use Rattle.m17_app.specs.declared.status.Status.TheVariants.{Finished, WriteFailed, PortFailed, LinkLost, NoMemory}
 use Rattle.m17_app.specs.Serve.{no_words}
@@ -60,11 +61,17 @@ module _ {E M : Type 0} where
       × (run.devices ≡ None) × (after ≡ before)
   TellsBridge order run _ before after = ⊥
 
-  -- its terms: it takes any input, and reads nothing of it; and nothing else stood against it where no ear's list ended in
-  -- 16 Faults
-  abbrev pub bridge_terms : BridgeOrder → Handed E M → Terms
+module _ {E M : Type 0} where
+  -- Of each ear that comes back the label says that its guard is on, so it has heard no echo.
+  abbrev pub AreGuarded : Handed (GuardLabel E) M → Type 0
+  AreGuarded run = (back : DevicesTold (GuardLabel E) M) → run.devices ≡ Some back
+      → (side : Side) → (of side back.ears).device.label.is_on ≡ true
+
+  -- its terms: it takes any input, and reads nothing of it; the guards of its ears are on; and nothing else stood against it
+  -- where no ear's list ended in 16 Faults
+  abbrev pub bridge_terms : BridgeOrder → Handed (GuardLabel E) M → Terms
   bridge_terms order run = record {
-    tells = λ status before after. LeavesInput before after
+    tells = λ status before after. LeavesInput before after × AreGuarded run
         × TellsBridge order run status before after;
     takes = λ left. Unit {0};
     untroubled = λ left. (end : BridgeEnd) (bridges : Bridges order end run)

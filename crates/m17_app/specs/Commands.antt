@@ -19,7 +19,7 @@ use Rattle.m17_app.specs.Talk.{talk_terms}
 use Rattle.m17_app.specs.Terms.{RunsCommand, Terms}
 use Rattle.m17_app.specs.Text.{check_command, judge_command, migrate_command, show_command, text_terms}
 use Rattle.m17_serve.specs.Served.{IsServable}
-use Rattle.m17_bridge_command.specs.Bridged.{IsBridgeable}
+use Rattle.m17_client_commands.specs.Bridged.{IsBridgeable}
 
 -- the plan of a replay: patient, and with no tapes
 abbrev pub replay_plan : ℕ → Modules → Modules → ℕ → ℕ → Plan

@@ -5,15 +5,15 @@ use Rattle.m17_ports.specs.Book.{BookTold}
 use Rattle.m17_ports.specs.Ear.{EarTold}
 use Rattle.m17_ports.specs.Mouth.{MouthTold}
 use Rattle.m17_ports.specs.Ports.{PortsTold}
-use Rattle.m17_guard.specs.Guarded.{guard_told}
-use Rattle.m17_guard.specs.declared.guarded.GuardLabel.{GuardLabel}
+use Rattle.m17_decorators.specs.Guarded.{guard_told}
+use Rattle.m17_decorators.specs.declared.guarded.GuardLabel.{GuardLabel}
 use Rattle.m17_reflect.specs.declared.returned.HouseRefusal.{HouseRefusal}
 use Rattle.m17_reflect.specs.Run as reflect
 use Rattle.m17_serve.specs.Devices.{house_back, refused_back, told_of_shelf}
-use Rattle.m17_talk.specs.Devices.{DevicesTold, devices_told}
-use Rattle.m17_talk.specs.Talked.{Handed, handed}
-use Rattle.m17_bridge.specs.CrossDevices as bridge
-use Rattle.m17_bridge_command.specs.Bridged as bridged
+use Rattle.m17_client_commands.specs.Devices.{DevicesTold, devices_told}
+use Rattle.m17_client_commands.specs.Talked.{Handed, handed}
+use Rattle.m17_client.specs.CrossDevices as bridge
+use Rattle.m17_client_commands.specs.Bridged as bridged
 use Rattle.m17_app.specs.declared.done.Done.{Done}
 use Rattle.m17_app.specs.declared.done.Ended.{Ended}
 use Rattle.m17_app.specs.Fitted.{DevicesBack, ServeRun, behind_told, mouth_told}

@@ -2,17 +2,17 @@
 use Rattle.std.specs.Prelude.{◌≡◌, ℕ, ◌<◌, Bool, List, Option, All, nat_lt, vec_len, if◌then◌else◌}
 use Rattle.m17_ports.specs.Ear.{EarTold}
 use Rattle.m17_ports.specs.Mouth.{MouthTold}
-use Rattle.m17_fill.specs.Filling.{FillingSeen, fill_told}
-use Rattle.m17_fill.specs.declared.filling.FillLabel.{FillLabel}
+use Rattle.m17_decorators.specs.Filling.{FillingSeen, fill_told}
+use Rattle.m17_decorators.specs.declared.filling.FillLabel.{FillLabel}
 use Rattle.m17_gate.specs.Gated.{GateSeen, gate_told}
 use Rattle.m17_gate.specs.Links.{rules_at}
 use Rattle.m17_gate.specs.declared.gate.GateLabel.{GateLabel}
 use Rattle.m17_gate.specs.declared.rule.Rule.{Rule}
-use Rattle.m17_guard.specs.Guarded.{GuardSeen, guard_told}
-use Rattle.m17_guard.specs.declared.guarded.GuardLabel.{GuardLabel}
-use Rattle.m17_pace.specs.Paced.{PaceSeen, PacesSeen, pace_told, places_at}
-use Rattle.m17_pace.specs.declared.clock.PaceClock.{PaceClock}
-use Rattle.m17_pace.specs.declared.paced.PaceLabel.{PaceLabel}
+use Rattle.m17_decorators.specs.Guarded.{GuardSeen, guard_told}
+use Rattle.m17_decorators.specs.declared.guarded.GuardLabel.{GuardLabel}
+use Rattle.m17_decorators.specs.Paced.{PaceSeen, PacesSeen, pace_told, places_at}
+use Rattle.m17_decorators.specs.declared.clock.PaceClock.{PaceClock}
+use Rattle.m17_decorators.specs.declared.paced.PaceLabel.{PaceLabel}
 use Rattle.m17_reflect.specs.Run.{Devices}
 use Rattle.m17_serve.specs.Served.{Around}
 use Rattle.m17_words.specs.declared.order.ServeOrder.{ServeOrder}

@@ -1,6 +1,6 @@
 -- What a run of `make` promises. It reads nothing, and takes no memory.
 use Rattle.std.specs.Prelude.{ℕ}
-use Rattle.m17_make.specs.Make.{make_text}
+use Rattle.m17_text_commands.specs.Make.{make_text}
 use Rattle.m17_app.specs.declared.status.Status.{Status}
 use Rattle.m17_app.specs.declared.status.Status.TheVariants.{Finished, WriteFailed}
 use Rattle.m17_app.specs.Status.{Streams}

@@ -8,9 +8,9 @@ use Rattle.m17_reflect.specs.declared.returned.HouseRefusal.{HouseRefusal}
 use Rattle.m17_reflect.specs.Run as reflect
 use Rattle.m17_ports.specs.Book.{BookTold, shelf_told}
 use Rattle.m17_ports.specs.Ports.{PortsTold}
-use Rattle.m17_talk.specs.Devices.{DevicesTold}
-use Rattle.m17_bridge.specs.CrossDevices as bridge
-use Rattle.m17_guard.specs.declared.guarded.GuardLabel.{GuardLabel}
+use Rattle.m17_client_commands.specs.Devices.{DevicesTold}
+use Rattle.m17_client.specs.CrossDevices as bridge
+use Rattle.m17_decorators.specs.declared.guarded.GuardLabel.{GuardLabel}
 use Rattle.m17_app.specs.declared.status.Status.{Status}
 use Rattle.m17_app.specs.declared.status.Status.TheVariants.{NoMemory}
 use Rattle.m17_app.specs.Commands.{RunsWords}

@@ -5,14 +5,14 @@ use Rattle.m17_print.specs.Endings.{input_refused_line, last_line, port_failed_l
 use Rattle.m17_client.specs.declared.talking.TalkEnd.{TalkEnd}
 use Rattle.m17_client.specs.Talk.{IsLost}
 use Rattle.m17_words.specs.declared.order.TalkOrder.{TalkOrder}
-use Rattle.m17_talk.specs.declared.ending.TalkEnding.{TalkEnding}
-use Rattle.m17_talk.specs.declared.reason.ScriptReason.{ScriptReason}
-use Rattle.m17_talk.specs.Devices.{DevicesTold}
-use Rattle.m17_talk.specs.Endings.{talk_ending}
-use Rattle.m17_talk.specs.Reasons.{script_reason_words}
-use Rattle.m17_talk.specs.Script.{Due, IsScript, RefusesScript}
-use Rattle.m17_talk.specs.Talked.{ending_of, talk_line, AsksNothing, FailsAtPort, Handed, HasRead, HasRun, Talks}
-use Rattle.m17_talk.specs.Talked as talked
+use Rattle.m17_client_commands.specs.declared.talk_ending.TalkEnding.{TalkEnding}
+use Rattle.m17_client_commands.specs.declared.reason.ScriptReason.{ScriptReason}
+use Rattle.m17_client_commands.specs.Devices.{DevicesTold}
+use Rattle.m17_client_commands.specs.TalkEndings.{talk_ending}
+use Rattle.m17_client_commands.specs.Reasons.{script_reason_words}
+use Rattle.m17_client_commands.specs.Script.{Due, IsScript, RefusesScript}
+use Rattle.m17_client_commands.specs.Talked.{ending_of, talk_line, AsksNothing, FailsAtPort, Handed, HasRead, HasRun, Talks}
+use Rattle.m17_client_commands.specs.Talked as talked
 use Rattle.m17_app.specs.declared.status.Status.{Status}
 use Rattle.m17_app.specs.declared.status.Status.TheVariants.{Finished, InputRefused, ReadFailed, WriteFailed, PortFailed, LinkLost, BookFailed, NoMemory}
 use Rattle.m17_app.specs.Status.{Streams, status_of}

@@ -4,23 +4,23 @@ use Rattle.m17_io.specs.Faults.{HasRisen}
 use Rattle.m17_book.specs.Book.{RefusesBook}
 use Rattle.m17_book.specs.declared.record.Record.{Record}
 use Rattle.m17_book.specs.declared.version.Version.TheVariants.{One}
-use Rattle.m17_check.specs.Check.{IsCheckText, IsLegalInput, PrintsCheck, SaysCheck}
-use Rattle.m17_check.specs.Reasons.{check_reason_words}
-use Rattle.m17_check.specs.declared.reason.CheckReason.{CheckReason}
-use Rattle.m17_judge.specs.Judge.{IsJudgeText, PrintsJudge, SaysJudge}
-use Rattle.m17_judge.specs.Reasons.{judge_reason_words}
-use Rattle.m17_judge.specs.Records.{AreRecords}
-use Rattle.m17_judge.specs.declared.reason.JudgeReason.{JudgeReason}
-use Rattle.m17_migrate.specs.Migrate.{IsMigrated, IsOldBook, PrintsMigrate, SaysMigrate}
-use Rattle.m17_migrate.specs.Reasons.{migrate_reason_words, refusal_told}
-use Rattle.m17_migrate.specs.declared.reason.MigrateReason.{MigrateReason}
+use Rattle.m17_text_commands.specs.Check.{IsCheckText, IsLegalInput, PrintsCheck, SaysCheck}
+use Rattle.m17_text_commands.specs.CheckReasons.{check_reason_words}
+use Rattle.m17_text_commands.specs.declared.check_reason.CheckReason.{CheckReason}
+use Rattle.m17_text_commands.specs.Judge.{IsJudgeText, PrintsJudge, SaysJudge}
+use Rattle.m17_text_commands.specs.JudgeReasons.{judge_reason_words}
+use Rattle.m17_text_commands.specs.Records.{AreRecords}
+use Rattle.m17_text_commands.specs.declared.judge_reason.JudgeReason.{JudgeReason}
+use Rattle.m17_text_commands.specs.Migrate.{IsMigrated, IsOldBook, PrintsMigrate, SaysMigrate}
+use Rattle.m17_text_commands.specs.MigrateReasons.{migrate_reason_words, refusal_told}
+use Rattle.m17_text_commands.specs.declared.migrate_reason.MigrateReason.{MigrateReason}
 use Rattle.m17_print.specs.Endings.{input_refused_line, last_line, text_ending}
 use Rattle.m17_print.specs.declared.ending.TextEnding.{TextEnding}
 use Rattle.m17_print.specs.declared.ending.TextEnding.TheVariants as endings
-use Rattle.m17_show.specs.Lines.{RefusesLine}
-use Rattle.m17_show.specs.Reasons.{show_reason_words}
-use Rattle.m17_show.specs.Show.{IsShowText, PrintsShow, SaysShow}
-use Rattle.m17_show.specs.declared.reason.ShowReason.{ShowReason}
+use Rattle.m17_text_commands.specs.Lines.{RefusesLine}
+use Rattle.m17_text_commands.specs.ShowReasons.{show_reason_words}
+use Rattle.m17_text_commands.specs.Show.{IsShowText, PrintsShow, SaysShow}
+use Rattle.m17_text_commands.specs.declared.show_reason.ShowReason.{ShowReason}
 use Rattle.m17_app.specs.declared.status.Status.{Status}
 use Rattle.m17_app.specs.declared.status.Status.TheVariants.{Finished, InputRefused, ReadFailed, WriteFailed, NoMemory}
 use Rattle.m17_app.specs.Status.{Streams}

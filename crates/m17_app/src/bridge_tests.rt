@@ -2,11 +2,12 @@
 use crate::done::Done;
 use crate::talk_tests::{came, faults};
 use crate::tests::{must, run_over, sink_that};
-use m17_devices::{
-    BytesSource, Gram, Heard, ListBook, ListMouth, Peer, ScriptEar, ScriptPorts, StdCrew,
-};
+use m17_crew::StdCrew;
+use m17_port_memory::{ListBook, ListMouth, ScriptEar, ScriptPorts};
 use m17_samples::frame;
 use m17_stream::write;
+use m17_streams::BytesSource;
+use m17_values::{Gram, Heard, Peer};
 use std::alloc::Global;
 use std::process::Abort;
 use std::sync::Wait;
@@ -45,6 +46,10 @@ enum Ear {
     Answers,
     // It is refused.
     Refused,
+    // A packet of another peer comes, and a fault; then it is acknowledged, and another peer lets it go.
+    Others,
+    // Fifteen faults, a quiet moment, and sixteen more.
+    Parted,
     // So many quiet moments.
     Quiet(usize),
     // So many faults.
@@ -77,6 +82,23 @@ fn heard_by(rt: &impl Abort, alloc: Global, number: u8, ear: Ear) -> Vec<Heard> 
             rt,
             Vec::from_array(alloc, [start, came(10, number, b"NACK")]),
         ),
+        Ear::Others => {
+            let first = came(0, 5, &write(&frame(5, 0, false)));
+            let heard = [
+                first,
+                Heard::Fault,
+                came(70, number, b"ACKN"),
+                came(80, 5, b"DISC"),
+            ];
+            must(rt, Vec::from_array(alloc, heard))
+        }
+        Ear::Parted => {
+            let mut heard = faults(rt, alloc, 32);
+            if let Some(one) = heard.get_mut(15) {
+                *one = Heard::Quiet { at: 0 };
+            }
+            heard
+        }
         Ear::Quiet(count) => quiet(rt, alloc, count),
         Ear::Faults(count) => faults(rt, alloc, count),
     }
@@ -176,21 +198,21 @@ fn bridged<R: Threads + Wait + Clock + Abort + Copy + Drop + Send + 'static>(
 
 fn let_go<R: Copy + Drop>(_done: Bridge<R>) {}
 
-// Runs `bridge` by each of these rows, and demands what comes of it.
-fn expect<R: Threads + Wait + Clock + Abort + Copy + Drop + Send + 'static>(
-    rt: &R,
-    alloc: Global,
-    rows: &[Row],
-) {
-    for (i, row) in rows.iter().enumerate() {
-        let (done, as_wanted) = bridged(rt, alloc, row);
-        let has_back = has_back(&done, row.5);
-        let_go(done);
-        assert!(rt; as_wanted && has_back, "row {i}");
-    }
-}
-
 const NO_FAILS: [&[u64]; 3] = [&[], &[], &[]];
+
+const ONE_LOST: [&[u64]; 3] = [&[], &[1], &[]];
+
+const NEAR_PORT: [&[u64]; 3] = [&[0], &[], &[]];
+
+const FAR_PORT: [&[u64]; 3] = [&[1], &[], &[]];
+
+const AT_THE_LINE: [&[u64]; 3] = [&[], &[], &[0]];
+
+const AT_THE_LAST: [&[u64]; 3] = [&[], &[], &[1]];
+
+const AT_THE_FLUSH: [&[u64]; 3] = [&[], &[], &[2]];
+
+const PORT_AND_SINK: [&[u64]; 3] = [&[1], &[], &[0]];
 
 const CROSSED: &[Word] = &[
     Word::Conn,
@@ -199,117 +221,134 @@ const CROSSED: &[Word] = &[
     Word::Disc,
 ];
 
-#[test]
-fn a_bridge_says_on_each_side_what_the_other_keeps(rt: HostRuntime) {
-    const ANSWERED: &[Word] = &[Word::Conn, Word::Frame(5, 0, false), Word::Disc];
-    const OPEN: &[Word] = &[
-        Word::Conn,
-        Word::Frame(0x1234, 0, false),
-        Word::Frame(0x1234, 1, false),
-        Word::Disc,
-    ];
-    const SHORT: &[Word] = &[Word::Conn, Word::Frame(0x1234, 1, true), Word::Disc];
-    const ASKED: &[Word] = &[Word::Conn, Word::Disc];
-    const ONE_LOST: [&[u64]; 3] = [&[], &[1], &[]];
-    const ROWS: [Row; 3] = [
-        (
-            Ear::Talks(true),
-            Ear::Answers,
-            NO_FAILS,
-            0,
-            "bridged near 2 far 1\n",
-            Back::Said(ANSWERED, CROSSED),
-        ),
-        // The near stream has no end bit, and so the way is still its own.
-        (
-            Ear::Talks(false),
-            Ear::Answers,
-            NO_FAILS,
-            0,
-            "bridged near 2 far 0\n",
-            Back::Said(ASKED, OPEN),
-        ),
-        // A datagram that a mouth fails to send is lost, though it has passed.
-        (
-            Ear::Talks(true),
-            Ear::Answers,
-            ONE_LOST,
-            0,
-            "bridged near 2 far 1\n",
-            Back::Said(ANSWERED, SHORT),
-        ),
-    ];
-    expect(&rt, rt.alloc(), &ROWS);
-}
+const OPEN: &[Word] = &[
+    Word::Conn,
+    Word::Frame(0x1234, 0, false),
+    Word::Frame(0x1234, 1, false),
+    Word::Disc,
+];
+
+const SHORT: &[Word] = &[Word::Conn, Word::Frame(0x1234, 1, true), Word::Disc];
+
+const ANSWERED: &[Word] = &[Word::Conn, Word::Frame(5, 0, false), Word::Disc];
+
+const ASKED: &[Word] = &[Word::Conn, Word::Disc];
+
+const LATE: &[Word] = &[Word::Conn, Word::Frame(0x1234, 1, false), Word::Disc];
+
+const LATE_LINE: &str = "bridged near 1 far 0\n";
+
+const BOTH: &str = "bridged near 2 far 1\n";
+
+const ONE: &str = "bridged near 2 far 0\n";
+
+const NONE: &str = "bridged near 0 far 0\n";
+
+const LOST: &str = "bridged near 0 far 0\nlink lost\n";
+
+const FAILED: &str = "port failed\n";
+
+const TALKS: Ear = Ear::Talks(true);
+
+// What a side says is said on the other. A near stream without its end bit leaves the way to near. A datagram that a mouth
+// fails to send is lost, though it has passed. Other peers and faults step nothing: until the far client is let in nothing
+// passes to it. The bridge ends with a side. Either link may be refused, and the sink may fail
+// at the line, at the last line, and where it is to hand on all.
+const ROWS: [Row; 16] = [
+    (
+        TALKS,
+        Ear::Answers,
+        NO_FAILS,
+        0,
+        BOTH,
+        Back::Said(ANSWERED, CROSSED),
+    ),
+    (
+        Ear::Talks(false),
+        Ear::Answers,
+        NO_FAILS,
+        0,
+        ONE,
+        Back::Said(ASKED, OPEN),
+    ),
+    (
+        TALKS,
+        Ear::Answers,
+        ONE_LOST,
+        0,
+        BOTH,
+        Back::Said(ANSWERED, SHORT),
+    ),
+    (
+        Ear::Talks(false),
+        Ear::Others,
+        NO_FAILS,
+        0,
+        LATE_LINE,
+        Back::Said(ASKED, LATE),
+    ),
+    (
+        Ear::Quiet(40),
+        Ear::Parted,
+        NO_FAILS,
+        7,
+        LOST,
+        Back::Said(ASKED, ASKED),
+    ),
+    (
+        Ear::Faults(16),
+        Ear::Quiet(16),
+        NO_FAILS,
+        7,
+        LOST,
+        Back::Devices,
+    ),
+    (
+        Ear::Quiet(16),
+        Ear::Faults(16),
+        NO_FAILS,
+        7,
+        LOST,
+        Back::Devices,
+    ),
+    (
+        Ear::Faults(15),
+        Ear::Quiet(16),
+        NO_FAILS,
+        0,
+        NONE,
+        Back::Devices,
+    ),
+    (
+        Ear::Quiet(16),
+        Ear::Refused,
+        NO_FAILS,
+        0,
+        NONE,
+        Back::Devices,
+    ),
+    (
+        Ear::Quiet(0),
+        Ear::Quiet(0),
+        NO_FAILS,
+        0,
+        NONE,
+        Back::Said(&[], &[]),
+    ),
+    (TALKS, Ear::Answers, NEAR_PORT, 5, FAILED, Back::Nothing),
+    (TALKS, Ear::Answers, FAR_PORT, 5, FAILED, Back::Nothing),
+    (TALKS, Ear::Answers, AT_THE_LINE, 4, "", Back::Devices),
+    (TALKS, Ear::Answers, AT_THE_LAST, 4, BOTH, Back::Devices),
+    (TALKS, Ear::Answers, AT_THE_FLUSH, 4, BOTH, Back::Devices),
+    (TALKS, Ear::Answers, PORT_AND_SINK, 4, "", Back::Nothing),
+];
 
 #[test]
-fn a_bridge_ends_with_a_side(rt: HostRuntime) {
-    const NONE: &str = "bridged near 0 far 0\n";
-    const LOST: &str = "bridged near 0 far 0\nlink lost\n";
-    const ROWS: [Row; 5] = [
-        (
-            Ear::Faults(16),
-            Ear::Quiet(16),
-            NO_FAILS,
-            7,
-            LOST,
-            Back::Devices,
-        ),
-        (
-            Ear::Quiet(16),
-            Ear::Faults(16),
-            NO_FAILS,
-            7,
-            LOST,
-            Back::Devices,
-        ),
-        (
-            Ear::Faults(15),
-            Ear::Quiet(16),
-            NO_FAILS,
-            0,
-            NONE,
-            Back::Devices,
-        ),
-        (
-            Ear::Quiet(16),
-            Ear::Refused,
-            NO_FAILS,
-            0,
-            NONE,
-            Back::Devices,
-        ),
-        (
-            Ear::Quiet(0),
-            Ear::Quiet(0),
-            NO_FAILS,
-            0,
-            NONE,
-            Back::Said(&[], &[]),
-        ),
-    ];
-    expect(&rt, rt.alloc(), &ROWS);
-}
-
-// Either link may be refused, and the sink may fail at the line, at the last line, and where it is to hand on all.
-#[test]
-fn each_failure_of_a_bridge_has_its_status(rt: HostRuntime) {
-    const FAILED: &str = "port failed\n";
-    const LINE: &str = "bridged near 2 far 1\n";
-    const NEAR_PORT: [&[u64]; 3] = [&[0], &[], &[]];
-    const FAR_PORT: [&[u64]; 3] = [&[1], &[], &[]];
-    const AT_THE_LINE: [&[u64]; 3] = [&[], &[], &[0]];
-    const AT_THE_LAST: [&[u64]; 3] = [&[], &[], &[1]];
-    const AT_THE_FLUSH: [&[u64]; 3] = [&[], &[], &[2]];
-    const PORT_AND_SINK: [&[u64]; 3] = [&[1], &[], &[0]];
-    const TALKS: Ear = Ear::Talks(true);
-    const ROWS: [Row; 6] = [
-        (TALKS, Ear::Answers, NEAR_PORT, 5, FAILED, Back::Nothing),
-        (TALKS, Ear::Answers, FAR_PORT, 5, FAILED, Back::Nothing),
-        (TALKS, Ear::Answers, AT_THE_LINE, 4, "", Back::Devices),
-        (TALKS, Ear::Answers, AT_THE_LAST, 4, LINE, Back::Devices),
-        (TALKS, Ear::Answers, AT_THE_FLUSH, 4, LINE, Back::Devices),
-        (TALKS, Ear::Answers, PORT_AND_SINK, 4, "", Back::Nothing),
-    ];
-    expect(&rt, rt.alloc(), &ROWS);
+fn a_bridge_has_its_status_and_its_line(rt: HostRuntime) {
+    for (i, row) in ROWS.iter().enumerate() {
+        let (done, as_wanted) = bridged(&rt, rt.alloc(), row);
+        let has_back = has_back(&done, row.5);
+        let_go(done);
+        assert!(rt; as_wanted && has_back, "row {i}");
+    }
 }

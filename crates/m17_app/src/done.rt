@@ -3,8 +3,8 @@ ghost use Rattle.m17_app.specs.Status.{code_of};
 
 use crate::fitted::{Behind, BehindMouth};
 use crate::status::Status;
-use m17_devices::{Ear, Shelf};
-use m17_guard::Guarded;
+use m17_decorators::Guarded;
+use m17_ports::{Ear, Shelf};
 use m17_reflect::{Refused, Returned};
 
 /// What a run of the program came to: its status, and the devices of a talk or a bridge that ran or of a reflector. Paces go by

@@ -10,10 +10,11 @@ use crate::serve_tests::{BOOK, evening, packet};
 use crate::talk_tests::peer;
 use crate::tests::{must, run_over, text_of};
 use m17_book::write_entry;
-use m17_devices::{
-    BytesSink, BytesSource, Ear, FaultyEar, Gram, Heard, ListBook, ListMouth, Peer, RefusingCrew,
-    ScriptEar, ScriptPorts, Shelf,
-};
+use m17_crew::RefusingCrew;
+use m17_port_memory::{FaultyEar, ListBook, ListMouth, ScriptEar, ScriptPorts};
+use m17_ports::{Ear, Shelf};
+use m17_streams::{BytesSink, BytesSource};
+use m17_values::{Gram, Heard, Peer};
 use std::alloc::Global;
 use std::process::Abort;
 use std::sync::Wait;
@@ -272,7 +273,7 @@ fn each_device_fails_at_each_call_in_turn(rt: HostRuntime) {
     }
 }
 
-/// Several devices fail: the link is lost before anything is heard, or when all was.
+/// Several devices fail: the link is lost before anything is heard, or when all was, with the sixteenth fault in a row.
 #[test]
 fn the_statuses_come_in_their_order(rt: HostRuntime) {
     const EARLY: Failing = (Device::Ear, 0, 16);
@@ -287,7 +288,8 @@ fn the_statuses_come_in_their_order(rt: HostRuntime) {
         text: "",
         ..UNTOUCHED
     };
-    let rows: [(&[Failing], Outcome); 8] = [
+    let rows: [(&[Failing], Outcome); 9] = [
+        (&[(Device::Ear, 0, 15)], wanted_of(Device::Ear, 0, 15)),
         (&[EARLY], LOST),
         (&[LATE], LOST_LATE),
         (&[EARLY, FILE], NO_FILE),

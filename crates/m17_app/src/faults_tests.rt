@@ -1,12 +1,12 @@
 //! The source and the sink of each command fail at each of their calls in turn: the status, and how much of what the
 //! command writes stands before.
-use crate::check_tests::{EMPTY, EMPTY_LINE, HELD};
-use crate::judge_tests::TWO_TALKERS;
-use crate::replay_tests::{REPLAY, SUMMARY};
+use crate::rules_tests::RULED;
 use crate::serve_tests::SERVE;
 use crate::talk_tests::TALK;
-use crate::tests::{JUDGE, MADE, Piece, Row, expect, input_of, must, sink_that, status_over};
-use m17_devices::{BytesSource, ListMouth, ScriptEar, ScriptPorts, StdCrew};
+use crate::tests::{Piece, Row, expect, input_of, must, sink_that, status_over};
+use m17_crew::StdCrew;
+use m17_port_memory::{ListMouth, ScriptEar, ScriptPorts};
+use m17_streams::BytesSource;
 use std::alloc::Global;
 use std::process::Abort;
 use std::sync::Wait;
@@ -92,6 +92,33 @@ fn fail_in_turn<R: Threads + Wait + Clock + Abort + Copy + Drop + Send + 'static
     assert!(rt; ended, "{name}: no call");
 }
 
+const JUDGE: &[&str] = &["judge"];
+
+const TWO_TALKERS: &[Piece] = &[
+    Piece::Spoken(0, 3, 1, 0, false),
+    Piece::Spoken(0, 4, 2, 0, false),
+];
+
+/// What a book of module A begins with, whose limit on talking is 180,000 milliseconds.
+const BOOK: Piece = Piece::Bytes(b"M17BOOK2A\0\0\0\0\0\x02\xbf\x20");
+
+const EMPTY: &[Piece] = &[BOOK];
+
+const EMPTY_LINE: &str = "legal 0 records 0 streams 0 admitted\n";
+
+/// `AB1CD` joins at place 0 with generation 0, at moment 0.
+const JOIN: Piece = Piece::Bytes(
+    b"\x01\0\0\0\0\0\0\0\0\0\0\0\0\0\0\0\0\0\0\0\0\0\0\0\0\0\0\0\0\0\0\0\0\0\x9f\xdd\x51",
+);
+
+/// The same twice.
+const HELD: &[Piece] = &[BOOK, JOIN, JOIN];
+
+/// The trace of `make 0 2`.
+const MADE: &str = "M17TRACE\
+    \x01\0\0\0\0\0\0\0\0\x04\x0a\0\0\x01\x42\x68\x0bCONN\0\0\0\x01\x79\x60A\
+    \x01\0\0\0\0\0\0\0\0\x04\x0a\0\0\x02\x42\x68\x0bCONN\0\0\0\x02\x73\x60B";
+
 const SHOWN: &[Piece] = &[
     Piece::Text("434F4E4E0000009FDD5141\n44495343\n"),
     Piece::Text("41434B4E"),
@@ -103,17 +130,35 @@ const LEAVES: &[Piece] = &[Piece::Bytes(&[0; 8]), Piece::Frame(0x1234, 0, false)
 
 const SAID: &str = "0 opened\n1 busy 3\n";
 
-/// A book of version 1 without records, and the same in version 2.
-const OLD_BOOK: &[Piece] = &[Piece::Bytes(b"M17BOOK1A")];
+const JOINED: &str = "0 A join\n1 B join\n";
 
-const NEW_BOOK: &str = "M17BOOK2A\0\0\0\0\0\0\0\0";
+const NOTHING_CAME: &str = "A admitted 0 missed 0\n";
+
+/// A book of version 1 in which one joins, and the same in version 2.
+const OLD_BOOK: &[Piece] = &[Piece::Text(
+    "M17BOOK1A\
+    \x01\0\0\0\0\0\0\0\0\0\0\0\0\0\0\0\0\0\0\0\0\0\0\0\0\0\0\0\0\0\0\0\0\0\x01\x79\x60",
+)];
+
+const NEW_BOOK: &str = "M17BOOK2A\0\0\0\0\0\0\0\0\
+    \x01\0\0\0\0\0\0\0\0\0\0\0\0\0\0\0\0\0\0\0\0\0\0\0\0\0\0\0\0\0\0\0\0\0\x01\x79\x60";
 
 const REFUSED: &str = "words refused\n";
 
+const REPLAY: &[&str] = &["replay"];
+
+const SUMMARY: &[&str] = &["replay", "--summary"];
+
 const PAGE: &str =
-    "entries 0\njoin 0\nagain 0\nleave 0\npong 0\nalive 0\nopened 0\ncontinued 0\nbusy 0\nrepeat 0\n\
+    "entries 2\njoin 2\nagain 0\nleave 0\npong 0\nalive 0\nopened 0\ncontinued 0\nbusy 0\nrepeat 0\n\
 late 0\nafter-end 0\ntimed-out 0\nnot-member 0\nlisten-only 0\nrefused 0\nnot-connected 0\nnot-served 0\nfull 0\n\
-stray 0\nquiet 0\nfault 0\n";
+stray 0\nquiet 0\nfault 0\npeer 10.0.0.1:17000 ackn 1 nack 0 ping 0 pong 0 disc 1 frame 0\n\
+peer 10.0.0.2:17000 ackn 1 nack 0 ping 0 pong 0 disc 1 frame 0\n";
+
+const PAGE_WRITES: &[usize] = &[
+    0, 0, 10, 17, 25, 33, 40, 48, 57, 69, 76, 85, 92, 104, 116, 129, 143, 153, 169, 182, 189, 197,
+    205, 213, 276, 339, 339,
+];
 
 /// `check` and `replay` hand on what was held back before they read, which is call 0 of their sink. The last two calls
 /// write the last line, which is empty where there is none, and hand on what was written. Of a source that has less than
@@ -145,8 +190,8 @@ const TURNS: [Turns; 7] = [
         &["migrate"],
         OLD_BOOK,
         (0, NEW_BOOK),
-        &[0, 0, 0],
-        &[0, 0, 17, 17],
+        &[0, 0, 0, 0],
+        &[0, 0, 17, 54, 54],
     ),
     (
         &["make", "0", "2"],
@@ -159,23 +204,22 @@ const TURNS: [Turns; 7] = [
 ];
 
 /// The same of the commands that hear entries.
-const HEARING: [Turns; 5] = [
+const HEARING: [Turns; 8] = [
+    (REPLAY, ONE_JOINS, (0, JOINED), &[0; 5], &[0, 0, 9, 18, 18]),
+    (SUMMARY, ONE_JOINS, (0, PAGE), &[0; 5], PAGE_WRITES),
     (
-        REPLAY,
+        &["replay", "--threads"],
         ONE_JOINS,
-        (0, "0 A join\n1 B join\n"),
+        (0, JOINED),
         &[0; 5],
         &[0, 0, 9, 18, 18],
     ),
     (
-        SUMMARY,
-        &[Piece::Header],
+        &["replay", "--threads", "--summary"],
+        ONE_JOINS,
         (0, PAGE),
-        &[0; 3],
-        &[
-            0, 0, 10, 17, 25, 33, 40, 48, 57, 69, 76, 85, 92, 104, 116, 129, 143, 153, 169, 182,
-            189, 197, 205, 213, 213,
-        ],
+        &[0; 5],
+        PAGE_WRITES,
     ),
     (
         REPLAY,
@@ -185,11 +229,12 @@ const HEARING: [Turns; 5] = [
         &[0, 0, 24],
     ),
     (TALK, LEAVES, (0, "ended kept 0\n"), &[0, 0], &[0, 13, 13]),
+    (SERVE, &[], (0, NOTHING_CAME), &[], &[0, 22, 22]),
     (
-        SERVE,
-        &[],
-        (0, "A admitted 0 missed 0\n"),
-        &[],
+        RULED,
+        &[Piece::Text("allow any * *")],
+        (0, NOTHING_CAME),
+        &[0, 0],
         &[0, 22, 22],
     ),
 ];

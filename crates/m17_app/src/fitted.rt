@@ -10,12 +10,10 @@ ghost use Rattle.m17_ports.specs.Ports.{HasAsked};
 ghost use Rattle.m17_ports.specs.Told.{StartsEmpty};
 ghost use Rattle.m17_app.specs.Fitted.{behind_told, mouth_told, LabelBehind, MouthLabel, Stands, StandsBehind};
 
-use m17_devices::{Ear, Mouth, Ports};
-use m17_fill::Filling;
+use m17_client_commands::KnownPorts;
+use m17_decorators::{Filling, Guarded, Guards, LinkPaces, PaceClock, Paced};
 use m17_gate::{Gate, LinkRules};
-use m17_guard::{Guarded, Guards};
-use m17_pace::{LinkPaces, PaceClock, Paced};
-use m17_serve::KnownPorts;
+use m17_ports::{Ear, Mouth, Ports};
 use m17_values::Failed;
 use std::time::Clock;
 

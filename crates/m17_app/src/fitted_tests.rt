@@ -1,11 +1,10 @@
 //! `serve` with what may stand before its ear and behind its mouth: how much it hears and says by its words.
-use crate::replay_tests::{JOIN, LISTEN};
-use crate::serve_tests::{NONE, Serve, let_go, packet, served};
+use crate::serve_tests::{JOIN, LISTEN, Serve, let_go, packet, served};
 use crate::talk_tests::came;
 use crate::tests::must;
-use m17_devices::{Heard, StdCrew};
 use m17_samples::frame;
 use m17_stream::write;
+use m17_values::Heard;
 use std::alloc::Global;
 use std::process::Abort;
 use std::time::Clock;
@@ -59,9 +58,7 @@ fn what_stands_before_an_ear_is_by_the_words(rt: HostRuntime) {
     ];
     let alloc = rt.alloc();
     for (words, text) in ROWS {
-        let heard = circle(&rt, alloc);
-        let mut crew = StdCrew::new();
-        let (done, as_wanted) = served(&rt, alloc, words, heard, &mut crew, NONE, (0, text));
+        let (done, as_wanted) = served(&rt, alloc, words, circle(&rt, alloc), (0, text));
         let_go(done);
         assert!(rt; as_wanted, "{text}");
     }
@@ -110,9 +107,8 @@ fn a_mouth_keeps_the_pace_of_the_words(rt: HostRuntime) {
     let alloc = rt.alloc();
     for (pace, is_whole) in ROWS {
         let words = ["serve", "--call=M17-TST", "--modules=A", pace, "x"];
-        let (heard, mut crew) = (talk(&rt, alloc), StdCrew::new());
         let wanted = (0, "A admitted 4 missed 0\n");
-        let (done, as_wanted) = served(&rt, alloc, &words, heard, &mut crew, NONE, wanted);
+        let (done, as_wanted) = served(&rt, alloc, &words, talk(&rt, alloc), wanted);
         let count = frames_said(&done);
         let_go(done);
         assert!(rt;

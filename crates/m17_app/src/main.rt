@@ -3,13 +3,14 @@
 //! holds nothing back at the end. `main` hands it the standard streams, the ports of the machine (`m17_net`) and the
 //! system's threads (`m17_crew`), closes its books, and ends with its answer. `StdIn` and `StdOut` are the
 //! trusted edge: one call of the system each, counted faults, and no content told. What lies between them and `run` is left
-//! to `m17_buffers`, sockets and files to `m17_net`, and what the commands print to their own crates.
+//! to `m17_streams`, sockets and files to `m17_net`, and what the commands print to their own crates.
 #![tactic(auto)]
 
 mod closing;
 mod conclude;
 mod done;
 mod fitted;
+mod guarding;
 mod habits;
 mod interruption;
 mod run;
@@ -33,7 +34,7 @@ ghost use Rattle.m17_app.specs.Status.{IsStatus};
 
 use closing::{Ended, close_books, ports_of, staff_books};
 use habits::with_habits;
-use m17_devices::StdCrew;
+use m17_crew::StdCrew;
 use status::Status;
 use std::alloc::Global;
 use std::env;
@@ -113,10 +114,6 @@ mod board_tests;
 #[cfg(test)]
 mod bridge_tests;
 #[cfg(test)]
-mod check_tests;
-#[cfg(test)]
-mod evening_tests;
-#[cfg(test)]
 mod failing_outcomes;
 #[cfg(test)]
 mod failing_tests;
@@ -124,14 +121,6 @@ mod failing_tests;
 mod faults_tests;
 #[cfg(test)]
 mod fitted_tests;
-#[cfg(test)]
-mod judge_tests;
-#[cfg(test)]
-mod limit_tests;
-#[cfg(test)]
-mod loopback_tests;
-#[cfg(test)]
-mod replay_tests;
 #[cfg(test)]
 mod rules_tests;
 #[cfg(test)]
@@ -143,4 +132,4 @@ mod talk_tests;
 #[cfg(test)]
 mod tests;
 #[cfg(test)]
-mod torn_tests;
+mod waiting_tests;

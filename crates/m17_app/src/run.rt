@@ -17,9 +17,10 @@ use crate::run_replay::run_replay;
 use crate::run_serve::run_serve;
 use crate::run_talk::run_talk;
 use crate::status::Status;
-use m17_devices::{Book, Crew, Ear, Ports};
+use m17_crew::Crew;
 use m17_io::{Input, Sink};
 use m17_plan::Plan;
+use m17_ports::{Book, Ear, Ports};
 use m17_words::laws::words_name_one_command;
 use m17_words::{Command, WordsRefusal, read_words};
 use std::alloc::Global;
@@ -34,7 +35,7 @@ fn run_judge<S: Input<K>, K: Sink>(alloc: Global, input: &mut S, out: &mut K) ->
         (streams (S.told input.old) (K.told out.old)) (streams (S.told input.new) (K.told out.new))
         (beside (count_from ports ports) (count_from crew crew)) }
 {
-    match m17_judge::judge(alloc, input, out) {
+    match m17_text_commands::judge(alloc, input, out) {
         Ok(ending) => conclude(out, &ending.into_ending()),
         Err(_) => Status::NoMemory,
     }
@@ -46,7 +47,7 @@ fn run_show<S: Input<K>, K: Sink>(input: &mut S, out: &mut K) -> Status
         (streams (S.told input.old) (K.told out.old)) (streams (S.told input.new) (K.told out.new))
         (beside (count_from ports ports) (count_from crew crew)) }
 {
-    let ending = m17_show::show(input, out);
+    let ending = m17_text_commands::show(input, out);
     conclude(out, &ending.into_ending())
 }
 

@@ -2,18 +2,19 @@ ghost use Rattle.std.specs.Prelude.{◌≡◌, ℕ, None};
 ghost use Rattle.m17_io.specs.Source.{SourceTold};
 ghost use Rattle.m17_ports.specs.Ports.{FailsLast};
 ghost use Rattle.m17_words.specs.declared.command.Command.TheVariants as commands;
-ghost use Rattle.m17_bridge_command.specs.Bridged.{IsBridgeable};
+ghost use Rattle.m17_client_commands.specs.Bridged.{IsBridgeable};
 ghost use Rattle.m17_app.specs.Commands.{Runs};
 ghost use Rattle.m17_app.specs.Doing.{doing, done_of};
 ghost use Rattle.m17_app.specs.Status.{streams};
 
 use crate::conclude::conclude;
 use crate::done::{Ended, alone};
+use crate::guarding::GuardedPorts;
 use crate::status::Status;
-use m17_bridge_command::{Bridged, bridge};
-use m17_devices::{Ear, Ports};
-use m17_guard::{GuardedPorts, Guards};
+use m17_client_commands::{Bridged, bridge};
+use m17_decorators::Guards;
 use m17_io::Sink;
+use m17_ports::{Ear, Ports};
 use m17_words::BridgeOrder;
 use std::alloc::Global;
 use std::hash::RandomState;
@@ -43,18 +44,20 @@ where
     ensures no_board { result.0.board ≡ None }
     ensures no_refusal { result.0.refused ≡ None }
 {
-    let Ok(guards) = Guards::make(alloc, keys, SIDES) else {
-        return (alone(Status::NoMemory), ports);
-    };
-    let mut guarded = GuardedPorts::with(ports, guards);
-    let Bridged { ending, devices } = bridge(rt, order, &mut guarded, out);
-    let ended = Ended {
-        status: conclude(out, &ending.into_ending()),
-        talk: None,
-        house: None,
-        refused: None,
-        bridge: devices,
-        board: None,
-    };
-    (ended, guarded.into_inner())
+    match Guards::make(alloc, keys, SIDES) {
+        Ok(guards) => {
+            let mut guarded = GuardedPorts { ports, guards };
+            let Bridged { ending, devices } = bridge(rt, order, &mut guarded, out);
+            let ended = Ended {
+                status: conclude(out, &ending.into_ending()),
+                talk: None,
+                house: None,
+                refused: None,
+                bridge: devices,
+                board: None,
+            };
+            (ended, guarded.ports)
+        }
+        Err(_) => (alone(Status::NoMemory), ports),
+    }
 }

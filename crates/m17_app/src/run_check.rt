@@ -5,9 +5,9 @@ ghost use Rattle.m17_app.specs.Text.{check_command, text_terms};
 
 use crate::conclude::conclude;
 use crate::status::Status;
-use m17_check::check;
-use m17_check::laws::legal_books_are_not_refused;
 use m17_io::{Input, Sink};
+use m17_text_commands::check;
+use m17_text_commands::check_laws::legal_books_are_not_refused;
 
 // Runs `check` to its last line.
 pub fn run_check<S: Input<K>, K: Sink>(input: &mut S, out: &mut K) -> Status

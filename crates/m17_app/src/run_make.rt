@@ -6,7 +6,7 @@ ghost use Rattle.m17_app.specs.Terms.{RunsCommand};
 use crate::conclude::end_with;
 use crate::status::Status;
 use m17_io::{Input, Sink};
-use m17_make::make;
+use m17_text_commands::make;
 
 // Runs `make` to its end, which has no last line.
 pub fn run_make<S: Input<K>, K: Sink>(seed: u64, count: u32, input: &S, out: &mut K) -> Status

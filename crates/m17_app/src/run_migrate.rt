@@ -7,7 +7,7 @@ use crate::conclude::conclude;
 use crate::status::Status;
 use m17_book::laws::books_are_exact;
 use m17_io::{Input, Sink};
-use m17_migrate::migrate;
+use m17_text_commands::migrate;
 use std::alloc::Global;
 
 // Runs `migrate` to its last line.

@@ -7,7 +7,7 @@ ghost use Rattle.m17_app.specs.Terms.{RunsCommand};
 use crate::conclude::conclude;
 use crate::status::Status;
 use m17_book::laws::traces_are_exact;
-use m17_devices::Crew;
+use m17_crew::Crew;
 use m17_io::{Input, Sink};
 use m17_plan::Plan;
 use m17_replay::laws::lost_by_sixteen_faults;

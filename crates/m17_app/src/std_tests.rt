@@ -4,7 +4,7 @@ use crate::std_in::StdIn;
 use crate::std_out::StdOut;
 use crate::streams::run_on;
 use crate::tests::{keys, must, no_ports, words};
-use m17_devices::StdCrew;
+use m17_crew::StdCrew;
 use m17_io::{Outlet, Source};
 use m17_values::Failed;
 use std::alloc::Global;
@@ -204,7 +204,12 @@ fn each_status_of_the_program_comes_with_its_line(rt: HostRuntime) {
     const FAILS: &[Answer] = &[Bytes(4), Fails(ErrorKind::BrokenPipe)];
     const LINES: &[u8] = b"4d31370\n";
     const REFUSED: &[u8] = b"words refused\n";
-    const RUNS: [Run; 8] = [
+    // The second call of the printer fails: what it has by then was handed on before more input was waited for.
+    const SECOND: &[Answer] = &[Bytes(usize::MAX), Fails(ErrorKind::BrokenPipe)];
+    const ZEROS: &[u8] = &[0; 128];
+    const ONE_LINE: &[u8] = b"0 refused magic 00000000\n";
+    const TWO_LINES: &[u8] = b"41434B4E\n4E41434B\n";
+    const RUNS: [Run; 10] = [
         (&["show"], b"", ALL, ALL, 0, b""),
         (&["show"], LINES, ONE, ONE, 1, b"input refused at 0: odd\n"),
         (
@@ -220,6 +225,8 @@ fn each_status_of_the_program_comes_with_its_line(rt: HostRuntime) {
         (&["judge", ""], LINES, ALL, ALL, 2, REFUSED),
         (&["show"], LINES, FAILS, ONE, 3, b"read failed\n"),
         (&["show"], LINES, ALL, FAILS, 4, b"inpu"),
+        (&["judge"], ZEROS, &[Bytes(64)], SECOND, 4, ONE_LINE),
+        (&["show"], TWO_LINES, &[Bytes(9)], SECOND, 4, b"ackn\n"),
     ];
     for (i, run) in RUNS.iter().enumerate() {
         assert!(rt; is_run(&rt, rt.alloc(), run), "run {i}");

@@ -1,11 +1,12 @@
 //! `talk`, from its words and its script to its status, over ports and devices in memory.
 use crate::done::Done;
 use crate::tests::{must, run_over, sink_that};
-use m17_devices::{
-    BytesSource, Gram, Heard, ListBook, ListMouth, Peer, ScriptEar, ScriptPorts, StdCrew,
-};
+use m17_crew::StdCrew;
+use m17_port_memory::{ListBook, ListMouth, ScriptEar, ScriptPorts};
 use m17_samples::frame;
 use m17_stream::write;
+use m17_streams::BytesSource;
+use m17_values::{Gram, Heard, Peer};
 use std::alloc::Global;
 use std::process::Abort;
 use std::sync::Wait;
@@ -68,7 +69,7 @@ pub(crate) fn faults(rt: &impl Abort, alloc: Global, count: usize) -> Vec<Heard>
 }
 
 /// A script of these moments, with frames of stream 1234 (hex) that are numbered from 0.
-pub(crate) fn script(rt: &impl Abort, alloc: Global, moments: &[u64]) -> Vec<u8> {
+fn script(rt: &impl Abort, alloc: Global, moments: &[u64]) -> Vec<u8> {
     let mut bytes = Vec::new(alloc);
     let mut number = 0u16;
     for at in moments {
@@ -82,57 +83,98 @@ pub(crate) fn script(rt: &impl Abort, alloc: Global, moments: &[u64]) -> Vec<u8>
     bytes
 }
 
-// Ports with a link whose ear hears this, and a book, that fail at these calls.
-fn ports(
-    rt: &impl Abort,
-    alloc: Global,
-    heard: Vec<Heard>,
-    fails: &[u64],
-    book_fails: &[u64],
-) -> ScriptPorts {
-    let mouth = must(rt, ListMouth::make(alloc, 8, Vec::new(alloc)));
-    let book_fails = must(rt, book_fails.to_vec(alloc));
-    let book = must(rt, ListBook::make(alloc, 200, book_fails));
-    let links = must(rt, Vec::from_array(alloc, [(ScriptEar::new(heard), mouth)]));
-    let books = must(rt, Vec::from_array(alloc, [book]));
-    ScriptPorts::new(links, books, must(rt, fails.to_vec(alloc)))
-}
-
-// What an ear hears.
+// What an ear hears behind a quiet moment at 0.
 #[derive(Clone, Copy)]
 enum Ear {
-    // The client asks, is acknowledged, hears a frame, and is told to go. A packet that is due 20 ms after it became
-    // connected goes out before.
+    // The client is acknowledged, hears a frame, and is told to go. A packet that is due 20 ms after it became connected
+    // goes out before.
     Evening,
     // It is acknowledged, and told to go.
     Short,
-    // Only the time.
+    // It is acknowledged, and hears two frames of another talker before it is told to go; a third comes of another peer.
+    Talker,
+    // This answer, and then only the time.
+    Answers(&'static [u8], u64),
+    // Nothing for five seconds.
+    Unanswered,
+    // Nothing.
     Quiet,
-    // So many faults.
+    // Nothing but so many faults, without the moment at 0.
     Faults(usize),
 }
 
+fn time(at: u64) -> Heard {
+    Heard::Quiet { at }
+}
+
+fn voice(at: u64, number: u8, frame_number: u16, last: bool) -> Heard {
+    came(at, number, &write(&frame(7, frame_number, last)))
+}
+
+fn talker(rt: &impl Abort, alloc: Global) -> Vec<Heard> {
+    let heard = [
+        time(0),
+        came(10, 9, b"ACKN"),
+        voice(20, 9, 1, false),
+        voice(30, 8, 2, false),
+        voice(40, 9, 3, true),
+        came(60, 9, b"PONG"),
+        came(70, 9, b"DISC"),
+    ];
+    must(rt, Vec::from_array(alloc, heard))
+}
+
+fn evening(rt: &impl Abort, alloc: Global) -> Vec<Heard> {
+    let heard = [
+        time(0),
+        came(10, 9, b"ACKN"),
+        voice(15, 9, 1, false),
+        came(40, 9, b"PONG"),
+        came(50, 9, b"DISC"),
+    ];
+    must(rt, Vec::from_array(alloc, heard))
+}
+
 fn heard_by(rt: &impl Abort, alloc: Global, ear: Ear) -> Vec<Heard> {
-    let start = Heard::Quiet { at: 0 };
-    let greeted = came(10, 9, b"ACKN");
     match ear {
-        Ear::Evening => {
-            let hears = came(15, 9, &write(&frame(7, 1, false)));
-            let heard = [
-                start,
-                greeted,
-                hears,
-                came(40, 9, b"PONG"),
-                came(50, 9, b"DISC"),
-            ];
+        Ear::Evening => evening(rt, alloc),
+        Ear::Short => {
+            let heard = [time(0), came(10, 9, b"ACKN"), came(20, 9, b"DISC")];
             must(rt, Vec::from_array(alloc, heard))
         }
-        Ear::Short => must(
-            rt,
-            Vec::from_array(alloc, [start, greeted, came(20, 9, b"DISC")]),
-        ),
-        Ear::Quiet => must(rt, Vec::from_array(alloc, [start])),
+        Ear::Talker => talker(rt, alloc),
+        Ear::Answers(bytes, at) => {
+            must(
+                rt,
+                Vec::from_array(alloc, [time(0), came(1, 9, bytes), time(at)]),
+            )
+        }
+        Ear::Unanswered => {
+            let heard = [0, 1_000, 2_000, 3_000, 4_000, 5_000].map(time);
+            must(rt, Vec::from_array(alloc, heard))
+        }
+        Ear::Quiet => must(rt, Vec::from_array(alloc, [time(0)])),
         Ear::Faults(count) => faults(rt, alloc, count),
+    }
+}
+
+// A datagram that a client says.
+#[derive(Clone, Copy)]
+enum Word {
+    Conn,
+    Lstn,
+    Packet,
+    Disc,
+}
+
+use Word::{Conn, Disc, Lstn, Packet};
+
+fn is_word(said: &[u8], word: Word) -> bool {
+    match word {
+        Conn => said == b"CONN\x00\x00\x00\x9f\xdd\x51A".as_slice(),
+        Lstn => said == b"LSTN\x00\x00\x00\x9f\xdd\x51A".as_slice(),
+        Packet => said == write(&frame(0x1234, 0, false)).as_slice(),
+        Disc => said == b"DISC\x00\x00\x00\x9f\xdd\x51".as_slice(),
     }
 }
 
@@ -143,27 +185,21 @@ enum Back {
     Nothing,
     // The devices.
     Devices,
-    // The devices, and so many datagrams were said.
-    Said(usize),
-    // The devices, without a book, and said were the CONN, the packet of the script, and the DISC.
-    Packet,
+    // The devices, without a book, and these were said.
+    Said(&'static [Word]),
     // The devices, with a book of so many bytes.
     Kept(usize),
 }
 
 type Talk<R> = Done<ScriptEar, ListMouth, ListBook, R>;
 
-// Whether these are the CONN, the packet of the script and the DISC.
-fn is_packet(said: &[(Peer, Gram)]) -> bool {
-    let packet = write(&frame(0x1234, 0, false));
-    match said {
-        [(_, asks), (_, says), (_, leaves)] => {
-            asks.bytes() == b"CONN\x00\x00\x00\x9f\xdd\x51A".as_slice()
-                && says.bytes() == packet.as_slice()
-                && leaves.bytes() == b"DISC\x00\x00\x00\x9f\xdd\x51".as_slice()
-        }
-        _ => false,
-    }
+// Whether just these were said.
+fn are_said(list: &[(Peer, Gram)], words: &[Word]) -> bool {
+    list.len() == words.len()
+        && list
+            .iter()
+            .zip(words.iter())
+            .all(|(said, word)| is_word(said.1.bytes(), *word))
 }
 
 // Whether the book is of so many bytes.
@@ -182,23 +218,38 @@ fn has_back<R: Copy>(done: &Talk<R>, back: Back) -> bool {
     match back {
         Back::Nothing => false,
         Back::Devices => true,
-        Back::Said(count) => mouth.list().len() == count,
-        Back::Packet => shelf.inner.is_none() && is_packet(mouth.list()),
+        Back::Said(words) => shelf.inner.is_none() && are_said(mouth.list(), words),
         Back::Kept(size) => is_of(&shelf.inner, size),
     }
 }
 
-// The words, what the ear hears, the moments of the script, and which calls of the ports, of the book and of the sink
+// The words, what the ear hears, the moments of the script, and which calls of the ports, the mouth, the book and the sink
 // fail; and then the status, the text, and what comes back.
-type Row = (
-    &'static [&'static str],
-    Ear,
-    &'static [u64],
-    [&'static [u64]; 3],
-    u8,
-    &'static str,
-    Back,
-);
+#[derive(Clone, Copy)]
+struct Row {
+    given: &'static [&'static str],
+    ear: Ear,
+    moments: &'static [u64],
+    ports: &'static [u64],
+    mouth: &'static [u64],
+    book: &'static [u64],
+    sink: &'static [u64],
+    status: u8,
+    text: &'static str,
+    back: Back,
+}
+
+// Ports with a link whose ear hears this, and a book.
+fn ports(rt: &impl Abort, alloc: Global, row: &Row) -> ScriptPorts {
+    let fails = must(rt, row.mouth.to_vec(alloc));
+    let mouth = must(rt, ListMouth::make(alloc, 8, fails));
+    let fails = must(rt, row.book.to_vec(alloc));
+    let book = must(rt, ListBook::make(alloc, 200, fails));
+    let ear = ScriptEar::new(heard_by(rt, alloc, row.ear));
+    let links = must(rt, Vec::from_array(alloc, [(ear, mouth)]));
+    let books = must(rt, Vec::from_array(alloc, [book]));
+    ScriptPorts::new(links, books, must(rt, row.ports.to_vec(alloc)))
+}
 
 // Runs `talk` by a row: what it came to, and whether that has the status and the text of the row.
 fn talked<R: Threads + Wait + Clock + Abort + Copy + Drop + Send + 'static>(
@@ -206,141 +257,217 @@ fn talked<R: Threads + Wait + Clock + Abort + Copy + Drop + Send + 'static>(
     alloc: Global,
     row: &Row,
 ) -> (Talk<R>, bool) {
-    let (given, ear, moments, [fails, book_fails, sink_fails], status, text, _) = *row;
-    let ports = ports(rt, alloc, heard_by(rt, alloc, ear), fails, book_fails);
-    let mut source = BytesSource::new(script(rt, alloc, moments), Vec::new(alloc));
-    let mut sink = sink_that(rt, alloc, 100, sink_fails);
-    let mut crew = StdCrew::new();
-    let done = run_over(rt, alloc, given, ports, &mut crew, &mut source, &mut sink);
-    let as_wanted = done.status == status && sink.bytes() == text.as_bytes();
+    let ports = ports(rt, alloc, row);
+    let mut source = BytesSource::new(script(rt, alloc, row.moments), Vec::new(alloc));
+    let (mut sink, mut crew) = (sink_that(rt, alloc, 100, row.sink), StdCrew::new());
+    let done = run_over(
+        rt,
+        alloc,
+        row.given,
+        ports,
+        &mut crew,
+        &mut source,
+        &mut sink,
+    );
+    let as_wanted = done.status == row.status && sink.bytes() == row.text.as_bytes();
     (done, as_wanted)
 }
 
 fn let_go<R: Copy + Drop>(_done: Talk<R>) {}
 
-// Runs `talk` by each of these rows, and demands what comes of it.
-fn expect<R: Threads + Wait + Clock + Abort + Copy + Drop + Send + 'static>(
-    rt: &R,
-    alloc: Global,
-    rows: &[Row],
-) {
-    for (i, row) in rows.iter().enumerate() {
-        let (done, as_wanted) = talked(rt, alloc, row);
-        let has_back = has_back(&done, row.6);
-        let_go(done);
-        assert!(rt; as_wanted && has_back, "row {i}");
+// A talk of one packet that comes to its end.
+const PLAIN: Row = Row {
+    given: TALK,
+    ear: Ear::Short,
+    moments: &[0],
+    ports: &[],
+    mouth: &[],
+    book: &[],
+    sink: &[],
+    status: 0,
+    text: "closed asked kept 0\n",
+    back: Back::Said(&[Conn, Packet, Disc]),
+};
+
+// Of a client that hears as well. Where a book is named it keeps a record of 64 bytes.
+const EVENING: Row = Row {
+    ear: Ear::Evening,
+    moments: &[20],
+    text: "closed asked kept 1\n",
+    back: Back::Devices,
+    ..PLAIN
+};
+
+const KEEPS: Row = Row {
+    given: BOOK,
+    back: Back::Kept(64),
+    ..EVENING
+};
+
+// Of one that hears two frames of another.
+const TALKER: Row = Row {
+    given: BOOK,
+    ear: Ear::Talker,
+    moments: &[50],
+    status: 8,
+    text: "closed asked kept 2\nbook failed\n",
+    ..PLAIN
+};
+
+// Of one that is answered otherwise, before its packet is due.
+const ANSWERED: Row = Row {
+    moments: &[100_000],
+    back: Back::Devices,
+    ..PLAIN
+};
+
+const REFUSED: Row = Row {
+    given: BOOK,
+    ear: Ear::Evening,
+    status: 5,
+    text: "port failed\n",
+    back: Back::Nothing,
+    ..PLAIN
+};
+
+const LISTENS: &[&str] = &[
+    "talk",
+    "--call",
+    "AB1CD",
+    "--module",
+    "A",
+    "--bind",
+    "x",
+    "--to",
+    "10.0.0.9:17000",
+    "--listen",
+];
+
+// A talk comes to its end, or its ear ends first; a listener says no packet; no book is asked for where none is named.
+const TALKS: [Row; 4] = [
+    PLAIN,
+    Row {
+        ear: Ear::Quiet,
+        text: "ended kept 0\n",
+        back: Back::Said(&[Conn]),
+        ..PLAIN
+    },
+    Row {
+        given: LISTENS,
+        moments: &[0, 0],
+        back: Back::Said(&[Lstn, Disc]),
+        ..PLAIN
+    },
+    Row {
+        ports: &[1],
+        ..PLAIN
+    },
+];
+
+// Why a client is closed stands in its line.
+const ENDINGS: [Row; 6] = [
+    Row {
+        ear: Ear::Answers(b"NACK", 2),
+        text: "closed refused kept 0\n",
+        ..ANSWERED
+    },
+    Row {
+        ear: Ear::Answers(b"DISC", 2),
+        text: "closed dropped kept 0\n",
+        ..ANSWERED
+    },
+    Row {
+        ear: Ear::Answers(b"ACKN", 30_001),
+        text: "closed lost kept 0\n",
+        ..ANSWERED
+    },
+    Row {
+        ear: Ear::Unanswered,
+        text: "closed no-answer kept 0\n",
+        ..ANSWERED
+    },
+    Row {
+        ear: Ear::Faults(15),
+        text: "ended kept 0\n",
+        ..ANSWERED
+    },
+    Row {
+        ear: Ear::Faults(16),
+        status: 7,
+        text: "ended kept 0\nlink lost\n",
+        ..ANSWERED
+    },
+];
+
+// Each of the mouth's three calls loses its datagram alone. A book keeps what was heard until it fails. The ports may
+// fail, and the sink at the line, at the last line, and where it is to hand on all; and the moments of the script may fall.
+const FAILURES: [Row; 12] = [
+    Row {
+        mouth: &[0],
+        back: Back::Said(&[Packet, Disc]),
+        ..PLAIN
+    },
+    Row {
+        mouth: &[1],
+        back: Back::Said(&[Conn, Disc]),
+        ..PLAIN
+    },
+    Row {
+        mouth: &[2],
+        back: Back::Said(&[Conn, Packet]),
+        ..PLAIN
+    },
+    KEEPS,
+    Row {
+        book: &[0],
+        back: Back::Kept(0),
+        ..TALKER
+    },
+    Row {
+        book: &[1],
+        back: Back::Kept(64),
+        ..TALKER
+    },
+    Row {
+        ports: &[0],
+        ..REFUSED
+    },
+    Row {
+        ports: &[1],
+        ..REFUSED
+    },
+    Row {
+        sink: &[0],
+        status: 4,
+        text: "",
+        ..EVENING
+    },
+    Row {
+        sink: &[1],
+        status: 4,
+        ..EVENING
+    },
+    Row {
+        sink: &[2],
+        status: 4,
+        ..EVENING
+    },
+    Row {
+        moments: &[5, 4],
+        status: 1,
+        text: "input refused at 62: field\n",
+        ..REFUSED
+    },
+];
+
+#[test]
+fn a_talk_has_its_status_and_its_line(rt: HostRuntime) {
+    for rows in [TALKS.as_slice(), ENDINGS.as_slice(), FAILURES.as_slice()] {
+        for (i, row) in rows.iter().enumerate() {
+            let (done, as_wanted) = talked(&rt, rt.alloc(), row);
+            let has_back = has_back(&done, row.back);
+            let_go(done);
+            assert!(rt; as_wanted && has_back, "row {i}");
+        }
     }
-}
-
-const NO_FAILS: [&[u64]; 3] = [&[], &[], &[]];
-
-#[test]
-fn a_talk_comes_to_its_end(rt: HostRuntime) {
-    const LINE: &str = "closed asked kept 0\n";
-    const ROWS: [Row; 3] = [
-        (TALK, Ear::Short, &[0], NO_FAILS, 0, LINE, Back::Packet),
-        // An ear may end first.
-        (
-            TALK,
-            Ear::Quiet,
-            &[0],
-            NO_FAILS,
-            0,
-            "ended kept 0\n",
-            Back::Said(1),
-        ),
-        // A link may be lost.
-        (
-            TALK,
-            Ear::Faults(16),
-            &[],
-            NO_FAILS,
-            7,
-            "ended kept 0\nlink lost\n",
-            Back::Devices,
-        ),
-    ];
-    expect(&rt, rt.alloc(), &ROWS);
-}
-
-#[test]
-fn a_talk_that_is_refused_keeps_no_devices(rt: HostRuntime) {
-    const FALLS: &str = "input refused at 62: field\n";
-    const FIRST: [&[u64]; 3] = [&[0], &[], &[]];
-    const SECOND: [&[u64]; 3] = [&[1], &[], &[]];
-    const ROWS: [Row; 3] = [
-        // The moments of the script fall.
-        (
-            TALK,
-            Ear::Evening,
-            &[5, 4],
-            NO_FAILS,
-            1,
-            FALLS,
-            Back::Nothing,
-        ),
-        // The ports fail.
-        (
-            BOOK,
-            Ear::Evening,
-            &[20],
-            FIRST,
-            5,
-            "port failed\n",
-            Back::Nothing,
-        ),
-        (
-            BOOK,
-            Ear::Evening,
-            &[20],
-            SECOND,
-            5,
-            "port failed\n",
-            Back::Nothing,
-        ),
-    ];
-    expect(&rt, rt.alloc(), &ROWS);
-}
-
-#[test]
-fn a_book_is_kept_or_has_failed(rt: HostRuntime) {
-    const KEPT: &str = "closed asked kept 1\n";
-    const FAILED: &str = "closed asked kept 1\nbook failed\n";
-    const FIRST: [&[u64]; 3] = [&[], &[0], &[]];
-    const ROWS: [Row; 2] = [
-        (BOOK, Ear::Evening, &[20], NO_FAILS, 0, KEPT, Back::Kept(64)),
-        (BOOK, Ear::Evening, &[20], FIRST, 8, FAILED, Back::Kept(0)),
-    ];
-    expect(&rt, rt.alloc(), &ROWS);
-}
-
-// A sink that fails at the line, at the last line, and where it is to hand on all.
-#[test]
-fn a_talk_whose_line_cannot_be_written_hands_back_its_devices(rt: HostRuntime) {
-    const LINE: &str = "closed asked kept 1\n";
-    const AT_THE_LINE: [&[u64]; 3] = [&[], &[], &[0]];
-    const AT_THE_LAST: [&[u64]; 3] = [&[], &[], &[1]];
-    const AT_THE_FLUSH: [&[u64]; 3] = [&[], &[], &[2]];
-    const ROWS: [Row; 3] = [
-        (TALK, Ear::Evening, &[20], AT_THE_LINE, 4, "", Back::Devices),
-        (
-            TALK,
-            Ear::Evening,
-            &[20],
-            AT_THE_LAST,
-            4,
-            LINE,
-            Back::Devices,
-        ),
-        (
-            TALK,
-            Ear::Evening,
-            &[20],
-            AT_THE_FLUSH,
-            4,
-            LINE,
-            Back::Devices,
-        ),
-    ];
-    expect(&rt, rt.alloc(), &ROWS);
 }

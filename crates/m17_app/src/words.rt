@@ -6,7 +6,8 @@ ghost use Rattle.m17_app.specs.Status.{Tells, count_from};
 
 use crate::status::Status;
 use crate::streams::run_on;
-use m17_devices::{Book, Crew, Ear, Ports};
+use m17_crew::Crew;
+use m17_ports::{Book, Ear, Ports};
 use std::alloc::Global;
 use std::env::Args;
 use std::hash::RandomState;

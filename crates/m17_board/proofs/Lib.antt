@@ -2,3 +2,12 @@ mod Records
 mod Moves
 mod Pairs
 mod Made
+mod Sizes
+mod Feeds
+mod Wholes
+mod Tells
+mod Looks
+mod Lines
+mod SameEnds
+mod LastLines
+mod Order

@@ -11,7 +11,7 @@ use Rattle.m17_board.specs.declared.glance.Glance.{Glance}
 use Rattle.m17_board.specs.declared.rule.Knows.{Knows}
 use Rattle.m17_board.specs.Glance.{glance_of, glance_words, IsFirstPart, IsGlanceWithin}
 use Rattle.m17_board.specs.Ends.{longer}
-use Rattle.m17_board.specs.Rule.{poster, reader, nobody, told_by, hearing, gathering, Fits, Kept, adds, looked, checked}
+use Rattle.m17_board.specs.Rule.{poster, reader, nobody, told_by, hearing, gathering, takes, Fits, Kept, adds, looked, checked}
 
 off : false ≡ true → ⊥
 off e = true≢false (sym e)
@@ -66,7 +66,7 @@ posting by v more new p e lt words views h at =
     let was = h.4 by v at in
     let mine = was.posts p in
     let now : h.1 ++ more ≡ v.known ++ more = ap (λ (l : List Record). l ++ more) (sym mine.1) in
-    let w : Knows = record { posts = v.posts; known = v.known ++ more; seen = v.seen } in (
+    let w : Knows = record { posts = v.posts; known = v.known ++ more; seen = v.seen; taken = v.taken } in (
       w,
       (
         h.0,
@@ -90,7 +90,7 @@ looking by v r words views h at =
     let rest = was.first.0 in
     let all : h.1 ≡ v.known ++ rest = was.first.1 in
     let g = glance_of (v.known ++ rest) in
-    let w : Knows = record { posts = v.posts; known = v.known ++ rest; seen = v.seen ++ g ∷ [] } in
+    let w : Knows = record { posts = v.posts; known = v.known ++ rest; seen = v.seen ++ g ∷ []; taken = v.taken } in
     let whole : IsFirstPart (v.known ++ rest) h.1 = ([], all ∙ sym (append-nil (v.known ++ rest))) in (
       w,
       (
@@ -140,6 +140,20 @@ leaving by v r words views h at =
           (λ there. fits_set h.0 h.1 views by nobody (λ i y _ e'. h.4 i y e') (fits_nobody h.0 by h.1) j u there)
           (λ (same : v ≡ u). subst (Fits h.0 h.1 j) same record { posts = λ p. reads v r p; first = was.first; seen = was.seen })
           (at_snoc (set views by nobody) v u j e),
+    )
+
+-- what a book took is nothing to the rule
+pub taking : (by : ℕ) (v : Knows) (more : List ℕ) → Forks Kept by v (takes more v) nobody
+taking by v more words views h at =
+    let was = h.4 by v at in (
+      h.0,
+      h.1,
+      h.2,
+      h.3,
+      λ j u e. ⊎_elim
+          (λ there. fits_set h.0 h.1 views by (takes more v) (λ i y _ e'. h.4 i y e') record { posts = was.posts; first = was.first; seen = was.seen } j u there)
+          (λ (same : nobody ≡ u). subst (Fits h.0 h.1 j) same (fits_nobody h.0 j h.1))
+          (at_snoc (set views by (takes more v)) nobody u j e),
     )
 
 other_fits : (seat : ℕ) (posted : List Record) (views : List Knows) (by other : ℕ) (both w : Knows) → ((j : ℕ) (u : Knows) → get_elem? views j ≡ some u → Fits seat posted j u)

@@ -6,11 +6,13 @@ use Rattle.m17_book.specs.declared.record.Record.{Record}
 use Rattle.m17_board.specs.declared.glance.Glance.{Glance}
 use Rattle.m17_board.specs.Glance.{glance_of, IsGlanceWithin}
 
--- A poster: its cell, its module's number on the board, and what it posted.
+-- A poster: its cell, its module's number on the board, what it posted, and the bytes that the book over it took, if there is
+-- one.
 pub record PostEnd : Type 0 where
   pub cell : TableId
   pub number : ℕ
   pub posted : List Record
+  pub taken : List ℕ
 
 -- An eye: its cell, its module's number, the first records that it knows of, and what it saw, look by look.
 pub record EyeEnd : Type 0 where
@@ -31,7 +33,7 @@ longer a b = if nat_lt (length a) (length b) then b else a
 
 -- the poster and the eye of one cell, new: nothing was posted, and nothing was seen
 abbrev pub IsNewPair : ℕ → PostEnd → EyeEnd → Type 0
-IsNewPair m p e = (p ≡ record { cell = e.cell; number = m; posted = [] })
+IsNewPair m p e = (p ≡ record { cell = e.cell; number = m; posted = []; taken = [] })
     × (e ≡ record { cell = p.cell; number = m; known = []; seen = [] })
 
 -- the ends of one module

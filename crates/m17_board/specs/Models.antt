@@ -13,6 +13,7 @@ post_end s = record {
   cell = (arc_value s.cell).table.shared.table_id;
   number = s.number;
   posted = (cell_view s.pass).known;
+  taken = (cell_view s.pass).taken;
 }
 
 -- the pass is the poster's of its cell, and what is kept is that of what was posted

@@ -10,11 +10,11 @@ use Rattle.m17_board.specs.Ends.{longer}
 
 -- the poster's pass, which knows all that was posted
 abbrev pub poster : List Record → Knows
-poster posted = record { posts = true; known = posted; seen = [] }
+poster posted = record { posts = true; known = posted; seen = []; taken = [] }
 
 -- a pass that knows of these records, and has seen nothing
 abbrev pub reader : List Record → Knows
-reader known = record { posts = false; known = known; seen = [] }
+reader known = record { posts = false; known = known; seen = []; taken = [] }
 
 -- a pass that knows nothing
 abbrev pub nobody : Knows
@@ -25,11 +25,21 @@ told_by v = reader v.known
 
 -- the pass with what another knows, where that is more
 abbrev pub hearing : Knows → Knows → Knows
-hearing v w = record { posts = v.posts; known = longer v.known w.known; seen = v.seen }
+hearing v w = record {
+  posts = v.posts;
+  known = longer v.known w.known;
+  seen = v.seen;
+  taken = v.taken;
+}
 
 -- the pass with what another has seen
 abbrev pub gathering : Knows → Knows → Knows
-gathering v w = record { posts = v.posts; known = v.known; seen = w.seen }
+gathering v w = record { posts = v.posts; known = v.known; seen = w.seen; taken = v.taken }
+
+-- the pass with these bytes more
+abbrev pub takes : List ℕ → Knows → Knows
+takes more v =
+    record { posts = v.posts; known = v.known; seen = v.seen; taken = v.taken ++ more }
 
 -- What the rule says of one pass: the poster's is one, and knows all that was posted; each other knows a first part of it.
 -- What was seen are glances at first parts.
@@ -47,7 +57,7 @@ Kept words views = (seat : ℕ) × (posted : List Record)
 -- these records more were posted
 abbrev pub adds : List Record → Knows → List ℕ → List ℕ → Knows → Type 0
 adds more v before after w =
-    w ≡ record { posts = v.posts; known = v.known ++ more; seen = v.seen }
+    w ≡ record { posts = v.posts; known = v.known ++ more; seen = v.seen; taken = v.taken }
 
 -- The words are those of the glance at all that is known now, which was posted and is what was known before and maybe more.
 abbrev pub looked : Knows → List ℕ → List ℕ → Knows → Type 0
@@ -57,6 +67,7 @@ looked v before after w = (more : List Record) × (slice_index after 4 < 2 ^ 48)
       posts = v.posts;
       known = v.known ++ more;
       seen = v.seen ++ glance_of (v.known ++ more) ∷ [];
+      taken = v.taken;
     })
 
 -- nothing changes, and the poster knows that what was seen are glances at first parts of what was posted

@@ -6,7 +6,7 @@ ghost use Rattle.m17_board.specs.Glance.{glance_of};
 
 use crate::glance::Glance;
 use crate::note::Note;
-use crate::rule::{Cell, Posting, Posts, Seen, Tells};
+use crate::rule::{Cell, Posting, Posts, Seen, Takes, Taking, Tells};
 use crate::sight::Sight;
 use m17_book::Record;
 use m17_values::Address;
@@ -58,6 +58,21 @@ impl Poster {
         self.sight = self.sight.with_one(one);
         let words = self.sight.glance(self.nobody).to_words();
         self.cell.swap_as::<Posts<A>, R>(rt, &mut self.pass, words);
+    }
+
+    // Says to contracts that a book which posts by it took these bytes. When it runs it does nothing.
+    pub(crate) fn take(&mut self, bytes: &[u8])
+        ensures { self.new ≡ record self.old { taken = self.old.taken ++ bytes.now } }
+    {
+        self.take_named::<Brand>(bytes);
+    }
+
+    // The same, with the bytes named for the pass.
+    fn take_named<A: Taking>(&mut self, _bytes: &[u8])
+        requires { A.taken ≡ _bytes.now }
+        ensures { self.new ≡ record self.old { taken = self.old.taken ++ _bytes.now } }
+    {
+        drop(self.cell.split_pass::<Takes<A>>(&mut self.pass));
     }
 
     /// What was posted so far, for an eye to be told.

@@ -17,6 +17,8 @@ pub struct Knows {
     pub known: LinkedList<Record>,
     /// What was seen, look by look.
     pub seen: LinkedList<Glance>,
+    /// The bytes that the book over the poster took.
+    pub taken: LinkedList<u8>,
 }
 
 pub struct Posted;
@@ -88,6 +90,32 @@ impl Split<Knows> for Tells {
     ghost left = { λ v. v };
 
     ghost right = { told_by };
+}
+
+/// Which bytes a book took.
+pub trait Taking {
+    ghost use Rattle.std.specs.Prelude.{ℕ, List};
+
+    ghost taken: { List ℕ };
+}
+
+impl Taking for Brand {
+    ghost use Rattle.std.specs.Prelude.{[]};
+
+    ghost taken = { [] };
+}
+
+/// The poster's pass learns what the book over it took.
+pub struct Takes<A> {
+    marker: PhantomData<A>,
+}
+
+impl<A: Taking> Split<Knows> for Takes<A> {
+    ghost use Rattle.m17_board.specs.Rule.{nobody, takes};
+
+    ghost left = { takes A.taken };
+
+    ghost right = { λ _. nobody };
 }
 
 /// An eye takes in what it was told.

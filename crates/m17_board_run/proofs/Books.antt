@@ -1,14 +1,15 @@
 -- What is told of the books of a run with a board.
-use Rattle.std.proofs.Common.{◌≡◌, ℕ, suc, Bool, true, false, List, [], ◌∷◌, ◌++◌, map, length, All, Option, refl, sym, ap, ap₂, subst, ◌∙◌}
+use Rattle.std.proofs.Common.{◌≡◌, ℕ, suc, Bool, true, false, List, [], ◌∷◌, ◌++◌, map, length, All, Option, None, Some, refl, sym, ap, ap₂, subst, ◌∙◌}
 use Rattle.std.specs.List.{AllZip}
+use Rattle.std.proofs.lemmas.Option.{same_Some}
 use Rattle.std.proofs.lemmas.List.Elements.{All-cons, All-head, All-tail, All-nil}
 use Rattle.m17_ports.specs.Book.{BookTold}
 use Rattle.m17_ports.specs.Marks.{Device}
 use Rattle.m17_ports.specs.Told.{StartsEmpty}
 use Rattle.m17_ports.specs.declared.shelf.Shelf.{Shelf}
 use Rattle.m17_board.specs.Ends.{AreOfOneBoard, EyeEnd, PostEnd}
-use Rattle.m17_board_book.specs.Kept.{BoardKept}
-use Rattle.m17_board_book.specs.declared.board_book.BoardLabel.{BoardLabel}
+use Rattle.m17_board.specs.Kept.{BoardKept, told_or, unposted}
+use Rattle.m17_board.specs.declared.board_book.BoardLabel.{BoardLabel}
 use Rattle.m17_board_run.specs.Kept.{kept_told, plain_told, posting_each, told_of_shelf}
 use Rattle.m17_board_run.specs.Putting.{IsKept, IsPosting, IsSameEnd, plain, plain_of, posters_of}
 use Rattle.m17_board_run.specs.declared.kept.Kept.{Kept}
@@ -32,6 +33,9 @@ module _ {B R L : Type 0} where
   posters_none [] all = refl
   posters_none (kept.Plain shelf ∷ some) all = posters_none some (All-tail (IsKept false) (kept.Plain shelf) some all)
   posters_none (kept.Posting book ∷ some) all = absurd (All-head (IsKept false) (kept.Posting book) some all)
+
+  pub none_take : (some : List (Kept B R L)) → All (IsKept false) some → All (λ poster. poster.taken ≡ []) (posters_of some)
+  none_take some all = subst (All (λ (p : PostEnd). p.taken ≡ [])) (sym (posters_none some all)) (All-nil (λ (p : PostEnd). p.taken ≡ []))
 
   -- shelves that are put as they are
   pub over_plain : (some : List (Kept B R L)) (shelves : List (Shelf B)) → some ≡ map plain shelves → map plain_of some ≡ shelves
@@ -58,6 +62,21 @@ module _ {B R L : Type 0} where
   length_over (one ∷ some) [] over = absurd (let e = over in cc)
   length_over (one ∷ some) (s ∷ shelves) over = ap suc (length_over some shelves (let e = over in cc))
 
+-- what tells nothing yet, or took nothing
+pub or_empty : (o : Option (List ℕ)) (taken : List ℕ) → taken ≡ [] → StartsEmpty o → StartsEmpty (told_or o taken)
+or_empty None taken none empty all is = sym (same_Some taken all is) ∙ none
+or_empty (Some told) taken none empty all is = empty all is
+
+module _ {B R L : Type 0} where
+  first_taken : (one : Kept B R L) (some : List (Kept B R L)) → All (λ poster. poster.taken ≡ []) (posters_of (one ∷ some)) → All (λ poster. poster.taken ≡ []) (posters_of (one ∷ []))
+  first_taken (kept.Plain shelf) some all = All-nil (λ (p : PostEnd). p.taken ≡ [])
+  first_taken (kept.Posting book) some all =
+      All-cons (λ (p : PostEnd). p.taken ≡ []) book.poster [] (All-head (λ (p : PostEnd). p.taken ≡ []) book.poster (posters_of some) all) (All-nil (λ (p : PostEnd). p.taken ≡ []))
+
+  others_taken : (one : Kept B R L) (some : List (Kept B R L)) → All (λ poster. poster.taken ≡ []) (posters_of (one ∷ some)) → All (λ poster. poster.taken ≡ []) (posters_of some)
+  others_taken (kept.Plain shelf) some all = all
+  others_taken (kept.Posting book) some all = All-tail (λ (p : PostEnd). p.taken ≡ []) book.poster (posters_of some) all
+
 module _ {L : Type 0} where
   -- the device of a shelf
   abbrev off_label : KeptLabel L → Option L
@@ -68,22 +87,23 @@ module _ {L : Type 0} where
   off_device device = record { mark = device.mark; label = off_label device.label }
 
 module _ {B R L : Type 0} (told : B → BookTold L) where
-  one_fresh : (one : Kept B R L) → StartsEmpty (told_of_shelf told (plain_of one)).written → StartsEmpty (kept_told told one).written
-  one_fresh (kept.Plain shelf) empty = empty
-  one_fresh (kept.Posting book) empty = empty
+  one_fresh : (one : Kept B R L) → All (λ poster. poster.taken ≡ []) (posters_of (one ∷ [])) → StartsEmpty (told_of_shelf told (plain_of one)).written → StartsEmpty (kept_told told one).written
+  one_fresh (kept.Plain shelf) untaken empty = empty
+  one_fresh (kept.Posting book) untaken empty =
+      or_empty (told_of_shelf told book.inner).written book.poster.taken (All-head (λ (p : PostEnd). p.taken ≡ []) book.poster [] untaken) empty
 
   -- nothing is written in books over shelves in which nothing is written
-  all_fresh : (some : List (Kept B R L)) → All (λ shelf. StartsEmpty (told_of_shelf told shelf).written) (map plain_of some)
+  all_fresh : (some : List (Kept B R L)) → All (λ poster. poster.taken ≡ []) (posters_of some) → All (λ shelf. StartsEmpty (told_of_shelf told shelf).written) (map plain_of some)
       → All (λ one. StartsEmpty (kept_told told one).written) some
-  all_fresh [] empty = All-nil (λ one. StartsEmpty (kept_told told one).written)
-  all_fresh (one ∷ some) empty =
+  all_fresh [] untaken empty = All-nil (λ one. StartsEmpty (kept_told told one).written)
+  all_fresh (one ∷ some) untaken empty =
       All-cons (λ one. StartsEmpty (kept_told told one).written) one some
-      (one_fresh one (All-head (λ shelf. StartsEmpty (told_of_shelf told shelf).written) (plain_of one) (map plain_of some) empty))
-      (all_fresh some (All-tail (λ shelf. StartsEmpty (told_of_shelf told shelf).written) (plain_of one) (map plain_of some) empty))
+      (one_fresh one (first_taken one some untaken) (All-head (λ shelf. StartsEmpty (told_of_shelf told shelf).written) (plain_of one) (map plain_of some) empty))
+      (all_fresh some (others_taken one some untaken) (All-tail (λ shelf. StartsEmpty (told_of_shelf told shelf).written) (plain_of one) (map plain_of some) empty))
 
-  pub fresh_over : (some : List (Kept B R L)) (shelves : List (Shelf B)) → map plain_of some ≡ shelves → All (λ shelf. StartsEmpty (told_of_shelf told shelf).written) shelves
+  pub fresh_over : (some : List (Kept B R L)) (shelves : List (Shelf B)) → map plain_of some ≡ shelves → All (λ poster. poster.taken ≡ []) (posters_of some) → All (λ shelf. StartsEmpty (told_of_shelf told shelf).written) shelves
       → All (λ one. StartsEmpty (kept_told told one).written) some
-  fresh_over some shelves over empty = all_fresh some (subst (All (λ shelf. StartsEmpty (told_of_shelf told shelf).written)) (sym over) empty)
+  fresh_over some shelves over untaken empty = all_fresh some untaken (subst (All (λ shelf. StartsEmpty (told_of_shelf told shelf).written)) (sym over) empty)
 
   -- books tell what their shelves do, with their posters
   pub posting_books : (some : List (Kept B R L)) → All IsPosting some
@@ -118,30 +138,28 @@ module _ {B R L : Type 0} (told : B → BookTold L) where
   off_all (kept.Plain shelf ∷ some) = ap (λ (l : List (Device ℕ (Option L))). (told_of_shelf told shelf).device ∷ l) (off_all some)
   off_all (kept.Posting book ∷ some) = ap (λ (l : List (Device ℕ (Option L))). (told_of_shelf told book.inner).device ∷ l) (off_all some)
 
-abbrev unposted : PostEnd → PostEnd
-unposted p = record p { posted = [] }
-
 same_unposted : (p q : PostEnd) → IsSameEnd p q → unposted p ≡ unposted q
 same_unposted p q same =
-    ap (λ x. record { cell = x; number = p.number; posted = [] }) same.cell ∙ ap (λ x. record { cell = q.cell; number = x; posted = [] }) same.number
+    ap (λ x. record { cell = x; number = p.number; posted = []; taken = [] }) same.cell ∙ ap (λ x. record { cell = q.cell; number = x; posted = []; taken = [] }) same.number
 
-abbrev posting_by : {L : Type 0} → PostEnd → BookTold (Option L) → BookTold (KeptLabel L)
-posting_by end book = record {
-  written = book.written;
+abbrev posting_by : {L : Type 0} → PostEnd → List ℕ → BookTold (Option L) → BookTold (KeptLabel L)
+posting_by end taken book = record {
+  written = told_or book.written taken;
   faults = book.faults;
   device = record { mark = book.device.mark; label = Posting record { inner = book.device.label; poster = end } };
 }
 
 module _ {L : Type 0} where
-  -- what is told of books with posters is told with any others of the same board
-  pub same_posting : (ps qs : List PostEnd) (books : List (BookTold (Option L))) → AllZip IsSameEnd ps qs → posting_each ps books ≡ posting_each qs books
-  same_posting [] [] books same = refl
-  same_posting [] (q ∷ qs) books same = absurd same
-  same_posting (p ∷ ps) [] books same = absurd same
-  same_posting (p ∷ ps) (q ∷ qs) [] same = refl
-  same_posting (p ∷ ps) (q ∷ qs) (book ∷ books) same =
-      ap₂ (λ (x : BookTold (KeptLabel L)) (xs : List (BookTold (KeptLabel L))). x ∷ xs) (ap (λ (end : PostEnd). posting_by end book) (same_unposted p q same.0))
-      (same_posting ps qs books same.1)
+  -- What is told of books with posters whose books took nothing is told with any others of the same board, before they posted.
+  pub same_posting : (ps qs : List PostEnd) (books : List (BookTold (Option L))) → AllZip IsSameEnd ps qs → All (λ poster. poster.taken ≡ []) ps → posting_each ps books ≡ posting_each (map unposted qs) books
+  same_posting [] [] books same untaken = refl
+  same_posting [] (q ∷ qs) books same untaken = absurd same
+  same_posting (p ∷ ps) [] books same untaken = absurd same
+  same_posting (p ∷ ps) (q ∷ qs) [] same untaken = refl
+  same_posting (p ∷ ps) (q ∷ qs) (book ∷ books) same untaken =
+      ap₂ (λ (x : BookTold (KeptLabel L)) (xs : List (BookTold (KeptLabel L))). x ∷ xs)
+      (ap (λ (taken : List ℕ). posting_by (unposted p) taken book) (All-head (λ (poster : PostEnd). poster.taken ≡ []) p ps untaken) ∙ ap (λ (end : PostEnd). posting_by end [] book) (same_unposted p q same.0))
+      (same_posting ps qs books same.1 (All-tail (λ (poster : PostEnd). poster.taken ≡ []) p ps untaken))
 
 -- eyes are of one board with each of these
 pub same_board : (ps qs : List PostEnd) (eyes : List EyeEnd) → AllZip IsSameEnd ps qs → AreOfOneBoard ps eyes → AreOfOneBoard qs eyes

@@ -5,7 +5,7 @@ use Rattle.m17_ports.specs.Book.{BookTold, HasText}
 use Rattle.m17_ports.specs.Told.{told_then}
 use Rattle.m17_control.specs.declared.modules.Modules.{Modules}
 use Rattle.m17_board.specs.Ends.{PostEnd}
-use Rattle.m17_board_watch.specs.Written.{BoardLine, ShowBegin, ShowsBoard, TellsFirstPart, lines_text}
+use Rattle.m17_board.specs.Written.{BoardLine, ShowBegin, ShowsBoard, TellsFirstPart, lines_text}
 use Rattle.m17_io.specs.Faults.{HasRisen}
 use Rattle.m17_reflect.specs.Views.{IsRefusedFor}
 use Rattle.m17_reflect.specs.declared.returned.HouseRefusal.{HouseRefusal}

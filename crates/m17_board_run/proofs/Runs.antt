@@ -11,7 +11,7 @@ use Rattle.m17_ports.specs.Told.{StartsEmpty}
 use Rattle.m17_ports.specs.declared.shelf.Shelf.{Shelf}
 use Rattle.m17_plan.specs.declared.plan.Plan.{Plan}
 use Rattle.m17_board.specs.Ends.{AreOfOneBoard, EyeEnd, NewPairs, PostEnd}
-use Rattle.m17_board_book.specs.Laws.{OneListStandsWhole}
+use Rattle.m17_board.specs.Laws.{OneListStandsWhole}
 use Rattle.m17_reflect.specs.Headline.{Headline}
 use Rattle.m17_reflect.specs.Laws.{AreSameDevices, DevicesStay}
 use Rattle.m17_reflect.specs.Run.{Devices, Handed, module_count}
@@ -20,10 +20,11 @@ use Rattle.m17_reflect.specs.declared.returned.HouseRefusal.{HouseRefusal}
 use Rattle.m17_reflect.specs.declared.returned.HouseRefusal.TheVariants.{Crew, NoMemory}
 use Rattle.m17_reflect.specs.declared.returned.Refused.{Refused}
 use Rattle.m17_reflect.specs.declared.returned.Returned.{Returned}
-use Rattle.m17_board_watch.specs.Laws.{NumbersRise}
-use Rattle.m17_board_watch.specs.Ending.{IsFresh}
-use Rattle.m17_board_watch.specs.Shows.{WatchDid}
-use Rattle.m17_board_watch.specs.declared.watch.Watch.{Watch}
+use Rattle.m17_board.specs.Kept.{unposted}
+use Rattle.m17_board.specs.Laws.{NumbersRise}
+use Rattle.m17_board.specs.Ending.{IsFresh}
+use Rattle.m17_board.specs.Shows.{WatchDid}
+use Rattle.m17_board.specs.declared.watch.Watch.{Watch}
 use Rattle.m17_board_run.specs.Boarded.{LinesBack, RanOver}
 use Rattle.m17_board_run.specs.Kept.{kept_told, plain_told, posting_each, told_of_shelf}
 use Rattle.m17_board_run.specs.Putting.{plain_of, posters_of, IsBack, IsKept, IsSameEnd}
@@ -39,6 +40,13 @@ none_posted from [] es new = All-nil (λ poster. poster.posted ≡ [])
 none_posted from (p ∷ ps) [] new = absurd new
 none_posted from (p ∷ ps) (e ∷ es) new =
     All-cons (λ poster. poster.posted ≡ []) p ps (ap (λ (q : PostEnd). q.posted) new.0.0) (none_posted (suc from) ps es new.1)
+
+-- and their books took nothing
+pub none_taken : (from : ℕ) (ps : List PostEnd) (es : List EyeEnd) → NewPairs from ps es → All (λ poster. poster.taken ≡ []) ps
+none_taken from [] es new = All-nil (λ poster. poster.taken ≡ [])
+none_taken from (p ∷ ps) [] new = absurd new
+none_taken from (p ∷ ps) (e ∷ es) new =
+    All-cons (λ poster. poster.taken ≡ []) p ps (ap (λ (q : PostEnd). q.taken) new.0.0) (none_taken (suc from) ps es new.1)
 
 -- of no module a line was written
 pub all_zeros : (count place : ℕ) → slice_index (replicate count 0) place ≡ 0
@@ -130,15 +138,15 @@ module _ {E M B R X Y L : Type 0} (ear : E → EarTold X) (mouth : M → MouthTo
   -- the run as it shows itself at what was handed in and what is handed back
   pub run_off : OneListStandsWhole → (posts : Bool) (plan : Plan) (shelves : Kinds E M (Shelf B)) (ps posters : List PostEnd) (traces books : List (Kept B R L)) (house : Returned E M (Kept B R L))
       (back : Returned E M (Shelf B)) → ArePut posts shelves ps traces books → CameBack posts shelves ps house → IsOff house back → posters ≡ posters_of house.books.items
-      → (posters ≡ []) ⊎ AllZip (IsBack told) back.books.items posters → All (λ shelf. StartsEmpty (told_of_shelf told shelf).written) shelves.books
+      → (posters ≡ []) ⊎ AllZip (IsBack told) back.books.items posters → All (λ poster. poster.taken ≡ []) ps → All (λ shelf. StartsEmpty (told_of_shelf told shelf).written) shelves.books
       → Headline (run_of ear mouth (kept_told told) plan (kinds_by shelves.ears shelves.mouths traces books) house)
       → RanOver plan posters (told_off ear mouth told shelves) (told_off ear mouth told (kinds_back back)) (handed_of back)
-  run_off law posts plan shelves ps posters traces books house back put came off named posted empty headline =
+  run_off law posts plan shelves ps posters traces books house back put came off named posted untaken empty headline =
       let own = posters_of house.books.items in
       let before_traces = told_traces told traces put.plain_traces ∙ ap (λ (l : List (Shelf B)). map plain_told (map (told_of_shelf told) l)) put.over_traces in
       let before_books = told_kept told posts books put.kept ∙ ap (λ (l : List PostEnd). posting_each l (map (told_of_shelf told) (map plain_of books))) put.posters_are
-      ∙ ap (λ (l : List (Shelf B)). posting_each ps (map (told_of_shelf told) l)) put.over ∙ same_posting ps own (map (told_of_shelf told) shelves.books) came.ends
-      ∙ ap (λ (l : List PostEnd). posting_each l (map (told_of_shelf told) shelves.books)) (sym named) in
+      ∙ ap (λ (l : List (Shelf B)). posting_each ps (map (told_of_shelf told) l)) put.over ∙ same_posting ps own (map (told_of_shelf told) shelves.books) came.ends untaken
+      ∙ ap (λ (l : List PostEnd). posting_each (map unposted l) (map (told_of_shelf told) shelves.books)) (sym named) in
       let after_traces = told_traces told house.traces.items came.plain_traces ∙ sym (ap (λ (l : List (Shelf B)). map plain_told (map (told_of_shelf told) l)) off.traces) in
       let after_books = told_kept told posts house.books.items came.kept ∙ sym (ap (λ (l : List (Shelf B)). posting_each own (map (told_of_shelf told) l)) off.books)
       ∙ ap (λ (l : List PostEnd). posting_each l (map (told_of_shelf told) back.books.items)) (sym named) in

@@ -3,6 +3,7 @@ use Rattle.std.proofs.Common.{◌≡◌, ◌⊎◌, ℕ, zero, suc, ◌<◌, Boo
 use Rattle.std.specs.List.{AllZip}
 use Rattle.std.proofs.lemmas.Option.{same_Some, none-some}
 use Rattle.std.proofs.lemmas.List.Elements.{All-head, All-tail}
+use Rattle.m17_lists.proofs.Places.{mapped_stands_there}
 use Rattle.m17_ports.specs.Book.{BookTold, HasText}
 use Rattle.m17_ports.specs.Told.{StartsEmpty, told_then}
 use Rattle.m17_ports.specs.declared.shelf.Shelf.{Shelf}
@@ -13,7 +14,8 @@ use Rattle.m17_book.specs.Book.{HasBookForm}
 use Rattle.m17_book.specs.declared.head.Head.{Head}
 use Rattle.m17_book.specs.declared.record.Record.{Record}
 use Rattle.m17_book.specs.declared.version.Version.TheVariants.{Two}
-use Rattle.m17_board_book.specs.Laws.{OneListStandsWhole}
+use Rattle.m17_board.specs.Kept.{told_or, unposted}
+use Rattle.m17_board.specs.Laws.{OneListStandsWhole}
 use Rattle.m17_worker.specs.Records.{book_text, records_of}
 use Rattle.m17_reflect.specs.Judged.{AreWritten, head_at}
 use Rattle.m17_reflect.specs.Links.{At, Link, setup_at}
@@ -23,6 +25,7 @@ use Rattle.m17_board_run.specs.Boarded.{IsPosted}
 use Rattle.m17_board_run.specs.Kept.{posting_each, posting_told, told_of_shelf}
 use Rattle.m17_board_run.specs.Putting.{IsBack}
 use Rattle.m17_board_run.specs.declared.kept.KeptLabel.{KeptLabel}
+use Rattle.m17_board_run.proofs.Books.{or_empty}
 
 -- one place of lists
 place_in : {A : Type 0} (xs : List A) (m : ℕ) → m < length xs → (x : A) × (slice_get xs m ≡ Some x)
@@ -76,27 +79,33 @@ module _ {B L : Type 0} (told : B → BookTold L) where
   posted_whole shelves posters (inl none) m book poster at at' = absurd (none-some poster (sym (ap (λ l. slice_get l m) none) ∙ at'))
   posted_whole shelves posters (inr all) m book poster at at' = whole_of shelves posters all m book poster at at'
 
+-- a book that posts tells bytes in any case
+tells : (o : Option (List ℕ)) (taken : List ℕ) → (bytes : List ℕ) × (told_or o taken ≡ Some bytes)
+tells None taken = (taken, refl)
+tells (Some bytes) taken = (bytes, refl)
+
 module _ {L X Y : Type 0} (law : OneListStandsWhole) where
   -- and that is the records of its trail
   pub of_trail : (run : Run X Y (KeptLabel L)) (links : List Link) (posters : List PostEnd) (olds news : List (BookTold (Option L))) → AreWritten run links
-      → run.before.books ≡ posting_each posters olds → run.after.books ≡ posting_each posters news
+      → run.before.books ≡ posting_each (map unposted posters) olds → run.after.books ≡ posting_each posters news
       → length news ≡ length olds → All (λ book. StartsEmpty book.written) olds
       → ((m : ℕ) (book : BookTold (Option L)) (poster : PostEnd) → At news m book → At posters m poster → IsPosted book poster)
-      → (m : ℕ) (after : BookTold (Option L)) (trail : TrailEnd Event) (poster : PostEnd) (bytes : List ℕ) → At news m after → At run.handed.trails m trail → At posters m poster
-      → after.written ≡ Some bytes → after.faults ≡ 0 → poster.posted ≡ records_of (setup_at run.plan m) (events_of trail)
-  of_trail run links posters olds news written were are many empty whole m after trail poster bytes at_after at_trail at_poster is sound =
+      → (m : ℕ) (after : BookTold (Option L)) (trail : TrailEnd Event) (poster : PostEnd) → At news m after → At run.handed.trails m trail → At posters m poster
+      → after.faults ≡ 0 → poster.posted ≡ records_of (setup_at run.plan m) (events_of trail)
+  of_trail run links posters olds news written were are many empty whole m after trail poster at_after at_trail at_poster sound =
       let inside = place_below news m after at_after in
       let (before, at_before) = place_in olds m (omega (arith, inside, many)) in
       let head : Head = head_at run.plan m in
       let records : List Record = records_of (setup_at run.plan m) (events_of trail) in
-      let was : At run.before.books m (posting_told poster before) =
-      ap (λ l. slice_get l m) were ∙ over_at posters olds m poster before at_poster at_before in
+      let (bytes, is) = tells after.written poster.taken in
+      let was : At run.before.books m (posting_told (unposted poster) before) =
+      ap (λ l. slice_get l m) were ∙ over_at (map unposted posters) olds m (unposted poster) before (mapped_stands_there unposted posters m poster at_poster) at_before in
       let now : At run.after.books m (posting_told poster after) =
       ap (λ l. slice_get l m) are ∙ over_at posters news m poster after at_poster at_after in
-      let wrote = written.books m trail (posting_told poster before) (posting_told poster after) at_trail was now in
+      let wrote = written.books m trail (posting_told (unposted poster) before) (posting_told poster after) at_trail was now in
       let same : bytes ≡ book_text head records =
-      text_is (posting_told poster before) (posting_told poster after) (book_text head records) bytes wrote.0 wrote.1
-      (place_all (λ book. StartsEmpty book.written) olds m before empty at_before) is sound in
+      text_is (posting_told (unposted poster) before) (posting_told poster after) (book_text head records) bytes wrote.0 wrote.1
+      (or_empty before.written [] refl (place_all (λ book. StartsEmpty book.written) olds m before empty at_before)) is sound in
       let form = written.spelled m trail (posting_told poster after) bytes at_trail now is in
       law.whole bytes head records poster.posted (subst (λ (b : List ℕ). HasBookForm Two b head records) (sym same) form)
       (whole m after poster at_after at_poster bytes is sound)

@@ -1,5 +1,5 @@
 -- What a run of the reflector comes to, whose board is shown or is not.
-use Rattle.std.specs.Prelude.{◌≡◌, ℕ, Bool, false, List, [], length, Option, None, Some}
+use Rattle.std.specs.Prelude.{◌≡◌, ℕ, Bool, false, List, [], length, map, Option, None, Some}
 use Rattle.m17_ports.specs.Book.{BookTold}
 use Rattle.m17_control.specs.declared.event.Event.{Event}
 use Rattle.m17_control.specs.declared.modules.Modules.{Modules}
@@ -7,8 +7,9 @@ use Rattle.m17_lane.specs.Ends.{TrailEnd}
 use Rattle.m17_worker.specs.Records.{records_of}
 use Rattle.m17_plan.specs.declared.plan.Plan.{Plan}
 use Rattle.m17_board.specs.Ends.{PostEnd}
-use Rattle.m17_board_book.specs.Whole.{StandWhole}
-use Rattle.m17_board_watch.specs.Written.{ShowsBoard}
+use Rattle.m17_board.specs.Kept.{told_or, unposted}
+use Rattle.m17_board.specs.Whole.{StandWhole}
+use Rattle.m17_board.specs.Written.{ShowsBoard}
 use Rattle.m17_reflect.specs.Headline.{Headline}
 use Rattle.m17_reflect.specs.Laws.{AreSameDevices}
 use Rattle.m17_reflect.specs.Links.{At, setup_at}
@@ -19,20 +20,20 @@ use Rattle.m17_reflect.specs.declared.returned.HouseRefusal.TheVariants.{Crew}
 use Rattle.m17_board_run.specs.Kept.{on_board}
 use Rattle.m17_board_run.specs.declared.kept.KeptLabel.{KeptLabel}
 
--- What was posted at a module's book: where the book tells its bytes and never failed, the records that stand whole in them.
+-- What was posted at a module's shelf: where no write of it failed, the records that stand whole in its bytes, or where it
+-- tells none, as without a book, in those that were written to it.
 abbrev pub IsPosted : {B : Type 0} → BookTold (Option B) → PostEnd → Type 0
-IsPosted book poster = (bytes : List ℕ) → book.written ≡ Some bytes → book.faults ≡ 0
-    → StandWhole bytes poster.posted
+IsPosted book poster = (bytes : List ℕ) → told_or book.written poster.taken ≡ Some bytes
+    → book.faults ≡ 0 → StandWhole bytes poster.posted
 
--- What was posted at the books of modules, where there are posters: what stands whole in the bytes of each, and that is the
--- records of the module's trail.
+-- What was posted at the shelves of modules, where there are posters: what stands whole in the bytes of each, and that is the
+-- records of the module's trail, whether there is a book on the shelf or none.
 pub record ArePosted {B : Type 0} (plan : Plan) (books : List (BookTold (Option B)))
     (trails : List (TrailEnd Event)) (posters : List PostEnd) : Type 0 where
   pub whole : (m : ℕ) (book : BookTold (Option B)) (poster : PostEnd) → At books m book
       → At posters m poster → IsPosted book poster
   pub of_trails : (m : ℕ) (book : BookTold (Option B)) (trail : TrailEnd Event) (poster : PostEnd)
-      (bytes : List ℕ) → At books m book → At trails m trail → At posters m poster →
-      book.written ≡ Some bytes → book.faults ≡ 0 →
+      → At books m book → At trails m trail → At posters m poster → book.faults ≡ 0 →
       poster.posted ≡ records_of (setup_at plan m) (events_of trail)
 
 module _ {E M B : Type 0} where
@@ -41,7 +42,7 @@ module _ {E M B : Type 0} where
       → Handed → Run E M (KeptLabel B)
   run_on_board plan posters before after handed = record {
     plan = plan;
-    before = on_board posters before;
+    before = on_board (map unposted posters) before;
     after = on_board posters after;
     handed = handed;
   }

@@ -5,7 +5,7 @@ use Rattle.std.specs.Option.{option_map}
 use Rattle.m17_ports.specs.Book.{BookTold, shelf_told}
 use Rattle.m17_ports.specs.declared.shelf.Shelf.{Shelf}
 use Rattle.m17_board.specs.Ends.{PostEnd}
-use Rattle.m17_board_book.specs.Kept.{board_told}
+use Rattle.m17_board.specs.Kept.{board_told, told_or, unposted}
 use Rattle.m17_reflect.specs.Run.{Devices}
 use Rattle.m17_board_run.specs.declared.kept.Kept.{Kept}
 use Rattle.m17_board_run.specs.declared.kept.Kept.TheVariants as kept
@@ -29,15 +29,19 @@ abbrev pub kept_told : {B R L : Type 0} → (B → BookTold L) → Kept B R L �
 kept_told told (kept.Plain shelf) = labelled Plain (told_of_shelf told shelf)
 kept_told told (kept.Posting book) = labelled Posting (board_told (told_of_shelf told) book)
 
--- the shelf as it is, and with this poster over it
+-- The shelf as it is, and with this poster over it: then it tells the bytes that the book over it took, where it tells none.
 abbrev pub plain_told : {L : Type 0} → BookTold (Option L) → BookTold (KeptLabel L)
 plain_told told = labelled Plain told
 
 abbrev pub posting_told : {L : Type 0} → PostEnd → BookTold (Option L) → BookTold (KeptLabel L)
-posting_told poster told = labelled (λ label. Posting record {
-  inner = label;
-  poster = record poster { posted = [] };
-}) told
+posting_told poster told = record {
+  written = told_or told.written poster.taken;
+  faults = told.faults;
+  device = record {
+    mark = told.device.mark;
+    label = Posting record { inner = told.device.label; poster = unposted poster };
+  };
+}
 
 -- the books with these posters, one over each as long as there are any
 abbrev pub posting_each : {L : Type 0} → List PostEnd → List (BookTold (Option L))

@@ -3,7 +3,8 @@ use Rattle.std.specs.Prelude.{◌≡◌, ℕ, Bool, true, false, List, [], ◌�
 use Rattle.m17_ports.specs.Book.{BookTold}
 use Rattle.m17_ports.specs.declared.shelf.Shelf.{Shelf}
 use Rattle.m17_board.specs.Ends.{PostEnd}
-use Rattle.m17_board_book.specs.Whole.{StandWhole}
+use Rattle.m17_board.specs.Kept.{told_or}
+use Rattle.m17_board.specs.Whole.{StandWhole}
 use Rattle.m17_board_run.specs.Kept.{told_of_shelf}
 use Rattle.m17_board_run.specs.declared.kept.Kept.{Kept}
 use Rattle.m17_board_run.specs.declared.kept.Kept.TheVariants.{Plain, Posting}
@@ -40,7 +41,9 @@ pub record IsSameEnd (p q : PostEnd) : Type 0 where
   pub cell : p.cell ≡ q.cell
   pub number : p.number ≡ q.number
 
--- What was posted is what stands whole in the bytes of the shelf, where it tells them and never failed.
+-- What was posted is what stands whole in the bytes of the shelf, or where it tells none in those that were taken, where no
+-- write failed.
 abbrev pub IsBack : {B L : Type 0} → (B → BookTold L) → Shelf B → PostEnd → Type 0
-IsBack told shelf poster = (bytes : List ℕ) → (told_of_shelf told shelf).written ≡ Some bytes
+IsBack told shelf poster = (bytes : List ℕ)
+    → told_or (told_of_shelf told shelf).written poster.taken ≡ Some bytes
     → (told_of_shelf told shelf).faults ≡ 0 → StandWhole bytes poster.posted

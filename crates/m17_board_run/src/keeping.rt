@@ -67,6 +67,7 @@ where
     requires books { vec_len books ≡ module_count plan.now }
     requires posters { 0 < vec_len posters → vec_len posters ≡ vec_len books }
     requires unposted { All (λ poster. poster.posted ≡ []) posters.items }
+    requires untaken { All (λ poster. poster.taken ≡ []) posters.items }
     requires new_ears { All (λ ear. StartsEmpty (E.told ear).heard) ears.items }
     requires new_traces { All (λ trace. StartsEmpty (told_of_shelf B.told trace).written) traces.items }
     requires new_books { All (λ book. StartsEmpty (told_of_shelf B.told book).written) books.items }
@@ -94,7 +95,7 @@ where
         (λ back. IsRefusedFor back.0.why (C.refusals crew.old) (C.refusals crew.new)) }
     ensures unasked { IfErr result (λ back. back.0.why ≡ refusals.NoMemory → crew.new ≡ crew.old) }
 {
-    m17_board_book::laws::one_list_stands_whole();
+    m17_board::laws::one_list_stands_whole();
     m17_reflect::laws::devices_stay::<E::Label, M::Label, KeptLabel<B::Label>>();
     let Rooms {
         kept_traces,
@@ -108,13 +109,21 @@ where
         books: back_books,
         posters: back_posters,
     };
-    let posts = !posters.is_empty();
+    let posts = are_some(&posters);
     let kept_traces = keep_plain(traces, kept_traces);
     let kept_books = keep_books(rt, posts, books, posters, kept_books);
     match reflect(rt, alloc, plan, ears, mouths, kept_traces, kept_books, crew) {
         Ok(house) => Ok(house_back(posts, house, back)),
         Err(refused) => Err(refused_back(posts, refused, back)),
     }
+}
+
+// Whether there are posters.
+fn are_some(posters: &Vec<Poster>) -> bool
+    ensures some { result ≡ true → 0 < vec_len posters.now }
+    ensures none { result ≡ false → posters.now.items ≡ [] }
+{
+    !posters.is_empty()
 }
 
 // A book over each shelf that posts by its poster, or where no book posts the shelves as they are.
@@ -131,6 +140,7 @@ fn keep_books<B: Book + Drop, R: Wait + Copy + Drop>(
     requires no_posters { posts ≡ false → posters.items ≡ [] }
     requires empty { All (λ shelf. StartsEmpty (told_of_shelf B.told shelf).written) shelves.items }
     requires unposted { All (λ poster. poster.posted ≡ []) posters.items }
+    requires untaken { All (λ poster. poster.taken ≡ []) posters.items }
     ensures shelves { map plain_of result.items ≡ shelves.items }
     ensures posters { posters_of result.items ≡ posters.items }
     ensures kept { All (IsKept posts) result.items }

@@ -3,7 +3,7 @@ ghost use Rattle.std.specs.Prelude.{◌≡◌, None, false, true};
 ghost use Rattle.m17_board_run.specs.Kept.{kept_told};
 ghost use Rattle.m17_board_run.specs.Putting.{IsPosting};
 
-use m17_board_book::{BoardBook, BoardLabel};
+use m17_board::{BoardBook, BoardLabel};
 use m17_ports::{Book, Shelf};
 use m17_values::Failed;
 use std::sync::Wait;

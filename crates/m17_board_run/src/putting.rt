@@ -6,8 +6,7 @@ ghost use Rattle.m17_board_run.specs.Kept.{told_of_shelf};
 ghost use Rattle.m17_board_run.specs.Putting.{IsBack, IsPosting, plain, plain_of, posters_of};
 
 use crate::kept::Kept;
-use m17_board::Poster;
-use m17_board_book::BoardBook;
+use m17_board::{BoardBook, Poster};
 use m17_ports::{Book, Shelf};
 use std::sync::Wait;
 
@@ -41,6 +40,7 @@ pub(crate) fn keep_posting<B: Book + Drop, R: Wait + Copy + Drop>(
     requires each { vec_len posters ≡ vec_len shelves }
     requires empty { All (λ shelf. StartsEmpty (told_of_shelf B.told shelf).written) shelves.items }
     requires unposted { All (λ poster. poster.posted ≡ []) posters.items }
+    requires untaken { All (λ poster. poster.taken ≡ []) posters.items }
     ensures shelves { map plain_of result.items ≡ shelves.items }
     ensures posters { posters_of result.items ≡ posters.items }
     ensures posting { All IsPosting result.items }

@@ -5,8 +5,8 @@ ghost use Rattle.m17_ports.specs.Ports.{next_number};
 ghost use Rattle.m17_control.specs.Modules.{letters_of};
 ghost use Rattle.m17_plan.specs.Planned.{IsPlan, module_count};
 ghost use Rattle.m17_board.specs.Ends.{AreOfOneBoard};
-ghost use Rattle.m17_board_watch.specs.Ending.{IsFresh};
-ghost use Rattle.m17_board_watch.specs.Written.{ShowsBoard};
+ghost use Rattle.m17_board.specs.Ending.{IsFresh};
+ghost use Rattle.m17_board.specs.Written.{ShowsBoard};
 ghost use Rattle.m17_reflect.specs.Views.{devices_of, handed_of, kinds_back, kinds_refused, IsRefusedFor};
 ghost use Rattle.m17_reflect.specs.declared.returned.HouseRefusal.TheVariants as refusals;
 ghost use Rattle.m17_board_run.specs.Board.{HasEnds, HasRooms, IsMade};
@@ -15,8 +15,7 @@ ghost use Rattle.m17_board_run.specs.Kept.{told_of_shelf};
 
 use crate::board::{Board, Desk, Rooms};
 use crate::keeping::reflect_kept;
-use m17_board::{Glance, Poster};
-use m17_board_watch::Watch;
+use m17_board::{Glance, Poster, Watch};
 use m17_crew::{Crew, Order, Running};
 use m17_lane::Pusher;
 use m17_plan::Plan;
@@ -292,8 +291,8 @@ fn end_watch<B: Book + Drop + Send + 'static, R: Threads + Wait + Clock + Drop +
     ensures { ShowsBoard watching.modules posters.items result.1 (B.told watching.book)
         (B.told result.0) }
 {
-    m17_board_watch::laws::ends_stay::<B, R>();
-    m17_board_watch::laws::numbers_of_lines_rise::<B, R>();
+    m17_board::laws::ends_stay::<B, R>();
+    m17_board::laws::numbers_of_lines_rise::<B, R>();
     let mut quit = quit;
     let mut glances = glances;
     quit.push_waiting(rt, Order::Quit);

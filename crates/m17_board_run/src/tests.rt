@@ -6,6 +6,7 @@ ghost use Rattle.m17_plan.specs.Planned.{IsPlan, module_count};
 ghost use Rattle.m17_port_memory.specs.Tells.{list_book_told, script_ear_told};
 ghost use Rattle.m17_board_run.specs.Kept.{told_of_shelf};
 
+use crate::bench::must;
 use crate::{OnBoard, RefusedOnBoard, make_board, reflect_on_board};
 use m17_callsign::{Address, CallAddress};
 use m17_control::{Control, ModuleLetter, Modules, write};
@@ -28,13 +29,6 @@ const LAST_LINE: &[u8] = b"A records 8 admitted 4 at 160 talker none\n";
 type Ended = OnBoard<ScriptEar, ListMouth, ListBook>;
 
 type RefusedRun = RefusedOnBoard<ScriptEar, ListMouth, ListBook>;
-
-// What was made; the test ends where it was not.
-fn must<T, E: Drop, R: Abort>(rt: &R, made: Result<T, E>) -> T
-    ensures { made ≡ Ok result }
-{
-    made.ok().expect(rt, "made")
-}
 
 // What was refused; the test ends where it was made.
 fn must_not<T: Drop, E, R: Abort>(rt: &R, made: Result<T, E>) -> E

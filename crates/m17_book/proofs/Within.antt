@@ -1,5 +1,5 @@
 -- A reader of a book from record to record.
-use Rattle.std.proofs.Common.{◌≡◌, ◌⊎◌, ℕ, ◌+◌, List, [], ◌∷◌, ◌++◌, length, Option, None, Some, MatchOption, IsSome, is_some, false, Result, Ok, Err, inl, inr, refl, sym, ap, subst, ◌∙◌, arith, length-append, append_assoc}
+use Rattle.std.proofs.Common.{◌≡◌, ◌⊎◌, ℕ, ◌+◌, List, [], ◌∷◌, ◌++◌, length, Option, None, Some, MatchOption, IsSome, is_some, false, Result, Ok, Err, OnErr, inl, inr, refl, sym, ap, subst, ◌∙◌, arith, length-append, append_assoc}
 use Rattle.std.proofs.lemmas.List.{append-nil}
 use Rattle.std.proofs.lemmas.Bool.{false≢true}
 use Rattle.m17_book.specs.Limits.{told, SpellsEach}
@@ -72,6 +72,16 @@ is_within head reader left bytes records begun h =
 pub is_fresh : (reader : Progress) (left : Option (List ℕ)) (bytes : List ℕ) (records : List Record) → reader.header ≡ None
     → HasRead reader left bytes records → IsAhead reader.unread left bytes × (reader.place ≡ 0) × (records ≡ [])
 is_fresh reader left bytes records begun h = subst (λ (o : Option Head). HasReadBy o reader left bytes records) begun h
+
+pub has_fresh : (reader : Progress) (left : Option (List ℕ)) (bytes : List ℕ) (records : List Record) → reader.header ≡ None
+    → IsAhead reader.unread left bytes → reader.place ≡ 0 → records ≡ [] → HasRead reader left bytes records
+has_fresh reader left bytes records begun ahead start none =
+    subst (λ (o : Option Head). HasReadBy o reader left bytes records) (sym begun) (ahead, start, none)
+
+-- what follows of both, where it ended with a refusal
+pub refused_with : {T A B C : Type 0} (result : Result T FormRefusal) → (A → B → C) → OnErr result A → OnErr result B → OnErr result C
+refused_with (Ok x) f a b = tt
+refused_with (Err refusal) f a b = f a b
 
 pub header_of_some : (o : Option Head) → IsSome o → (head : Head) × (o ≡ Some head)
 header_of_some (Some head) is = (head, refl)

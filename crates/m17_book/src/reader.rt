@@ -1,4 +1,4 @@
-ghost use Rattle.std.specs.Prelude.{◌≡◌, ◌⊎◌, ℕ, List, [], None, Some, Err, IsSome, IfSome, IfOk, IfErr, MatchResult};
+ghost use Rattle.std.specs.Prelude.{◌≡◌, ◌⊎◌, ℕ, List, [], None, Some, Err, IsSome, IfSome, IfOk, IfErr, OnErr, MatchResult};
 ghost use Rattle.m17_book.specs.declared.record.Record.{Record};
 ghost use Rattle.m17_book.specs.declared.refusal.FormRefusal.{FormRefusal};
 ghost use Rattle.m17_book.specs.declared.refusal.FormRefusal.TheVariants.{ReadFault};
@@ -57,7 +57,8 @@ impl Reader {
 
     /// The next record; none at the end of a book that was read whole. Else why the bytes are no book: `Cut`, `Kind`
     /// and `Field` with their places, and `ReadFault` where the source failed; never `Large` or `NoMemory`. After a
-    /// refusal it answers that refusal again, and reads nothing.
+    /// refusal it answers that refusal again, and reads nothing. What was read before a refusal is read behind it: the
+    /// header too, where the same call passed it.
     pub fn next<S: Source>(&mut self, source: &mut S) -> Result<Option<Record>, FormRefusal>
         ensures answers { self.old.refusal ≡ None → (bytes : List ℕ) → (records : List Record)
             → HasRead self.old (S.told source.old).left bytes records
@@ -73,6 +74,9 @@ impl Reader {
         ensures header_read { IfOk result (λ _. IsSome self.new.header) }
         ensures same_header { (head : Head) → self.old.header ≡ Some head
             → self.new.header ≡ Some head }
+        ensures stands { OnErr result ((bytes : List ℕ) → (records : List Record)
+            → HasRead self.old (S.told source.old).left bytes records
+            → HasRead self.new (S.told source.new).left bytes records) }
         ensures writable { IfOk result (λ next. IfSome next IsWritable) }
         ensures open { IfOk result (λ _. self.new.refusal ≡ None) }
         ensures kinds { self.old.refusal ≡ None → IfErr result IsReadersRefusal }
@@ -106,6 +110,9 @@ impl Reader {
         ensures header_read { IfOk result (λ _. IsSome self.new.header) }
         ensures same_header { (head : Head) → self.old.header ≡ Some head
             → self.new.header ≡ Some head }
+        ensures stands { OnErr result ((bytes : List ℕ) → (records : List Record)
+            → HasRead self.old (S.told source.old).left bytes records
+            → HasRead self.new (S.told source.new).left bytes records) }
         ensures writable { IfOk result (λ next. IfSome next IsWritable) }
         ensures open { IfOk result (λ _. self.new.refusal ≡ None) }
         ensures kinds { self.old.refusal ≡ None → IfErr result IsReadersRefusal }
@@ -141,6 +148,9 @@ impl Reader {
         ensures header_read { IfOk result (λ _. IsSome self.new.header) }
         ensures same_header { (head : Head) → self.old.header ≡ Some head
             → self.new.header ≡ Some head }
+        ensures stands { OnErr result ((bytes : List ℕ) → (records : List Record)
+            → HasRead self.old (S.told source.old).left bytes records
+            → HasRead self.new (S.told source.new).left bytes records) }
         ensures writable { IfOk result (λ next. IfSome next IsWritable) }
         ensures stays { self.new.refusal ≡ self.old.refusal }
         ensures kinds { IfErr result IsReadersRefusal }
@@ -158,9 +168,9 @@ impl Reader {
         ensures header_read { IfOk result (λ _. IsSome self.new.header) }
         ensures same_header { (head : Head) → self.old.header ≡ Some head
             → self.new.header ≡ Some head }
-        ensures passed { IfOk result (λ _. (bytes : List ℕ) → (records : List Record)
+        ensures passed { (bytes : List ℕ) → (records : List Record)
             → HasRead self.old (S.told source.old).left bytes records
-            → HasRead self.new (S.told source.new).left bytes records) }
+            → HasRead self.new (S.told source.new).left bytes records }
         ensures refused { IfErr result (λ refusal. (bytes : List ℕ) → (records : List Record)
             → HasRead self.old (S.told source.old).left bytes records
             → ((refusal ≡ ReadFault) × HasHeader self.new.header bytes)

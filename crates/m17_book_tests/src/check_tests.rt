@@ -1,4 +1,4 @@
-//! Small books, judged by hand: legal ones, and ones that break a rule.
+//! The records of small books, judged by hand. What is said of the bytes of books is in `conformance/`.
 use m17_book::{Breach, Checker, Record, Report, Rule, check};
 use m17_callsign::CallAddress;
 use m17_control::{Tag, Why};
@@ -71,22 +71,12 @@ fn made(callsign: CallAddress, step: &Step) -> Record {
 
 /// What `check` says of a book with these records, under no limit.
 fn checked<R: Abort>(rt: &R, alloc: Global, steps: &[Step]) -> Result<Report, Breach> {
-    checked_under(rt, alloc, 0, steps)
-}
-
-/// What it says under this limit.
-fn checked_under<R: Abort>(
-    rt: &R,
-    alloc: Global,
-    limit: u64,
-    steps: &[Step],
-) -> Result<Report, Breach> {
     let callsign = callsign(rt);
     let mut records = Vec::new(alloc);
     for step in steps {
         records.push(made(callsign, step)).ok().expect(rt, "pushed");
     }
-    check(limit, records.as_slice())
+    check(0, records.as_slice())
 }
 
 fn callsign<R: Abort>(rt: &R) -> CallAddress {
@@ -94,31 +84,12 @@ fn callsign<R: Abort>(rt: &R) -> CallAddress {
     CallAddress::new(address).expect(rt, "a callsign")
 }
 
-fn legal(records: u64, streams: u64, admitted: u64) -> Result<Report, Breach> {
-    Ok(Report {
-        records,
-        streams,
-        admitted,
-    })
-}
-
-fn broken(position: u64, rule: Rule) -> Result<Report, Breach> {
-    Err(Breach { position, rule })
-}
-
 const OPENED: Verdict = Verdict::Opened;
 
-/// Busy with the first member that was at place 0, and at place 1.
+/// Busy with the first member that was at place 0.
 const BUSY_0: Verdict = Verdict::Busy {
     holder: Member {
         place: 0,
-        generation: 0,
-    },
-};
-
-const BUSY_1: Verdict = Verdict::Busy {
-    holder: Member {
-        place: 1,
         generation: 0,
     },
 };
@@ -140,71 +111,20 @@ const EVENING: [Step; 12] = [
 ];
 
 #[test]
-fn a_book_is_legal_where_each_verdict_is_the_rules(rt: HostRuntime) {
-    assert!(rt; checked(&rt, rt.alloc(), &[]) == legal(0, 0, 0));
-    assert!(rt; checked(&rt, rt.alloc(), EVENING.as_slice()) == legal(12, 3, 4));
-    assert!(rt; checked(&rt, rt.alloc(), &EVENING[..7]) == legal(7, 2, 3));
-}
-
-#[test]
-fn overlapping_streams_are_a_breach(rt: HostRuntime) {
-    let steps = [
-        (0, 0, 0, Joins),
-        (0, 1, 0, Joins),
-        (0, 0, 0, Sends(1, 0, false, OPENED)),
-        (0, 1, 0, Sends(2, 0, false, OPENED)),
-    ];
-    assert!(rt; checked(&rt, rt.alloc(), steps.as_slice()) == broken(3, Rule::Verdict));
-}
-
-#[test]
-fn a_limit_on_talking_is_the_books(rt: HostRuntime) {
-    let steps = [
-        (0, 0, 0, Joins),
-        (0, 1, 0, Joins),
-        (0, 0, 0, Sends(1, 0, false, OPENED)),
-        (39, 0, 0, Sends(1, 1, false, Verdict::Continued)),
-        (40, 0, 0, Sends(1, 2, false, Verdict::TimedOut)),
-        (40, 1, 0, Sends(2, 0, false, OPENED)),
-    ];
-    let said = [40, 41, 39, 0].map(|limit| checked_under(&rt, rt.alloc(), limit, steps.as_slice()));
-    assert!(rt;
-        said == [
-            legal(6, 2, 3),
-            broken(4, Rule::Verdict),
-            broken(3, Rule::Verdict),
-            broken(4, Rule::Verdict)
-        ]
-    );
-}
-
-#[test]
-fn the_first_rule_that_is_broken_is_told(rt: HostRuntime) {
-    assert!(rt;
-        checked(&rt, rt.alloc(), &[(10, 0, 0, Joins), (9, 0, 1, Joins)]) == broken(1, Rule::Moment)
-    );
-    assert!(rt;
-        checked(&rt, rt.alloc(), &[(10, 0, 0, Joins), (10, 0, 1, Joins)]) == broken(1, Rule::Member)
-    );
-    assert!(rt;
-        checked(&rt, rt.alloc(), &[(10, 0, 0, Joins), (10, 0, 0, Joins)]) == broken(1, Rule::Member)
-    );
-    assert!(rt; checked(&rt, rt.alloc(), &[(10, 0, 0, Leaves)]) == broken(0, Rule::Member));
-    let left_twice = [(0, 3, 5, Joins), (0, 3, 5, Leaves), (0, 3, 5, Leaves)];
-    assert!(rt; checked(&rt, rt.alloc(), left_twice.as_slice()) == broken(2, Rule::Member));
-    let another_holder = [
-        (0, 0, 0, Joins),
-        (0, 1, 0, Joins),
-        (0, 0, 0, Sends(1, 0, false, OPENED)),
-        (0, 1, 0, Sends(2, 0, false, BUSY_1)),
-    ];
-    assert!(rt; checked(&rt, rt.alloc(), another_holder.as_slice()) == broken(3, Rule::Verdict));
-    let another_number = [
-        (0, 0, 0, Joins),
-        (0, 0, 0, Sends(1, 5, false, OPENED)),
-        (0, 0, 0, Sends(1, 4, false, Verdict::Late { last: 4 })),
-    ];
-    assert!(rt; checked(&rt, rt.alloc(), another_number.as_slice()) == broken(2, Rule::Verdict));
+fn records_are_legal_or_the_first_that_is_not_is_told(rt: HostRuntime) {
+    let mut overlap = EVENING;
+    overlap[3] = (60, 1, 0, Sends(2, 0, false, OPENED));
+    let breach = Breach {
+        position: 3,
+        rule: Rule::Verdict,
+    };
+    let legal = Report {
+        records: 12,
+        streams: 3,
+        admitted: 4,
+    };
+    assert!(rt; checked(&rt, rt.alloc(), EVENING.as_slice()) == Ok(legal));
+    assert!(rt; checked(&rt, rt.alloc(), overlap.as_slice()) == Err(breach));
 }
 
 #[test]

@@ -1,8 +1,8 @@
-//! That a trace and a book are the same in whatever pieces their bytes come, and how many bytes a book may have.
-use crate::bench::{BOOK, Pieces, TALK, kept, must, source};
-use m17_book::{FormRefusal, Reader, Record, read_book, read_book_1, read_trace};
+//! That a trace and a book are the same in whatever pieces their bytes come, and that a source which fails is told.
+use crate::bench::{BOOK, Pieces, TALK, changed, heard, kept, must, source};
+use m17_book::{FormRefusal, Reader, Record, read_book, read_book_1, read_trace, write_entry};
 use m17_io::Source;
-use m17_values::Heard;
+use m17_values::{Gram, Heard, Peer};
 use std::alloc::Global;
 use std::process::Abort;
 
@@ -99,26 +99,6 @@ fn a_record_stands_over_the_end_of_a_read(rt: HostRuntime) {
     assert!(rt; kept(&rt, alloc, &bytes, &[]) == Err(cut));
 }
 
-/// So many zero bytes.
-fn zeros<R: Abort>(rt: &R, alloc: Global, count: usize) -> Vec<u8> {
-    must(rt, vec![in alloc; 0; count])
-}
-
-// The flaw that stands first, up to the most bytes that a book may have, and then that there are more. A reader that goes
-// record by record knows no such limit.
-#[test]
-fn a_book_of_too_many_bytes_is_large(rt: HostRuntime) {
-    let alloc = rt.alloc();
-    let most = zeros(&rt, alloc, 67_108_872);
-    let more = zeros(&rt, alloc, 67_108_873);
-    let field = FormRefusal::Field { at: 0 };
-    let large = FormRefusal::Large { at: 67_108_872 };
-    let read = [kept(&rt, alloc, &most, &[]), kept(&rt, alloc, &more, &[])];
-    assert!(rt; read == [Err(field), Err(large)]);
-    let mut source = source(&rt, alloc, &more, &[]);
-    assert!(rt; Reader::new().next(&mut source) == Err(field));
-}
-
 /// A book of this header and so many Leaves.
 fn leaves<R: Abort>(rt: &R, alloc: Global, header: &[u8], count: usize) -> Vec<u8> {
     let mut bytes = must(rt, header.to_vec(alloc));
@@ -142,4 +122,38 @@ fn a_book_of_70_000_records_is_read(rt: HostRuntime) {
     let one = leaves(&rt, alloc, b"M17BOOK1C", 70_000);
     let read = [kept(&rt, alloc, &two, &[]), kept_before(&rt, alloc, &one)];
     assert!(rt; read == [Ok(70_000), Ok(70_000)]);
+}
+
+/// A trace of so many datagrams of 64 bytes.
+fn datagrams<R: Abort>(rt: &R, alloc: Global, count: u64) -> Vec<u8> {
+    let mut trace = must(rt, b"M17TRACE".to_vec(alloc));
+    for at in 0..count {
+        let from = Peer {
+            six: false,
+            ip: [0; 16],
+            port: 9,
+        };
+        let bytes = Gram::of(&[7; 64]);
+        let entry = write_entry(&Heard::Datagram { from, at, bytes }).expect(rt, "an entry");
+        must(rt, trace.extend_from_slice(entry.as_slice()));
+    }
+    trace
+}
+
+#[test]
+fn a_source_that_fails_at_any_read_is_told(rt: HostRuntime) {
+    let alloc = rt.alloc();
+    let trace = datagrams(&rt, alloc, 400);
+    let failed = Err(FormRefusal::ReadFault);
+    for call in 0..4 {
+        assert!(rt; heard(&rt, alloc, &trace, &[call]) == failed, "{call}");
+    }
+    // A wrong byte, and then a failure where the rest is gone through to count its bytes.
+    let bytes = changed(&rt, alloc, &trace, 8, 9);
+    let read = [
+        heard(&rt, alloc, &bytes, &[2]),
+        heard(&rt, alloc, &bytes, &[]),
+        kept(&rt, alloc, BOOK, &[1]),
+    ];
+    assert!(rt; read == [failed, Err(FormRefusal::Kind { at: 8, byte: 9 }), failed]);
 }

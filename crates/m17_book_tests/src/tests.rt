@@ -1,7 +1,7 @@
-//! The bytes of records and entries, and the records that a reader gives, with where and why it refuses others.
+//! The bytes of records and entries, and the records that a reader gives.
 ghost use Rattle.m17_book.specs.Records.{IsWritable, IsLowVerdict};
 
-use crate::bench::{BOOK, changed, must, source};
+use crate::bench::{BOOK, must, source};
 use m17_book::{
     FormRefusal, Head, Reader, Record, read_record, write_entry, write_header, write_record,
     write_trace_header,
@@ -9,7 +9,6 @@ use m17_book::{
 use m17_callsign::{CallAddress, encode};
 use m17_control::{ModuleLetter, Tag, Why};
 use m17_floor::Verdict;
-use m17_memory::BytesSource;
 use m17_stream::StreamPacket;
 use m17_values::{Gram, Heard, Member, Peer};
 use std::alloc::Global;
@@ -174,134 +173,12 @@ fn a_reader_gives_each_record_and_then_the_end(rt: HostRuntime) {
     assert!(rt; next_six(&rt, rt.alloc()) == wanted);
 }
 
-/// How many records a reader gives, and then its refusal, where it does not come to the end.
-fn go_through(reader: &mut Reader, source: &mut BytesSource) -> (usize, Option<FormRefusal>) {
-    for count in 0..usize::MAX {
-        match reader.next(source) {
-            Ok(Some(_)) => {}
-            Ok(None) => return (count, None),
-            Err(refusal) => return (count, Some(refusal)),
-        }
-    }
-    (usize::MAX, None)
-}
-
-/// The same for these bytes, of a source whose calls with these numbers fail. A refusal is told again.
-fn read_all<R: Abort>(
-    rt: &R,
-    alloc: Global,
-    bytes: &[u8],
-    fails: &[u64],
-) -> (usize, Option<FormRefusal>) {
-    let mut source = source(rt, alloc, bytes, fails);
-    let mut reader = Reader::new();
-    let read = go_through(&mut reader, &mut source);
-    if let Some(refusal) = read.1 {
-        assert!(rt; reader.next(&mut source) == Err(refusal), "another refusal");
-    }
-    read
-}
-
-#[test]
-fn each_part_of_a_book_is_a_shorter_book_or_cut(rt: HostRuntime) {
-    let book = BOOK.as_slice();
-    for len in 0..book.len() {
-        let (count, refusal) = read_all(&rt, rt.alloc(), &book[..len], &[]);
-        let cut = Some(FormRefusal::Cut { at: len as u64 });
-        let wanted = match len {
-            17 => (0, None),
-            54 => (1, None),
-            151 => (2, None),
-            248 => (3, None),
-            _ => (count, cut),
-        };
-        assert!(rt; (count, refusal) == wanted, "{len}");
-    }
-}
-
-/// Where a byte of the book is changed, to what, and where its field begins then.
-const BAD_FIELDS: [(usize, u8, u64); 17] = [
-    (0, b'm', 0),
-    (7, b'1', 7),
-    (8, b'c', 8),
-    (18, 4, 18),
-    (37, 1, 35),
-    (47, 2, 47),
-    (48, 255, 48),
-    (84, 0, 84),
-    (84, 10, 84),
-    (84, 9, 85),
-    (84, 1, 85),
-    (87, 1, 85),
-    (97, 0, 97),
-    (150, 0, 97),
-    (190, 1, 182),
-    (192, 128, 182),
-    (278, 6, 278),
-];
-
-/// Why the book is refused where this byte of it is changed to that.
-fn refusal_of<R: Abort>(rt: &R, alloc: Global, at: usize, byte: u8) -> Option<FormRefusal> {
-    let bytes = changed(rt, alloc, BOOK, at, byte);
-    read_all(rt, alloc, &bytes, &[]).1
-}
-
-#[test]
-fn bad_fields_are_refused_at_their_places(rt: HostRuntime) {
-    for (at, byte, field) in BAD_FIELDS {
-        let refusal = refusal_of(&rt, rt.alloc(), at, byte);
-        assert!(rt;
-            refusal == Some(FormRefusal::Field { at: field }),
-            "{byte} at {at}"
-        );
-    }
-    for byte in [0, 4] {
-        let refusal = refusal_of(&rt, rt.alloc(), 17, byte);
-        assert!(rt;
-            refusal == Some(FormRefusal::Kind { at: 17, byte }),
-            "{byte}"
-        );
-    }
-}
-
-/// Callsigns in the Join of the book, and whether they are taken: the first and the last of stations and of groups, and
-/// what lies beside these.
-const CALLSIGNS: [([u8; 6], bool); 7] = [
-    (*b"\x00\x00\x00\x00\x00\x00", false),
-    (*b"\x00\x00\x00\x00\x00\x01", true),
-    (*b"\xee\x6b\x27\xff\xff\xff", true),
-    (*b"\xee\x6b\x28\x00\x00\x00", false),
-    (*b"\xee\x6b\x28\x00\x00\x01", true),
-    (*b"\xf4\x61\x08\xff\xff\xff", true),
-    (*b"\xf4\x61\x09\x00\x00\x00", false),
-];
-
-/// How many records of the book with this callsign in its Join a reader gives, and its refusal.
-fn read_with<R: Abort>(rt: &R, alloc: Global, callsign: &[u8]) -> (usize, Option<FormRefusal>) {
-    let book: &[u8] = BOOK;
-    let mut bytes = must(rt, book[..48].to_vec(alloc));
-    must(rt, bytes.extend_from_slice(callsign));
-    must(rt, bytes.extend_from_slice(&book[54..]));
-    read_all(rt, alloc, &bytes, &[])
-}
-
-#[test]
-fn a_join_has_the_callsign_of_a_station_or_of_a_group(rt: HostRuntime) {
-    for (callsign, is_taken) in CALLSIGNS {
-        let read = read_with(&rt, rt.alloc(), &callsign);
-        let wanted = if is_taken {
-            (4, None)
-        } else {
-            (0, Some(FormRefusal::Field { at: 48 }))
-        };
-        assert!(rt; read == wanted, "{callsign:?}");
-    }
-}
-
 #[test]
 fn a_failed_source_is_told_once_and_for_all(rt: HostRuntime) {
-    let read = read_all(&rt, rt.alloc(), BOOK, &[0]);
-    assert!(rt; read == (0, Some(FormRefusal::ReadFault)));
+    let mut source = source(&rt, rt.alloc(), BOOK, &[0]);
+    let mut reader = Reader::new();
+    let failed = Err(FormRefusal::ReadFault);
+    assert!(rt; reader.next(&mut source) == failed && reader.next(&mut source) == failed);
 }
 
 /// Whether an entry is written as these bytes.

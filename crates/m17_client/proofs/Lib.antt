@@ -10,3 +10,13 @@ mod WholeSteps
 mod Keeping
 mod GettingIn
 mod KeptWay
+mod Picked
+mod Rule
+mod BridgeOneStep
+mod Taking
+mod WholeStep
+mod Table
+mod Frames
+mod CrossTurns
+mod CrossEnded
+mod ClientsEnd

@@ -7,6 +7,14 @@
 //! and when the run is over (`specs/TalkDevices.antt`). What follows where the way to the reflector may lose, repeat and
 //! reorder datagrams is in `laws` (`specs/Way.antt`): what a client keeps was said to it. The devices, and that an ear
 //! answers often enough for the time rules to come in time, are left to its caller.
+//!
+//! A bridge between a module here and a module of another reflector: a client of both.
+//! `Bridge::step` steps the client of one side on what it heard, and the other client on each
+//! packet that was kept and passes. It promises that the steps are a run of two clients by the
+//! client's table, and that what passes is by the rule (`specs/Passing.antt`): never both sides at
+//! once. `cross` runs a bridge over an ear and a mouth of each side. It promises which entries are
+//! stepped, that each mouth said what the steps say, but for what it failed to send, and when the
+//! run is over. The devices are left to its caller. What every run of a bridge keeps is in `bridge_laws`.
 #![tactic(auto)]
 
 mod client;
@@ -24,3 +32,14 @@ pub use run::MOST_FAULTS;
 pub use script::is_in_order;
 pub use state::{Action, Ending, Input, LastKept, SAID_BYTES, State};
 pub use talking::{TalkEnd, talk};
+
+mod bridge;
+pub mod bridge_laws;
+mod bridge_run;
+mod crossing;
+mod saying;
+mod side;
+
+pub use bridge::{Bridge, Crossing, MOST_CROSSES};
+pub use crossing::{BridgeEnd, cross};
+pub use side::{Cross, Side};

@@ -143,7 +143,10 @@ impl Directory {
         self.moment = moment;
         self.faults = faults;
         self.ended = ends;
-        self.people.hear(before, ends, h, &stamp, post)
+        let mut verdict = LinkVerdict::Timed;
+        self.people
+            .hear(before, ends, h, &stamp, post, &mut verdict);
+        verdict
     }
 
     /// Whether a request is asked that must wait: its peer has a departing member, or known and departing together are

@@ -44,6 +44,15 @@ fn request_to(callsign: CallAddress, letter: ModuleLetter, listen: bool) -> Requ
     }
 }
 
+// What was routed to the module of one that is known.
+fn routed_to(known: &Known, act: Act) -> LinkVerdict
+    ensures { result ≡ link.Routed known.now.letter act }
+{
+    let module = known.letter;
+    LinkVerdict::Routed { module, act }
+}
+
+// The verdict is written where the caller keeps it, once, since each call that handed it back would copy it.
 impl People {
     // What a packet of one that is known becomes.
     pub(crate) fn of_known(
@@ -53,20 +62,24 @@ impl People {
         packet: &Packet,
         stamp: &Stamp,
         post: &mut Post,
-    ) -> LinkVerdict
+        verdict: &mut LinkVerdict,
+    )
         requires row { IsRowOf self.old.known known.now row }
         requires room { length post.old ≤ 282 }
         ensures { IsComeTo stamp.now known.now.peer (request_of packet.now) self.old self.new
-            (of_known stamp.now known.now packet.now) post.old post.new result }
+            (of_known stamp.now known.now packet.now) post.old post.new verdict.new }
     {
         match packet {
-            Packet::Control(control) => self.control_of_known(row, known, control, stamp, post),
+            Packet::Control(control) => {
+                self.control_of_known(row, known, control, stamp, post, verdict);
+            }
             Packet::Stream(frame) => {
                 let body = Body::Packet {
                     member: known.member,
                     packet: *frame,
                 };
-                self.routed(row, known, &body, Act::Packet, stamp, post)
+                self.routed(row, known, &body, stamp, post);
+                *verdict = routed_to(known, Act::Packet);
             }
         }
     }
@@ -79,81 +92,62 @@ impl People {
         control: &Control,
         stamp: &Stamp,
         post: &mut Post,
-    ) -> LinkVerdict
+        verdict: &mut LinkVerdict,
+    )
         requires row { IsRowOf self.old.known known.now row }
         requires room { length post.old ≤ 282 }
         ensures { IsComeTo stamp.now known.now.peer (request_of (packets.Control control.now))
             self.old self.new (of_known stamp.now known.now (packets.Control control.now))
-            post.old post.new result }
+            post.old post.new verdict.new }
     {
         match control {
             Control::Conn { from, module } => {
                 let request = request_to(*from, *module, false);
-                self.known_asks(row, known, &request, stamp, post)
+                self.known_asks(row, known, &request, stamp, post, verdict);
             }
             Control::Lstn { from, module } => {
                 let request = request_to(*from, *module, true);
-                self.known_asks(row, known, &request, stamp, post)
+                self.known_asks(row, known, &request, stamp, post, verdict);
             }
             Control::Ping { .. } => {
                 let from = stamp.name();
-                self.replied(row, known, &Control::Pong { from }, Act::Pong, stamp, post)
+                self.replied(row, known, &Control::Pong { from }, stamp, post);
+                *verdict = routed_to(known, Act::Pong);
             }
             Control::Pong { .. } => {
                 let module = known.letter;
-                self.only_heard(row, known, LinkVerdict::Alive { module }, stamp)
+                self.only_heard(row, known, stamp);
+                *verdict = LinkVerdict::Alive { module };
             }
             Control::Disc { .. } => {
-                let module = known.letter;
                 self.leave(&Whom::Peer(known.peer), Why::Asked, stamp, post);
-                LinkVerdict::Routed {
-                    module,
-                    act: Act::Leave,
-                }
+                *verdict = routed_to(known, Act::Leave);
             }
             Control::Ackn | Control::Nack => {
-                self.only_heard(row, known, LinkVerdict::Stray, stamp)
+                self.only_heard(row, known, stamp);
+                *verdict = LinkVerdict::Stray;
             }
         }
     }
 
     // It was heard, and nothing is posted.
-    fn only_heard(
-        &mut self,
-        row: usize,
-        known: &Known,
-        verdict: LinkVerdict,
-        stamp: &Stamp,
-    ) -> LinkVerdict
+    fn only_heard(&mut self, row: usize, known: &Known, stamp: &Stamp)
         requires { IsRowOf self.old.known known.now row }
-        ensures heard { self.new ≡ lists_heard stamp.now known.now.peer self.old }
-        ensures verdict { result ≡ verdict }
+        ensures { self.new ≡ lists_heard stamp.now known.now.peer self.old }
     {
         self.known.heard(row, known, stamp.moment());
-        verdict
     }
 
     // It was heard, and this is routed to its module.
-    fn routed(
-        &mut self,
-        row: usize,
-        known: &Known,
-        body: &Body,
-        act: Act,
-        stamp: &Stamp,
-        post: &mut Post,
-    ) -> LinkVerdict
+    fn routed(&mut self, row: usize, known: &Known, body: &Body, stamp: &Stamp, post: &mut Post)
         requires row { IsRowOf self.old.known known.now row }
         requires room { length post.old ≤ 282 }
         ensures heard { self.new ≡ lists_heard stamp.now known.now.peer self.old }
         ensures posts { post.new ≡ post.old
             ++ to_module stamp.now known.now.letter body.now ∷ [] }
-        ensures verdict { result ≡ link.Routed known.now.letter act }
     {
         self.known.heard(row, known, stamp.moment());
         stamp.tell(known.letter, body, post);
-        let module = known.letter;
-        LinkVerdict::Routed { module, act }
     }
 
     // It was heard, and is answered through its module.
@@ -162,22 +156,20 @@ impl People {
         row: usize,
         known: &Known,
         control: &Control,
-        act: Act,
         stamp: &Stamp,
         post: &mut Post,
-    ) -> LinkVerdict
+    )
         requires row { IsRowOf self.old.known known.now row }
         requires room { length post.old ≤ 282 }
         ensures heard { self.new ≡ lists_heard stamp.now known.now.peer self.old }
         ensures posts { post.new ≡ post.old ++ to_module stamp.now known.now.letter
             (body.Reply known.now.member control.now) ∷ [] }
-        ensures verdict { result ≡ link.Routed known.now.letter act }
     {
         let body = Body::Reply {
             member: known.member,
             control: *control,
         };
-        self.routed(row, known, &body, act, stamp, post)
+        self.routed(row, known, &body, stamp, post);
     }
 
     // One that is known asks: for a module that isn't served, for what it has already, or for anything else.
@@ -188,22 +180,25 @@ impl People {
         request: &Request,
         stamp: &Stamp,
         post: &mut Post,
-    ) -> LinkVerdict
+        verdict: &mut LinkVerdict,
+    )
         requires row { IsRowOf self.old.known known.now row }
         requires room { length post.old ≤ 282 }
         ensures { IsComeTo stamp.now known.now.peer (Some request.now) self.old self.new
-            (known_asks stamp.now known.now request.now) post.old post.new result }
+            (known_asks stamp.now known.now request.now) post.old post.new verdict.new }
     {
         if !stamp.serves(request.letter) {
             let module = request.letter;
             stamp.answer(&known.peer, &Control::Nack, post);
-            self.only_heard(row, known, LinkVerdict::NotServed { module }, stamp)
+            self.only_heard(row, known, stamp);
+            *verdict = LinkVerdict::NotServed { module };
         } else if is_known_as(known, request) {
-            self.replied(row, known, &Control::Ackn, Act::Again, stamp, post)
+            self.replied(row, known, &Control::Ackn, stamp, post);
+            *verdict = routed_to(known, Act::Again);
         } else {
             self.leave(&Whom::Peer(known.peer), Why::Moved, stamp, post);
             self.asked = Some(stamp.asked(&known.peer, request));
-            LinkVerdict::Asks
+            *verdict = LinkVerdict::Asks;
         }
     }
 
@@ -214,7 +209,8 @@ impl People {
         packet: &Packet,
         stamp: &Stamp,
         post: &mut Post,
-    ) -> LinkVerdict
+        verdict: &mut LinkVerdict,
+    )
         requires room { length post.old ≤ 282 }
         ensures known { self.new.known ≡ self.old.known }
         ensures departing { self.new.departing ≡ self.old.departing }
@@ -222,7 +218,7 @@ impl People {
             (is_asks (of_other stamp.now from.now packet.now).verdict) self.old.asked }
         ensures posts { post.new ≡ post.old
             ++ (of_other stamp.now from.now packet.now).posts }
-        ensures verdict { result ≡ (of_other stamp.now from.now packet.now).verdict }
+        ensures verdict { verdict.new ≡ (of_other stamp.now from.now packet.now).verdict }
     {
         match packet {
             Packet::Control(
@@ -230,19 +226,25 @@ impl People {
                     from: callsign,
                     module,
                 },
-            ) => self.other_asks(from, &request_to(*callsign, *module, false), stamp, post),
+            ) => {
+                let request = request_to(*callsign, *module, false);
+                self.other_asks(from, &request, stamp, post, verdict);
+            }
             Packet::Control(
                 Control::Lstn {
                     from: callsign,
                     module,
                 },
-            ) => self.other_asks(from, &request_to(*callsign, *module, true), stamp, post),
-            Packet::Control(Control::Ackn | Control::Nack) => LinkVerdict::Stray,
+            ) => {
+                let request = request_to(*callsign, *module, true);
+                self.other_asks(from, &request, stamp, post, verdict);
+            }
+            Packet::Control(Control::Ackn | Control::Nack) => *verdict = LinkVerdict::Stray,
             Packet::Control(Control::Disc { from: Some(_) }) => {
                 stamp.answer(from, &Control::Disc { from: None }, post);
-                LinkVerdict::NotConnected
+                *verdict = LinkVerdict::NotConnected;
             }
-            _ => LinkVerdict::NotConnected,
+            _ => *verdict = LinkVerdict::NotConnected,
         }
     }
 
@@ -253,7 +255,8 @@ impl People {
         request: &Request,
         stamp: &Stamp,
         post: &mut Post,
-    ) -> LinkVerdict
+        verdict: &mut LinkVerdict,
+    )
         requires room { length post.old ≤ 282 }
         ensures known { self.new.known ≡ self.old.known }
         ensures departing { self.new.departing ≡ self.old.departing }
@@ -261,15 +264,15 @@ impl People {
             (is_asks (other_asks stamp.now from.now request.now).verdict) self.old.asked }
         ensures posts { post.new ≡ post.old
             ++ (other_asks stamp.now from.now request.now).posts }
-        ensures verdict { result ≡ (other_asks stamp.now from.now request.now).verdict }
+        ensures verdict { verdict.new ≡ (other_asks stamp.now from.now request.now).verdict }
     {
         if stamp.serves(request.letter) {
             self.asked = Some(stamp.asked(from, request));
-            LinkVerdict::Asks
+            *verdict = LinkVerdict::Asks;
         } else {
             stamp.answer(from, &Control::Nack, post);
             let module = request.letter;
-            LinkVerdict::NotServed { module }
+            *verdict = LinkVerdict::NotServed { module };
         }
     }
 }

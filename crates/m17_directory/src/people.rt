@@ -234,7 +234,8 @@ impl People {
         LinkVerdict::Ended
     }
 
-    // What an entry becomes. `before` is the link's moment before it, and `ends` tells whether it ends the link.
+    // What an entry becomes. `before` is the link's moment before it, and `ends` tells whether it ends the link. The verdict
+    // is written where the caller keeps it.
     pub(crate) fn hear(
         &mut self,
         before: u64,
@@ -242,20 +243,20 @@ impl People {
         h: &Heard,
         stamp: &Stamp,
         post: &mut Post,
-    ) -> LinkVerdict
+        verdict: &mut LinkVerdict,
+    )
         requires nothing_posted { post.old ≡ [] }
         requires nothing_asked { self.old.asked ≡ None }
         ensures says { (notice : Notice) × Says h.now notice }
         ensures taken { (notice : Notice) → Says h.now notice →
             stamp.now.moment ≡ max before (moment_of notice) →
-            IsTaken stamp.now before ends self.old self.new notice post.new result }
+            IsTaken stamp.now before ends self.old self.new notice post.new verdict.new }
         ensures order { IsInOrder self.old.known }
         ensures few { AreFew self.new.known self.new.departing }
     {
         let _rows = self.known.rows();
-        let verdict = self.take_in(before, ends, h, stamp, post);
+        self.take_in(before, ends, h, stamp, post, verdict);
         let _known = &self.known;
-        verdict
     }
 
     // The same, with what is true of it alone.
@@ -266,43 +267,51 @@ impl People {
         h: &Heard,
         stamp: &Stamp,
         post: &mut Post,
-    ) -> LinkVerdict
+        verdict: &mut LinkVerdict,
+    )
         requires nothing_posted { post.old ≡ [] }
         requires nothing_asked { self.old.asked ≡ None }
         ensures says { (notice : Notice) × Says h.now notice }
         ensures taken { (notice : Notice) → Says h.now notice →
             stamp.now.moment ≡ max before (moment_of notice) →
-            IsTaken stamp.now before ends self.old self.new notice post.new result }
+            IsTaken stamp.now before ends self.old self.new notice post.new verdict.new }
     {
         match h {
             Heard::Datagram { from, bytes, .. } => {
                 self.pass(before, stamp, post);
-                self.datagram(from, bytes.bytes(), stamp, post)
+                self.datagram(from, bytes.bytes(), stamp, post, verdict);
             }
             Heard::Quiet { .. } => {
                 self.pass(before, stamp, post);
-                LinkVerdict::Timed
+                *verdict = LinkVerdict::Timed;
             }
-            Heard::Fault if !ends => LinkVerdict::Faulted,
-            Heard::Fault | Heard::End => self.end(stamp, post),
+            Heard::Fault if !ends => *verdict = LinkVerdict::Faulted,
+            Heard::Fault | Heard::End => *verdict = self.end(stamp, post),
         }
     }
 
     // What a datagram becomes, after the time that went by.
-    fn datagram(&mut self, from: &Peer, bytes: &[u8], stamp: &Stamp, post: &mut Post) -> LinkVerdict
+    fn datagram(
+        &mut self,
+        from: &Peer,
+        bytes: &[u8],
+        stamp: &Stamp,
+        post: &mut Post,
+        verdict: &mut LinkVerdict,
+    )
         requires { length post.old ≤ 282 }
         ensures reads { ((p : Packet) × Spells p bytes.now)
             ⊎ ((refusal : Refusal) × Refuses bytes.now refusal) }
         ensures spelled { (p : Packet) → Spells p bytes.now →
             IsComeTo stamp.now from.now (request_of p) self.old self.new
             (of_packet stamp.now from.now (row_for from.now self.old.known) p)
-            post.old post.new result }
+            post.old post.new verdict.new }
         ensures refused { (refusal : Refusal) → Refuses bytes.now refusal →
-            (result ≡ link.Refused refusal) × (self.new ≡ self.old) × (post.new ≡ post.old) }
+            (verdict.new ≡ link.Refused refusal) × (self.new ≡ self.old) × (post.new ≡ post.old) }
     {
         match decode(bytes) {
-            Ok(packet) => self.packet(from, &packet, stamp, post),
-            Err(refusal) => LinkVerdict::Refused(refusal),
+            Ok(packet) => self.packet(from, &packet, stamp, post, verdict),
+            Err(refusal) => *verdict = LinkVerdict::Refused(refusal),
         }
     }
 
@@ -313,18 +322,19 @@ impl People {
         packet: &Packet,
         stamp: &Stamp,
         post: &mut Post,
-    ) -> LinkVerdict
+        verdict: &mut LinkVerdict,
+    )
         requires { length post.old ≤ 282 }
         ensures { IsComeTo stamp.now from.now (request_of packet.now) self.old self.new
             (of_packet stamp.now from.now (row_for from.now self.old.known) packet.now)
-            post.old post.new result }
+            post.old post.new verdict.new }
     {
         match self.known.find(from) {
             Ok(row) => {
                 let known = self.known.at(row);
-                self.of_known(row, &known, packet, stamp, post)
+                self.of_known(row, &known, packet, stamp, post, verdict);
             }
-            Err(_) => self.of_other(from, packet, stamp, post),
+            Err(_) => self.of_other(from, packet, stamp, post, verdict),
         }
     }
 

@@ -1,4 +1,5 @@
-ghost use Rattle.std.specs.Prelude.{◌≡◌, ◌<◌, ◌↔◌, [], ◌∷◌, ◌++◌, length, IfOk, IsTrue, IsNone};
+ghost use Rattle.std.specs.Prelude.{◌≡◌, ◌<◌, ◌↔◌, List, [], ◌∷◌, ◌++◌, length, IfOk, IfSome, IsTrue, IsNone};
+ghost use Rattle.m17_directory.specs.declared.dispatch.Dispatch.{Dispatch};
 ghost use Rattle.std.specs.Option.{option_to_list};
 
 use crate::Dispatch;
@@ -44,6 +45,14 @@ impl Post {
         ensures { IsTrue result ↔ (self.now ≡ []) }
     {
         self.items.is_empty()
+    }
+
+    /// The first, where it stands; none exactly where the post is empty.
+    pub fn first(&self) -> Option<&Dispatch>
+        ensures first { IfSome result (λ item. (rest : List Dispatch) × (self.now ≡ item.now ∷ rest)) }
+        ensures none { IsNone result ↔ (self.now ≡ []) }
+    {
+        self.items.front()
     }
 
     /// Takes the first out; none exactly where the post is empty.

@@ -1,4 +1,4 @@
--- The rules for the gates of links, and ports whose ears stand behind gates.
+-- The rules for the gates of links.
 use Rattle.std.specs.Prelude.{ℕ, List, [], ◌∷◌, nat_lt, if◌then◌else◌}
 use Rattle.m17_gate.specs.declared.rule.Rule.{Rule}
 use Rattle.m17_gate.specs.Fits.{deny_all}
@@ -16,8 +16,3 @@ rules_beyond (rule ∷ rules) = deny_all
 -- The rules for the gate of a later link: of the next one, where its place is 0, and so on.
 abbrev pub rules_at : LinkRulesSeen → ℕ → List Rule
 rules_at links place = if nat_lt place links.left then links.rules else rules_beyond links.rules
-
--- Ports whose ears stand behind gates: the ports, and the rules for their links.
-pub record GatedPortsSeen (P : Type 0) : Type 0 where
-  pub inner : P
-  pub rules : LinkRulesSeen

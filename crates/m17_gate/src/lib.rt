@@ -11,7 +11,6 @@
 mod asked;
 mod failure;
 mod gate;
-mod gated_ports;
 pub mod laws;
 mod letters;
 mod line;
@@ -28,7 +27,6 @@ mod taking;
 pub use asked::Asked;
 pub use failure::{RulesFailure, RulesReason};
 pub use gate::{Gate, GateLabel};
-pub use gated_ports::GatedPorts;
 pub use letters::Letters;
 pub use link_rules::LinkRules;
 pub use quick::QuickRules;

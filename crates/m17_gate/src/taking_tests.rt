@@ -3,8 +3,8 @@
 use crate::tests::must;
 use crate::{RulesFailure, RulesReason, take_rules};
 use m17_io::Fault;
-use m17_memory::{BytesSink, BytesSource};
 use m17_print::{Ending, Line};
+use m17_streams::{BytesSink, BytesSource};
 use std::alloc::Global;
 use std::process::Abort;
 

@@ -1,13 +1,13 @@
 ghost use Rattle.std.specs.Prelude.{◌≡◌, Ok};
 
-use crate::{Gate, GatedPorts, LinkRules, Reason, Rules, RulesRefusal, allowed, read_rules};
+use crate::{Gate, LinkRules, Reason, Rules, RulesRefusal, allowed, read_rules};
 use m17_callsign::{CallAddress, encode};
 use m17_control::{Control, ModuleLetter, Packet, write};
-use m17_memory::BytesSource;
-use m17_port_memory::{ListMouth, ScriptEar, ScriptPorts};
-use m17_ports::{Ear, Ports};
+use m17_port_memory::ScriptEar;
+use m17_ports::Ear;
 use m17_samples::frame;
 use m17_stream::StreamPacket;
+use m17_streams::BytesSource;
 use m17_values::{Gram, Heard, Peer};
 use std::alloc::Global;
 use std::process::Abort;
@@ -245,29 +245,22 @@ fn in_place_of_what_is_denied_nothing_is_heard(rt: HostRuntime) {
     assert!(rt; told == wanted);
 }
 
-/// The moments that the ears of two links of ports behind these rules tell first, each with whether
-/// it is a datagram, where the first says N0CALL and then AB1CD, and so does the second.
-fn heard_at_ports<R: Abort>(
+/// The moments that the ears of two links behind these rules tell first, each with whether it is a
+/// datagram, where the first says N0CALL and then AB1CD, and so does the second.
+fn heard_on_links<R: Abort>(
     rt: &R,
     alloc: Global,
     rules: LinkRules,
 ) -> [[Option<(u64, bool)>; 2]; 2] {
-    let mut links = Vec::new(alloc);
-    for _link in 0..2 {
+    let mut rules = rules;
+    let mut told = [[None; 2]; 2];
+    for link in 0..2 {
         let script = [
             datagram(rt, 1, Wants::Speak, "N0CALL"),
             datagram(rt, 2, Wants::Speak, "AB1CD"),
         ];
         let ear = ScriptEar::new(must(rt, Vec::from_array(alloc, script)));
-        let mouth = must(rt, ListMouth::make(alloc, 0, Vec::new(alloc)));
-        must(rt, links.push((ear, mouth)));
-    }
-    let inner = ScriptPorts::new(links, Vec::new(alloc), Vec::new(alloc));
-    let mut ports = GatedPorts::with(inner, LinkRules::none(alloc));
-    ports.set_rules(rules);
-    let mut told = [[None; 2]; 2];
-    for link in 0..2 {
-        let (mut gate, _mouth) = must(rt, ports.link("a", None));
+        let mut gate = rules.before(ear);
         for place in 0..2 {
             told[link][place] = match gate.hear() {
                 Heard::Datagram { at, .. } => Some((at, true)),
@@ -276,7 +269,6 @@ fn heard_at_ports<R: Abort>(
             };
         }
     }
-    let _ports = ports.into_inner();
     told
 }
 
@@ -288,6 +280,6 @@ fn a_link_beyond_its_rules_hears_nobody(rt: HostRuntime) {
     let nobody = [Some((1, false)), Some((2, false))];
     let rules = must(&rt, read(&rt, alloc, b"deny any * N0*", &[]));
     let first = must(&rt, LinkRules::make(alloc, &rules, 1));
-    assert!(rt; heard_at_ports(&rt, alloc, LinkRules::none(alloc)) == [all, all]);
-    assert!(rt; heard_at_ports(&rt, alloc, first) == [one, nobody]);
+    assert!(rt; heard_on_links(&rt, alloc, LinkRules::none(alloc)) == [all, all]);
+    assert!(rt; heard_on_links(&rt, alloc, first) == [one, nobody]);
 }

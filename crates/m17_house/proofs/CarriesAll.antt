@@ -1,5 +1,5 @@
 -- All that was posted is carried out, one dispatch after another.
-use Rattle.std.proofs.Common.{◌≡◌, ℕ, ◌+◌, ◌-◌, ◌^◌, ◌<◌, List, [], ◌∷◌, ◌++◌, length, Option, None, refl, ap, sym, subst, ◌∙◌, arith, append_assoc}
+use Rattle.std.proofs.Common.{◌≡◌, ℕ, ◌+◌, ◌-◌, ◌^◌, ◌<◌, ◌↔◌, List, [], ◌∷◌, ◌++◌, length, get_or, Option, None, Some, IsNone, refl, ap, sym, subst, ◌∙◌, arith, append_assoc}
 use Rattle.std.specs.List.{filter_map, AllByRecursion}
 use Rattle.std.specs.Option.{option_or, option_to_list}
 use Rattle.std.proofs.lemmas.List.{append-nil, length-append}
@@ -42,6 +42,13 @@ partway_none posted name old rooms mouth = record {
 served_there : (plan : Plan) (done : List Dispatch) (d : Dispatch) (rest : List Dispatch) → AllByRecursion (IsServed plan) (done ++ d ∷ rest) → IsServed plan d
 served_there plan [] d rest all = all.0
 served_there plan (x ∷ done) d rest all = served_there plan done d rest all.1
+
+-- what is left behind the first, which was taken
+pub rest_taken : (o : Option Dispatch) (d : Dispatch) (rest new post : List Dispatch) → post ≡ d ∷ rest → post ≡ option_to_list o ++ new → IsNone o ↔ (post ≡ []) → post ≡ d ∷ new
+rest_taken None d rest new post is e none = absurd (let no : d ∷ rest ≡ [] = sym is ∙ none.0 refl in cc)
+rest_taken (Some x) d rest new post is e none =
+    let same : x ∷ new ≡ d ∷ rest = sym e ∙ is in
+    e ∙ ap (λ y. y ∷ new) (ap (λ (xs : List Dispatch). get_or xs 0 d) same)
 
 pub partway_more : (posted : List Dispatch) (name : ℕ) (old : DirectoryKept) (rooms : List (Option modules.ModuleKept)) (mouth : TalliesKept)
     (d : Dispatch) (rest post : List Dispatch) (mid new : DirectoryKept) (rooms1 rooms2 : List (Option modules.ModuleKept)) (mouth1 mouth2 : TalliesKept) (found answer next : Option Verdict) →

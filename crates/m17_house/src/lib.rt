@@ -15,6 +15,3 @@ mod stage;
 mod voice;
 
 pub use replay::replay_plain;
-
-#[cfg(test)]
-mod tests;

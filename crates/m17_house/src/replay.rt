@@ -49,7 +49,8 @@ fn play(
     floor_laws::later_acts_change_no_verdict();
     let _few = count(heard);
     for (index, h) in heard.iter().enumerate() {
-        let (verdict, packet) = run.hear(plan, index as u64, h, mouth);
+        let mut verdict = LinkVerdict::Timed;
+        let packet = run.hear(plan, index as u64, h, mouth, &mut verdict);
         verdicts.push_reserved(verdict);
         packets.push_reserved(packet);
         if run.has_ended() {

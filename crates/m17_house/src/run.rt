@@ -135,40 +135,41 @@ impl Run {
             IsCarriedOut plan before self.old.post (self.new.stage.rooms, mouth.new) result }
     {
         let mut verdict = None;
-        while let Some(dispatch) = self.post.take() {
-            verdict = self.stage.carry(&dispatch, mouth).or(verdict);
-            note(&mut self.directory, &dispatch);
+        while let Some(dispatch) = self.post.first() {
+            verdict = self.stage.carry(dispatch, mouth).or(verdict);
+            note(&mut self.directory, dispatch);
+            let _done = self.post.take();
         }
         verdict
     }
 
-    // What the entry with this index becomes, but for its claim.
+    // What the entry with this index becomes, but for its claim: the link's verdict is written where the caller keeps it.
     fn take_in(
         &mut self,
         index: u64,
         h: &Heard,
         mouth: &mut TallyMouth,
-    ) -> (LinkVerdict, Option<Verdict>)
+        verdict: &mut LinkVerdict,
+    ) -> Option<Verdict>
         requires post { self.old.post ≡ [] }
         requires out { self.old.stage.out ≡ [] }
         requires asked { self.old.directory.asked ≡ None }
         requires open { self.old.directory.ended ≡ false }
         ensures post { self.new.post ≡ [] }
         ensures out { self.new.stage.out ≡ [] }
-        ensures asked { (result.0 ≡ link.Asks) ↔ IsSome self.new.directory.asked }
+        ensures asked { (verdict.new ≡ link.Asks) ↔ IsSome self.new.directory.asked }
         ensures mouth { IsSameMouth mouth.old mouth.new }
         ensures taken { (plan : Plan) (entries : List Entry) (notice : Notice) →
             Says h.now notice → index ≡ length entries → length entries < 2 ^ 58 →
             IsSoFar plan entries self.old mouth.old →
-            IsTakenIn plan entries notice (scene self.new mouth.new) result }
+            IsTakenIn plan entries notice (scene self.new mouth.new) (verdict.new, result) }
     {
         directory_laws::each_who_leaves_is_posted();
         directory_laws::ended_where_it_ends();
         directory_laws::one_entry_more();
         directory_laws::only_served_are_routed();
-        let verdict = self.directory.hear(index, h, &mut self.post);
-        let answer = self.carry_out(mouth);
-        (verdict, answer)
+        *verdict = self.directory.hear(index, h, &mut self.post);
+        self.carry_out(mouth)
     }
 
     // What becomes of the request that is asked.
@@ -196,14 +197,16 @@ impl Run {
         verdict
     }
 
-    /// What becomes of the entry with this index.
+    /// What becomes of the entry with this index: the link's verdict, which is written where the caller keeps it, and the
+    /// floor rule's on a packet.
     pub(crate) fn hear(
         &mut self,
         plan: &Plan,
         index: u64,
         h: &Heard,
         mouth: &mut TallyMouth,
-    ) -> (LinkVerdict, Option<Verdict>)
+        verdict: &mut LinkVerdict,
+    ) -> Option<Verdict>
         requires post { self.old.post ≡ [] }
         requires out { self.old.stage.out ≡ [] }
         requires open { self.old.directory.ended ≡ false }
@@ -214,7 +217,7 @@ impl Run {
         ensures mouth { IsSameMouth mouth.old mouth.new }
         ensures heard { (entries : List Entry) → index ≡ length entries → length entries < 2 ^ 58 →
             IsSoFar plan.now entries self.old mouth.old →
-            IsOneMore plan.now entries h.now (scene self.new mouth.new) result }
+            IsOneMore plan.now entries h.now (scene self.new mouth.new) (verdict.new, result) }
     {
         directory_laws::entries_before_decide();
         directory_laws::ended_where_it_ends();
@@ -224,10 +227,13 @@ impl Run {
         floor_laws::later_acts_change_no_verdict();
         floor_laws::only_speakers_are_heard();
         says_something(h);
-        let (verdict, answer) = self.take_in(index, h, mouth);
+        let answer = self.take_in(index, h, mouth, verdict);
         match verdict {
-            LinkVerdict::Asks => (self.give(plan, mouth), None),
-            _ => (verdict, answer),
+            LinkVerdict::Asks => {
+                *verdict = self.give(plan, mouth);
+                None
+            }
+            _ => answer,
         }
     }
 }

@@ -2,3 +2,12 @@ pub mod Orders
 pub mod Ends
 pub mod Laws
 pub mod Rule
+pub mod Rows
+pub mod Grids
+pub mod Starts
+pub mod RowsLaws
+pub mod Columns
+pub mod Laid
+pub mod Trails
+pub mod Interleavings
+pub mod GridLaws

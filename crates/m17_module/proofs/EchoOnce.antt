@@ -6,7 +6,7 @@ use Rattle.m17_values.specs.declared.member.Member.{Member}
 use Rattle.m17_stream.specs.declared.packet.StreamPacket.{StreamPacket}
 use Rattle.m17_control.specs.declared.item.Said.TheVariants as said
 use Rattle.m17_floor.specs.Acts.{moment_at}
-use Rattle.m17_parrot.specs.Recording.{Recording, is_due, next_frame, due_of}
+use Rattle.m17_module.specs.Recording.{Recording, is_due, next_frame, due_of}
 use Rattle.m17_module.specs.Events.{acts_of}
 use Rattle.m17_module.specs.Seats.{seats_at, seat_of}
 use Rattle.m17_module.specs.Echoes.{recording_with, echoed_before, echo_at}

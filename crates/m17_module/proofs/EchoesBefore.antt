@@ -15,7 +15,7 @@ use Rattle.m17_floor.specs.Acts.{kind_at, moment_at}
 use Rattle.m17_floor.specs.Rule.{only_if, has_floor}
 use Rattle.m17_floor.specs.Floor.{Past, floor_frame, opens, admits, past_with, verdicts_before, past_at, verdict_at}
 use Rattle.m17_floor.specs.Laws.{LaterActsChangeNoVerdict, LaterActsChangeNoMembership, LaterActsChangeNoMoment, LaterActsChangeNoKind}
-use Rattle.m17_parrot.specs.Recording.{Recording, most_frames, due_of}
+use Rattle.m17_module.specs.Recording.{Recording, most_frames, due_of}
 use Rattle.m17_module.specs.Setup.{Setup, floor_setup}
 use Rattle.m17_module.specs.Echoes.{is_admitted_at, is_opened_at, holder_at, packet_in, admitted_packet, held_before, has_end_bit, closes, close_before, is_in_since, opening, recording_of, last_opened, recording_with, echo_with, echoed_before, echo_at, recording_at}
 use Rattle.m17_lookup.proofs.LastBelow.{last_below_same, last_below_lt, and_then_same}

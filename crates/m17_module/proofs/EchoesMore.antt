@@ -16,7 +16,7 @@ use Rattle.m17_floor.specs.declared.act.ActKind.{ActKind}
 use Rattle.m17_floor.specs.declared.act.ActKind.TheVariants.{Join, Leave, Packet, Other}
 use Rattle.m17_lookup.specs.Lookup.{last_below}
 use Rattle.m17_floor.specs.Acts.{is_join_of, settles, kind_at, moment_at, joined_at}
-use Rattle.m17_parrot.specs.Recording.{Recording, most_frames}
+use Rattle.m17_module.specs.Recording.{Recording, most_frames}
 use Rattle.m17_module.specs.Setup.{Setup}
 use Rattle.m17_module.specs.Events.{acts_of}
 use Rattle.m17_module.specs.Echoes.{is_admitted_at, is_opened_at, holder_at, positions_from, admitted_packet, held_before, has_end_bit, closes, close_before, is_in_since, opening, recording_of, last_opened, recording_with}

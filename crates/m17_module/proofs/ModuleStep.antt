@@ -9,7 +9,7 @@ use Rattle.m17_floor.specs.declared.verdict.Verdict.{Verdict}
 use Rattle.m17_lookup.specs.Lookup.{last_below}
 use Rattle.m17_floor.specs.Rule.{FloorState}
 use Rattle.m17_floor.specs.Laws.{MomentOfOneMore, StrangersGetNotMember}
-use Rattle.m17_parrot.specs.Recording.{Recording, due_of, with_given}
+use Rattle.m17_module.specs.Recording.{Recording, due_of, with_given}
 use Rattle.m17_module.specs.Setup.{Setup}
 use Rattle.m17_module.specs.declared.recorder.Recorder.{Recorder}
 use Rattle.m17_module.specs.Seats.{seats_at}

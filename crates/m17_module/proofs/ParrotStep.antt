@@ -18,7 +18,7 @@ use Rattle.m17_floor.specs.Rule.{Frame, FloorState, only_if, has_floor}
 use Rattle.m17_floor.specs.Floor.{floor_frame, opens, admits, verdicts_before, past_at, verdict_at}
 use Rattle.m17_floor.specs.StandsFor.{past_of, FloorStandsFor}
 use Rattle.m17_floor.specs.Laws.{MomentOfOneMore, StrangersGetNotMember}
-use Rattle.m17_parrot.specs.Recording.{Recording, due_of, with_given, begun}
+use Rattle.m17_module.specs.Recording.{Recording, due_of, with_given, begun}
 use Rattle.m17_module.specs.Setup.{Setup, floor_setup}
 use Rattle.m17_module.specs.declared.seat.Seat.{Seat}
 use Rattle.m17_module.specs.Events.{kind_of, acts_of}

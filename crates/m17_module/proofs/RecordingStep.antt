@@ -6,7 +6,7 @@ use Rattle.std.proofs.lemmas.Bool.Decides.{nat_tests}
 use Rattle.std.proofs.lemmas.List.{append-nil, take_all, take-append-le}
 use Rattle.m17_values.specs.declared.member.Member.{Member}
 use Rattle.m17_stream.specs.declared.packet.StreamPacket.{StreamPacket}
-use Rattle.m17_parrot.specs.Recording.{Recording, most_frames, begun, closed, due_after, next_frame, due_of, with_given}
+use Rattle.m17_module.specs.Recording.{Recording, most_frames, begun, closed, due_after, next_frame, due_of, with_given}
 use Rattle.m17_module.specs.Following.{closed_if, ended, extended}
 use Rattle.m17_module.proofs.Below.{length_more}
 use Rattle.m17_module.proofs.EchoesMore.{moved}

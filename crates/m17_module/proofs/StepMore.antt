@@ -9,7 +9,7 @@ use Rattle.m17_floor.specs.declared.verdict.Verdict.{Verdict}
 use Rattle.m17_floor.specs.Acts.{with_act, is_packet, greatest_moment, moment_before, moment_at}
 use Rattle.m17_floor.specs.Floor.{admits, verdict_at, admitted_count}
 use Rattle.m17_floor.specs.Laws.{MomentOfOneMore, MomentAfterOneMore, LaterActsChangeNoMembership, CountOfOneMore, OtherActsChangeNothing, OnlyPacketsHaveVerdicts}
-use Rattle.m17_parrot.specs.Recording.{Recording}
+use Rattle.m17_module.specs.Recording.{Recording}
 use Rattle.m17_module.specs.Setup.{floor_setup}
 use Rattle.m17_module.specs.declared.seat.Seat.{Seat}
 use Rattle.m17_module.specs.Events.{kind_of, act_of, acts_of}

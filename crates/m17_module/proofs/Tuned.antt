@@ -7,7 +7,7 @@ use Rattle.m17_values.specs.declared.member.Member.{Member}
 use Rattle.m17_stream.specs.declared.packet.StreamPacket.{StreamPacket}
 use Rattle.m17_floor.specs.Acts.{is_same}
 use Rattle.m17_floor.specs.Rule.{Frame, FloorState, floor_timeout_ms, has_run_out, only_if, has_floor}
-use Rattle.m17_parrot.specs.Recording.{Recording, most_frames, closed, goes_on, is_going_on, with_frame, unless_of, due_of, with_given}
+use Rattle.m17_module.specs.Recording.{Recording, most_frames, closed, goes_on, is_going_on, with_frame, unless_of, due_of, with_given}
 use Rattle.m17_module.specs.Following.{holder_then, closed_if, recorded_by, RecordsHolder, turned, extended, unless_any, without_any}
 
 -- whose a frame is

@@ -8,7 +8,7 @@ use Rattle.m17_floor.specs.declared.verdict.Verdict.{Verdict}
 use Rattle.m17_floor.specs.declared.verdict.Verdict.TheVariants.{Opened, Continued, Busy, Repeat, Late, AfterEnd, TimedOut, NotMember, ListenOnly}
 use Rattle.m17_floor.specs.Acts.{is_packet}
 use Rattle.m17_floor.specs.Rule.{FloorState, incoming, frame_beside}
-use Rattle.m17_parrot.specs.Recording.{Recording, is_going_on, begun}
+use Rattle.m17_module.specs.Recording.{Recording, is_going_on, begun}
 use Rattle.m17_module.specs.declared.seat.Seat.{Seat}
 use Rattle.m17_module.specs.Events.{kind_of}
 use Rattle.m17_module.specs.Following.{leaver, held_by, FloorHears, FloorFollows, RecordsHolder, recording_heard, recording_then, unless_any, without_any}

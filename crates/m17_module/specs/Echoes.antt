@@ -12,7 +12,7 @@ use Rattle.m17_floor.specs.Acts.{kind_at, moment_at, joined_at}
 use Rattle.m17_floor.specs.Rule.{Frame, only_if, has_floor}
 use Rattle.m17_floor.specs.Floor.{floor_frame, opens, admits, past_at, verdict_at}
 use Rattle.m17_module.specs.Setup.{Setup, floor_setup}
-use Rattle.m17_parrot.specs.Recording.{Recording, most_frames, due_of}
+use Rattle.m17_module.specs.Recording.{Recording, most_frames, due_of}
 
 -- The packet at position n is admitted; it opens the floor.
 abbrev pub is_admitted_at : Setup → List Act → ℕ → Bool

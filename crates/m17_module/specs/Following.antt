@@ -9,7 +9,7 @@ use Rattle.m17_floor.specs.declared.verdict.Verdict.TheVariants.{Opened, Continu
 use Rattle.m17_floor.specs.Rule.{Frame, FloorState, Incoming, incoming, frame_beside, only_if, has_floor}
 use Rattle.m17_floor.specs.Floor.{admits}
 use Rattle.m17_floor.specs.StandsFor.{without}
-use Rattle.m17_parrot.specs.Recording.{Recording, begun, goes_on, with_frame, closed, unless_of}
+use Rattle.m17_module.specs.Recording.{Recording, begun, goes_on, with_frame, closed, unless_of}
 use Rattle.m17_module.specs.declared.seat.Seat.{Seat}
 use Rattle.m17_module.specs.Seats.{seat_in, seat_of}
 

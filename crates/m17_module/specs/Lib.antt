@@ -1,3 +1,5 @@
+-- What callers speak of: a recording, and what each call makes of it.
+pub mod Recording
 -- What callers speak of: how a module was made, the events as the floor sees them, who is in, what a parrot plays back,
 -- what each event gives, what a module stands for, what its book keeps.
 pub mod Setup

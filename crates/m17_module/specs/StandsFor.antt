@@ -7,7 +7,7 @@ use Rattle.m17_floor.specs.Acts.{moment_before}
 use Rattle.m17_floor.specs.Floor.{verdict_at, admitted_count}
 use Rattle.m17_floor.specs.Rule.{Frame, FloorState}
 use Rattle.m17_floor.specs.StandsFor.{FloorStandsFor, OwnStandsFor}
-use Rattle.m17_parrot.specs.Recording.{Recording}
+use Rattle.m17_module.specs.Recording.{Recording}
 use Rattle.m17_module.specs.declared.seat.Seat.{Seat}
 use Rattle.m17_module.specs.Setup.{Setup, floor_setup}
 use Rattle.m17_module.specs.Events.{acts_of}

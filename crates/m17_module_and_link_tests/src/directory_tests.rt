@@ -2,7 +2,7 @@ ghost use Rattle.std.specs.Prelude.{◌≡◌, ◌<◌, ◌≤◌, [], None, IsS
 
 use crate::seen::{QUIET, Seen, both, drain};
 use m17_callsign::{CallAddress, encode};
-use m17_control::{Body, Control, Event, ModuleLetter, Modules, Refusal, Why, write};
+use m17_control::{Body, Control, Event, ModuleLetter, Modules, Why, write};
 use m17_directory::*;
 use m17_samples::{frame, member, peer};
 use m17_stream::StreamPacket;
@@ -133,9 +133,6 @@ enum Turn {
     Voice(u16, u16),
     LastVoice(u16, u16),
     Disc(&'static str),
-    ShortDisc,
-    Nack,
-    Hello,
     Quiet,
     Fault,
     End,
@@ -145,11 +142,6 @@ enum Turn {
 #[derive(Clone, Copy)]
 enum Want {
     Routed(u8, Act),
-    NotServed(u8),
-    RefusedLength(u32),
-    NotConnected,
-    Full,
-    Stray,
     Timed,
     Faulted,
     Ended,
@@ -172,13 +164,6 @@ fn heard(rt: &impl Abort, host: u8, at: u64, turn: Turn) -> Heard {
             let callsign = Some(call(rt, name));
             said(&from, at, &Control::Disc { from: callsign })
         }
-        Turn::ShortDisc => said(&from, at, &Control::Disc { from: None }),
-        Turn::Nack => said(&from, at, &Control::Nack),
-        Turn::Hello => Heard::Datagram {
-            from,
-            at,
-            bytes: Gram::of(b"hello"),
-        },
         Turn::Quiet => Heard::Quiet { at },
         Turn::Fault => Heard::Fault,
         Turn::End => Heard::End,
@@ -191,13 +176,6 @@ fn wanted(rt: &impl Abort, want: Want) -> LinkVerdict {
             module: letter(rt, module),
             act,
         },
-        Want::NotServed(module) => LinkVerdict::NotServed {
-            module: letter(rt, module),
-        },
-        Want::RefusedLength(n) => LinkVerdict::Refused(Refusal::Length(n)),
-        Want::NotConnected => LinkVerdict::NotConnected,
-        Want::Full => LinkVerdict::Full,
-        Want::Stray => LinkVerdict::Stray,
         Want::Timed => LinkVerdict::Timed,
         Want::Faulted => LinkVerdict::Faulted,
         Want::Ended => LinkVerdict::Ended,
@@ -260,11 +238,6 @@ const TICKS: Seen = Seen { ticks: 3, ..QUIET };
 
 const JOIN: Seen = Seen { joins: 1, ..QUIET };
 
-const FRAME: Seen = Seen {
-    packets: 1,
-    ..QUIET
-};
-
 const FRAME_AND_TICKS: Seen = Seen {
     packets: 1,
     ..TICKS
@@ -273,17 +246,6 @@ const FRAME_AND_TICKS: Seen = Seen {
 const LEAVE: Seen = Seen { leaves: 1, ..QUIET };
 
 const LEAVE_AND_JOIN: Seen = Seen { leaves: 1, ..JOIN };
-
-const NACK: Seen = Seen { nacks: 1, ..QUIET };
-
-const DISC: Seen = Seen { discs: 1, ..QUIET };
-
-const ANSWER: Seen = Seen {
-    replies: 1,
-    ..TICKS
-};
-
-const THREE_LEAVE: Seen = Seen { leaves: 3, ..TICKS };
 
 const STOPS: Seen = Seen { stops: 3, ..QUIET };
 
@@ -320,91 +282,27 @@ const TWO_PEERS: &[Row] = &[
     (0, 0, Turn::End, None, Want::Ended, STOPS_AND_LEAVE),
 ];
 
-const STRANGERS_AND_UNSERVED_MODULES: &[Row] = &[
-    (2, 0, Turn::Lstn(b'A'), Some((0, 0)), JOINS, JOIN),
-    (2, 0, Turn::Voice(1, 0), None, PASSES, FRAME),
-    (3, 0, Turn::Voice(2, 0), None, Want::NotConnected, QUIET),
-    (3, 0, Turn::Conn(b'D'), None, Want::NotServed(b'D'), NACK),
-    (2, 0, Turn::Conn(b'D'), None, Want::NotServed(b'D'), NACK),
-    (3, 0, Turn::ShortDisc, None, Want::NotConnected, QUIET),
-    (3, 0, Turn::Disc("AB1CD"), None, Want::NotConnected, DISC),
-    (3, 0, Turn::Nack, None, Want::Stray, QUIET),
-    (2, 0, Turn::ShortDisc, None, LEAVES, LEAVE),
-];
-
-const A_THIRD_GETS_THE_PLACE_THAT_WAS_LEFT: &[Row] = &[
-    (1, 0, Turn::Conn(b'A'), Some((0, 0)), JOINS, JOIN),
-    (2, 0, Turn::Conn(b'A'), Some((1, 0)), JOINS, JOIN),
-    (3, 0, Turn::Conn(b'A'), None, Want::Full, NACK),
-    (1, 0, Turn::Disc("AB1CD"), None, LEAVES, LEAVE),
-    (3, 0, Turn::Conn(b'A'), Some((0, 1)), JOINS, JOIN),
-];
-
-const A_PEER_MOVES_AND_ASKS_AGAIN: &[Row] = &[
-    (1, 0, Turn::Conn(b'A'), Some((0, 0)), JOINS, JOIN),
-    (
-        1,
-        10,
-        Turn::Conn(b'B'),
-        Some((0, 1)),
-        Want::Routed(b'B', Act::Join),
-        LEAVE_AND_JOIN,
-    ),
-    (
-        1,
-        20,
-        Turn::Conn(b'B'),
-        None,
-        Want::Routed(b'B', Act::Again),
-        ANSWER,
-    ),
-];
-
 const A_CLAIM_OF_A_HELD_PLACE_REPLACES_ITS_PEER: &[Row] = &[
     (1, 0, Turn::Conn(b'A'), Some((0, 0)), JOINS, JOIN),
     (2, 0, Turn::Conn(b'A'), Some((1, 0)), JOINS, JOIN),
     (3, 15, Turn::Conn(b'A'), Some((1, 1)), JOINS, LEAVE_AND_JOIN),
 ];
 
-const THREE_SILENT_PEERS_LEAVE_AT_ONCE: &[Row] = &[
-    (1, 0, Turn::Conn(b'A'), Some((0, 0)), JOINS, JOIN),
-    (2, 0, Turn::Conn(b'A'), Some((1, 0)), JOINS, JOIN),
-    (3, 0, Turn::Conn(b'A'), Some((2, 0)), JOINS, JOIN),
-    (1, 20_000, Turn::Hello, None, Want::RefusedLength(5), TICKS),
-    (0, 19, Turn::Quiet, None, Want::Timed, QUIET),
-    (0, 29_999, Turn::Quiet, None, Want::Timed, TICKS),
-    (0, 100, Turn::Quiet, None, Want::Timed, QUIET),
-    (0, 30_000, Turn::Quiet, None, Want::Timed, THREE_LEAVE),
-];
-
 #[test]
 fn evenings_of_a_few_peers(rt: HostRuntime) {
-    const ALL_LEFT: Left = Left {
-        known: 0,
-        ended: false,
-        held: [false; 3],
-    };
     const ENDED: Left = Left {
+        known: 0,
         ended: true,
-        ..ALL_LEFT
-    };
-    const ONE: Left = Left {
-        known: 1,
-        ended: false,
-        held: [true, false, false],
+        held: [false; 3],
     };
     const TWO: Left = Left {
         known: 2,
         ended: false,
         held: [true, true, false],
     };
-    const EVENINGS: [Evening; 6] = [
+    const EVENINGS: [Evening; 2] = [
         (64, TWO_PEERS, ENDED),
-        (64, STRANGERS_AND_UNSERVED_MODULES, ALL_LEFT),
-        (2, A_THIRD_GETS_THE_PLACE_THAT_WAS_LEFT, TWO),
-        (64, A_PEER_MOVES_AND_ASKS_AGAIN, ONE),
         (64, A_CLAIM_OF_A_HELD_PLACE_REPLACES_ITS_PEER, TWO),
-        (64, THREE_SILENT_PEERS_LEAVE_AT_ONCE, ALL_LEFT),
     ];
     for (places, rows, left) in EVENINGS {
         assert!(rt; places > 0 && places <= 256);

@@ -35,14 +35,14 @@ fn packet(sid: u16, number: u16, last: bool) -> StreamPacket {
     }
 }
 
-pub(crate) fn join(at: u64, member: Member, listens: bool) -> Act {
+fn join(at: u64, member: Member, listens: bool) -> Act {
     Act {
         at,
         kind: ActKind::Join { member, listens },
     }
 }
 
-pub(crate) fn leave(at: u64, member: Member) -> Act {
+fn leave(at: u64, member: Member) -> Act {
     Act {
         at,
         kind: ActKind::Leave { member },
@@ -50,7 +50,7 @@ pub(crate) fn leave(at: u64, member: Member) -> Act {
 }
 
 /// A member sends a packet with this stream id, number and end bit.
-pub(crate) fn sent(at: u64, member: Member, sid: u16, number: u16, last: bool) -> Act {
+fn sent(at: u64, member: Member, sid: u16, number: u16, last: bool) -> Act {
     let packet = packet(sid, number, last);
     Act {
         at,
@@ -169,18 +169,6 @@ fn heard(
         }
         None => NotMember,
     }
-}
-
-/// Whether the fast way and the plain one give these verdicts where one may talk for `limit` milliseconds.
-pub(crate) fn both_give(
-    rt: &impl Abort,
-    alloc: Global,
-    limit: u64,
-    acts: &[Act],
-    wanted: &[Option<Verdict>],
-) -> bool {
-    let plain = must(rt, plain::verdicts(alloc, PLACES, limit, acts));
-    plain.as_slice() == wanted && fast_gives(limit, acts, wanted)
 }
 
 // Whether the fast way gives these verdicts.

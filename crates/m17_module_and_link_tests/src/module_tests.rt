@@ -29,7 +29,7 @@ fn link_of(k: Member) -> u8 {
     (k.place & 3) as u8
 }
 
-pub(crate) fn packet(sid: u16, number: u16, last: bool) -> StreamPacket {
+fn packet(sid: u16, number: u16, last: bool) -> StreamPacket {
     StreamPacket {
         sid,
         lsd: Lsd {
@@ -87,7 +87,7 @@ pub(crate) fn sends(k: Member, at: u64, sid: u16, number: u16, last: bool) -> Ev
 /// What happens: a member comes to speak or to listen, leaves, or sends a packet with this stream id, number and end bit,
 /// or the time goes by.
 #[derive(Clone, Copy)]
-pub(crate) enum Happens {
+enum Happens {
     Speaks(Member),
     Listens(Member),
     Leaves(Member, Why),
@@ -98,7 +98,7 @@ pub(crate) enum Happens {
 /// What is given to a member: a welcome, a farewell, a question whether it is there, or a packet of this position, stream
 /// id, number and end bit, from another or as an echo.
 #[derive(Clone, Copy)]
-pub(crate) enum Gives {
+enum Gives {
     Hello(Member),
     Bye(Member, Why),
     Ping(Member),
@@ -107,7 +107,7 @@ pub(crate) enum Gives {
 }
 
 /// When something happens, what, the answer, and what is given.
-pub(crate) type Row = (u64, Happens, Option<Verdict>, &'static [Gives]);
+type Row = (u64, Happens, Option<Verdict>, &'static [Gives]);
 
 fn event_of(rt: &impl Abort, at: u64, happens: Happens) -> Event {
     match happens {
@@ -120,7 +120,7 @@ fn event_of(rt: &impl Abort, at: u64, happens: Happens) -> Event {
 }
 
 /// The item that is given.
-pub(crate) fn item_of(gives: Gives) -> Item {
+fn item_of(gives: Gives) -> Item {
     let (member, body) = match gives {
         Gives::Hello(k) => {
             let after = k.generation & 0xff;
@@ -146,7 +146,7 @@ pub(crate) fn item_of(gives: Gives) -> Item {
 }
 
 /// Whether the basket gives just this.
-pub(crate) fn are_given(basket: &mut Basket, given: &[Gives]) -> bool {
+fn are_given(basket: &mut Basket, given: &[Gives]) -> bool {
     for gives in given {
         if basket.take() != Some(item_of(*gives)) {
             return false;
@@ -156,7 +156,7 @@ pub(crate) fn are_given(basket: &mut Basket, given: &[Gives]) -> bool {
 }
 
 /// Steps by the rows, and compares each answer and what was given.
-pub(crate) fn step_by(rt: &impl Abort, module: &mut Module, basket: &mut Basket, rows: &[Row]) {
+fn step_by(rt: &impl Abort, module: &mut Module, basket: &mut Basket, rows: &[Row]) {
     for (i, (at, happens, answer, given)) in rows.iter().enumerate() {
         assert!(rt; basket.is_empty());
         let answered = module.step(&event_of(rt, *at, *happens), basket);
@@ -180,7 +180,7 @@ pub(crate) fn made(
 }
 
 /// Has a new module step by the rows: how many packets it admitted, and its moment.
-pub(crate) fn plays(
+fn plays(
     rt: &impl Abort,
     alloc: Global,
     places: u32,
@@ -197,34 +197,34 @@ pub(crate) fn plays(
 }
 
 /// Members of the evenings: who comes first at places 0 to 3, and who comes next at place 2.
-pub(crate) const AT_0: Member = Member {
+const AT_0: Member = Member {
     place: 0,
     generation: 0,
 };
 
-pub(crate) const AT_1: Member = Member {
+const AT_1: Member = Member {
     place: 1,
     generation: 0,
 };
 
-pub(crate) const AT_2: Member = Member {
+const AT_2: Member = Member {
     place: 2,
     generation: 0,
 };
 
-pub(crate) const NEXT_AT_2: Member = Member {
+const NEXT_AT_2: Member = Member {
     place: 2,
     generation: 1,
 };
 
-pub(crate) const AT_3: Member = Member {
+const AT_3: Member = Member {
     place: 3,
     generation: 0,
 };
 
-pub(crate) const OPENED: Option<Verdict> = Some(Verdict::Opened);
+const OPENED: Option<Verdict> = Some(Verdict::Opened);
 
-pub(crate) const CONTINUED: Option<Verdict> = Some(Verdict::Continued);
+const CONTINUED: Option<Verdict> = Some(Verdict::Continued);
 
 const NOT_MEMBER: Option<Verdict> = Some(Verdict::NotMember);
 
@@ -342,6 +342,33 @@ fn pings_come_at_multiples_of_three_seconds(rt: HostRuntime) {
         (66_000, Tick, None, &[]),
     ];
     let _end = plays(&rt, rt.alloc(), 2, false, 0, &ROWS);
+}
+
+// What a parrot gives back: the frame that is due comes first, and then the packet, which forgets what was left of the
+// recording; and a recording of its own comes back from 1,000 ms after its end on.
+#[test]
+fn another_talker_during_the_echo_ends_it(rt: HostRuntime) {
+    use Happens::{Sends, Speaks, Tick};
+    const DUE_FIRST: &[Gives] = &[
+        Gives::Echo(AT_0, 6, 0xfff6, 1, false),
+        Gives::Frame(AT_0, 6, 8, 0, true),
+    ];
+    const FIRST: &[Gives] = &[Gives::Frame(AT_3, 2, 9, 0, false)];
+    const SECOND: &[Gives] = &[Gives::Frame(AT_3, 3, 9, 1, false)];
+    const THIRD: &[Gives] = &[Gives::Frame(AT_3, 4, 9, 2, true)];
+    const ROWS: [Row; 10] = [
+        (0, Speaks(AT_0), None, &[Gives::Hello(AT_0)]),
+        (0, Speaks(AT_3), None, &[Gives::Hello(AT_3)]),
+        (0, Sends(AT_0, 9, 0, false), OPENED, FIRST),
+        (40, Sends(AT_0, 9, 1, false), CONTINUED, SECOND),
+        (80, Sends(AT_0, 9, 2, true), CONTINUED, THIRD),
+        (1_080, Tick, None, &[Gives::Echo(AT_0, 5, 0xfff6, 0, false)]),
+        (1_120, Sends(AT_3, 8, 0, true), OPENED, DUE_FIRST),
+        (1_200, Tick, None, &[]),
+        (2_120, Tick, None, &[Gives::Echo(AT_3, 8, 0xfff7, 0, true)]),
+        (2_900, Tick, None, &[]),
+    ];
+    let _end = plays(&rt, rt.alloc(), 4, true, 0, &ROWS);
 }
 
 // All 256 places are taken, in an order of places that is not theirs.

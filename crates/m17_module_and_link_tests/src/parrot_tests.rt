@@ -1,8 +1,8 @@
 ghost use Rattle.std.specs.Prelude.{IsTrue};
-ghost use Rattle.m17_parrot.specs.Recording.{is_going_on};
+ghost use Rattle.m17_module.specs.Recording.{is_going_on};
 
 use m17_lsd::Lsd;
-use m17_parrot::{Kept, Parrot};
+use m17_module::{Kept, Parrot};
 use m17_stream::StreamPacket;
 use m17_values::{Address, Member};
 use std::alloc::Global;

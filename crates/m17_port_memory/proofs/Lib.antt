@@ -1,3 +1,4 @@
 pub mod TallyLemmas
 pub mod ScriptLemmas
 pub mod PortsLemmas
+pub mod AnswersLemmas

@@ -1,4 +1,4 @@
-ghost use Rattle.std.specs.Prelude.{◌≡◌, ℕ, [], ◌∷◌, ◌++◌, Contains, ◌↔◌, Option, None, Some, Ok, IfOk, IsNone, IsSome, OnOk, OnErr};
+ghost use Rattle.std.specs.Prelude.{◌≡◌, ℕ, [], ◌∷◌, ◌++◌, Contains, ◌↔◌, Option, None, Some, Ok, IfOk, IsNone, IsSome, IsTrue, OnOk, OnErr};
 ghost use Rattle.std.specs.Option.{option_map};
 ghost use Rattle.m17_io.specs.Faults.{HasCause};
 ghost use Rattle.m17_ports.specs.Tallies.{IsTallied, counted, no_tally, tally_then};
@@ -63,6 +63,13 @@ impl TallyMouth {
         ensures named { IsSome result ↔ Contains (named_in self.now.entries) peer.now }
     {
         self.tallies.get(peer).copied()
+    }
+
+    /// Whether it has a tally of nobody: then nothing that is said to it is kept.
+    pub fn names_nobody(&self) -> bool
+        ensures { IsTrue result ↔ (self.now.entries ≡ []) }
+    {
+        self.tallies.is_empty()
     }
 }
 

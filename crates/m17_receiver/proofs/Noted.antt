@@ -8,7 +8,7 @@ use Rattle.std.proofs.lemmas.List.Folds.{list_any-append}
 use Rattle.m17_lists.proofs.Tests.{or_false_is_itself}
 use Rattle.m17_values.specs.declared.member.Member.{Member}
 use Rattle.m17_lane.specs.Ends.{PopEnd}
-use Rattle.m17_rows.specs.Rows.{pops}
+use Rattle.m17_lane.specs.Rows.{pops}
 use Rattle.m17_directory.specs.declared.known.Departed.{Departed}
 use Rattle.m17_directory.specs.Entries.{Entry}
 use Rattle.m17_directory.specs.StandsFor.{DirectoryKept, StandsFor, must_wait, is_member, without_member}

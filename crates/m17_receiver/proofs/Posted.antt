@@ -7,7 +7,7 @@ use Rattle.m17_control.specs.declared.event.Event.{Event}
 use Rattle.m17_control.specs.declared.item.Direct.{Direct}
 use Rattle.m17_control.specs.declared.modules.Modules.{Modules}
 use Rattle.m17_lane.specs.Ends.{PushEnd}
-use Rattle.m17_rows.specs.Rows.{pushes, push_each}
+use Rattle.m17_lane.specs.Rows.{pushes, push_each}
 use Rattle.m17_directory.specs.declared.dispatch.Dispatch.{Dispatch}
 use Rattle.m17_directory.specs.Entries.{Entry, Setup}
 use Rattle.m17_directory.specs.Routed.{event_for, routed, posted, posts_at}

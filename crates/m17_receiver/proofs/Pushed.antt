@@ -7,7 +7,7 @@ use Rattle.m17_control.specs.declared.modules.Modules.{Modules}
 use Rattle.std.proofs.lemmas.List.{append-nil}
 use Rattle.m17_control.specs.declared.item.Direct.{Direct}
 use Rattle.m17_lane.specs.Ends.{PushEnd, pushed_to}
-use Rattle.m17_rows.specs.Rows.{push_each, only}
+use Rattle.m17_lane.specs.Rows.{push_each, only}
 use Rattle.m17_directory.specs.declared.dispatch.Dispatch.TheVariants.{ToModule, ToDoor}
 use Rattle.m17_directory.specs.Routed.{event_for}
 use Rattle.m17_receiver.specs.Posting.{Outlets, letter_at}

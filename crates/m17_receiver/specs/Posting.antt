@@ -5,7 +5,7 @@ use Rattle.m17_control.specs.declared.event.Event.{Event}
 use Rattle.m17_control.specs.declared.item.Direct.{Direct}
 use Rattle.m17_control.specs.declared.modules.Modules.{Modules}
 use Rattle.m17_lane.specs.Ends.{PushEnd}
-use Rattle.m17_rows.specs.Rows.{pushes, push_each, as_new, IsSameRow}
+use Rattle.m17_lane.specs.Rows.{pushes, push_each, as_new, IsSameRow}
 use Rattle.m17_directory.specs.Entries.{Entry, Setup}
 use Rattle.m17_directory.specs.Routed.{routed}
 use Rattle.m17_directory.specs.Laws.{door_replies}

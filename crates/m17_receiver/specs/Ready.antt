@@ -5,7 +5,7 @@ use Rattle.m17_ports.specs.Told.{StartsEmpty}
 use Rattle.m17_ports.specs.Ear.{EarTold}
 use Rattle.m17_ports.specs.Book.{BookTold}
 use Rattle.m17_roll.specs.Seat.{HasLists}
-use Rattle.m17_rows.specs.Rows.{IsNewRow, IsNewPusher, IsNewPopper}
+use Rattle.m17_lane.specs.Rows.{IsNewRow, IsNewPusher, IsNewPopper}
 use Rattle.m17_directory.specs.StandsFor.{StandsFor}
 use Rattle.m17_receiver.specs.declared.receiver.Receiver.{Receiver}
 

@@ -5,7 +5,7 @@ use Rattle.m17_io.specs.Faults.{HasRisen}
 use Rattle.m17_ports.specs.Ear.{EarTold}
 use Rattle.m17_ports.specs.Book.{BookTold, HasText}
 use Rattle.m17_roll.specs.Seat.{IsSameSeat}
-use Rattle.m17_rows.specs.Starts.{HasStarted}
+use Rattle.m17_lane.specs.Starts.{HasStarted}
 use Rattle.m17_directory.specs.Entries.{Entry, SaysEach}
 use Rattle.m17_directory.specs.Laws.{EndsOnce}
 use Rattle.m17_receiver.specs.declared.receiver.Receiver.{Receiver}

@@ -9,8 +9,8 @@ use Rattle.m17_control.specs.declared.modules.Modules.{Modules}
 use Rattle.m17_lane.specs.Ends.{PopEnd}
 use Rattle.m17_roll.specs.Seat.{RollView, IsSameSeat}
 use Rattle.m17_control.specs.declared.event.Event.{Event}
-use Rattle.m17_rows.specs.Rows.{pops, pushes, push_each}
-use Rattle.m17_rows.specs.Laws.{RowsPush}
+use Rattle.m17_lane.specs.Rows.{pops, pushes, push_each}
+use Rattle.m17_lane.specs.RowsLaws.{RowsPush}
 use Rattle.m17_directory.specs.declared.dispatch.Dispatch.{Dispatch}
 use Rattle.m17_directory.specs.declared.known.Departed.{Departed}
 use Rattle.m17_directory.specs.declared.known.Known.{Known}

@@ -5,7 +5,7 @@ ghost use Rattle.m17_ports.specs.Told.{StartsEmpty};
 ghost use Rattle.m17_roll.specs.Seat.{HasLists};
 ghost use Rattle.m17_control.specs.Modules.{letters_of};
 ghost use Rattle.m17_directory.specs.StandsFor.{StandsFor};
-ghost use Rattle.m17_rows.specs.Rows.{IsNewPopper, IsNewPusher, IsNewRow};
+ghost use Rattle.m17_lane.specs.Rows.{IsNewPopper, IsNewPusher, IsNewRow};
 ghost use Rattle.m17_receiver.specs.Ready.{IsReady};
 
 use crate::Receiver;

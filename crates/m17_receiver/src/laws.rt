@@ -3,7 +3,7 @@ ghost use Rattle.m17_receiver.specs.SoFar.{Laws};
 
 use m17_control::Event;
 use m17_directory::laws as directory;
-use m17_rows::laws as rows;
+use m17_lane::rows_laws as rows;
 
 // The laws of one link's directory and of rows of ends.
 #[inline]

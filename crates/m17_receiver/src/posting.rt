@@ -5,14 +5,13 @@ ghost use Rattle.m17_directory.specs.declared.dispatch.Dispatch.TheVariants.{ToM
 ghost use Rattle.m17_directory.specs.Routed.{event_for};
 ghost use Rattle.m17_receiver.specs.Posting.{letter_at, AreSameOutlets};
 ghost use Rattle.m17_receiver.specs.SoFar.{posting};
-ghost use Rattle.m17_rows.specs.Rows.{only, push_each};
+ghost use Rattle.m17_lane.specs.Rows.{only, push_each};
 ghost use Rattle.std.specs.List.{filter_map};
 
 use crate::laws::known_laws;
 use m17_control::{Body, Direct, Event, ModuleLetter, Modules};
 use m17_directory::{Dispatch, Post};
-use m17_lane::Pusher;
-use m17_rows::{push_at, push_quietly_at};
+use m17_lane::{Pusher, push_at, push_quietly_at};
 use std::sync::Wait;
 
 // How many Ticks wake a worker that dozes.

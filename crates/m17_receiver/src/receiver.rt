@@ -9,11 +9,10 @@ use crate::trace::write_trace;
 use m17_control::{Direct, Event, Modules};
 use m17_crew::{Order, Work};
 use m17_directory::{Directory, LinkVerdict, Post};
-use m17_lane::{Popper, Pusher};
+use m17_lane::{Popper, Pusher, count_one, starts};
 use m17_ports::laws::{books_are_written_in_turn, ears_hear_in_turn, ears_tell_up_to_the_end};
 use m17_ports::{Book, Ear};
 use m17_roll::RollSeat;
-use m17_rows::{count_one, starts};
 use m17_values::{Heard, Member};
 use std::sync::Wait;
 

@@ -1,5 +1,8 @@
 -- What each mouth says in a run, from what the receivers and the sender did, the lanes between them, and what was said
 -- behind the sender of what was left in these.
+use Rattle.m17_reflect.proofs.AllSaid.{PeerLaws, IsThere, can_say, queue_said, door_said, mouth_at, mouths_long, said_in_turn, AllSaid, AreItsMemberships, sends}
+use Rattle.m17_reflect.proofs.LinkNotes.{NoteLaws, AreNoted, all_in, are_its}
+use Rattle.m17_reflect.proofs.LanesDrained.{DoorLaws, IsDoor, door_of, is_door, AreQueuesBack, carried_settled, popped_then_left}
 use Rattle.std.proofs.Common.{◌≡◌, ℕ, List, ◌++◌, map, length, Option, Some, sym, subst, ap, ◌∙◌, arith}
 use Rattle.std.specs.Prelude.{slice_get, filter}
 use Rattle.std.specs.List.{AllByRecursion}
@@ -17,43 +20,33 @@ use Rattle.m17_crew.specs.declared.order.Order.{Order}
 use Rattle.m17_directory.specs.Entries.{is_peer}
 use Rattle.m17_lane.specs.Ends.{PushEnd, PopEnd, TrailEnd, new_pushers}
 use Rattle.m17_lane.specs.Orders.{items_of}
-use Rattle.m17_rows.specs.Rows.{IsNewRow}
-use Rattle.m17_rows.specs.Laws.{RowsPush}
-use Rattle.m17_grid.specs.Trails.{IsTrailOf, AreTrailsOfOnes}
+use Rattle.m17_lane.specs.Rows.{IsNewRow}
+use Rattle.m17_lane.specs.RowsLaws.{RowsPush}
+use Rattle.m17_lane.specs.Trails.{IsTrailOf, AreTrailsOfOnes}
 use Rattle.m17_receiver.specs.declared.receiver.Receiver.{Receiver}
 use Rattle.m17_sender.specs.declared.sender.Sender.{Sender}
 use Rattle.m17_sender.specs.Places.{cells_of, held_at, popped_at, queues_of}
 use Rattle.m17_sender.specs.Sent.{EachMouth, SaidByLink, Sent}
-use Rattle.m17_send_order.specs.Acts.{Act, answers_of, notes_of, things_of}
-use Rattle.m17_send_order.specs.Joined.{SayAll, IsJoined, goes_to}
+use Rattle.m17_sender.specs.Acts.{Act, answers_of, notes_of, things_of}
+use Rattle.m17_sender.specs.Joined.{SayAll, IsJoined, goes_to}
 use Rattle.m17_reflect.specs.Links.{Link, At, link_setup}
 use Rattle.m17_reflect.specs.Queues.{carried}
 use Rattle.m17_reflect.specs.Run.{Run}
 use Rattle.m17_reflect.specs.Sendings.{memberships, Sends, IsForMemberships, MouthsSay}
-use Rattle.m17_reflect.proofs.AllSaid.{IsThere, can_say, queue_said, door_said, mouth_at, mouths_long, said_in_turn}
-use Rattle.m17_run_setup.specs.Jobs.{AreReceivers}
-use Rattle.m17_reflect.proofs.Came.{Came, all_at}
-use Rattle.m17_reflect.proofs.Doors as doors
-use Rattle.m17_reflect.proofs.Doors.{IsDoor, door_of, is_door}
-use Rattle.m17_reflect.proofs.Drained.{AreQueuesBack, carried_settled, popped_then_left}
-use Rattle.m17_run_end.specs.Left.{left}
-use Rattle.m17_run_end.specs.Rest.{has_link, has_link_too, left_at}
-use Rattle.m17_reflect.proofs.Items.{is_of_run, link_is_there}
-use Rattle.m17_reflect.proofs.Members.{AreMembers}
-use Rattle.m17_reflect.proofs.Noted as noted
-use Rattle.m17_reflect.proofs.Noted.{AreNoted, all_in, are_its}
-use Rattle.m17_reflect.proofs.Routes.{at_below, below_at}
-use Rattle.m17_reflect.proofs.Shares.{its_share, StandsAlone}
-use Rattle.m17_reflect.proofs.Together.{AllZip3, zip3_at, zip3_length, unmapped, mapped_at}
-use Rattle.m17_reflect.proofs.ToPeers as peers
-use Rattle.m17_reflect.proofs.ToPeers.{AllSaid, AreItsMemberships, sends}
-use Rattle.m17_reflect.proofs.Waiting.{ClaimsDiffer}
+use Rattle.m17_reflect.specs.Jobs.{AreReceivers}
+use Rattle.m17_reflect.proofs.LinksHeard.{Came, all_at}
+use Rattle.m17_reflect.specs.Left.{left}
+use Rattle.m17_reflect.specs.Rest.{has_link, has_link_too, left_at}
+use Rattle.m17_reflect.proofs.MemberLives.{is_of_run, link_is_there}
+use Rattle.m17_reflect.proofs.LinkMembers.{AreMembers, its_share, StandsAlone}
+use Rattle.m17_reflect.proofs.PlaceByPlace.{at_below, below_at, AllZip3, zip3_at, zip3_length, unmapped, mapped_at}
+use Rattle.m17_reflect.proofs.ClaimsDiffer.{ClaimsDiffer}
 
 -- The laws that this rests on.
-pub record Laws (L : Type 0) : Type 0 where
-  pub noted : noted.Laws
-  pub peers : peers.Laws
-  pub doors : doors.Laws
+pub record MouthLaws (L : Type 0) : Type 0 where
+  pub noted : NoteLaws
+  pub peers : PeerLaws
+  pub doors : DoorLaws
   pub notes : RowsPush Member
   pub mouths : MouthsSayInTurn L
 
@@ -112,7 +105,7 @@ pub record IsSentOut {E B M EL ML BL : Type 0} (hears : E → EarTold EL) (write
 
 module _ {E B M EL ML BL : Type 0} where
   -- each item of a queue has a link and a place that are there
-  all_there : Laws ML → (hears : E → EarTold EL) (writes : B → BookTold BL) (tells : M → MouthTold ML) (run : Run EL ML BL) (links : List Link) (e : Ended E B M) → IsSentOut hears writes tells run links e → (m q : ℕ) → AllByRecursion (IsThere (length links) run.plan.places) (carried run.handed.queues m q)
+  all_there : MouthLaws ML → (hears : E → EarTold EL) (writes : B → BookTold BL) (tells : M → MouthTold ML) (run : Run EL ML BL) (links : List Link) (e : Ended E B M) → IsSentOut hears writes tells run links e → (m q : ℕ) → AllByRecursion (IsThere (length links) run.plan.places) (carried run.handed.queues m q)
   all_there laws hears writes tells run links e h m q =
       all_in (IsThere (length links) run.plan.places) (carried run.handed.queues m q) (λ i item at.
       let is = is_of_run laws.noted.members.carried run links m q item h.members.carried (i, at) in
@@ -125,7 +118,7 @@ module _ {E B M EL ML BL : Type 0} where
       ∙ h.mouth_count
 
   -- all of the queues was said
-  say_all : (laws : Laws ML) (hears : E → EarTold EL) (writes : B → BookTold BL) (tells : M → MouthTold ML) (run : Run EL ML BL) (links : List Link) (e : Ended E B M) → (h : IsSentOut hears writes tells run links e) → SayAll h.sent.acts h.rest.acts (carried run.handed.queues)
+  say_all : (laws : MouthLaws ML) (hears : E → EarTold EL) (writes : B → BookTold BL) (tells : M → MouthTold ML) (run : Run EL ML BL) (links : List Link) (e : Ended E B M) → (h : IsSentOut hears writes tells run links e) → SayAll h.sent.acts h.rest.acts (carried run.handed.queues)
   say_all laws hears writes tells run links e h = record {
     turns = h.sent.turns;
     things = λ m q.
@@ -141,11 +134,11 @@ module _ {E B M EL ML BL : Type 0} where
   }
 
   -- what the door carried
-  its_door : (laws : Laws ML) (hears : E → EarTold EL) (writes : B → BookTold BL) (tells : M → MouthTold ML) (run : Run EL ML BL) (links : List Link) (e : Ended E B M) → IsSentOut hears writes tells run links e → IsDoor run.plan links (items_of e.door.order)
+  its_door : (laws : MouthLaws ML) (hears : E → EarTold EL) (writes : B → BookTold BL) (tells : M → MouthTold ML) (run : Run EL ML BL) (links : List Link) (e : Ended E B M) → IsSentOut hears writes tells run links e → IsDoor run.plan links (items_of e.door.order)
   its_door laws hears writes tells run links e h =
       is_door laws.doors hears writes run.plan e.js e.ks links h.lanes.door_popper e.last.door e.door h.are h.came h.lanes.new_doors h.lanes.door
 
-  all_answered : (laws : Laws ML) (hears : E → EarTold EL) (writes : B → BookTold BL) (tells : M → MouthTold ML) (run : Run EL ML BL) (links : List Link) (e : Ended E B M) → (h : IsSentOut hears writes tells run links e) → answers_of (h.sent.acts ++ h.rest.acts) ≡ items_of e.door.order
+  all_answered : (laws : MouthLaws ML) (hears : E → EarTold EL) (writes : B → BookTold BL) (tells : M → MouthTold ML) (run : Run EL ML BL) (links : List Link) (e : Ended E B M) → (h : IsSentOut hears writes tells run links e) → answers_of (h.sent.acts ++ h.rest.acts) ≡ items_of e.door.order
   all_answered laws hears writes tells run links e h =
       let popped = e.last.door.popped in
       let (rest, whole) = h.lanes.door.whole in
@@ -157,7 +150,7 @@ module _ {E B M EL ML BL : Type 0} where
       (subst (λ (n : ℕ). answers_of h.rest.acts ≡ filter (has_link_too n) (left e.door)) (mouths_now hears writes tells run links e h) h.rest.answers)
 
   -- what a receiver popped of its notes
-  are_noted : (laws : Laws ML) (hears : E → EarTold EL) (writes : B → BookTold BL) (tells : M → MouthTold ML) (run : Run EL ML BL) (links : List Link) (e : Ended E B M) → (h : IsSentOut hears writes tells run links e) → (i : ℕ) (link : Link) (j k : Receiver E B) → At links i link → slice_get e.js i ≡ Some j → slice_get e.ks i ≡ Some k → AreNoted link.entries h.sent.acts i k.notes.popped
+  are_noted : (laws : MouthLaws ML) (hears : E → EarTold EL) (writes : B → BookTold BL) (tells : M → MouthTold ML) (run : Run EL ML BL) (links : List Link) (e : Ended E B M) → (h : IsSentOut hears writes tells run links e) → (i : ℕ) (link : Link) (j k : Receiver E B) → At links i link → slice_get e.js i ≡ Some j → slice_get e.ks i ≡ Some k → AreNoted link.entries h.sent.acts i k.notes.popped
   are_noted laws hears writes tells run links e h i link j k at at_j at_k =
       let pushed = h.sent.lanes.notes in
       let long : length e.last.notes.items ≡ length links = ap length pushed ∙ laws.notes.count (λ i. notes_of i h.sent.acts) 0 e.first.notes.items ∙ h.lanes.note_count in
@@ -177,7 +170,7 @@ module _ {E B M EL ML BL : Type 0} where
       }
 
   -- what a mouth has said
-  said_by : (laws : Laws ML) (hears : E → EarTold EL) (writes : B → BookTold BL) (tells : M → MouthTold ML) (run : Run EL ML BL) (links : List Link) (e : Ended E B M) → (h : IsSentOut hears writes tells run links e) → (i : ℕ) (before after : MouthTold ML) → At run.before.mouths i before → At run.after.mouths i after → SaidByLink run.plan.name (h.sent.acts ++ h.rest.acts) i before after
+  said_by : (laws : MouthLaws ML) (hears : E → EarTold EL) (writes : B → BookTold BL) (tells : M → MouthTold ML) (run : Run EL ML BL) (links : List Link) (e : Ended E B M) → (h : IsSentOut hears writes tells run links e) → (i : ℕ) (before after : MouthTold ML) → At run.before.mouths i before → At run.after.mouths i after → SaidByLink run.plan.name (h.sent.acts ++ h.rest.acts) i before after
   said_by laws hears writes tells run links e h i before after at_b at_a =
       let (m, at_m, is_m) = unmapped tells e.first.mouths.items i before (ap (λ (l : List (MouthTold ML)). slice_get l i) (sym h.before) ∙ at_b) in
       let (o, at_o, is_o) = unmapped tells e.mouths i after (ap (λ (l : List (MouthTold ML)). slice_get l i) (sym h.after) ∙ at_a) in
@@ -194,7 +187,7 @@ module _ {E B M EL ML BL : Type 0} where
       (said_in_turn laws.peers.spelled laws.mouths run.plan.name h.sent.acts h.rest.acts i (tells m) (tells n) (tells o) first second))
 
   -- a peer's memberships on a link, and what goes to it there
-  its_memberships : (laws : Laws ML) (hears : E → EarTold EL) (writes : B → BookTold BL) (tells : M → MouthTold ML) (run : Run EL ML BL) (links : List Link) (e : Ended E B M) → (h : IsSentOut hears writes tells run links e) → (i : ℕ) (link : Link) (x : Peer) → At links i link → AreItsMemberships h.sent.acts (carried run.handed.queues) (link_setup run.plan i) link.entries x
+  its_memberships : (laws : MouthLaws ML) (hears : E → EarTold EL) (writes : B → BookTold BL) (tells : M → MouthTold ML) (run : Run EL ML BL) (links : List Link) (e : Ended E B M) → (h : IsSentOut hears writes tells run links e) → (i : ℕ) (link : Link) (x : Peer) → At links i link → AreItsMemberships h.sent.acts (carried run.handed.queues) (link_setup run.plan i) link.entries x
   its_memberships laws hears writes tells run links e h i link x at =
       let lens = zip3_length (Came hears writes) e.js e.ks links h.came in
       let inside = below_at links i link at in
@@ -205,7 +198,7 @@ module _ {E B M EL ML BL : Type 0} where
       (are_noted laws hears writes tells run links e h i link j k at at_j at_k) came.is_link.says came.counted
 
   -- all that the queues carry for it is for its memberships
-  shares : (laws : Laws ML) (hears : E → EarTold EL) (writes : B → BookTold BL) (tells : M → MouthTold ML) (run : Run EL ML BL) (links : List Link) (e : Ended E B M) → IsSentOut hears writes tells run links e → (i : ℕ) (link : Link) (x : Peer) → At links i link → IsForMemberships (link_setup run.plan i) link.entries run.handed.queues x
+  shares : (laws : MouthLaws ML) (hears : E → EarTold EL) (writes : B → BookTold BL) (tells : M → MouthTold ML) (run : Run EL ML BL) (links : List Link) (e : Ended E B M) → IsSentOut hears writes tells run links e → (i : ℕ) (link : Link) (x : Peer) → At links i link → IsForMemberships (link_setup run.plan i) link.entries run.handed.queues x
   shares laws hears writes tells run links e h i link x at =
       let its = its_memberships laws hears writes tells run links e h i link x at in
       let joins = memberships (link_setup run.plan i) link.entries x in
@@ -215,7 +208,7 @@ module _ {E B M EL ML BL : Type 0} where
       its.its_items
 
   -- what a link's mouth sends
-  link_sends : (laws : Laws ML) (hears : E → EarTold EL) (writes : B → BookTold BL) (tells : M → MouthTold ML) (run : Run EL ML BL) (links : List Link) (e : Ended E B M) → (h : IsSentOut hears writes tells run links e) → (i : ℕ) (link : Link) (before after : MouthTold ML) → At links i link → At run.before.mouths i before → At run.after.mouths i after → Sends (link_setup run.plan i) link.entries (carried run.handed.queues) before after
+  link_sends : (laws : MouthLaws ML) (hears : E → EarTold EL) (writes : B → BookTold BL) (tells : M → MouthTold ML) (run : Run EL ML BL) (links : List Link) (e : Ended E B M) → (h : IsSentOut hears writes tells run links e) → (i : ℕ) (link : Link) (before after : MouthTold ML) → At links i link → At run.before.mouths i before → At run.after.mouths i after → Sends (link_setup run.plan i) link.entries (carried run.handed.queues) before after
   link_sends laws hears writes tells run links e h i link before after at at_b at_a =
       let acts = h.sent.acts in let more = h.rest.acts in
       let lens = zip3_length (Came hears writes) e.js e.ks links h.came in
@@ -232,7 +225,7 @@ module _ {E B M EL ML BL : Type 0} where
       said.spelled said.said
 
   -- What each mouth says.
-  pub mouths_say : Laws ML → (hears : E → EarTold EL) (writes : B → BookTold BL) (tells : M → MouthTold ML) (run : Run EL ML BL) (links : List Link) (e : Ended E B M) → IsSentOut hears writes tells run links e → MouthsSay run links
+  pub mouths_say : MouthLaws ML → (hears : E → EarTold EL) (writes : B → BookTold BL) (tells : M → MouthTold ML) (run : Run EL ML BL) (links : List Link) (e : Ended E B M) → IsSentOut hears writes tells run links e → MouthsSay run links
   mouths_say laws hears writes tells run links e h = record {
     count = ap length h.after ∙ length-map e.mouths tells
         ∙ mouths_long (λ i m n. SaidByLink run.plan.name h.rest.acts i (tells m) (tells n)) 0 e.last.mouths.items e.mouths h.rest.mouths

@@ -7,15 +7,15 @@ use Rattle.m17_ports.specs.Mouth.{MouthTold}
 use Rattle.m17_control.specs.declared.item.Direct.{Direct}
 use Rattle.m17_control.specs.declared.item.Item.{Item}
 use Rattle.m17_lane.specs.Ends.{AreOf, TrailEnd}
-use Rattle.m17_grid.specs.Columns.{IsGrid}
-use Rattle.m17_grid.specs.Trails.{IsTrailOf, AreTrails, AreTrailsOfOnes}
+use Rattle.m17_lane.specs.Columns.{IsGrid}
+use Rattle.m17_lane.specs.Trails.{IsTrailOf, AreTrails, AreTrailsOfOnes}
 use Rattle.m17_roll.specs.Closing.{EndView, IsEnded, AreAll, claims_of, gifts_of}
 use Rattle.m17_roll.specs.Seat.{RollView}
 use Rattle.m17_roll.specs.Sightings.{RisesAtPlaces}
-use Rattle.m17_run_end.specs.Left.{drained}
-use Rattle.m17_run_end.specs.Rest.{SaysRest}
-use Rattle.m17_run_end.specs.Rows.{AreOfOnes, AreRowsOfTrails}
-use Rattle.m17_run_setup.specs.Rooms.{IsRoom}
+use Rattle.m17_reflect.specs.Left.{drained}
+use Rattle.m17_reflect.specs.Rest.{SaysRest}
+use Rattle.m17_reflect.specs.Rows.{AreOfOnes, AreRowsOfTrails}
+use Rattle.m17_reflect.specs.Rooms.{IsRoom}
 use Rattle.m17_reflect.specs.declared.parted.Parted.{Parted}
 use Rattle.m17_reflect.specs.declared.returned.Returned.{Returned}
 

@@ -7,10 +7,10 @@ use Rattle.m17_control.specs.declared.item.Item.{Item}
 use Rattle.m17_crew.specs.declared.order.Order.{Order}
 use Rattle.m17_module.specs.Laws.{InFromJoinToEnd, ItemsAreAtPlaces, ItemsFollowTheirJoins, ShareIsALife, WhoIsSettledIsToldABye}
 use Rattle.m17_directory.specs.Laws.{RouteCarriesLink, RouteEndsInOneStop, RouteIsOfClaimed, WhoJoinsLeaves, LeavesFollowJoins, JoinsOfAllModules, EachClaimJoins, JoinsAreTheClaims, AskersAskForServedModules, DoorCarriesReplies, AllPlacesAreClaimed, AskersJoinOrAreFull}
-use Rattle.m17_rows.specs.Laws.{RowsPush, RowsGrow, FirstOrderDecides}
-use Rattle.m17_grid.specs.Laws.{GridsStand, RowsStand, OrderIsInterleaving}
+use Rattle.m17_lane.specs.RowsLaws.{RowsPush, RowsGrow, FirstOrderDecides}
+use Rattle.m17_lane.specs.GridLaws.{GridsStand, RowsStand, OrderIsInterleaving}
 use Rattle.m17_roll.specs.Laws.{NoMemberIsClaimedTwice, GivenBackIsFree}
-use Rattle.m17_send_order.specs.Laws.{LessOfALifeIsALife, TurnsKeepEachMemberInOrder, PeersAreToldInOrder, SpelledPartByPart}
+use Rattle.m17_sender.specs.Laws.{LessOfALifeIsALife, TurnsKeepEachMemberInOrder, PeersAreToldInOrder, SpelledPartByPart}
 
 -- of lanes, rows, grids and the roll
 pub record OfLanes : Type 0 where

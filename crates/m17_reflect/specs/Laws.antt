@@ -1,8 +1,11 @@
 -- What follows from the headline, for callers to cite by name.
-use Rattle.std.specs.Prelude.{◌≡◌, ℕ, List, length, map, Some}
+use Rattle.std.specs.Prelude.{◌≡◌, ℕ, List, ◌++◌, length, map, Some}
 use Rattle.m17_values.specs.declared.heard.Heard.{Heard}
 use Rattle.m17_ports.specs.Ear.{EarTold}
 use Rattle.m17_ports.specs.Told.{StartsEmpty}
+use Rattle.m17_lane.specs.Ends.{TrailEnd}
+use Rattle.m17_lane.specs.Orders.{items_of}
+use Rattle.m17_reflect.specs.Left.{left}
 use Rattle.m17_reflect.specs.Links.{Link, At}
 use Rattle.m17_reflect.specs.Run.{Devices, Run, module_count}
 use Rattle.m17_reflect.specs.Headline.{Headline}
@@ -32,3 +35,8 @@ DevicesStay E M B =
     (run : Run E M B) → Headline run → length run.before.mouths ≡ length run.before.ears →
     length run.before.traces ≡ length run.before.ears →
     length run.before.books ≡ module_count run.plan → AreSameDevices run.before run.after
+
+-- Where a trail's order is what was popped and then a rest, what is left is that rest.
+abbrev pub WhatIsLeftIsTheRest : (T : Type 0) → Type 0
+WhatIsLeftIsTheRest T =
+    (t : TrailEnd T) (rest : List T) → items_of t.order ≡ t.popped ++ rest → left t ≡ rest

@@ -1,17 +1,17 @@
 -- For proofs: what jobs are made of, taken out of them.
 use Rattle.std.specs.Prelude.{◌≡◌, ℕ, List, [], ◌∷◌, ◌++◌, map, Vec}
 use Rattle.std.specs.List.{list_any}
-use Rattle.m17_launch.specs.Groups.{Staff}
-use Rattle.m17_grid.specs.Trails.{AreTrailsOfOnes}
+use Rattle.m17_reflect.specs.Groups.{Staff}
+use Rattle.m17_lane.specs.Trails.{AreTrailsOfOnes}
 use Rattle.m17_receiver.specs.declared.receiver.Receiver.{Receiver}
 use Rattle.m17_worker.specs.declared.worker.Worker.{Worker}
 use Rattle.m17_sender.specs.declared.sender.Sender.{Sender}
-use Rattle.m17_run_end.specs.Rows.{AreOfOnes}
-use Rattle.m17_run_end.specs.declared.receivers.ReceiverParts.{ReceiverParts}
-use Rattle.m17_run_end.specs.declared.workers.WorkerParts.{WorkerParts}
-use Rattle.m17_run_setup.specs.declared.rooms.Rooms.{Rooms}
-use Rattle.m17_run_setup.specs.declared.rooms.TrailRooms.{TrailRooms}
-use Rattle.m17_run_setup.specs.Rooms.{IsRoom, HasRooms}
+use Rattle.m17_reflect.specs.Rows.{AreOfOnes}
+use Rattle.m17_reflect.specs.declared.receivers.ReceiverParts.{ReceiverParts}
+use Rattle.m17_reflect.specs.declared.workers.WorkerParts.{WorkerParts}
+use Rattle.m17_reflect.specs.declared.rooms.Rooms.{Rooms}
+use Rattle.m17_reflect.specs.declared.rooms.TrailRooms.{TrailRooms}
+use Rattle.m17_reflect.specs.Rooms.{IsRoom, HasRooms}
 use Rattle.m17_reflect.specs.declared.parted.Parted.{Parted}
 use Rattle.m17_reflect.specs.declared.parted.Voice.{Voice}
 

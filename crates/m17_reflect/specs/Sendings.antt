@@ -14,9 +14,9 @@ use Rattle.m17_directory.specs.Entries.{Notice, Claim, Entry, Setup, notice_at, 
 use Rattle.m17_directory.specs.Known.{request_in}
 use Rattle.m17_directory.specs.Routed.{past_at, asks_at, direct_replies}
 use Rattle.m17_lane.specs.Ends.{TrailEnd}
-use Rattle.m17_send_order.specs.Orders.{IsShuffle}
-use Rattle.m17_send_order.specs.Joined.{Queues, Joined, goes_to, items_of, packets_of}
-use Rattle.m17_send_order.specs.Laws.{bytes_to}
+use Rattle.m17_sender.specs.Orders.{IsShuffle}
+use Rattle.m17_sender.specs.Joined.{Queues, Joined, goes_to, items_of, packets_of}
+use Rattle.m17_sender.specs.Laws.{bytes_to}
 use Rattle.m17_reflect.specs.Links.{Link, At, link_setup}
 use Rattle.m17_reflect.specs.Run.{Run}
 use Rattle.m17_reflect.specs.Places.{AreSame}

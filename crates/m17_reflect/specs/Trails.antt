@@ -3,7 +3,7 @@ use Rattle.std.specs.Prelude.{◌≡◌, ℕ, List, length}
 use Rattle.m17_control.specs.declared.event.Event.{Event}
 use Rattle.m17_lane.specs.Ends.{TrailEnd}
 use Rattle.m17_lane.specs.Orders.{items_of}
-use Rattle.m17_grid.specs.Interleavings.{IsInterleaving}
+use Rattle.m17_lane.specs.Interleavings.{IsInterleaving}
 use Rattle.m17_plan.specs.declared.plan.Plan.{Plan}
 use Rattle.m17_reflect.specs.Links.{Link, At, letter_of, routes}
 use Rattle.m17_reflect.specs.Run.{module_count}

@@ -11,9 +11,9 @@ use Rattle.m17_control.specs.declared.item.Item.{Item}
 use Rattle.m17_module.specs.Items.{Setup, items_given}
 use Rattle.m17_module.specs.Laws.{joins}
 use Rattle.m17_worker.specs.Offers.{Try, may_be_missed, queued_for}
-use Rattle.m17_send_order.specs.Acts.{Act, answers_of, notes_of, sayings}
-use Rattle.m17_send_order.specs.Joined.{Queues, SayAll, Joined, items_of, WaitsFor, items_said, is_to_any, replies_to, packets_to, packets_of}
-use Rattle.m17_send_order.specs.Orders.{IsShuffle}
+use Rattle.m17_sender.specs.Acts.{Act, answers_of, notes_of, sayings}
+use Rattle.m17_sender.specs.Joined.{Queues, SayAll, Joined, items_of, WaitsFor, items_said, is_to_any, replies_to, packets_to, packets_of}
+use Rattle.m17_sender.specs.Orders.{IsShuffle}
 use Rattle.m17_reflect.specs.Links.{At, setup_at}
 use Rattle.m17_reflect.specs.Run.{Run}
 use Rattle.m17_reflect.specs.Trails.{events_of}

@@ -1,13 +1,11 @@
 //! What comes back of a run whose jobs have ended.
 ghost use Rattle.m17_reflect.specs.Gathered.{CanGather, Gathered};
 
-use crate::Returned;
 use crate::parted::Parted;
-use m17_grid::{finish_each, finish_row};
-use m17_lane::finish;
+use crate::{Returned, finish_rows, say_rest};
+use m17_lane::{finish, finish_each, finish_row};
 use m17_ports::Mouth;
 use m17_roll::close;
-use m17_run_end::{finish_rows, say_rest};
 use std::sync::Wait;
 
 // Finishes all other lanes, says what is left of them, and closes the roll.

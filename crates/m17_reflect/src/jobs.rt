@@ -1,12 +1,12 @@
 //! The jobs of a run when they have come back.
 ghost use Rattle.std.specs.Prelude.{vec_len};
-ghost use Rattle.m17_launch.specs.Groups.{staff};
+ghost use Rattle.m17_reflect.specs.Groups.{staff};
 ghost use Rattle.m17_reflect.specs.Parted.{CanPart, HasRoom, IsParted};
 
 use crate::parted::{Parted, part_links, part_modules, part_sender};
-use m17_grid::finish_row;
+use crate::{Rooms, Staffed};
+use m17_lane::finish_row;
 use m17_ports::{Book, Ear, Mouth};
-use m17_run_setup::{Rooms, Staffed};
 
 // Takes the jobs apart; their devices come back into these vectors, and the lanes of their orders are finished.
 pub(crate) fn part<

@@ -2,17 +2,16 @@
 //! (`trails_are_told_in_order`): each call does nothing, its clause is the law. And the laws of the crates below that a
 //! run rests on.
 ghost use Rattle.m17_reflect.specs.Known.{OfLanes, OfLinks, OfModules};
-ghost use Rattle.m17_reflect.specs.Laws.{DevicesStay, HeadlineTells};
+ghost use Rattle.m17_reflect.specs.Laws.{DevicesStay, HeadlineTells, WhatIsLeftIsTheRest};
 ghost use Rattle.m17_reflect.specs.Turns.{TrailsAreToldInOrder, PeersOfTrailsAreToldInOrder, RunsHoldTheirTrails};
 
 use m17_control::{Direct, Event, Item};
 use m17_crew::Order;
 use m17_directory::laws as directory;
-use m17_grid::laws as grid;
+use m17_lane::rows_laws as rows;
 use m17_module::laws as module;
 use m17_roll::laws as roll;
-use m17_rows::laws as rows;
-use m17_send_order::laws as turns;
+use m17_sender::laws as turns;
 use m17_values::Member;
 
 /// What a link heard is what its ear tells, where it tells anything and told nothing before. So what the headline says of
@@ -49,6 +48,11 @@ pub fn runs_hold_their_trails<E, M, B>()
     module::items_are_at_places();
 }
 
+/// Where the order of a trail is what was popped and then a rest, what is left of it is that rest.
+pub fn what_is_left_is_the_rest<T>()
+    ensures { WhatIsLeftIsTheRest T }
+{}
+
 // Of lanes, rows, grids and the roll.
 #[inline]
 pub(crate) fn of_lanes()
@@ -59,11 +63,11 @@ pub(crate) fn of_lanes()
     rows::rows_push::<Member>();
     rows::rows_grow::<Item>();
     rows::first_order_decides();
-    grid::grids_stand::<Event>();
-    grid::rows_stand::<Event>();
-    grid::rows_stand::<Direct>();
-    grid::order_is_interleaving::<Event>();
-    grid::order_is_interleaving::<Direct>();
+    rows::grids_stand::<Event>();
+    rows::rows_stand::<Event>();
+    rows::rows_stand::<Direct>();
+    rows::order_is_interleaving::<Event>();
+    rows::order_is_interleaving::<Direct>();
     roll::no_member_is_claimed_twice();
     roll::given_back_is_free();
 }

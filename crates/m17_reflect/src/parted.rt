@@ -1,17 +1,18 @@
 //! What the jobs of a run are made of, taken out of them.
 ghost use Rattle.std.specs.Prelude.{◌≡◌, ◌≤◌, ◌+◌, ◌++◌, [], ◌∷◌, map, vec_len, vec_capacity};
 ghost use Rattle.m17_sender.specs.declared.sender.Sender.{Sender};
-ghost use Rattle.m17_run_setup.specs.Rooms.{IsRoom, HasLinkRooms, HasModuleRooms};
+ghost use Rattle.m17_reflect.specs.Rooms.{IsRoom, HasLinkRooms, HasModuleRooms};
 ghost use Rattle.m17_reflect.specs.Parted.{AreOfReceivers, AreOfWorkers, IsOfSender};
 
+use crate::{
+    LinkRooms, ModuleRooms, ReceiverParts, TrailRooms, WorkerParts, part_receivers, part_workers,
+};
 use m17_callsign::CallAddress;
 use m17_control::{Direct, Item};
 use m17_crew::Order;
 use m17_lane::{Popper, Pusher};
 use m17_receiver::Receiver;
 use m17_roll::RollSeat;
-use m17_run_end::{ReceiverParts, WorkerParts, part_receivers, part_workers};
-use m17_run_setup::{LinkRooms, ModuleRooms, TrailRooms};
 use m17_sender::Sender;
 use m17_values::Member;
 use m17_worker::Worker;

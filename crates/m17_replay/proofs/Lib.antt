@@ -1,3 +1,12 @@
+pub mod Lists
+pub mod TapeSteps
+pub mod Alone
+pub mod Freely
+pub mod Taped
+pub mod Packets
+pub mod QueueCounts
+pub mod Told
+pub mod Whole
 mod Writing
 mod Steps
 mod HeardLemmas

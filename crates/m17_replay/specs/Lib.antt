@@ -1,3 +1,9 @@
+-- What callers speak of: what is to be heard has an end, and what it came to.
+pub mod Ending
+pub mod Tapes
+-- For proofs alone: the devices of a run, and the laws that a replay rests on.
+pub mod Rooms
+pub mod Known
 -- What callers speak of: what `replay` prints, how it ends, and its laws. `Run` and `Outcomes`,
 -- which no public clause cites, are for the code.
 pub mod Reasons

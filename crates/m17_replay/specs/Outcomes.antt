@@ -2,7 +2,7 @@
 use Rattle.std.specs.Prelude.{List, Option}
 use Rattle.m17_directory.specs.declared.verdict.LinkVerdict.{LinkVerdict}
 use Rattle.m17_floor.specs.declared.verdict.Verdict.{Verdict}
-use Rattle.m17_replay_run.specs.Tapes.{OutcomesKept}
+use Rattle.m17_replay.specs.Tapes.{OutcomesKept}
 use Rattle.m17_replay.specs.declared.outcomes.Kept.{Kept}
 use Rattle.m17_replay.specs.declared.outcomes.Kept.TheVariants.{Listed, Taped}
 

@@ -22,7 +22,7 @@ use Rattle.m17_replay.specs.declared.ending.ReplayEnding.{ReplayEnding}
 use Rattle.m17_replay.specs.declared.ending.ReplayEnding.TheVariants.{Finished, LinkLost, WriteFailed}
 use Rattle.m17_replay.specs.declared.judging.Page.{Page}
 use Rattle.m17_replay.specs.declared.judging.Replayed.{Replayed}
-use Rattle.m17_replay_run.specs.Tapes.{OutcomesKept}
+use Rattle.m17_replay.specs.Tapes.{OutcomesKept}
 use Rattle.m17_replay.specs.Replay.{failed_device, heard_count, is_lost, tally_at}
 
 -- The text was appended to what stood there; or, where the sink failed, a first part of it.

@@ -9,12 +9,12 @@ ghost use Rattle.m17_replay.specs.Run.{is_fault_heard, kept_on, CanPrint, IsJudg
 use crate::hearing::{count_to_end, is_fault};
 use crate::outcomes::Outcomes;
 use crate::peers::{make_mouth, name_peers_for};
+use crate::replaying::replay_over_threads;
 use m17_crew::Crew;
 use m17_house::{laws as house_laws, replay_plain};
 use m17_plan::Plan;
 use m17_port_memory::TallyMouth;
 use m17_reflect::HouseRefusal;
-use m17_replay_run::replay_over_threads;
 use m17_values::{Heard, NoMemory, Peer};
 use std::alloc::Global;
 use std::sync::Wait;

@@ -1,8 +1,23 @@
+//! A replay over threads: what one link heard already is run by a patient reflector, which hears it from an ear with that
+//! script, keeps no trace and no book, and says what it says on a mouth that keeps tallies. `replay_over_threads` promises
+//! that its verdicts, and the tallies of what was said, are those of a replay of the plan over what was heard in which
+//! whatever free place is given to who asks (`IsFreelyReplayed`); that these are the plain replay's is a law of the house
+//! (`m17_house::laws::answers_are_free_of_places`). It stands on the headline of `m17_reflect::reflect` and on laws of the
+//! crates below alone. Reading a trace and printing are left to the crates above.
+//!
 //! The command `replay`: a trace of what a link heard comes in, and what a reflector would have done goes out, a line for
 //! each entry or one page of counts. It promises the exact text for the bytes that came in, that an input which is no
 //! trace is refused with its place and reason before anything is written, and that a failure is told exactly where a
 //! device failed. The last line of the run and its status are left to the program.
 #![tactic(auto)]
+
+mod devices;
+mod replay_run_laws;
+mod replay_run_outcomes;
+mod replaying;
+
+pub use replay_run_outcomes::Outcomes;
+pub use replaying::{Refused, Replay};
 
 mod counts;
 mod ending;

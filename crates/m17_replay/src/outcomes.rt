@@ -2,9 +2,9 @@
 ghost use Rattle.std.specs.Prelude.{◌≡◌, ◌<◌, Some, length, slice_get};
 ghost use Rattle.m17_replay.specs.Outcomes.{listed};
 
+use crate::Outcomes as Taped;
 use m17_directory::LinkVerdict;
 use m17_floor::Verdict;
-use m17_replay_run::Outcomes as Taped;
 use std::marker::Model;
 
 // What each entry of a replay came to that was heard. Contracts see two lists: the verdict of each entry, and the floor
@@ -27,7 +27,7 @@ pub(crate) enum Kept {
 }
 
 impl Model for Outcomes {
-    ghost use Rattle.m17_replay_run.specs.Tapes.{OutcomesKept};
+    ghost use Rattle.m17_replay.specs.Tapes.{OutcomesKept};
     ghost use Rattle.m17_replay.specs.Outcomes.{outcomes_in};
 
     ghost Value = { OutcomesKept };

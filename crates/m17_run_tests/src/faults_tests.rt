@@ -3,8 +3,7 @@
 
 use crate::bench::{a_mouth, must, one_book, one_ear, plan};
 use m17_crew::StdCrew;
-use m17_faulty_memory::{FaultyEar, TornBook};
-use m17_port_memory::{ListMouth, ScriptEar};
+use m17_port_memory::{FaultyEar, ListMouth, ScriptEar, TornBook};
 use m17_reflect::{Returned, reflect};
 use m17_samples::{frame, peer, said};
 use m17_values::{Gram, Heard, Peer};

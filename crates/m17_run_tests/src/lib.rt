@@ -1,6 +1,11 @@
-//! Tests of a run of the reflector over threads, one crate for three below: how a run is wired (`m17_run_setup`), how its
-//! jobs come apart and what is left is said (`m17_run_end`), and whole runs with devices that wait for one another, or
-//! that fail (`m17_reflect`). They name public items alone.
+//! Tests of a run of the reflector over threads (`m17_reflect`): how a run is wired, how groups of jobs are launched, how the
+//! jobs come apart and what is left is said, and whole runs with devices that wait for one another, or that fail. They name
+//! public items alone.
+//! It has no items of its own, and promises nothing: it stands apart so that the bodies below are not proved once more
+//! for their tests.
+//!
+//! Tests of what the threads of a large reflector share: marks and queues beyond the first 4,096, which the tests of
+//! `m17_lane` and `m17_sender` don't come to. They name public items alone.
 //! It has no items of its own, and promises nothing: it stands apart so that the bodies below are not proved once more
 //! for their tests.
 #![tactic(auto)]
@@ -14,16 +19,24 @@ mod board_tests;
 #[cfg(test)]
 mod faults_tests;
 #[cfg(test)]
+mod launch_tests;
+#[cfg(test)]
 mod limit_tests;
 #[cfg(test)]
 mod made_tests;
+#[cfg(test)]
+mod mark_tests;
 #[cfg(test)]
 mod meeting;
 #[cfg(test)]
 mod part_tests;
 #[cfg(test)]
+mod queue_tests;
+#[cfg(test)]
 mod rest_tests;
 #[cfg(test)]
 mod run_tests;
+#[cfg(test)]
+mod thread_tests_bench;
 #[cfg(test)]
 mod wiring_tests;

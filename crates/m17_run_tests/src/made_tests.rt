@@ -3,10 +3,10 @@
 use crate::bench::{must, pair_of_books, plan, three_books, two_ears, two_mouths};
 use m17_book::{Record, Report, check_book_for, read_book};
 use m17_crew::StdCrew;
-use m17_make::Maker;
-use m17_memory::{BytesSink, BytesSource};
 use m17_port_memory::{ListBook, ListMouth, ScriptEar};
 use m17_reflect::{Returned, reflect};
+use m17_streams::{BytesSink, BytesSource};
+use m17_text_commands::Maker;
 use m17_values::{Heard, Member};
 use std::alloc::Global;
 use std::process::Abort;

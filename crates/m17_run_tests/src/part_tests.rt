@@ -1,6 +1,6 @@
 //! What no clause says of a run's jobs: that jobs of the kinds that there are come apart, each part in its place.
 ghost use Rattle.std.specs.Prelude.{◌≡◌, ◌≤◌, vec_len, vec_capacity};
-ghost use Rattle.m17_run_end.specs.Parts.{HasReceiverRoom, HasWorkerRoom};
+ghost use Rattle.m17_reflect.specs.Parts.{HasReceiverRoom, HasWorkerRoom};
 
 use crate::bench::{must, name};
 use m17_control::Modules;
@@ -8,8 +8,8 @@ use m17_directory::{Directory, Post};
 use m17_lane::{Popper, Pusher, make_one};
 use m17_module::{Basket, Module};
 use m17_receiver::Receiver;
+use m17_reflect::{ReceiverParts, WorkerParts, part_receivers, part_workers};
 use m17_roll::RollSeat;
-use m17_run_end::{ReceiverParts, WorkerParts, part_receivers, part_workers};
 use m17_tape::Tape;
 use m17_worker::{LaneOffers, Worker};
 use std::alloc::Global;

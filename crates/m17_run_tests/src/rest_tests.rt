@@ -5,7 +5,7 @@ use crate::bench::{must, name};
 use m17_control::{Control, Direct, Item, Said};
 use m17_lane::{Trail, finish_one, make_one};
 use m17_port_memory::ListMouth;
-use m17_run_end::say_rest;
+use m17_reflect::say_rest;
 use m17_values::{Member, Peer};
 use std::alloc::Global;
 use std::process::Abort;

@@ -6,7 +6,7 @@ use m17_control::{Body, Event, Item, Said, Tag};
 use m17_crew::Order;
 use m17_port_memory::{ListBook, ListMouth, ScriptEar};
 use m17_receiver::Receiver;
-use m17_run_setup::{Staffed, prepare, staff};
+use m17_reflect::{Staffed, prepare, staff};
 use m17_sender::Sender;
 use m17_values::{Member, Peer};
 use m17_worker::Worker;

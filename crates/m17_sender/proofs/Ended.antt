@@ -11,11 +11,11 @@ use Rattle.m17_crew.specs.declared.order.Order.{Order}
 use Rattle.m17_crew.specs.declared.order.Order.TheVariants.{Stop}
 use Rattle.m17_lane.specs.Ends.{PopEnd}
 use Rattle.m17_control.specs.declared.item.Item.{Item}
-use Rattle.m17_rows.specs.Grids.{IsNewGrid}
-use Rattle.m17_rows.specs.Laws.{RowsPush}
-use Rattle.m17_rows.specs.Rows.{IsNewPopper, IsNewPopRow, pops}
-use Rattle.m17_send_order.specs.Acts.{Act, answers_of, notes_of, things_of}
-use Rattle.m17_send_order.specs.Laws.{TurnsGrow}
+use Rattle.m17_lane.specs.Grids.{IsNewGrid}
+use Rattle.m17_lane.specs.RowsLaws.{RowsPush}
+use Rattle.m17_lane.specs.Rows.{IsNewPopper, IsNewPopRow, pops}
+use Rattle.m17_sender.specs.Acts.{Act, answers_of, notes_of, things_of}
+use Rattle.m17_sender.specs.Laws.{TurnsGrow}
 use Rattle.m17_sender.specs.declared.sender.Sender.{Sender}
 use Rattle.m17_sender.specs.declared.hint.Hint.{Hint}
 use Rattle.m17_sender.specs.Places.{cells_of, held_at, held_in, in_row, is_answered, is_said, popped_at, popped_by, queues_of}

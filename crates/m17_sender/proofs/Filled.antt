@@ -5,7 +5,7 @@ use Rattle.std.proofs.lemmas.List.{append-nil, length-set, map-set, length-map}
 use Rattle.std.proofs.lemmas.Bool.Decides.{eqb_tells}
 use Rattle.m17_lists.proofs.Places.{written_stands_there, other_places_stay, read_stands_there, mapped_stands_there}
 use Rattle.m17_control.specs.declared.item.Item.{Item}
-use Rattle.m17_rows.specs.Grids.{only_in}
+use Rattle.m17_lane.specs.Grids.{only_in}
 use Rattle.m17_sender.specs.Cells.{HasPlace, HoldsMore}
 use Rattle.m17_sender.specs.Places.{at_place, held_at, held_in, in_row}
 use Rattle.m17_sender.proofs.Lists.{map_same, here, at_or_else}

@@ -5,9 +5,9 @@ use Rattle.std.specs.Option.{option_map}
 use Rattle.m17_lists.proofs.Places.{each_place_has_one}
 use Rattle.m17_lane.specs.Ends.{PopEnd}
 use Rattle.m17_control.specs.declared.item.Item.{Item}
-use Rattle.m17_rows.specs.Rows.{pops, pop_each}
-use Rattle.m17_rows.specs.Grids.{only_in, pop_grid}
-use Rattle.m17_rows.specs.Laws.{GridsPop, RowsPop}
+use Rattle.m17_lane.specs.Rows.{pops, pop_each}
+use Rattle.m17_lane.specs.Grids.{only_in, pop_grid}
+use Rattle.m17_lane.specs.RowsLaws.{GridsPop, RowsPop}
 use Rattle.m17_sender.specs.Cells.{HasPlace}
 use Rattle.m17_sender.specs.Places.{at_place, in_row, popped_at, popped_by}
 use Rattle.m17_sender.proofs.Lists.{at_or_else}

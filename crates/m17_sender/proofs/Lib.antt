@@ -1,3 +1,12 @@
+mod Grown
+mod Splits
+mod Members
+mod Waits
+mod Rows
+mod InOrder
+mod Marked
+mod Less
+mod Spelled
 mod Lists
 mod Filled
 mod Grids

@@ -4,8 +4,8 @@ use Rattle.std.specs.List.{slice_get}
 use Rattle.std.proofs.lemmas.Bool.Decides.{eqb_tells}
 use Rattle.std.proofs.lemmas.List.{map-set}
 use Rattle.m17_lists.proofs.Places.{mapped_stands_there}
-use Rattle.m17_rows.specs.Grids.{only_in}
-use Rattle.m17_rows.specs.Rows.{only}
+use Rattle.m17_lane.specs.Grids.{only_in}
+use Rattle.m17_lane.specs.Rows.{only}
 
 module _ {A : Type 0} where
   pub set_same : (xs : List A) (m : ℕ) (y : A) → slice_get xs m ≡ Some y → set xs m y ≡ xs

@@ -10,9 +10,9 @@ use Rattle.m17_control.specs.declared.item.Direct.{Direct}
 use Rattle.m17_control.specs.declared.item.Said.{Said}
 use Rattle.m17_control.specs.declared.item.Said.TheVariants.{Hello, Frame, Echo, Reply, Bye}
 use Rattle.m17_control.specs.declared.item.Said.TheVariants as said
-use Rattle.m17_send_order.specs.Acts.{Act, Saying, answer_of, answers_of, notes_of, note_of, saying_of, sayings, things_of, thing_of}
-use Rattle.m17_send_order.specs.Laws.{TurnsGrow}
-use Rattle.m17_send_order.specs.Turns.{MayFollow, Turns}
+use Rattle.m17_sender.specs.Acts.{Act, Saying, answer_of, answers_of, notes_of, note_of, saying_of, sayings, things_of, thing_of}
+use Rattle.m17_sender.specs.Laws.{TurnsGrow}
+use Rattle.m17_sender.specs.Turns.{MayFollow, Turns}
 use Rattle.m17_sender.specs.Sent.{bye_of, bye_on, bye_to, byes_of}
 
 -- the notes that go to a link

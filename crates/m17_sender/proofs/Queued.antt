@@ -8,9 +8,9 @@ use Rattle.m17_lane.specs.Ends.{PopEnd, PushEnd}
 use Rattle.m17_ports.specs.Mouth.{MouthTold}
 use Rattle.m17_control.specs.declared.item.Item.{Item}
 use Rattle.m17_control.specs.declared.item.Direct.{Direct}
-use Rattle.m17_rows.specs.Grids.{IsSameGrid, only_in, pop_grid}
-use Rattle.m17_rows.specs.Laws.{GridsPop, RowsPop}
-use Rattle.m17_send_order.specs.Acts.{Act, things_of}
+use Rattle.m17_lane.specs.Grids.{IsSameGrid, only_in, pop_grid}
+use Rattle.m17_lane.specs.RowsLaws.{GridsPop, RowsPop}
+use Rattle.m17_sender.specs.Acts.{Act, things_of}
 use Rattle.m17_sender.specs.declared.sender.Sender.{Sender}
 use Rattle.m17_sender.specs.Cells.{HasPlace, HoldsMore}
 use Rattle.m17_sender.specs.Places.{cells_of, held_at, is_answered, is_said, popped_at, queues_of}

@@ -17,11 +17,11 @@ use Rattle.m17_values.specs.declared.peer.Peer.{Peer}
 use Rattle.m17_control.specs.declared.packet.Packet.{Packet}
 use Rattle.m17_control.specs.declared.packet.Packet.TheVariants as packets
 use Rattle.m17_control.specs.Spelled.{packet_said}
-use Rattle.m17_rows.specs.Grids.{IsSameGrid, only_in}
-use Rattle.m17_rows.specs.Rows.{push_each}
-use Rattle.m17_rows.specs.Laws.{RowsPush}
-use Rattle.m17_send_order.specs.Acts.{Act, Saying, answer_of, answers_of, notes_of, note_of, saying_of, sayings, thing_of, things_of, to_peer, AreSpelled}
-use Rattle.m17_send_order.specs.Laws.{SpelledPartByPart, TurnsGrow}
+use Rattle.m17_lane.specs.Grids.{IsSameGrid, only_in}
+use Rattle.m17_lane.specs.Rows.{push_each}
+use Rattle.m17_lane.specs.RowsLaws.{RowsPush}
+use Rattle.m17_sender.specs.Acts.{Act, Saying, answer_of, answers_of, notes_of, note_of, saying_of, sayings, thing_of, things_of, to_peer, AreSpelled}
+use Rattle.m17_sender.specs.Laws.{SpelledPartByPart, TurnsGrow}
 use Rattle.m17_sender.specs.declared.sender.Sender.{Sender}
 use Rattle.m17_sender.specs.Places.{cells_of, held_at, is_answered, is_said, popped_at, queues_of}
 use Rattle.m17_sender.specs.Ready.{IsShaped}

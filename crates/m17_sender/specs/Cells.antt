@@ -1,7 +1,7 @@
 -- For proofs: what a change of one cell comes to for all.
 use Rattle.std.specs.Prelude.{◌≡◌, ℕ, ◌<◌, List, [], ◌++◌, map, length, slice_get, Option, Some}
 use Rattle.m17_control.specs.declared.item.Item.{Item}
-use Rattle.m17_rows.specs.Grids.{only_in}
+use Rattle.m17_lane.specs.Grids.{only_in}
 use Rattle.m17_sender.specs.Places.{held_at}
 
 -- the grid has this place

@@ -1,7 +1,7 @@
 -- What has to hold of a sender before it goes.
 use Rattle.std.specs.Prelude.{◌≡◌, [], length, None}
 use Rattle.std.specs.List.{All}
-use Rattle.m17_rows.specs.Grids.{IsNewGrid}
+use Rattle.m17_lane.specs.Grids.{IsNewGrid}
 use Rattle.m17_sender.specs.declared.sender.Sender.{Sender}
 use Rattle.m17_sender.specs.Places.{cells_of, queues_of}
 

@@ -1,7 +1,7 @@
 -- What was said on one mouth of a row.
 use Rattle.std.specs.Prelude.{◌≡◌, ℕ, List, slice_get, slice_set, Some}
 use Rattle.m17_ports.specs.Mouth.{Datagram, MouthTold, SaidOf}
-use Rattle.m17_send_order.specs.Acts.{AreSpelled, Saying}
+use Rattle.m17_sender.specs.Acts.{AreSpelled, Saying}
 
 -- On the mouth of this link datagrams that spell these were said, or lost, and the others are as
 -- they were.

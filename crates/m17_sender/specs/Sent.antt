@@ -9,11 +9,11 @@ use Rattle.m17_lane.specs.Ends.{PopEnd}
 use Rattle.m17_control.specs.declared.item.Item.{Item}
 use Rattle.m17_control.specs.declared.item.Said.{Said}
 use Rattle.m17_control.specs.declared.item.Said.TheVariants.{Hello, Bye}
-use Rattle.m17_rows.specs.Rows.{pops, push_each}
-use Rattle.m17_rows.specs.Grids.{IsSameGrid}
-use Rattle.m17_rows.specs.Starts.{HasStarted}
-use Rattle.m17_send_order.specs.Acts.{Act, answers_of, notes_of, sayings, things_of, AreSpelled}
-use Rattle.m17_send_order.specs.Turns.{Turns}
+use Rattle.m17_lane.specs.Rows.{pops, push_each}
+use Rattle.m17_lane.specs.Grids.{IsSameGrid}
+use Rattle.m17_lane.specs.Starts.{HasStarted}
+use Rattle.m17_sender.specs.Acts.{Act, answers_of, notes_of, sayings, things_of, AreSpelled}
+use Rattle.m17_sender.specs.Turns.{Turns}
 use Rattle.m17_sender.specs.declared.sender.Sender.{Sender}
 use Rattle.m17_sender.specs.Places.{cells_of, held_at, is_answered, is_said, popped_at, queues_of}
 

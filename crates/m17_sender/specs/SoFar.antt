@@ -8,10 +8,10 @@ use Rattle.m17_control.specs.declared.item.Direct.{Direct}
 use Rattle.m17_crew.specs.declared.order.Order.{Order}
 use Rattle.m17_crew.specs.declared.order.Order.TheVariants.{Stop}
 use Rattle.m17_lane.specs.Ends.{PopEnd}
-use Rattle.m17_rows.specs.Rows.{pops, push_each}
-use Rattle.m17_rows.specs.Grids.{IsSameGrid, only_in}
-use Rattle.m17_send_order.specs.Acts.{Act, answers_of, notes_of, things_of}
-use Rattle.m17_send_order.specs.Turns.{Turns}
+use Rattle.m17_lane.specs.Rows.{pops, push_each}
+use Rattle.m17_lane.specs.Grids.{IsSameGrid, only_in}
+use Rattle.m17_sender.specs.Acts.{Act, answers_of, notes_of, things_of}
+use Rattle.m17_sender.specs.Turns.{Turns}
 use Rattle.m17_sender.specs.declared.sender.Sender.{Sender}
 use Rattle.m17_sender.specs.declared.queue.Tried.{Tried}
 use Rattle.m17_sender.specs.declared.queue.Tried.TheVariants.{Did, Empty, Waiting}

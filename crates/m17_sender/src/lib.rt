@@ -1,3 +1,12 @@
+//! The job of the thread that sends, and the order in which it acts.
+//!
+//! Its acts, in order: what it said of each queue, what it answered past all modules, and which departed
+//! members it noted to which link. `Turns` says in which order acts may stand: a Hello waits for as many notes to its
+//! link as it names, and a note for its member's Bye.
+//! The contract speaks of its acts by these words, and the laws (`laws`) say what follows:
+//! what goes out to a peer by a link is, membership for membership, in order. Which items there are is left to the modules,
+//! and which members wait for which to the directories.
+//!
 //! The job of the thread that sends: it pops what the modules give and what the receivers answer, and says it on the
 //! links' mouths (`Sender`).
 //! It promises one list of acts that its lanes and mouths show: of each queue the items are said in their order, each
@@ -17,6 +26,7 @@ mod hint;
 #[cfg(test)]
 mod hint_tests;
 mod kept;
+pub mod laws;
 mod queue;
 mod run;
 mod saying;

@@ -2,7 +2,7 @@
 ghost use Rattle.std.specs.Prelude.{◌≡◌, ◌<◌, ◌≤◌, ℕ, List, [], slice_index, true, false, vec_len};
 ghost use Rattle.std.specs.Option.{IfNone};
 ghost use Rattle.m17_control.specs.declared.item.Said.TheVariants.{Hello};
-ghost use Rattle.m17_rows.specs.Rows.{push_each};
+ghost use Rattle.m17_lane.specs.Rows.{push_each};
 ghost use Rattle.m17_sender.specs.Ready.{IsShaped};
 ghost use Rattle.m17_sender.specs.Places.{cells_of, held_at, is_said, queues_of};
 ghost use Rattle.m17_sender.specs.Sent.{bye_on};
@@ -13,9 +13,8 @@ use crate::cells::{cell_at, empty_cell, fill_cell};
 use crate::kept::{Kept, LINKS};
 use crate::saying::say_kept;
 use m17_control::{Item, Said};
-use m17_lane::Pusher;
+use m17_lane::{Pusher, pop_in, push_at};
 use m17_ports::Mouth;
-use m17_rows::{pop_in, push_at};
 use m17_values::Member;
 use std::sync::Wait;
 
@@ -94,8 +93,8 @@ impl<M: Mouth> Sender<M> {
         ensures free { held_at (cells_of self.new) row at ≡ [] }
         ensures none { IfNone result (cells_of self.new ≡ cells_of self.old) }
     {
-        m17_rows::laws::grids_pop::<Item>();
-        m17_rows::laws::rows_pop::<Item>();
+        m17_lane::rows_laws::grids_pop::<Item>();
+        m17_lane::rows_laws::rows_pop::<Item>();
         if let Some(held) = cell_at(&self.held, row, at) {
             let item = *held;
             // models/turns.pml: held-taken
@@ -139,10 +138,10 @@ impl<M: Mouth> Sender<M> {
             (with_item self.old kept.old.noted m q (Some item.now))
             (at_rest self.new kept.new.noted) }
     {
-        m17_rows::laws::rows_push::<Member>();
+        m17_lane::rows_laws::rows_push::<Member>();
         m17_ports::laws::mouths_say_in_turn::<M::Label>();
-        m17_send_order::laws::turns_grow();
-        m17_send_order::laws::spelled_part_by_part();
+        crate::laws::turns_grow();
+        crate::laws::spelled_part_by_part();
         // models/turns.pml: item-said
         say_kept(&mut self.mouths, self.name, item, &mut kept.last);
         note(rt, &mut self.notes, &mut kept.noted, item);
@@ -175,7 +174,7 @@ fn note<R: Wait>(rt: &R, notes: &mut Vec<Pusher<Member>>, noted: &mut [u64; LINK
     ensures notes { notes.new.items ≡ push_each (λ i. bye_on i item.now) 0 notes.old.items }
     ensures noted { IsNoted item.now noted.old noted.new }
 {
-    m17_rows::laws::rows_push::<Member>();
+    m17_lane::rows_laws::rows_push::<Member>();
     if let Said::Bye { .. } = item.body {
         let link = item.link as usize;
         // models/turns.pml: note-pushed

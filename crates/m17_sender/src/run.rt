@@ -19,9 +19,9 @@ impl<M: Mouth> Sender<M> {
         ensures { Sent M.told self.old self.new
             self.old.order }
     {
-        m17_rows::laws::rows_push::<Member>();
+        m17_lane::rows_laws::rows_push::<Member>();
         m17_ports::laws::mouths_say_in_turn::<M::Label>();
-        m17_send_order::laws::turns_grow();
+        crate::laws::turns_grow();
         let mut kept = Kept {
             noted: [0; LINKS],
             last: None,

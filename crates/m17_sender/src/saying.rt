@@ -3,7 +3,7 @@ ghost use Rattle.std.specs.Prelude.{◌≡◌, ◌<◌, ◌∷◌, [], map, slic
 ghost use Rattle.m17_control.specs.declared.packet.Packet.TheVariants as packets;
 ghost use Rattle.m17_control.specs.Spelled.{packet_said};
 ghost use Rattle.m17_ports.specs.Mouth.{SaidOf};
-ghost use Rattle.m17_send_order.specs.Acts.{AreSpelled, to_peer};
+ghost use Rattle.m17_sender.specs.Acts.{AreSpelled, to_peer};
 ghost use Rattle.m17_sender.specs.Saying.{SaysOn};
 
 use crate::kept::SpelledFrame;

@@ -4,9 +4,8 @@ use crate::Hint;
 use m17_callsign::CallAddress;
 use m17_control::{Direct, Item};
 use m17_crew::{Order, Work};
-use m17_lane::{Popper, Pusher};
+use m17_lane::{Popper, Pusher, starts};
 use m17_ports::Mouth;
-use m17_rows::starts;
 use m17_values::Member;
 use std::sync::Wait;
 

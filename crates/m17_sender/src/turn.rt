@@ -172,10 +172,10 @@ impl<M: Mouth> Sender<M> {
             → GoesOn M.told
             (with_reply self.old noted reply.now) (at_rest self.new noted) }
     {
-        m17_rows::laws::rows_push::<Member>();
+        m17_lane::rows_laws::rows_push::<Member>();
         m17_ports::laws::mouths_say_in_turn::<M::Label>();
-        m17_send_order::laws::turns_grow();
-        m17_send_order::laws::spelled_part_by_part();
+        crate::laws::turns_grow();
+        crate::laws::spelled_part_by_part();
         if (reply.link as usize) < self.mouths.len() {
             say_reply(&mut self.mouths, reply);
         }

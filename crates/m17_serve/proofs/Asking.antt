@@ -8,7 +8,7 @@ use Rattle.m17_ports.specs.Told.{told_then}
 use Rattle.m17_ports.specs.Ports.{FailsLast, HasAsked, PortsTold, next_number}
 use Rattle.m17_ports.specs.declared.question.Question.{Question}
 use Rattle.m17_ports.specs.declared.question.Question.TheVariants.{Link}
-use Rattle.m17_talk.specs.Devices.{FailsAmong}
+use Rattle.m17_client_commands.specs.Devices.{FailsAmong}
 use Rattle.m17_words.specs.declared.order.ServeOrder.{ServeOrder}
 use Rattle.m17_serve.specs.Asked.{board_questions, call_after, device_questions, link_questions, questions_of, shelf_questions, until_of}
 use Rattle.m17_serve.specs.Steps.{AreAsked, Asks}

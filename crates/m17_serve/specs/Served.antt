@@ -11,7 +11,7 @@ use Rattle.m17_control.specs.Modules.{letters_of}
 use Rattle.m17_plan.specs.declared.plan.Plan.{Plan}
 use Rattle.m17_plan.specs.Planned.{IsPlan}
 use Rattle.m17_words.specs.declared.order.ServeOrder.{ServeOrder}
-use Rattle.m17_talk.specs.Devices.{FailsAmong}
+use Rattle.m17_client_commands.specs.Devices.{FailsAmong}
 use Rattle.m17_board_run.specs.Boarded.{run_on_board, LinesBack, RanOnBoard}
 use Rattle.m17_board_run.specs.declared.kept.KeptLabel.{KeptLabel}
 use Rattle.m17_reflect.specs.declared.returned.HouseRefusal.{HouseRefusal}

@@ -9,7 +9,7 @@ use Rattle.m17_ports.specs.declared.question.Question.{Question}
 use Rattle.m17_ports.specs.declared.question.Question.TheVariants.{Book}
 use Rattle.m17_ports.specs.declared.shelf.Shelf.{Shelf}
 use Rattle.m17_words.specs.declared.order.ServeOrder.{ServeOrder}
-use Rattle.m17_talk.specs.Devices.{FailsAmong}
+use Rattle.m17_client_commands.specs.Devices.{FailsAmong}
 use Rattle.m17_reflect.specs.Run.{Devices}
 use Rattle.m17_reflect.specs.Views.{Kinds}
 use Rattle.m17_serve.specs.declared.names.Names.{Names}

@@ -4,30 +4,18 @@
 //! reflector of the words ran over new devices, which come back, and that the headline holds of that run; its lines, and what
 //! the lines of a board show; and that a failure is told exactly where the ports, the crew or the sink failed. Want of memory
 //! comes before anything was heard. What stands before an ear or behind a mouth is the ports' to hand out: what is known of
-//! it, they say by `KnownPorts`. How the reflector runs is left to `m17_reflect`, and with a board to `m17_board_run`, what
+//! it, they say by `KnownPorts` of `m17_client_commands`. How the reflector runs is left to `m17_reflect`, and with a board to `m17_board_run`, what
 //! the words say to `m17_words`, and the last line of the run to the program.
 #![tactic(auto)]
 
-#[cfg(test)]
-mod bench;
-#[cfg(test)]
-mod board_tests;
 mod carrying;
-mod known;
 pub mod laws;
 mod letters;
 mod line;
-#[cfg(test)]
-mod most_tests;
 mod names;
 mod opening;
 mod serve_command;
 mod served;
-#[cfg(test)]
-mod tests;
-#[cfg(test)]
-mod waiting_tests;
 
-pub use known::KnownPorts;
 pub use serve_command::serve;
 pub use served::{ServeEnding, Served};

@@ -10,9 +10,9 @@ ghost use Rattle.m17_serve.specs.Asked.{board_call, board_questions, call_after,
 ghost use Rattle.m17_serve.specs.Devices.{AreNew, AreNewOnes, IsNewBoard, Known, ear_labels, house_told, mouth_labels, told_of_shelf};
 ghost use Rattle.m17_serve.specs.Steps.{AreNames, Asks, HasRooms, kinds_opened};
 
-use crate::KnownPorts;
 use crate::letters::room;
 use crate::names::Names;
+use m17_client_commands::KnownPorts;
 use m17_ports::{Ports, Shelf};
 use m17_values::{Failed, NoMemory};
 use m17_words::ServeOrder;

@@ -21,12 +21,3 @@ mod values;
 pub use command::{Command, WordsRefusal};
 pub use order::{BridgeOrder, ServeOrder, TalkOrder};
 pub use reading::read_words;
-
-#[cfg(test)]
-mod bridge_tests;
-#[cfg(test)]
-mod edge_tests;
-#[cfg(test)]
-mod serve_tests;
-#[cfg(test)]
-mod tests;

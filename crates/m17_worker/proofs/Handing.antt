@@ -5,7 +5,7 @@ use Rattle.std.proofs.lemmas.List.{append_assoc}
 use Rattle.std.proofs.lemmas.List.Elements.{All-same, All-head, All-tail}
 use Rattle.m17_control.specs.declared.item.Item.{Item}
 use Rattle.m17_roll.specs.Seat.{RollView}
-use Rattle.m17_rows.specs.Laws.{RowsGrow}
+use Rattle.m17_lane.specs.RowsLaws.{RowsGrow}
 use Rattle.m17_worker.specs.declared.offers.LaneOffers.{LaneOffers}
 use Rattle.m17_worker.specs.Offers.{AreOffered, IsQueue}
 use Rattle.m17_worker.specs.Gifts.{GaveBack, gifts_by}

@@ -20,7 +20,7 @@ use Rattle.m17_module.specs.Laws.{LaterEventsChangeNoItems, OneEventMoreGives, V
 use Rattle.m17_ports.specs.Book.{BookTold, HasText}
 use Rattle.m17_book.specs.declared.head.Head.{Head}
 use Rattle.m17_book.specs.Records.{IsLowVerdict}
-use Rattle.m17_rows.specs.Laws.{RowsGrow}
+use Rattle.m17_lane.specs.RowsLaws.{RowsGrow}
 use Rattle.m17_worker.specs.declared.worker.Worker.{Worker}
 use Rattle.m17_worker.specs.Taken.{is_there, place_of}
 use Rattle.m17_worker.specs.Offers.{AreOffered}

@@ -11,8 +11,8 @@ use Rattle.std.proofs.lemmas.List.Elements.{filter-append}
 use Rattle.std.proofs.lemmas.List.Sums.{sum_by-append}
 use Rattle.m17_control.specs.declared.item.Item.{Item}
 use Rattle.m17_lane.specs.Ends.{PushEnd}
-use Rattle.m17_rows.specs.Rows.{grows, grow_each, push_each, only, nowhere}
-use Rattle.m17_rows.specs.Laws.{RowsGrow}
+use Rattle.m17_lane.specs.Rows.{grows, grow_each, push_each, only, nowhere}
+use Rattle.m17_lane.specs.RowsLaws.{RowsGrow}
 use Rattle.m17_worker.specs.declared.offers.Offered.{Offered}
 use Rattle.m17_worker.specs.declared.offers.Offered.TheVariants.{Queued, Missed}
 use Rattle.m17_worker.specs.declared.offers.LaneOffers.{LaneOffers}

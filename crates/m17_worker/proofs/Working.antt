@@ -15,7 +15,7 @@ use Rattle.m17_ports.specs.Book.{BookTold, HasText}
 use Rattle.m17_ports.specs.Laws.{BooksAreWrittenInTurn}
 use Rattle.m17_book.specs.Versions.{book_header, FitsHeader}
 use Rattle.m17_book.specs.declared.version.Version.TheVariants.{Two}
-use Rattle.m17_rows.specs.Laws.{RowsGrow}
+use Rattle.m17_lane.specs.RowsLaws.{RowsGrow}
 use Rattle.m17_roll.specs.Seat.{RollView}
 use Rattle.m17_worker.specs.declared.offers.LaneOffers.{LaneOffers}
 use Rattle.m17_worker.specs.declared.worker.Worker.{Worker}

@@ -5,7 +5,7 @@ use Rattle.m17_control.specs.declared.item.Item.{Item}
 use Rattle.m17_control.specs.declared.item.Said.{Said}
 use Rattle.m17_control.specs.declared.item.Said.TheVariants.{Frame, Echo, Ping}
 use Rattle.m17_lane.specs.Ends.{PushEnd}
-use Rattle.m17_rows.specs.Rows.{grow_each}
+use Rattle.m17_lane.specs.Rows.{grow_each}
 use Rattle.m17_worker.specs.declared.offers.Offered.{Offered}
 use Rattle.m17_worker.specs.declared.offers.Offered.TheVariants.{Queued, Missed}
 use Rattle.m17_worker.specs.declared.offers.LaneOffers.{LaneOffers}

@@ -5,7 +5,7 @@ use Rattle.m17_control.specs.Forms.{IsModule}
 use Rattle.m17_ports.specs.Told.{StartsEmpty}
 use Rattle.m17_ports.specs.Book.{BookTold}
 use Rattle.m17_roll.specs.Seat.{HasLists}
-use Rattle.m17_rows.specs.Rows.{IsNewRow, IsNewPopper}
+use Rattle.m17_lane.specs.Rows.{IsNewRow, IsNewPopper}
 use Rattle.m17_module.specs.StandsFor.{StandsFor}
 use Rattle.m17_worker.specs.declared.worker.Worker.{Worker}
 use Rattle.m17_worker.specs.Offers.{AreQueues}

@@ -3,7 +3,7 @@ use Rattle.std.specs.Prelude.{◌≡◌, ℕ, Bool, true, false, List, [], lengt
 use Rattle.m17_control.specs.declared.event.Event.{Event}
 use Rattle.m17_ports.specs.Book.{BookTold, HasText}
 use Rattle.m17_book.specs.declared.head.Head.{Head}
-use Rattle.m17_rows.specs.Starts.{HasStarted}
+use Rattle.m17_lane.specs.Starts.{HasStarted}
 use Rattle.m17_module.specs.Items.{items_given}
 use Rattle.m17_module.specs.StandsFor.{StandsFor}
 use Rattle.m17_worker.specs.declared.worker.Worker.{Worker}

@@ -2,7 +2,7 @@
 ghost use Rattle.std.specs.Prelude.{◌≡◌, ◌<◌, ◌≤◌, [], Ok};
 ghost use Rattle.m17_ports.specs.Told.{StartsEmpty};
 ghost use Rattle.m17_roll.specs.Seat.{HasLists};
-ghost use Rattle.m17_rows.specs.Rows.{IsNewRow};
+ghost use Rattle.m17_lane.specs.Rows.{IsNewRow};
 ghost use Rattle.m17_worker.specs.Offers.{AreQueues};
 ghost use Rattle.m17_worker.specs.Ready.{IsReady};
 

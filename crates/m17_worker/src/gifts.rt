@@ -32,7 +32,7 @@ pub(crate) fn hand_out<R: Wait>(
     ensures place { IfSome result (λ item. item.member.place < length offers.old.queues.items) }
     ensures empty { basket.new ≡ [] }
 {
-    m17_rows::laws::rows_grow::<Item>();
+    m17_lane::rows_laws::rows_grow::<Item>();
     let mut bye = None;
     while let Some(item) = basket.take() {
         hand_over(rt, &item, offers, seat, gives);
@@ -55,7 +55,7 @@ fn hand_over<R: Wait>(
     ensures offered { AreOffered (item.now ∷ []) offers.old offers.new }
     ensures gave_back { GaveBack seat.old (gifts_by gives (item.now ∷ [])) seat.new }
 {
-    m17_rows::laws::rows_grow::<Item>();
+    m17_lane::rows_laws::rows_grow::<Item>();
     // models/circle.pml: item-offered
     let _ = offers.offer(rt, *item);
     if gives && is_farewell(item) {

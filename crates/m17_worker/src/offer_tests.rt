@@ -64,7 +64,7 @@ fn offer_one<R: Wait>(rt: &R, offers: &mut LaneOffers, item: Item) -> Offered
     requires place { item.member.place ≡ 0 }
     ensures { AreQueues 1 offers.new.queues.items }
 {
-    m17_rows::laws::rows_grow::<Item>();
+    m17_lane::rows_laws::rows_grow::<Item>();
     offers.offer(rt, item)
 }
 

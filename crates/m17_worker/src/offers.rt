@@ -1,11 +1,10 @@
 //! The queues of a module's places, and what they are offered.
 ghost use Rattle.std.specs.Prelude.{◌≡◌, ◌<◌, ◌≤◌, ◌∷◌, [], false, length, slice_get, vec_capacity, vec_len, IsSomeAnd};
-ghost use Rattle.m17_rows.specs.Rows.{grow_each, only, push_each};
+ghost use Rattle.m17_lane.specs.Rows.{grow_each, only, push_each};
 ghost use Rattle.m17_worker.specs.Offers.{AreTried, IsQueue, may_be_missed, missed_for, queued_for, try_of};
 
 use m17_control::{Item, Said};
-use m17_lane::Pusher;
-use m17_rows::{push_at, push_unrung_at, try_push_at};
+use m17_lane::{Pusher, push_at, push_unrung_at, try_push_at};
 use std::sync::Wait;
 
 /// What became of an item that was offered.
@@ -68,7 +67,7 @@ fn put<R: Wait>(rt: &R, queues: &mut Vec<Pusher<Item>>, item: Item, waits: bool)
         IsSomeAnd (slice_get queues.old.items item.member.place) (λ q. 64 ≤ length q.pushed) }
     ensures room { vec_capacity queues.new ≡ vec_capacity queues.old }
 {
-    m17_rows::laws::rows_grow::<Item>();
+    m17_lane::rows_laws::rows_grow::<Item>();
     let at = item.member.place as usize;
     if waits {
         push(rt, queues, at, item);

@@ -18,10 +18,9 @@ use crate::tape::fill_tape;
 use crate::{LaneOffers, Worker};
 use m17_control::{Body, Event, Item};
 use m17_floor::{Verdict, laws as floor_laws};
-use m17_lane::Popper;
+use m17_lane::{Popper, count_one};
 use m17_module::laws as module_laws;
 use m17_ports::Book;
-use m17_rows::count_one;
 use std::sync::Wait;
 
 impl<B: Book> Worker<B> {
@@ -82,7 +81,7 @@ impl<B: Book> Worker<B> {
         module_laws::verdicts_fit();
         floor_laws::later_acts_change_no_verdict();
         floor_laws::later_acts_change_nothing_before();
-        m17_rows::laws::rows_grow::<Item>();
+        m17_lane::rows_laws::rows_grow::<Item>();
         let verdict = self.module.step(event, &mut self.basket);
         let gives = !is_replaced_leave(event);
         let says = !self.basket.is_empty();

@@ -13,11 +13,10 @@ use m17_book::{Head, write_header};
 use m17_control::{Event, Item, ModuleLetter};
 use m17_crew::{Order, Work};
 use m17_floor::Verdict;
-use m17_lane::Popper;
+use m17_lane::{Popper, starts};
 use m17_module::{Basket, Module};
 use m17_ports::Book;
 use m17_roll::RollSeat;
-use m17_rows::starts;
 use m17_tape::Tape;
 use std::sync::Wait;
 
@@ -77,7 +76,7 @@ impl<B: Book> Worker<B> {
         ensures worked { HasWorked B.told self.old self.new }
         ensures order { self.new.order ≡ self.old.order }
     {
-        m17_rows::laws::rows_grow::<Item>();
+        m17_lane::rows_laws::rows_grow::<Item>();
         m17_ports::laws::books_are_written_in_turn::<B::Label>();
         self.begin();
         let mut served = 0u64;

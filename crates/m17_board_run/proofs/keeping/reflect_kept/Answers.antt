@@ -1,21 +1,29 @@
-use Rattle.std.proofs.Common.{◌≡◌, List, length, vec_len, All, sym, ap, subst, ◌∙◌, arith}
+use Rattle.std.proofs.Common.{◌≡◌, List, [], length, vec_len, All, sym, ap, subst, ◌∙◌, arith}
 use Rattle.std.specs.List.{AllZip}
 use Rattle.std.proofs.lemmas.List.{length-map}
 use Rattle.m17_board.specs.Ends.{PostEnd}
 use Rattle.m17_reflect.specs.declared.returned.HouseRefusal.{HouseRefusal}
 use Rattle.m17_reflect.specs.Views.{IsRefusedFor}
 use Rattle.m17_board_run.specs.Putting.{plain_of, posters_of, IsKept, IsSameEnd}
-use Rattle.m17_board_run.proofs.Books.{fresh_over, kept_plain, length_over, over_plain}
+use Rattle.m17_board_run.proofs.Books.{fresh_over, kept_plain, length_over, none_take, over_plain}
 use Rattle.m17_board_run.proofs.Runs.{came_of, refused_off, run_off, shelves_by}
 use Rattle.m17_board_run.proofs.keeping.reflect_kept.Goals as goal
 
+pub keep_books-kept_books-requires-clause-each : goal.keep_books-kept_books-requires-clause-each
+keep_books-kept_books-requires-clause-each g c = λ posts. c.requires.posters (c.are_some-posts.ensures.some posts)
+
+pub keep_books-kept_books-requires-clause-no_posters : goal.keep_books-kept_books-requires-clause-no_posters
+keep_books-kept_books-requires-clause-no_posters g c = λ none. c.are_some-posts.ensures.none none
+
 pub reflect-requires-clause-new_traces : goal.reflect-requires-clause-new_traces
 reflect-requires-clause-new_traces g c κs within =
-    fresh_over g.B.Book.told c.keep_plain-kept_traces.result.items c.args.traces.items (over_plain c.keep_plain-kept_traces.result.items c.args.traces.items c.keep_plain-kept_traces.ensures) c.requires.new_traces
+    fresh_over g.B.Book.told c.keep_plain-kept_traces.result.items c.args.traces.items (over_plain c.keep_plain-kept_traces.result.items c.args.traces.items c.keep_plain-kept_traces.ensures)
+    (none_take c.keep_plain-kept_traces.result.items (kept_plain c.keep_plain-kept_traces.result.items c.args.traces.items c.keep_plain-kept_traces.ensures)) c.requires.new_traces
 
 pub reflect-requires-clause-new_books : goal.reflect-requires-clause-new_books
 reflect-requires-clause-new_books g c κs within =
-    fresh_over g.B.Book.told c.keep_books-kept_books.result.items c.args.books.items c.keep_books-kept_books.ensures.shelves c.requires.new_books
+    fresh_over g.B.Book.told c.keep_books-kept_books.result.items c.args.books.items c.keep_books-kept_books.ensures.shelves
+    (subst (All (λ (p : PostEnd). p.taken ≡ [])) (sym c.keep_books-kept_books.ensures.posters) c.requires.untaken) c.requires.new_books
 
 pub house_back-requires-clause-kept : goal.house_back-requires-clause-kept
 house_back-requires-clause-kept g c =
@@ -72,7 +80,7 @@ returns-in-Ok-clause-ran g c =
       over = c.keep_books-kept_books.ensures.shelves;
       posters_are = c.keep_books-kept_books.ensures.posters;
       kept = c.keep_books-kept_books.ensures.kept;
-    }) came c.house_back.ensures.off c.house_back.ensures.posters c.house_back.ensures.posted c.requires.new_books c.in-Ok.ensures.headline
+    }) came c.house_back.ensures.off c.house_back.ensures.posters c.house_back.ensures.posted c.requires.untaken c.requires.new_books c.in-Ok.ensures.headline
 
 pub returns-in-Ok-clause-ends : goal.returns-in-Ok-clause-ends
 returns-in-Ok-clause-ends g c =

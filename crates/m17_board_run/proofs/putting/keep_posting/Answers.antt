@@ -12,6 +12,7 @@ loop-shelf-init g c = record {
   posting = none_yet IsPosting c.args.kept.items c.requires.none;
   empty = c.requires.empty;
   unposted = c.requires.unposted;
+  untaken = c.requires.untaken;
   each = c.requires.each;
   room = (let no = ap length c.requires.none in omega (arith, no, c.args.kept.ok.0, c.requires.room));
 }
@@ -25,6 +26,10 @@ pub new-requires-clause-unposted : goal.new-requires-clause-unposted
 new-requires-clause-unposted g c =
     (all_but_last (λ poster. poster.posted ≡ []) c.loop-shelf.posters.items c.pop-in-Some.new.self.items c.in-Some-pop.poster c.in-Some-pop.ensures.items c.loop-shelf.invariant.unposted).1
 
+pub new-requires-clause-untaken : goal.new-requires-clause-untaken
+new-requires-clause-untaken g c =
+    (all_but_last (λ poster. poster.taken ≡ []) c.loop-shelf.posters.items c.pop-in-Some.new.self.items c.in-Some-pop.poster c.in-Some-pop.ensures.items c.loop-shelf.invariant.untaken).1
+
 pub loop-shelf-preserved : goal.loop-shelf-preserved
 loop-shelf-preserved g c =
     let now = c.loop-shelf in let before = now.invariant in let put = c.push_reserved in record {
@@ -35,6 +40,7 @@ loop-shelf-preserved g c =
       posting = one_more IsPosting now.kept.items put.new.self.items _ put.ensures.items tt before.posting;
       empty = (all_but_last (λ shelf. StartsEmpty (told_of_shelf g.B.Book.told shelf).written) now.shelves.items c.pop.new.self.items c.in-Some.shelf c.in-Some.ensures.items before.empty).0;
       unposted = (all_but_last (λ poster. poster.posted ≡ []) now.posters.items c.pop-in-Some.new.self.items c.in-Some-pop.poster c.in-Some-pop.ensures.items before.unposted).0;
+      untaken = (all_but_last (λ poster. poster.taken ≡ []) now.posters.items c.pop-in-Some.new.self.items c.in-Some-pop.poster c.in-Some-pop.ensures.items before.untaken).0;
       each = omega (arith, before.each, c.in-Some.ensures.len, c.in-Some-pop.ensures.len);
       room = omega (arith, before.room, put.ensures.len, put.ensures.capacity, c.in-Some.ensures.len);
     }

@@ -12,6 +12,7 @@ invariant-loop-shelf g l = record {
   posting : All IsPosting (reverse l.kept.items);
   empty : All (λ shelf. StartsEmpty (told_of_shelf g.B.Book.told shelf).written) l.shelves.items;
   unposted : All (λ poster. poster.posted ≡ []) l.posters.items;
+  untaken : All (λ poster. poster.taken ≡ []) l.posters.items;
   each : vec_len l.posters ≡ vec_len l.shelves;
   room : vec_len l.kept + vec_len l.shelves ≤ vec_capacity l.kept;
 }

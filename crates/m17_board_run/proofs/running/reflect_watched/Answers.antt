@@ -4,12 +4,12 @@ use Rattle.m17_control.specs.Modules.{letters_of}
 use Rattle.m17_control.specs.declared.modules.Modules.{Modules}
 use Rattle.m17_plan.specs.Planned.{module_count}
 use Rattle.m17_board.specs.Ends.{AreOfOneBoard}
-use Rattle.m17_board_watch.specs.Written.{ShowsBoard}
+use Rattle.m17_board.specs.Written.{ShowsBoard}
 use Rattle.m17_reflect.specs.declared.returned.HouseRefusal.{HouseRefusal}
 use Rattle.m17_reflect.specs.Views.{IsRefusedFor}
 use Rattle.m17_board_run.specs.Kept.{told_of_shelf}
 use Rattle.m17_board_run.proofs.Refusing.{refused_by_crew, unwritten}
-use Rattle.m17_board_run.proofs.Runs.{ended_board, is_fresh, none_posted, same_count}
+use Rattle.m17_board_run.proofs.Runs.{ended_board, is_fresh, none_posted, none_taken, same_count}
 use Rattle.m17_board_run.proofs.running.reflect_watched.Goals as goal
 
 pub returns-in-Err-clause-cause : goal.returns-in-Err-clause-cause
@@ -19,6 +19,9 @@ returns-in-Err-clause-cause g c =
 
 pub reflect_kept-requires-clause-unposted : goal.reflect_kept-requires-clause-unposted
 reflect_kept-requires-clause-unposted g c κs within = none_posted 0 c.args.posters.items c.args.desk.eyes.items c.requires.desk.new.1
+
+pub reflect_kept-requires-clause-untaken : goal.reflect_kept-requires-clause-untaken
+reflect_kept-requires-clause-untaken g c κs within = none_taken 0 c.args.posters.items c.args.desk.eyes.items c.requires.desk.new.1
 
 pub end_watch-lines-requires-clause-fresh : goal.end_watch-lines-requires-clause-fresh
 end_watch-lines-requires-clause-fresh g c κs within =

@@ -1,5 +1,5 @@
 use Rattle.std.proofs.Common.{◌≡◌, length}
-use Rattle.m17_rows.specs.Rows.{IsNewRow}
+use Rattle.m17_lane.specs.Rows.{IsNewRow}
 use Rattle.m17_receiver.proofs.bench.inboxes.Given as goal
 
 abbrev pub invariant-inboxes : goal.invariant-inboxes

@@ -3,7 +3,7 @@ use Rattle.std.specs.List.{filter_map}
 use Rattle.m17_directory.specs.declared.dispatch.Dispatch.{Dispatch}
 use Rattle.m17_directory.specs.declared.dispatch.Dispatch.TheVariants.{ToModule}
 use Rattle.m17_directory.specs.Routed.{event_for}
-use Rattle.m17_rows.specs.Rows.{as_new}
+use Rattle.m17_lane.specs.Rows.{as_new}
 use Rattle.m17_receiver.specs.Posting.{Outlets, letter_at}
 use Rattle.m17_receiver.specs.SoFar.{posting}
 use Rattle.m17_receiver.proofs.Pushed.{one_to_module, one_to_door}

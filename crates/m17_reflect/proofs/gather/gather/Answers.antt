@@ -1,6 +1,6 @@
 use Rattle.std.proofs.Common.{map, length, sym, ◌∙◌}
-use Rattle.m17_reflect.proofs.Ends.{map_twice}
-use Rattle.m17_reflect.proofs.RowsLong.{rows_long}
+use Rattle.m17_reflect.proofs.OrdersObeyed.{map_twice}
+use Rattle.m17_reflect.proofs.EndsBack.{rows_long}
 use Rattle.m17_reflect.proofs.gather.gather.Goals as goal
 
 pub say_rest-requires : goal.say_rest-requires

@@ -1,7 +1,7 @@
 use Rattle.std.proofs.Common.{◌≡◌, List, ◌++◌, map, All, sym, subst, refl, ap, ◌∙◌}
 use Rattle.m17_crew.specs.declared.order.Order.{Order}
 use Rattle.m17_lane.specs.Ends.{PopEnd}
-use Rattle.m17_grid.specs.Trails.{AreTrailsOfOnes}
+use Rattle.m17_lane.specs.Trails.{AreTrailsOfOnes}
 use Rattle.m17_roll.specs.Seat.{RollView}
 use Rattle.m17_reflect.proofs.jobs.part.Goals as goal
 

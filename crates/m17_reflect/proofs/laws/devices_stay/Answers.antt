@@ -1,4 +1,4 @@
-use Rattle.m17_reflect.proofs.SameDevices.{devices_stay}
+use Rattle.m17_reflect.proofs.RunLaws.{devices_stay}
 use Rattle.m17_reflect.proofs.laws.devices_stay.Goals as goal
 
 pub returns : goal.returns

@@ -1,4 +1,4 @@
-use Rattle.m17_reflect.proofs.Told.{headline_tells}
+use Rattle.m17_reflect.proofs.LinksHeard.{headline_tells}
 use Rattle.m17_reflect.proofs.laws.headline_tells.Goals as goal
 
 pub returns : goal.returns

@@ -1,4 +1,4 @@
-use Rattle.m17_reflect.proofs.RunTrails.{runs_hold}
+use Rattle.m17_reflect.proofs.RunLaws.{runs_hold}
 use Rattle.m17_reflect.proofs.laws.runs_hold_their_trails.Goals as goal
 
 pub returns : goal.returns

@@ -1,4 +1,4 @@
-use Rattle.m17_reflect.proofs.TrailTurns.{told_in_order, peer_told_in_order}
+use Rattle.m17_reflect.proofs.RunLaws.{told_in_order, peer_told_in_order}
 use Rattle.m17_reflect.proofs.laws.trails_are_told_in_order.Goals as goal
 
 pub returns-clause-members : goal.returns-clause-members

@@ -7,27 +7,21 @@ use Rattle.m17_crew.specs.Laws.{Ran}
 use Rattle.m17_ports.specs.Book.{BookTold}
 use Rattle.m17_ports.specs.Ear.{EarTold}
 use Rattle.m17_ports.specs.Mouth.{MouthTold}
-use Rattle.m17_launch.specs.Groups.{Staff, staff, WereTold}
+use Rattle.m17_reflect.specs.Groups.{Staff, staff, WereTold}
 use Rattle.m17_receiver.specs.ReceiverDid.{ReceiverDid}
 use Rattle.m17_worker.specs.WorkerDid.{WorkerDid}
 use Rattle.m17_sender.specs.declared.sender.Sender.{Sender}
 use Rattle.m17_sender.specs.Ready.{IsReady}
 use Rattle.m17_sender.specs.Sent.{SenderDid}
 use Rattle.m17_plan.specs.declared.plan.Plan.{Plan}
-use Rattle.m17_run_setup.specs.Jobs.{AreJobs}
+use Rattle.m17_reflect.specs.Jobs.{AreJobs}
 use Rattle.m17_plan.specs.Planned.{module_count}
-use Rattle.m17_run_setup.specs.Rooms.{HasRooms}
-use Rattle.m17_run_setup.specs.Site.{IsSite}
+use Rattle.m17_reflect.specs.Rooms.{HasRooms}
+use Rattle.m17_reflect.specs.Site.{IsSite}
 use Rattle.m17_reflect.specs.Parted.{IsParted}
 use Rattle.m17_reflect.specs.declared.parted.Parted.{Parted}
-use Rattle.m17_reflect.proofs.Calls.{RunDevices, Done, Wired, can_part, done, long_r, long_w}
-use Rattle.m17_reflect.proofs.Gathering.{can_gather}
-use Rattle.m17_reflect.proofs.Gone.{receiver_order, worker_order, receivers_stayed, workers_stayed}
-use Rattle.m17_reflect.proofs.Heads.{sender_stays}
-use Rattle.m17_reflect.proofs.Known.{whole_laws, back_laws}
-use Rattle.m17_reflect.proofs.Launched.{launched, one_job, told_came, told_long}
-use Rattle.m17_reflect.proofs.Lines.{sender_order}
-use Rattle.m17_reflect.proofs.Over.{headline_of}
+use Rattle.m17_reflect.proofs.RunOver.{RunDevices, Done, Wired, can_part, done, long_r, long_w, can_gather, sender_stays, whole_laws, back_laws, headline_of}
+use Rattle.m17_reflect.proofs.OrdersObeyed.{receiver_order, worker_order, receivers_stayed, workers_stayed, launched, one_job, told_came, told_long, sender_order}
 use Rattle.m17_reflect.proofs.Whole.{Laws}
 use Rattle.m17_reflect.proofs.running.reflect.Given.{Over}
 use Rattle.m17_reflect.proofs.running.reflect.Goals.{After-launch-started}

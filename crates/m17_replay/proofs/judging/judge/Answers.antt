@@ -1,6 +1,6 @@
 use Rattle.std.proofs.Common.{sym, subst}
 use Rattle.m17_house.specs.Free.{IsFreelyReplayed}
-use Rattle.m17_replay_run.specs.Tapes.{OutcomesKept}
+use Rattle.m17_replay.specs.Tapes.{OutcomesKept}
 use Rattle.m17_replay.specs.declared.judging.Replayed.{Replayed}
 use Rattle.m17_replay.specs.Run.{CanPrint, IsJudged}
 use Rattle.m17_replay.proofs.HeardLemmas.{ends_somewhere}

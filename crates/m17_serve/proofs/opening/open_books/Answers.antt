@@ -4,7 +4,7 @@ use Rattle.m17_ports.specs.Book.{IsNewBook}
 use Rattle.m17_ports.specs.Ports.{HasAsked, PortsTold}
 use Rattle.m17_ports.specs.declared.question.Question.{Question}
 use Rattle.m17_ports.specs.declared.question.Question.TheVariants.{Book}
-use Rattle.m17_talk.specs.Devices.{FailsAmong}
+use Rattle.m17_client_commands.specs.Devices.{FailsAmong}
 use Rattle.m17_serve.specs.Devices.{told_of_shelf}
 use Rattle.m17_serve.proofs.Asking.{asked_more, at_call, fails_at}
 use Rattle.m17_serve.proofs.Lists.{map_twice}

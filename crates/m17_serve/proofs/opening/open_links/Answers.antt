@@ -5,7 +5,7 @@ use Rattle.m17_ports.specs.Mouth.{IsNewMouth}
 use Rattle.m17_ports.specs.Ports.{HasAsked, PortsTold}
 use Rattle.m17_ports.specs.declared.question.Question.{Question}
 use Rattle.m17_ports.specs.declared.question.Question.TheVariants.{Link}
-use Rattle.m17_talk.specs.Devices.{FailsAmong}
+use Rattle.m17_client_commands.specs.Devices.{FailsAmong}
 use Rattle.m17_serve.proofs.Asking.{asked_more, at_call, fails_at}
 use Rattle.m17_serve.proofs.Knowing.{ear_known, mouth_known, one_on}
 use Rattle.m17_serve.proofs.Lists.{map_twice}

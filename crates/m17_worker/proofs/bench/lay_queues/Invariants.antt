@@ -1,4 +1,4 @@
-use Rattle.m17_rows.specs.Rows.{IsNewRow}
+use Rattle.m17_lane.specs.Rows.{IsNewRow}
 use Rattle.m17_worker.specs.Offers.{AreQueues}
 use Rattle.m17_worker.proofs.bench.lay_queues.Given as goal
 

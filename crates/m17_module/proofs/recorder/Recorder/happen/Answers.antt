@@ -1,5 +1,5 @@
 use Rattle.std.proofs.Common.{ap, subst, sym, ◌∙◌}
-use Rattle.m17_parrot.specs.Recording.{Recording}
+use Rattle.m17_module.specs.Recording.{Recording}
 use Rattle.std.specs.Prelude.{Option}
 use Rattle.m17_module.specs.Following.{RecordsHolder, recording_then}
 use Rattle.m17_module.proofs.Tuned.{turned_records}

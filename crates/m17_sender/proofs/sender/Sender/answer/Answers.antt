@@ -1,7 +1,7 @@
 use Rattle.std.proofs.Common.{◌∷◌, [], refl, ap, length, ◌∙◌, arith}
 use Rattle.std.proofs.lemmas.List.{length-set}
 use Rattle.std.proofs.lemmas.Bool.{lt-ltb, le-ltb}
-use Rattle.m17_send_order.specs.Acts.{Act}
+use Rattle.m17_sender.specs.Acts.{Act}
 use Rattle.m17_sender.specs.SoFar.{at_rest, with_reply}
 use Rattle.m17_sender.proofs.Queued.{goes_same, goes_with}
 use Rattle.m17_sender.proofs.Spoken.{passes_reply, said_shape, says_reply}

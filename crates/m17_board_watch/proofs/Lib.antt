@@ -1,5 +1,0 @@
-mod Looks
-mod Lines
-mod Ends
-mod Closing
-mod Order

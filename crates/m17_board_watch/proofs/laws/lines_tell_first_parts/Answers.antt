@@ -1,5 +1,0 @@
-use Rattle.m17_board_watch.proofs.Lines.{tell_all}
-use Rattle.m17_board_watch.proofs.laws.lines_tell_first_parts.Goals as goal
-
-pub returns : goal.returns
-returns g c j k lines posters wrote saw = tell_all posters k.eyes.items lines wrote.tell saw

@@ -1,5 +1,0 @@
-pub mod Lines
-pub mod Shows
-pub mod Written
-pub mod Ending
-pub mod Laws

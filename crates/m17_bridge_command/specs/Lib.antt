@@ -1,4 +1,0 @@
-pub mod Bridged
-pub mod Endings
--- for proofs alone
-pub mod Printing

@@ -1,5 +1,0 @@
-use Rattle.m17_check.proofs.OneText.{one_check_text}
-use Rattle.m17_check.proofs.laws.one_check_text.Goals as goal
-
-pub returns : goal.returns
-returns c = one_check_text c.books_are_exact.ensures c.books_are_judged_act_by_act.ensures.one_first

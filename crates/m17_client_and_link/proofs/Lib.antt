@@ -1,9 +1,0 @@
-mod Listed
-mod Given
-mod Carried
-mod Heads
-mod Told
-mod Asked
-mod Answered
-mod Agreed
-mod Bridged

@@ -1,3 +1,0 @@
--- What it is to be at both ends, and what follows.
-pub mod BothEnds
-pub mod Laws

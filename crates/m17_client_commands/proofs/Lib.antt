@@ -1,0 +1,9 @@
+pub mod Records
+pub mod Stops
+pub mod Readable
+pub mod Exact
+pub mod TalkQuestions
+pub mod TalkTold
+pub mod BridgeCommandQuestions
+pub mod BridgeCommandTold
+pub mod BridgeCommandKnown

@@ -1,0 +1,16 @@
+pub mod Hearing
+pub mod Packets
+pub mod Back
+pub mod Links
+pub mod Telling
+pub mod Whole
+pub mod GuardStanding
+pub mod Recalling
+pub mod New
+pub mod Ends
+pub mod Times
+pub mod Stamps
+pub mod PaceStanding
+pub mod Rule
+pub mod Paces
+pub mod AtPace

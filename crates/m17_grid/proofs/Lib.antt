@@ -1,5 +1,0 @@
-mod Moves
-mod Returns
-pub mod Stands
-pub mod Orders
-mod Lays

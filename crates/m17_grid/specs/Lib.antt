@@ -1,5 +1,0 @@
-pub mod Columns
-pub mod Laid
-pub mod Trails
-pub mod Interleavings
-pub mod Laws

@@ -1,9 +1,0 @@
-use Rattle.std.proofs.Common.{◌≤◌, ◌-◌, length}
-use Rattle.m17_guard.specs.Memory.{AreNew}
-use Rattle.m17_guard.proofs.guards.Guards.make.Given as goal
-
-abbrev pub invariant-take : goal.invariant-take
-invariant-take l = (length l.memories.items ≤ l.links) × AreNew l.memories.items
-
-abbrev pub decreases-take : goal.decreases-take
-decreases-take l = l.links - length l.memories.items

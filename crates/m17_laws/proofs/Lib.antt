@@ -1,0 +1,11 @@
+mod RunBooks
+mod ServeBooks
+mod Listed
+mod Given
+mod Carried
+mod Heads
+mod Told
+mod Asked
+mod Answered
+mod Agreed
+mod Bridged

@@ -1,2 +1,0 @@
-mod RunBooks
-mod ServeBooks

@@ -1,5 +1,0 @@
-use Rattle.m17_legal_books.proofs.RunBooks.{books_of_runs_are_legal}
-use Rattle.m17_legal_books.proofs.laws.books_of_runs_are_legal.Goals as goal
-
-pub returns : goal.returns
-returns g c = books_of_runs_are_legal c.books_are_legal.ensures.legal

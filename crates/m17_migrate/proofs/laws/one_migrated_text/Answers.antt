@@ -1,5 +1,0 @@
-use Rattle.m17_migrate.proofs.Books.{one_migrated_text}
-use Rattle.m17_migrate.proofs.laws.one_migrated_text.Goals as goal
-
-pub returns : goal.returns
-returns c = one_migrated_text c.books_are_exact.ensures

@@ -1,5 +1,0 @@
-pub mod Reasons
-pub mod Migrate
-pub mod Laws
--- for proofs alone
-pub mod Moved

@@ -1,5 +1,0 @@
-pub mod Times
-pub mod Stamps
-pub mod Standing
-pub mod Rule
-pub mod Paces

@@ -1,4 +1,0 @@
-pub mod Pace
-pub mod Paced
--- for proofs alone
-pub mod Memory

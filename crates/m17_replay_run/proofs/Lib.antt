@@ -1,9 +1,0 @@
-pub mod Lists
-pub mod TapeSteps
-pub mod Alone
-pub mod Freely
-pub mod Taped
-pub mod Packets
-pub mod Counts
-pub mod Told
-pub mod Whole

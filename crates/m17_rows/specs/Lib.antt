@@ -1,4 +1,0 @@
-pub mod Rows
-pub mod Grids
-pub mod Starts
-pub mod Laws

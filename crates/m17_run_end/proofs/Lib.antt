@@ -1,6 +1,0 @@
-mod Acts
-mod Mouths
-mod Steps
-mod Places
-mod Finishing
-mod Parting

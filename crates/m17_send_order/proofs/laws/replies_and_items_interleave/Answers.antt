@@ -1,5 +1,0 @@
-use Rattle.m17_send_order.proofs.Marked.{interleave}
-use Rattle.m17_send_order.proofs.laws.replies_and_items_interleave.Goals as goal
-
-pub returns : goal.returns
-returns c = interleave

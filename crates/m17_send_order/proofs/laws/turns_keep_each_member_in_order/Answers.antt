@@ -1,5 +1,0 @@
-use Rattle.m17_send_order.proofs.InOrder.{in_order}
-use Rattle.m17_send_order.proofs.laws.turns_keep_each_member_in_order.Goals as goal
-
-pub returns : goal.returns
-returns c = in_order

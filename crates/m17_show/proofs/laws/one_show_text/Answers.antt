@@ -1,5 +1,0 @@
-use Rattle.m17_show.proofs.OneText.{one_show_text}
-use Rattle.m17_show.proofs.laws.one_show_text.Goals as goal
-
-pub returns : goal.returns
-returns c = one_show_text c.decoding_is_exact.ensures.one_of_both

@@ -1,8 +1,0 @@
-use Rattle.m17_show.proofs.ShowRun.{start}
-use Rattle.m17_show.proofs.show_command.show.Goals as goal
-
-pub returns-in-Some-clause-ended : goal.returns-in-Some-clause-ended
-returns-in-Some-clause-ended g c = λ bytes told. c.in-Some.ensures.shows bytes _ (start bytes _ _ _ c.new-reader.ensures told)
-
-pub returns-in-None-clause-ended : goal.returns-in-None-clause-ended
-returns-in-None-clause-ended g c = λ bytes told. c.end_at_limit.ensures.shows bytes _ (c.in-None.ensures.full bytes _ (start bytes _ _ _ c.new-reader.ensures told))

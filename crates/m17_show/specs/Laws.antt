@@ -1,7 +1,0 @@
--- What holds of every input of `show`.
-use Rattle.std.specs.Prelude.{◌≡◌, ℕ, List}
-use Rattle.m17_show.specs.Show.{IsShowText}
-
--- An input has one text.
-abbrev pub OneShowText : Type 0
-OneShowText = (input a b : List ℕ) → IsShowText input a → IsShowText input b → a ≡ b

@@ -1,5 +1,0 @@
-use Rattle.m17_talk.proofs.Exact.{exact}
-use Rattle.m17_talk.proofs.laws.scripts_are_exact.Goals as goal
-
-pub returns : goal.returns
-returns c = exact c.one_spelling.ensures c.reading_is_exact.ensures
