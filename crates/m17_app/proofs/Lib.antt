@@ -11,6 +11,7 @@ pub mod MakeRuns
 pub mod ReplayRuns
 pub mod TalkRuns
 pub mod ServeRuns
+pub mod Passed
 pub mod BothGuards
 pub mod BridgeRuns
 pub mod Runnable

@@ -9,6 +9,7 @@ pub mod Talk
 pub mod Fitted
 pub mod Doing
 pub mod Serve
+pub mod Laws
 pub mod Bridge
 pub mod Commands
 pub mod Habits

@@ -139,8 +139,17 @@ fn a_board_comes_back_where_its_watch_had_begun(rt: HostRuntime) {
     }
 }
 
-// Serves by these words over as many links as there may be, and a book for each trace, each module and the board: the status,
-// and how many bytes were printed.
+// The text of so many rules, of which each denies everything.
+fn many_rules(rt: &impl Abort, alloc: Global, count: usize) -> Vec<u8> {
+    let mut text = Vec::new(alloc);
+    for _rule in 0..count {
+        must(rt, text.extend_from_slice(b"deny any * *\n"));
+    }
+    text
+}
+
+// Serves by these words over as many links as there may be, a book for each trace, each module and the board, and as many rules
+// as a text can have: the status, and how many bytes were printed.
 fn most<R: Threads + Wait + Clock + Abort + Copy + Drop + Send + 'static>(
     rt: &R,
     alloc: Global,
@@ -152,18 +161,19 @@ fn most<R: Threads + Wait + Clock + Abort + Copy + Drop + Send + 'static>(
         must(rt, links.push((ScriptEar::new(Vec::new(alloc)), mouth)));
     }
     let ports = ScriptPorts::new(links, books(rt, alloc, 31, &[]), Vec::new(alloc));
-    let mut source = BytesSource::new(Vec::new(alloc), Vec::new(alloc));
+    let mut source = BytesSource::new(many_rules(rt, alloc, 5_041), Vec::new(alloc));
     let (mut sink, mut crew) = (sink_that(rt, alloc, 1_000, &[]), StdCrew::new());
     let status = status_over(rt, alloc, given, ports, &mut crew, &mut source, &mut sink);
     (status, sink.bytes().len())
 }
 
 // No clause says that there is memory for a reflector of the most links, modules and places, with the names of all its traces
-// and books. A line of 22 bytes for each module is printed.
+// and books, and with the most rules at each link. A line of 22 bytes for each module is printed.
 #[test]
 fn a_reflector_has_4_links_26_modules_and_256_places(rt: HostRuntime) {
-    const ALL: [&str; 13] = [
+    const ALL: [&str; 14] = [
         "serve",
+        "--rules",
         "--call",
         "M17-TST",
         "--modules",
@@ -177,7 +187,7 @@ fn a_reflector_has_4_links_26_modules_and_256_places(rt: HostRuntime) {
         "d",
         "--board=b",
     ];
-    for given in [&ALL[..12], &ALL[..13]] {
+    for given in [&ALL[..13], &ALL[..14]] {
         assert!(rt; most(&rt, rt.alloc(), given) == (0, 26 * 22));
     }
 }

@@ -1,6 +1,7 @@
 //! What the program does for its books: it starts their threads before its command, and closes them when that has ended.
-ghost use Rattle.std.specs.Prelude.{◌≡◌, ◌⊎◌, reverse, length, All, IfOk, is_some};
+ghost use Rattle.std.specs.Prelude.{◌≡◌, ◌⊎◌, reverse, length, All, IfOk, is_some, false};
 ghost use Rattle.std.specs.List.{AllZip};
+ghost use Rattle.m17_io.specs.Faults.{HasRisen};
 ghost use Rattle.m17_disk.specs.Writing.{EndsAs};
 ghost use Rattle.m17_net.specs.Devices.{IsBegun, file_book_told};
 ghost use Rattle.m17_app.specs.Started.{IsClosed};
@@ -11,6 +12,7 @@ use crate::habits::Habits;
 use crate::status::Status;
 use crate::std_out::StdOut;
 use m17_disk::{Hand, Writer, settle};
+use m17_io::Sink;
 use m17_net::{FileBook, LateFile, UdpPorts};
 use m17_streams::BufferedSink;
 use m17_values::NoMemory;
@@ -95,6 +97,7 @@ pub(crate) fn ports_of<
       start = result.start;
       rests = habits.rests;
       stops = is_some habits.stop;
+      locks = is_some habits.lock;
       calls = 0;
       faults = 0;
     } }
@@ -105,12 +108,31 @@ pub(crate) fn ports_of<
         lock,
         stop,
     } = habits;
-    let mut ports = UdpPorts::new(rt, rests);
-    if let Some(name) = lock {
-        ports = ports.locking(name);
-    }
+    let ports = unstopped_ports(rt, rests, lock);
     match stop {
         Some(name) => ports.stopping(host, name),
+        None => ports,
+    }
+}
+
+// Ports whose ears nothing stops, which lock the file of this name where there is one.
+fn unstopped_ports<R: Net + Files<File = File> + Clock + AllocGlobal + Copy + Drop>(
+    rt: R,
+    rests: bool,
+    lock: Option<String>,
+) -> UdpPorts<R>
+    ensures { result ≡ record {
+      start = result.start;
+      rests = rests;
+      stops = false;
+      locks = is_some lock;
+      calls = 0;
+      faults = 0;
+    } }
+{
+    let ports = UdpPorts::new(rt, rests);
+    match lock {
+        Some(name) => ports.locking(name),
         None => ports,
     }
 }
@@ -140,16 +162,25 @@ pub(crate) fn close_books<W: Threads + Wait + Clock, P: Print>(
     }
     match settled {
         Ok(()) => (0, ended),
-        Err(_) => (tell_failed(alloc, to).code(), ended),
+        Err(_) => (end_failed(alloc, to).code(), ended),
     }
 }
 
-// Says that a book failed, and answers what the program ends with then.
-fn tell_failed<P: Print>(alloc: Global, to: &P) -> Status
+// Says on what prints that a book failed, if there is memory for that, and answers what the program ends with then.
+fn end_failed<P: Print>(alloc: Global, to: &P) -> Status
     ensures { (result ≡ Status.BookFailed) ⊎ (result ≡ Status.WriteFailed) }
 {
     match BufferedSink::make(alloc, StdOut::new(to)) {
-        Ok(mut out) => end_with(&mut out, b"book failed\n", Status::BookFailed),
+        Ok(mut out) => tell_failed(&mut out),
         Err(_) => Status::BookFailed,
     }
+}
+
+// Says that a book failed, and answers that, or that the sink failed.
+fn tell_failed<K: Sink>(out: &mut K) -> Status
+    ensures answer { (result ≡ Status.BookFailed) ⊎ (result ≡ Status.WriteFailed) }
+    ensures cause { result ≡ Status.WriteFailed
+        → HasRisen (K.told out.old).faults (K.told out.new).faults }
+{
+    end_with(out, b"book failed\n", Status::BookFailed)
 }

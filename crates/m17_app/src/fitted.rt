@@ -1,5 +1,5 @@
 //! The ports of `serve`, with all that its words have stand before an ear and behind a mouth. What more stands there one day is
-//! put here and in `m17_app.specs.Fitted`, and nowhere else.
+//! put here and in `m17_app.specs.Fitted`, and made in `run_serve.rt`.
 ghost use Rattle.std.specs.Prelude.{◌≡◌, ◌+◌, ℕ, [], ◌∷◌, IfOk, OnOk};
 ghost use Rattle.m17_io.specs.Faults.{HasCause};
 ghost use Rattle.m17_ports.specs.declared.question.Question.{Question};
@@ -88,10 +88,7 @@ impl<P: Ports + Drop, R: Clock + Copy + Drop + Send + 'static> Ports for Fitted<
         bind: &str,
         until: Option<u64>,
     ) -> Result<(Behind<P::Ear>, BehindMouth<P::Mouth, R>), Failed> {
-        match self.ports.link(bind, until) {
-            Ok((ear, mouth)) => Ok(self.fittings.fit(ear, mouth, self.clock)),
-            Err(failed) => Err(failed),
-        }
+        self.known_link(bind, until)
     }
 
     fn book(&mut self, name: &str) -> Result<P::Book, Failed> {

@@ -36,10 +36,7 @@ impl<P: Ports + Drop> Ports for GuardedPorts<P> {
         bind: &str,
         until: Option<u64>,
     ) -> Result<(Guarded<P::Ear>, P::Mouth), Failed> {
-        match self.ports.link(bind, until) {
-            Ok((ear, mouth)) => Ok((self.guards.before(ear), mouth)),
-            Err(failed) => Err(failed),
-        }
+        self.known_link(bind, until)
     }
 
     fn book(&mut self, name: &str) -> Result<P::Book, Failed> {

@@ -13,6 +13,7 @@ mod fitted;
 mod guarding;
 mod habits;
 mod interruption;
+mod laws;
 mod run;
 mod run_bridge;
 mod run_check;

@@ -1,8 +1,10 @@
 //! `serve` by rules of callsigns, from its words to its status, over ports and devices in memory.
-use crate::serve_tests::{DISC_OF_TST, Serve, evening, let_go, packet, ports, were_told};
+use crate::serve_tests::{DISC_OF_TST, JOIN, Serve, evening, let_go, packet, ports, were_told};
+use crate::talk_tests::came;
 use crate::tests::{must, run_over, sink_that};
 use m17_crew::StdCrew;
 use m17_streams::BytesSource;
+use m17_values::Heard;
 use std::alloc::Global;
 use std::process::Abort;
 use std::sync::Wait;
@@ -19,18 +21,31 @@ pub(crate) const RULED: &[&str] = &[
     "x",
 ];
 
-// Serves the evening by these rules: what it came to, and whether that has this text.
+const FILLED: &[&str] = &[
+    "serve",
+    "--rules",
+    "--fill-crc",
+    "--call",
+    "M17-TST",
+    "--modules",
+    "A",
+    "x",
+];
+
+// Serves what is heard by these words and rules: what it came to, and whether that has this text.
 fn served<R: Threads + Wait + Clock + Abort + Copy + Drop + Send + 'static>(
     rt: &R,
     alloc: Global,
+    given: &[&str],
     rules: &str,
+    heard: Vec<Heard>,
     text: &str,
 ) -> (Serve<R>, bool) {
-    let ports = ports(rt, alloc, evening(rt, alloc));
+    let ports = ports(rt, alloc, heard);
     let rules = must(rt, rules.as_bytes().to_vec(alloc));
     let mut source = BytesSource::new(rules, Vec::new(alloc));
     let (mut sink, mut crew) = (sink_that(rt, alloc, 100, &[]), StdCrew::new());
-    let done = run_over(rt, alloc, RULED, ports, &mut crew, &mut source, &mut sink);
+    let done = run_over(rt, alloc, given, ports, &mut crew, &mut source, &mut sink);
     let as_wanted = done.status == 0 && sink.bytes() == text.as_bytes();
     (done, as_wanted)
 }
@@ -45,7 +60,7 @@ fn demand<R: Threads + Wait + Clock + Abort + Copy + Drop + Send + 'static>(
     text: &str,
     listener: &[&[u8]],
 ) {
-    let (done, as_wanted) = served(rt, alloc, rules, text);
+    let (done, as_wanted) = served(rt, alloc, RULED, rules, evening(rt, alloc), text);
     let is_told = were_told(&done, &JOINED, listener);
     let_go(done);
     assert!(rt; as_wanted && is_told, "{rules}");
@@ -75,4 +90,32 @@ fn who_is_denied_is_not_heard_and_gets_no_answer(rt: HostRuntime) {
         unheard,
         &[b"ACKN", b"DISC"],
     );
+}
+
+// AB1CD joins module A, and says a frame whose CRC is 0000.
+fn without_crc(rt: &impl Abort, alloc: Global) -> Vec<Heard> {
+    let mut bytes = packet(0);
+    bytes[52] = 0;
+    bytes[53] = 0;
+    let heard = [came(0, 1, &JOIN), came(40, 1, &bytes)];
+    must(rt, Vec::from_array(alloc, heard))
+}
+
+// What fills in CRCs stands before the gate: by then the frame is a stream packet, and its sender is denied as any other. A
+// gate before it would have let bytes pass that are no packet.
+#[test]
+fn who_leaves_the_crc_out_is_denied_too(rt: HostRuntime) {
+    const ROWS: [(&str, &str); 3] = [
+        ("", "A admitted 1 missed 0\n"),
+        ("deny talk * N0CALL", "A admitted 1 missed 0\n"),
+        ("deny talk * AB1CD", "A admitted 0 missed 0\n"),
+    ];
+    let alloc = rt.alloc();
+    for (rules, text) in ROWS {
+        let heard = without_crc(&rt, alloc);
+        let (done, as_wanted) = served(&rt, alloc, FILLED, rules, heard, text);
+        let is_told = were_told(&done, &JOINED, &[]);
+        let_go(done);
+        assert!(rt; as_wanted && is_told, "{rules}");
+    }
 }

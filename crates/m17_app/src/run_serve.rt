@@ -79,8 +79,9 @@ where
     }
 }
 
-// What is to stand before the ears of the links of the words, and behind their mouths: guards, unless the words leave them out,
-// gates of these rules, and paces, where the words have a bound. All memory that is needed is taken here.
+// What is to stand before the ears of the links of the words, and behind their mouths: what fills in CRCs, where the words say
+// so, guards, unless they leave them out, gates of these rules, and paces, where they have a bound. All memory that is needed
+// is taken here.
 fn fittings_for<S: Input<K>, K: Sink>(
     alloc: Global,
     keys: RandomState,

@@ -460,14 +460,31 @@ const FAILURES: [Row; 12] = [
     },
 ];
 
+// Runs `talk` by each of these rows.
+fn demand<R: Threads + Wait + Clock + Abort + Copy + Drop + Send + 'static>(
+    rt: &R,
+    alloc: Global,
+    rows: &[Row],
+) {
+    for (i, row) in rows.iter().enumerate() {
+        let (done, as_wanted) = talked(rt, alloc, row);
+        let has_back = has_back(&done, row.back);
+        let_go(done);
+        assert!(rt; as_wanted && has_back, "row {i}");
+    }
+}
+
 #[test]
 fn a_talk_has_its_status_and_its_line(rt: HostRuntime) {
-    for rows in [TALKS.as_slice(), ENDINGS.as_slice(), FAILURES.as_slice()] {
-        for (i, row) in rows.iter().enumerate() {
-            let (done, as_wanted) = talked(&rt, rt.alloc(), row);
-            let has_back = has_back(&done, row.back);
-            let_go(done);
-            assert!(rt; as_wanted && has_back, "row {i}");
-        }
-    }
+    demand(&rt, rt.alloc(), &TALKS);
+}
+
+#[test]
+fn why_a_client_is_closed_stands_in_its_line(rt: HostRuntime) {
+    demand(&rt, rt.alloc(), &ENDINGS);
+}
+
+#[test]
+fn what_fails_in_a_talk_is_told(rt: HostRuntime) {
+    demand(&rt, rt.alloc(), &FAILURES);
 }

@@ -35,6 +35,22 @@ fn settled<R: Threads + Wait + Clock + Abort + Drop + Send + 'static>(
     settle(rt, &mut hands, &mut ended)
 }
 
+// Brings two threads to their end, the other before the one: what is said of them, and whether the one alone came to it.
+fn both_settled<R: Threads + Wait + Clock + Abort + Drop + Send + 'static>(
+    rt: &R,
+    alloc: Global,
+    one: Hand<Gated<R>>,
+    other: Hand<Gated<R>>,
+) -> (Result<(), Unsettled>, bool) {
+    let mut hands = must(rt, Vec::with_capacity(alloc, 2));
+    hands.push_reserved(one);
+    hands.push_reserved(other);
+    let mut ended = must(rt, Vec::with_capacity(alloc, 2));
+    let said = settle(rt, &mut hands, &mut ended);
+    let one_alone = matches!(ended.as_slice(), [None, Some(_)]);
+    (said, one_alone)
+}
+
 // Writes the next bytes, one at a time, up to so many or to the first that is not taken: how many were taken.
 fn write_bytes<B: Book>(book: &mut B, count: u32) -> u32 {
     for i in 0..count {
@@ -56,6 +72,21 @@ fn a_book_whose_thread_hangs_fails_when_its_lane_is_full(rt: HostRuntime) {
     let seen = shared.seen();
     shared.shut.store(false, Ordering::SeqCst);
     assert!(rt; taken >= 2048 && taken <= 2080 && !more && late && seen == (0, 0));
+}
+
+// The other thread hangs in its first write, and uses up the time that both have together. The one has its own tenth of a
+// second then, and ends.
+#[test]
+fn a_thread_behind_one_that_hangs_still_comes_to_its_end(rt: HostRuntime) {
+    let shared = Shared::make(&rt, rt.alloc(), false);
+    let (mut book, one) = opened(rt, rt.alloc(), &shared);
+    let shut = Shared::make(&rt, rt.alloc(), true);
+    let (mut hanging, other) = opened(rt, rt.alloc(), &shut);
+    let taken = (write_bytes(&mut book, 3), write_bytes(&mut hanging, 1));
+    let (said, one_alone) = both_settled(&rt, rt.alloc(), one, other);
+    shut.shut.store(false, Ordering::SeqCst);
+    let late = said == Err(Unsettled::Late);
+    assert!(rt; taken == (3, 1) && late && one_alone && shared.seen() == (3, 0));
 }
 
 #[test]

@@ -16,6 +16,7 @@ pub mod Few
 pub mod HeardMore
 pub mod OneMore
 pub mod Played
+pub mod UnderWay
 pub mod EndEnds
 pub mod OneReplay
 pub mod ThereIs

@@ -10,7 +10,7 @@ use Rattle.m17_control.specs.declared.item.Item.{Item}
 use Rattle.m17_control.specs.declared.packet.Control.TheVariants as control
 use Rattle.m17_control.specs.declared.packet.Packet.{Packet}
 use Rattle.m17_control.specs.declared.packet.Packet.TheVariants as packets
-use Rattle.m17_control.specs.Modules.{serves, letters_of}
+use Rattle.m17_control.specs.Modules.{letters_of}
 use Rattle.m17_control.specs.Spelled.{packet_said}
 use Rattle.m17_floor.specs.declared.verdict.Verdict.{Verdict}
 use Rattle.m17_floor.specs.Floor.{verdict_at}
@@ -110,6 +110,14 @@ packet_verdict plan entries n =
 abbrev pub packet_verdicts_of : Plan → List Entry → List (Option Verdict)
 packet_verdicts_of plan entries =
     map (packet_verdict plan entries) (range_with_len 0 (length entries))
+
+-- What the entry at a position came to: the link's verdict, and the floor rule's on its packet.
+abbrev pub Outcome : Type 0
+Outcome = LinkVerdict × Option Verdict
+
+abbrev pub outcome_of : Plan → List Entry → ℕ → Outcome
+outcome_of plan entries n =
+    (link_verdict (setup_of plan) entries n, packet_verdict plan entries n)
 
 -- What a module says to a peer: the packets of the items that it gives to the peer's members.
 abbrev pub packet_to : Peer → ℕ → Item → Option Packet

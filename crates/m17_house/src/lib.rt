@@ -1,9 +1,9 @@
-//! The house: the directory of each link, the modules and the mouths, wired together. `replay_plain` does that in one
-//! thread for one link that was heard already, with lists in place of queues. It promises that its verdicts, and the
-//! tallies of what was said, are those of the one replay of the plan over what was heard (`specs/Replay.antt`): places
-//! given as a patient reflector gives them, what the link routes given to the modules, and what they give said. It
-//! stands on the public contracts of directory, modules, packets and mouths alone; what each of these does is theirs.
-//! Reading a trace and printing are left to the crates above.
+//! The house: the directory of each link, the modules and the mouths, wired together. A `Run` does that in one thread for
+//! one link that was heard already, entry by entry, with lists in place of queues; `replay_plain` answers the verdicts of
+//! all entries. Both promise that what they tell of each entry, and the tallies of what was said, are those of the one
+//! replay of the plan over what was heard (`specs/Replay.antt`): places given as a patient reflector gives them, what the
+//! link routes given to the modules, and what they give said. They stand on the public contracts of directory, modules,
+//! packets and mouths alone; what each of these does is theirs. Reading a trace and printing are left to the crates above.
 #![tactic(auto)]
 
 mod choice;
@@ -15,3 +15,4 @@ mod stage;
 mod voice;
 
 pub use replay::replay_plain;
+pub use run::Run;

@@ -1,14 +1,13 @@
-ghost use Rattle.std.specs.Prelude.{◌≡◌, ◌^◌, ◌<◌, ◌≤◌, [], false, length, IfOk, OnErr, vec_capacity};
-ghost use Rattle.m17_directory.specs.Entries.{Entry};
+ghost use Rattle.std.specs.Prelude.{◌≡◌, ◌^◌, ◌<◌, ◌≤◌, [], length, IfOk, OnErr, vec_capacity};
+ghost use Rattle.m17_house.specs.Hearing.{HasHeard};
 ghost use Rattle.m17_house.specs.Replay.{EndsSomewhere, IsReplayed, HasNoTallies};
 ghost use Rattle.m17_plan.specs.Planned.{IsPlan};
-ghost use Rattle.m17_house.specs.SoFar.{IsSoFar};
 ghost use Rattle.m17_house.specs.Tallied.{IsSameMouth};
 ghost use Rattle.m17_port_memory.specs.Peers.{named_in};
 
 use crate::run::Run;
-use m17_directory::{LinkVerdict, laws as directory_laws};
-use m17_floor::{Verdict, laws as floor_laws};
+use m17_directory::LinkVerdict;
+use m17_floor::Verdict;
 use m17_plan::Plan;
 use m17_port_memory::TallyMouth;
 use m17_values::{Heard, NoMemory};
@@ -31,22 +30,13 @@ fn play(
     verdicts: &mut Vec<LinkVerdict>,
     packets: &mut Vec<Option<Verdict>>,
 )
-    requires post { run.old.post ≡ [] }
-    requires out { run.old.stage.out ≡ [] }
-    requires open { run.old.directory.ended ≡ false }
-    requires so_far { IsSoFar plan.now [] run.old mouth.old }
+    requires run { HasHeard plan.now [] [] run.old mouth.old }
     requires ends { EndsSomewhere heard.now }
     requires verdicts { (verdicts.old.items ≡ []) × (length heard.now ≤ vec_capacity verdicts.old) }
     requires packets { (packets.old.items ≡ []) × (length heard.now ≤ vec_capacity packets.old) }
     ensures judged { IsReplayed plan.now heard.now verdicts.new.items packets.new.items mouth.new }
     ensures mouth { IsSameMouth mouth.old mouth.new }
 {
-    directory_laws::entries_before_decide();
-    directory_laws::ended_where_it_ends();
-    directory_laws::later_entries_change_nothing();
-    directory_laws::one_entry_more();
-    directory_laws::events_carry_their_index();
-    floor_laws::later_acts_change_no_verdict();
     let _few = count(heard);
     for (index, h) in heard.iter().enumerate() {
         let mut verdict = LinkVerdict::Timed;

@@ -1,22 +1,23 @@
-ghost use Rattle.std.specs.Prelude.{◌≡◌, ◌↔◌, ◌-◌, ◌+◌, ◌^◌, ◌<◌, ◌≤◌, ℕ, List, [], ◌∷◌, ◌++◌, Option, None, Some, true, false, length, slice_index, IfOk, IsSome, MatchOption};
-ghost use Rattle.std.specs.List.{filter_map, list_any, AllByRecursion};
+ghost use Rattle.std.specs.Prelude.{◌≡◌, ◌↔◌, ◌-◌, ◌+◌, ◌^◌, ◌<◌, ℕ, List, [], Option, None, Some, false, length, slice_index, IfOk, IsSome};
+ghost use Rattle.m17_values.specs.declared.heard.Heard.{Heard};
+ghost use Rattle.std.specs.List.{filter_map, AllByRecursion};
 ghost use Rattle.std.specs.Option.{option_to_list};
 ghost use Rattle.m17_directory.specs.declared.dispatch.Dispatch.{Dispatch};
 ghost use Rattle.m17_directory.specs.declared.verdict.LinkVerdict.{LinkVerdict};
 ghost use Rattle.m17_directory.specs.declared.verdict.LinkVerdict.TheVariants as link;
 ghost use Rattle.m17_directory.specs.Entries.{Entry, Notice, Says};
-ghost use Rattle.m17_directory.specs.Outcome as outcome;
 ghost use Rattle.m17_directory.specs.Laws as laws;
 ghost use Rattle.m17_control.specs.Forms.{Refuses, Spells};
 ghost use Rattle.m17_fields.specs.Reading.{HasOneReading};
 ghost use Rattle.m17_floor.specs.declared.verdict.Verdict.{Verdict};
 ghost use Rattle.m17_port_memory.specs.Kept.{TalliesKept};
 ghost use Rattle.m17_plan.specs.declared.plan.Plan.{Plan};
-ghost use Rattle.m17_house.specs.Replay.{IsLeastFree};
+ghost use Rattle.m17_house.specs.Hearing.{has_ended, HasHeard, HearsMore};
+ghost use Rattle.m17_house.specs.Replay.{HasNoTallies};
 ghost use Rattle.m17_plan.specs.Planned.{IsPlan};
-ghost use Rattle.m17_house.specs.Tallied.{AreTalliesOf, IsSameMouth};
+ghost use Rattle.m17_house.specs.Tallied.{IsSameMouth};
 ghost use Rattle.m17_house.specs.Carried.{HasCarried, IsServed};
-ghost use Rattle.m17_house.specs.SoFar.{change, scene, IsCarriedOut, IsChoice, IsGiven, IsIdle, IsOneMore, IsSoFar, IsTakenIn, noting};
+ghost use Rattle.m17_house.specs.SoFar.{change, scene, IsCarriedOut, IsGiven, IsIdle, IsSoFar, IsTakenIn, noting};
 
 use crate::choice::choose;
 use crate::stage::Stage;
@@ -31,9 +32,13 @@ use std::alloc::Global;
 /// How many places there are at most.
 pub(crate) const MOST_PLACES: usize = 256;
 
+/// A replay in one thread of what one link heard: it hears entry by entry, and tells at once what each becomes, with lists
+/// in place of queues and no room that runs out. A peer that asks gets the least place that no other known peer has, as the
+/// next member of that place, and is greeted at once; where none is free it is turned away. What the modules give and what
+/// is answered past them is said on the mouth, which keeps its tallies.
 // One link's directory, what it posted last, the modules, and how often each place was given.
 #[derive(Debug, Drop)]
-pub(crate) struct Run {
+pub struct Run {
     pub(crate) directory: Directory,
     pub(crate) post: Post,
     pub(crate) stage: Stage,
@@ -92,13 +97,11 @@ fn no_counts() -> [u64; MOST_PLACES]
 }
 
 impl Run {
-    pub(crate) fn make(alloc: Global, plan: &Plan) -> Result<Run, NoMemory>
+    /// A run of this plan that has heard nothing. `NoMemory` where there is none for it; nothing allocates afterwards.
+    pub fn make(alloc: Global, plan: &Plan) -> Result<Run, NoMemory>
         requires { IsPlan plan.now }
-        ensures post { IfOk result (λ run. run.post ≡ []) }
-        ensures out { IfOk result (λ run. run.stage.out ≡ []) }
-        ensures open { IfOk result (λ run. run.directory.ended ≡ false) }
-        ensures so_far { IfOk result (λ run. (mouth : TalliesKept) → AreTalliesOf (λ _. []) mouth
-            → IsSoFar plan.now [] run mouth) }
+        ensures { IfOk result (λ run. (mouth : TalliesKept) → HasNoTallies mouth →
+            HasHeard plan.now [] [] run mouth) }
     {
         let directory = Directory::make(alloc, 0, plan.name, plan.places, plan.modules)?;
         let post = Post::make(alloc)?;
@@ -112,8 +115,8 @@ impl Run {
     }
 
     /// Whether the link has ended.
-    pub(crate) fn has_ended(&self) -> bool
-        ensures { result ≡ self.now.directory.ended }
+    pub fn has_ended(&self) -> bool
+        ensures { result ≡ has_ended self.now }
     {
         self.directory.has_ended()
     }
@@ -197,9 +200,10 @@ impl Run {
         verdict
     }
 
-    /// What becomes of the entry with this index: the link's verdict, which is written where the caller keeps it, and the
-    /// floor rule's on a packet.
-    pub(crate) fn hear(
+    /// Hears one thing more, as the entry with this index, which is the number of those before. Answers what becomes of it:
+    /// the link's verdict, which is written where the caller keeps it, and the floor rule's on its packet, if it was routed
+    /// to a module as one. After an entry that ends the link nothing more is heard.
+    pub fn hear(
         &mut self,
         plan: &Plan,
         index: u64,
@@ -207,20 +211,16 @@ impl Run {
         mouth: &mut TallyMouth,
         verdict: &mut LinkVerdict,
     ) -> Option<Verdict>
-        requires post { self.old.post ≡ [] }
-        requires out { self.old.stage.out ≡ [] }
-        requires open { self.old.directory.ended ≡ false }
-        requires so_far { (entries : List Entry) × (index ≡ length entries)
-            × (length entries < 2 ^ 58) × IsSoFar plan.now entries self.old mouth.old }
-        ensures post { self.new.post ≡ [] }
-        ensures out { self.new.stage.out ≡ [] }
+        requires so_far { (heard : List Heard) × (entries : List Entry) × (index ≡ length entries)
+            × (length entries < 2 ^ 58) × HasHeard plan.now heard entries self.old mouth.old }
         ensures mouth { IsSameMouth mouth.old mouth.new }
-        ensures heard { (entries : List Entry) → index ≡ length entries → length entries < 2 ^ 58 →
-            IsSoFar plan.now entries self.old mouth.old →
-            IsOneMore plan.now entries h.now (scene self.new mouth.new) (verdict.new, result) }
+        ensures heard { (heard : List Heard) (entries : List Entry) → index ≡ length entries →
+            length entries < 2 ^ 58 → HasHeard plan.now heard entries self.old mouth.old →
+            HearsMore plan.now heard entries h.now (scene self.new mouth.new) (verdict.new, result) }
     {
         directory_laws::entries_before_decide();
         directory_laws::ended_where_it_ends();
+        directory_laws::later_entries_change_nothing();
         directory_laws::one_entry_more();
         directory_laws::packets_are_routed();
         directory_laws::events_carry_their_index();

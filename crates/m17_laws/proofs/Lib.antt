@@ -1,5 +1,6 @@
 mod RunBooks
 mod ServeBooks
+mod CheckedBooks
 mod Listed
 mod Given
 mod Carried

@@ -38,5 +38,6 @@ books_of_runs_are_legal legal run headline few m before after bytes at_b at_a ne
       trail = trail;
       is_there = at_trail;
       text = whole_text before after _ bytes failed has new is stands;
+      spelled = written.spelled m trail after bytes at_trail at_a is;
       legal = legal (setup_at run.plan m) (events_of trail) few;
     }

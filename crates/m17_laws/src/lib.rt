@@ -5,8 +5,8 @@
 //! It promises that a book which told nothing before a run, tells its bytes after it, and whose count of faults didn't
 //! rise, is the header of its module and the records of the module's trail, and that these break no rule under the limit
 //! of that header: for every run of the reflector, and for the books that `serve` hands back, whatever stands before its ears,
-//! with a board and without. That a book of the machine tells its bytes is left to whoever reads the file: `check` says of it
-//! whether it is legal.
+//! with a board and without; and that `check` (`m17_text_commands`) finds such a book legal, if it isn't too large for it. That
+//! a book of the machine tells its bytes is left to whoever reads the file.
 //!
 //! `client_and_link_laws`: both ends of a way, a client of a reflector at one end, a link of a run of the reflector at the other. It says what
 //! the promises of the two ends come to together, where the way between them may

@@ -100,11 +100,13 @@ file_book_told book = record {
 }
 
 -- ports: the instant that they read when they were made, if their clock gave one, whether their ears may wait long, whether
--- something stops these, how many calls there were, and how often they have failed
+-- something stops these, whether they lock a file before they open one, how many calls there were, and how often they have
+-- failed
 pub record PortsKept : Type 0 where
   pub start : Option Instant
   pub rests : Bool
   pub stops : Bool
+  pub locks : Bool
   pub calls : ℕ
   pub faults : ℕ
 

@@ -1,8 +1,11 @@
 //! The files that a run has opened: each once, and in a folder that no other run has.
+ghost use Rattle.std.specs.Prelude.{◌≡◌, is_some};
+
 use std::alloc::Global;
 use std::fs::File;
 use std::io;
 use std::io::ErrorKind;
+use std::marker::Model;
 use std::os::unix::fs::MetadataExt;
 use std::rt::Files;
 
@@ -13,7 +16,7 @@ struct Node {
     number: u64,
 }
 
-/// The files that were opened so far, and the lock of the folder that they stand in.
+/// The files that were opened so far, and the lock of the folder that they stand in. Contracts see whether there is one.
 #[derive(Drop)]
 pub(crate) struct OpenFiles {
     lock: Option<String>,
@@ -21,9 +24,19 @@ pub(crate) struct OpenFiles {
     nodes: Vec<Node>,
 }
 
+impl Model for OpenFiles {
+    ghost use Rattle.std.specs.Prelude.{Bool, is_some};
+
+    ghost Value = { Bool };
+
+    ghost view = { λ files. is_some files.lock };
+}
+
 impl OpenFiles {
     // None is open yet. The file of this name is to be locked before the first is, where there is a name.
-    pub(crate) fn new(alloc: Global, lock: Option<String>) -> OpenFiles {
+    pub(crate) fn new(alloc: Global, lock: Option<String>) -> OpenFiles
+        ensures { result ≡ is_some lock }
+    {
         OpenFiles {
             lock,
             held: None,
@@ -33,11 +46,9 @@ impl OpenFiles {
 
     // The file of this name, made or cut, where no other run has the folder and this one has not opened the file before. A
     // file that was opened before stays as it is, and so does each other where another run has the folder.
-    pub(crate) fn open_anew<R: Files<File = File>>(
-        &mut self,
-        files: &R,
-        name: &str,
-    ) -> Option<File> {
+    pub(crate) fn open_anew<R: Files<File = File>>(&mut self, files: &R, name: &str) -> Option<File>
+        ensures same { self.new ≡ self.old }
+    {
         if !self.has_folder(files) {
             return None;
         }
@@ -49,7 +60,9 @@ impl OpenFiles {
     }
 
     // Whether a file is a regular one, which was not opened before, and is noted now; none where it was.
-    fn is_first(&mut self, file: &File) -> Option<bool> {
+    fn is_first(&mut self, file: &File) -> Option<bool>
+        ensures same { self.new ≡ self.old }
+    {
         let data = file.metadata().ok()?;
         if !data.is_file() {
             return Some(false);
@@ -67,7 +80,9 @@ impl OpenFiles {
 
     // Whether the folder is this run's, or has no lock: none was asked for, or the folder isn't there or nothing can be made
     // in it.
-    fn has_folder<R: Files<File = File>>(&mut self, files: &R) -> bool {
+    fn has_folder<R: Files<File = File>>(&mut self, files: &R) -> bool
+        ensures same { self.new ≡ self.old }
+    {
         let Some(name) = &self.lock else {
             return true;
         };
@@ -81,7 +96,9 @@ impl OpenFiles {
     }
 
     // Holds the lock, where no other run does.
-    fn hold(&mut self, file: File) -> bool {
+    fn hold(&mut self, file: File) -> bool
+        ensures same { self.new ≡ self.old }
+    {
         if file.try_lock().is_err() || self.is_first(&file).is_none() {
             return false;
         }

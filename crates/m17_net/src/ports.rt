@@ -69,6 +69,7 @@ impl<R: Drop> Model for UdpPorts<R> {
       start = p.start;
       rests = p.rests;
       stops = stops p.stopping;
+      locks = p.files;
       calls = p.calls;
       faults = p.faults;
     } };
@@ -84,6 +85,7 @@ impl<R: Net + Files<File = File> + Clock + AllocGlobal + Copy + Drop> UdpPorts<R
           start = result.start;
           rests = rests;
           stops = false;
+          locks = false;
           calls = 0;
           faults = 0;
         } }
@@ -103,7 +105,7 @@ impl<R: Net + Files<File = File> + Clock + AllocGlobal + Copy + Drop> UdpPorts<R
     /// The same ports, which lock the file of this name before they open a file, make it where it is missing, and hold the lock
     /// for as long as they are there. Where another process holds it they make no book.
     pub fn locking(self, name: String) -> UdpPorts<R>
-        ensures { result ≡ self }
+        ensures { result ≡ record self { locks = true } }
     {
         let mut ports = self;
         ports.files = OpenFiles::new(ports.rt.alloc(), Some(name));
@@ -281,6 +283,7 @@ impl<
         ensures same_start { self.new.start ≡ self.old.start }
         ensures same_rests { self.new.rests ≡ self.old.rests }
         ensures same_stops { self.new.stops ≡ self.old.stops }
+        ensures same_locks { self.new.locks ≡ self.old.locks }
 
         // The call is counted, and so is its failure.
         ensures no_fault { OnOk result (self.new.faults ≡ self.old.faults) }
@@ -302,6 +305,7 @@ impl<
         ensures same_start { self.new.start ≡ self.old.start }
         ensures same_rests { self.new.rests ≡ self.old.rests }
         ensures same_stops { self.new.stops ≡ self.old.stops }
+        ensures same_locks { self.new.locks ≡ self.old.locks }
 
         // The call is counted, and so is its failure.
         ensures no_fault { OnOk result (self.new.faults ≡ self.old.faults) }

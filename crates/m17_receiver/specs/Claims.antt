@@ -1,9 +1,11 @@
 -- The claims that a receiver makes for those who ask, and when their peers may be greeted.
-use Rattle.std.specs.Prelude.{◌≡◌, ◌↔◌, ℕ, Bool, true, false, ◌<◌, ◌≤◌, List, [], length, take, filter, Contains, None, Some}
+use Rattle.std.specs.Prelude.{◌≡◌, ◌≢◌, ◌⊎◌, ◌↔◌, ℕ, ◌+◌, ◌*◌, Bool, true, false, ◌<◌, ◌≤◌, List, [], ◌∷◌, ◌++◌, length, take, filter, Contains, None, Some}
 use Rattle.std.specs.List.{list_any, range_with_len}
 use Rattle.m17_values.specs.declared.member.Member.{Member}
 use Rattle.m17_values.specs.declared.peer.Peer.{Peer}
 use Rattle.m17_roll.specs.Seat.{RollView}
+use Rattle.m17_roll.specs.Sightings.{sighting}
+use Rattle.m17_roll.specs.declared.rule.Sighting.{Sighting}
 use Rattle.m17_directory.specs.Entries.{Notice, Claim, Entry, Setup, notice_at, claim_at, is_from}
 use Rattle.m17_directory.specs.Outcome.{has_place}
 use Rattle.m17_directory.specs.Routed.{past_at, asks_at, others_at, link_verdict}
@@ -54,3 +56,14 @@ pub record IsGreetedAfter (entries : List Entry) (notes : List Member) : Type 0 
       claim_at entries i ≡ Some first → claim_at entries n ≡ Some second →
       AreOfOnePeer (notice_at entries i) (notice_at entries n) →
       Contains (take second.after notes) first.member
+
+-- The last that the seat saw is that the place of the member is its own no more.
+pub record SeesLeft (member : Member) (seat : RollView) : Type 0 where
+  pub word : ℕ
+  pub another : word ≢ 2 * member.generation + 1
+  pub before : List Sighting
+  pub last : seat.seen ≡ before ++ sighting member.place word ∷ []
+
+-- The same, or the roll has no such place.
+abbrev pub HasSeenLeft : Member → RollView → Type 0
+HasSeenLeft member seat = (seat.places ≤ member.place) ⊎ SeesLeft member seat

@@ -1,7 +1,8 @@
 //! Claims of places for those who ask.
-ghost use Rattle.std.specs.Prelude.{◌≡◌, ◌<◌, ◌↔◌, ℕ, true, false, List, [], ◌∷◌, ◌++◌, length, None, Some};
+ghost use Rattle.std.specs.Prelude.{◌≡◌, ◌≢◌, ◌+◌, ◌*◌, ◌<◌, ◌↔◌, ℕ, true, false, List, [], ◌∷◌, ◌++◌, length, IfSome, None, Some};
 ghost use Rattle.m17_directory.specs.declared.known.Known.{Known};
-ghost use Rattle.m17_roll.specs.Seat.{HasLists, IsSameSeat};
+ghost use Rattle.m17_roll.specs.Seat.{HasLists, IsSameSeat, RollView};
+ghost use Rattle.m17_receiver.specs.Claims.{HasSeenLeft};
 ghost use Rattle.m17_receiver.specs.SoFar.{HasTaken, HasNotedSome};
 
 use crate::notes::pop_one;
@@ -19,7 +20,11 @@ pub(crate) fn claim_behind<R: Wait>(
     left: Option<Member>,
     asker: u64,
 ) -> Option<Member>
-    ensures { (known : List Known) → HasTaken false asker result known seat.old seat.new }
+    ensures taken { (known : List Known) → HasTaken false asker result known seat.old seat.new }
+    // It had seen that the place is that member's no more, where there is one, and else it looked at nothing before.
+    ensures behind { (looked : RollView) × (IfSome left (λ member. HasSeenLeft member looked))
+        × (left ≡ None → looked ≡ seat.old)
+        × ((known : List Known) → HasTaken false asker result known looked seat.new) }
 {
     look_behind(rt, seat, left);
     claim_once(seat, asker)
@@ -29,6 +34,8 @@ pub(crate) fn claim_behind<R: Wait>(
 fn look_behind<R: Wait>(rt: &R, seat: &mut RollSeat, left: Option<Member>)
     ensures lists { HasLists seat.old.claimed seat.old.given seat.old.refused seat.new }
     ensures seat { IsSameSeat seat.old seat.new }
+    ensures freed { IfSome left (λ member. HasSeenLeft member seat.new) }
+    ensures unlooked { left ≡ None → seat.new ≡ seat.old }
 {
     match left {
         Some(member) => look_until_free(rt, seat, member),
@@ -41,16 +48,36 @@ fn look_behind<R: Wait>(rt: &R, seat: &mut RollSeat, left: Option<Member>)
 fn look_until_free<R: Wait>(rt: &R, seat: &mut RollSeat, left: Member)
     ensures lists { HasLists seat.old.claimed seat.old.given seat.old.refused seat.new }
     ensures seat { IsSameSeat seat.old seat.new }
+    ensures freed { HasSeenLeft left seat.new }
 {
     let backoff = Backoff::new();
     for _ in rt.forever() {
         // models/circle.pml: old-place-looked-at
-        match seat.look(left.place) {
-            Some(word) if word % 2 == 1 && word / 2 == left.generation => backoff.snooze(),
-            _ => return,
+        if !is_there(seat, left) {
+            return;
         }
+        backoff.snooze();
     }
     unreachable!()
+}
+
+// Looks once at the place of a member: whether it has it still.
+fn is_there(seat: &mut RollSeat, member: Member) -> bool
+    ensures lists { HasLists seat.old.claimed seat.old.given seat.old.refused seat.new }
+    ensures seat { IsSameSeat seat.old seat.new }
+    ensures freed { result ≡ false → HasSeenLeft member seat.new }
+{
+    match seat.look(member.place) {
+        Some(word) => is_of(word, member.generation),
+        None => false,
+    }
+}
+
+// Whether it is the word of a place that this generation has.
+fn is_of(word: u64, generation: u64) -> bool
+    ensures { result ≡ false → word ≢ 2 * generation + 1 }
+{
+    word % 2 == 1 && word / 2 == generation
 }
 
 // Claims once for the asker with this number.

@@ -15,28 +15,25 @@ use Rattle.m17_port_memory.specs.Kept.{TalliesKept}
 use Rattle.m17_port_memory.specs.Peers.{named_in}
 use Rattle.m17_plan.specs.declared.plan.Plan.{Plan}
 use Rattle.m17_house.specs.Free.{IsFreelyReplayed}
-use Rattle.m17_house.specs.Laws.{ReplaysGiveFreely}
-use Rattle.m17_house.specs.Replay.{packet_verdict, IsReplayed}
+use Rattle.m17_house.specs.Replay.{packet_verdict}
 use Rattle.m17_plan.specs.Planned.{setup_of}
 use Rattle.m17_replay.specs.declared.judging.Replayed.{Replayed}
 use Rattle.m17_replay.specs.Replay.{is_lost}
 use Rattle.m17_replay.specs.Run.{is_fault_heard, AreNamed, CanPrint, IsJudged}
 use Rattle.m17_replay.proofs.HeardLemmas.{length_says, says_at, says_fault}
 
--- the plain replay is one in which places are given freely
-pub freely : ReplaysGiveFreely → (plan : Plan) (heard : List Heard) (verdicts : List LinkVerdict) (packets : List (Option Verdict)) (mouth : TalliesKept) → IsReplayed plan heard verdicts packets mouth → IsFreelyReplayed plan heard verdicts packets mouth
-freely law plan heard verdicts packets mouth is = record {
-  entries = is.entries;
-  replay = law plan heard is.entries is.replay;
-  each = is.each;
-  each_packet = is.each_packet;
-  tallies = is.tallies;
-}
-
 -- so many of these are heard, up to the first that ends the link
 abbrev pub IsToEnd : List Heard → ℕ → Type 0
 IsToEnd heard len =
     (entries : List Entry) (front rest : List Heard) → heard ≡ front ++ rest → SaysEach front entries → EndsOnce entries → len ≡ length entries
+
+-- what was heard up to the end of the link
+pub front_of : (heard front rest : List Heard) (entries : List Entry) (len : ℕ) → heard ≡ front ++ rest → SaysEach front entries → len ≡ length entries → take len heard ≡ front
+front_of heard front rest entries len parts says is =
+    let count = length_says front entries says in
+    ap (take len) parts
+    ∙ take-append-le len front rest (omega (arith, is, count))
+    ∙ take_all len front (omega (arith, is, count))
 
 module _ (plan : Plan) (heard : List Heard) (len : ℕ) (to_end : IsToEnd heard len) (verdicts : List LinkVerdict) (packets : List (Option Verdict)) (mouth : TalliesKept) (is : IsFreelyReplayed plan heard verdicts packets mouth) where
   len_is : len ≡ length is.entries
@@ -52,12 +49,8 @@ module _ (plan : Plan) (heard : List Heard) (len : ℕ) (to_end : IsToEnd heard 
   front_count : length is.replay.front ≡ length is.entries
   front_count = length_says is.replay.front is.entries is.replay.says
 
-  -- what was heard up to the end of the link
   front_is : take len heard ≡ is.replay.front
-  front_is =
-      ap (take len) is.replay.heard_is
-      ∙ take-append-le len is.replay.front is.replay.rest (omega (arith, len_is, front_count))
-      ∙ take_all len is.replay.front (omega (arith, len_is, front_count))
+  front_is = front_of heard is.replay.front is.replay.rest is.entries len is.replay.heard_is is.replay.says len_is
 
   -- whether the link was lost
   lost_is : (lost : Bool) → ((h : Heard) → slice_get (take len heard) (length (take len heard) - 1) ≡ Some h → lost ≡ is_fault_heard h) → is_lost is.entries ≡ lost
@@ -71,12 +64,7 @@ module _ (plan : Plan) (heard : List Heard) (len : ℕ) (to_end : IsToEnd heard 
       says_fault last (notice_at is.entries (length is.entries - 1)) (says_at is.replay.front is.entries (length is.entries - 1) last is.replay.says at)
       ∙ sym (told last (ap (slice_get is.replay.front) same ∙ at))
 
-  -- the peers that are named
-  named_is : (summary : Bool) (named : List Peer) → ((entries : List Entry) → SaysEach (take len heard) entries → named ≡ (if summary then peers_named entries (length entries) else []))
-      → named ≡ (if summary then peers_named is.entries (length is.entries) else [])
-  named_is summary named names = names is.entries (subst (λ (front : List Heard). SaysEach front is.entries) (sym front_is) is.replay.says)
-
-named_so : (summary : Bool) (named peers : List Peer) → named ≡ (if summary then peers else []) → summary ≡ true → named ≡ peers
+pub named_so : (summary : Bool) (named peers : List Peer) → named ≡ (if summary then peers else []) → summary ≡ true → named ≡ peers
 named_so true named peers names so = names
 named_so false named peers names so = cc
 
@@ -91,13 +79,13 @@ count_within len count false is = omega arith
 -- so it is kept
 pub judged : (plan : Plan) (summary : Bool) (heard : List Heard) (replayed : Replayed) (len size : ℕ) → IsToEnd heard len → size ≡ len
     → IsFreelyReplayed plan heard replayed.outcomes.verdicts replayed.outcomes.packets replayed.mouth
-    → ((entries : List Entry) → SaysEach (take len heard) entries → replayed.named.items ≡ (if summary then peers_named entries (length entries) else []))
+    → ((entries : List Entry) (front rest : List Heard) → heard ≡ front ++ rest → SaysEach front entries → EndsOnce entries → replayed.named.items ≡ (if summary then peers_named entries (length entries) else []))
     → ((h : Heard) → slice_get (take len heard) (length (take len heard) - 1) ≡ Some h → replayed.lost ≡ is_fault_heard h)
     → replayed.count ≡ (if replayed.lost then size else size - 1)
     → IsJudged plan summary heard replayed
 judged plan summary heard replayed len size to_end same is names tells count =
     let lost = lost_is plan heard len to_end _ _ _ is replayed.lost tells in
-    let names_are = named_is plan heard len to_end _ _ _ is summary replayed.named.items names in
+    let names_are = names is.entries is.replay.front is.replay.rest is.replay.heard_is is.replay.says is.replay.ends in
     record {
       entries = is.entries;
       is_replay = is.replay;

@@ -11,6 +11,8 @@ mod Writing
 mod Steps
 mod HeardLemmas
 mod Judged
+mod Printed
+mod UnderWay
 mod Ends
 mod OneText
 mod Lost

@@ -1,9 +1,9 @@
 -- One entry, and one more.
-use Rattle.std.proofs.Common.{◌≡◌, ℕ, zero, suc, ◌+◌, ◌-◌, ◌<◌, List, [], ◌∷◌, ◌++◌, length, map, get_or, take, drop, slice_get, Option, Some, Ok, Err, sym, ap, ◌∙◌, arith}
+use Rattle.std.proofs.Common.{◌≡◌, ℕ, ◌+◌, ◌-◌, ◌<◌, List, [], ◌∷◌, ◌++◌, length, map, get_or, take, drop, slice_get, Option, Some, Ok, Err, sym, ap, ◌∙◌, arith}
 use Rattle.std.specs.List.{flat_map, range_with_len}
 use Rattle.std.proofs.lemmas.List.FromFn.{get_or-map-range_with_len, length-map-range_with_len, map-range_with_len_more}
 use Rattle.std.proofs.lemmas.List.Concat.{flat_map-append}
-use Rattle.std.proofs.lemmas.List.{append-nil, map-id, take_more, take-append-drop}
+use Rattle.std.proofs.lemmas.List.{append-nil, take_more, take-append-drop}
 use Rattle.std.proofs.lemmas.Option.{same_Some, slice_get-get_or, slice_get_within}
 use Rattle.m17_values.specs.declared.failures.Failed.{Failed}
 use Rattle.m17_floor.specs.declared.verdict.Verdict.{Verdict}
@@ -25,46 +25,6 @@ made_at f xs size n x made at =
     same_Some x (f n)
     (sym at ∙ slice_get-get_or xs n x (slice_get_within xs n x at)
     ∙ ap Some (ap (λ ys. get_or ys n x) made ∙ get_or-map-range_with_len f 0 size n n x within (omega arith)))
-
--- one more position
-pub range_more : (n : ℕ) → range_with_len 0 (n + 1) ≡ range_with_len 0 n ++ n ∷ []
-range_more n = sym (map-id (range_with_len 0 (n + 1))) ∙ map-range_with_len_more (λ (k : ℕ). k) 0 n n (omega arith) ∙ ap (λ xs. xs ++ n ∷ []) (map-id (range_with_len 0 n))
-
--- one more line
-pub lines_more : (f : ℕ → List ℕ) (n : ℕ) → flat_map f (range_with_len 0 n) ++ f n ≡ flat_map f (range_with_len 0 (n + 1))
-lines_more f n =
-    ap (λ xs. flat_map f (range_with_len 0 n) ++ xs) (sym (append-nil (f n)))
-    ∙ sym (flat_map-append f (range_with_len 0 n) (n ∷ []))
-    ∙ ap (flat_map f) (sym (range_more n))
-
--- positions in two parts
-range_split : (n m k a : ℕ) → k ≡ n + m → range_with_len a k ≡ range_with_len a n ++ range_with_len (a + n) m
-range_split zero m k a e =
-    let size : k ≡ m = omega arith in
-    let start : a ≡ a + 0 = omega arith in
-    ap (range_with_len a) size ∙ ap (λ b. range_with_len b m) start
-range_split (suc n) m zero a e = absurd (omega arith)
-range_split (suc n) m (suc k) a e =
-    let next : (a + 1) + n ≡ a + suc n = omega arith in
-    ap (λ xs. a ∷ xs) (range_split n m k (a + 1) (omega arith) ∙ ap (λ b. range_with_len (a + 1) n ++ range_with_len b m) next)
-
--- the sink failed in one of the lines
-pub line_failed : (failed : Failed) (f : ℕ → List ℕ) (n count : ℕ) (x y z : Option (List ℕ)) → n < count
-    → Writes {T = Unit {0}} {E = Failed} (Ok tt) (flat_map f (range_with_len 0 n)) x y → Writes {T = Unit {0}} (Err failed) (f n) y z
-    → Writes {T = Unit {0}} (Err failed) (flat_map f (range_with_len 0 count)) x z
-line_failed failed f n count x y z below before part =
-    let more = range_with_len (0 + (n + 1)) (count - (n + 1)) in
-    let whole : flat_map f (range_with_len 0 (n + 1)) ++ flat_map f more ≡ flat_map f (range_with_len 0 count) =
-    sym (ap (flat_map f) (range_split (n + 1) (count - (n + 1)) count 0 (omega arith)) ∙ flat_map-append f (range_with_len 0 (n + 1)) more) in
-    let so_far = writes_same (Err failed) _ _ x z (lines_more f n) (writes_then tt (Err failed) (flat_map f (range_with_len 0 n)) (f n) x y z before part) in
-    writes_same (Err failed) _ _ x z whole (writes_part failed failed (flat_map f (range_with_len 0 (n + 1))) (flat_map f more) x z so_far)
-
--- one more line was written
-pub line_written : (f : ℕ → List ℕ) (n : ℕ) (x y z : Option (List ℕ))
-    → Writes {T = Unit {0}} {E = Failed} (Ok tt) (flat_map f (range_with_len 0 n)) x y → Writes {T = Unit {0}} {E = Failed} (Ok tt) (f n) y z
-    → Writes {T = Unit {0}} {E = Failed} (Ok tt) (flat_map f (range_with_len 0 (n + 1))) x z
-line_written f n x y z before line =
-    writes_same (Ok tt) _ _ x z (lines_more f n) (writes_then tt (Ok tt) (flat_map f (range_with_len 0 n)) (f n) x y z before line)
 
 module _ {X : Type 0} (f : X → List ℕ) where
   -- the text of one more of a list

@@ -4,9 +4,9 @@ use Rattle.std.proofs.lemmas.List.{append-nil, take_all, take-append-le}
 use Rattle.std.proofs.lemmas.Bool.{cases_lt}
 use Rattle.m17_lists.proofs.Parts.{front_goes_past}
 use Rattle.m17_io.specs.Faults.{HasCause}
-use Rattle.m17_io.specs.Sink.{AppendsPrefix}
+use Rattle.m17_io.specs.Sink.{AppendsPrefix, SinkTold}
 use Rattle.m17_print.specs.Endings.{Grows}
-use Rattle.m17_replay.specs.Run.{Writes}
+use Rattle.m17_replay.specs.Run.{Prints, Writes}
 
 -- a first part of a text is a first part of a longer one
 pub part_of_longer : (before a b : List ℕ) (written : Option (List ℕ)) → AppendsPrefix before a written → AppendsPrefix before (a ++ b) written
@@ -60,3 +60,26 @@ cause_then value result a b c first then = subst (λ (n : ℕ). HasCause n c res
 pub writes_grow : {T E : Type 0} (result : Result T E) (text : List ℕ) (x y : Option (List ℕ)) → Writes result text x y → Grows x y
 writes_grow (Ok v) text x y writes = λ before told. (text, writes.all_of_it before told)
 writes_grow (Err e) text x y writes = λ before told. let part = writes.part_of_it before told in (take part.0 text, part.1)
+
+-- The same, with the counts of faults: nothing is printed yet; one text and then another; and a part.
+pub prints_nothing : {T E : Type 0} (value : T) (first : SinkTold) → Prints {T = T} {E = E} (Ok value) [] first first
+prints_nothing value first = record {
+  cause = record { counted = omega arith; failed = tt; no_fault = refl };
+  writes = writes_nothing value first.written;
+}
+
+pub prints_then : {T U E F : Type 0} (value : T) (result : Result U F) (a b : List ℕ) (x y z : SinkTold)
+    → Prints {T = T} {E = E} (Ok value) a x y → Prints result b y z → Prints result (a ++ b) x z
+prints_then value result a b x y z first then = record {
+  cause = cause_then value result x.faults y.faults z.faults first.cause then.cause;
+  writes = writes_then value result a b x.written y.written z.written first.writes then.writes;
+}
+
+pub prints_part : {T U E : Type 0} (e : E) (a b : List ℕ) (x y : SinkTold) → Prints {T = T} (Err e) a x y → Prints {T = U} (Err e) (a ++ b) x y
+prints_part e a b x y part = record {
+  cause = record { counted = part.cause.counted; failed = part.cause.failed; no_fault = tt };
+  writes = writes_part e e a b x.written y.written part.writes;
+}
+
+pub prints_same : {T E : Type 0} (result : Result T E) (a b : List ℕ) (x y : SinkTold) → a ≡ b → Prints result a x y → Prints result b x y
+prints_same result a b x y e prints = subst (λ (text : List ℕ). Prints result text x y) e prints

@@ -12,9 +12,10 @@ use Rattle.m17_directory.specs.Entries.{Entry, notice_at, is_fault, peers_named}
 use Rattle.m17_directory.specs.Routed.{link_verdict}
 use Rattle.m17_plan.specs.declared.plan.Plan.{Plan}
 use Rattle.m17_house.specs.Replay.{IsReplayOf, packet_verdict, said_to, tally_of}
+pub use Rattle.m17_house.specs.Replay.{outcome_of}
 use Rattle.m17_plan.specs.Planned.{setup_of}
 use Rattle.m17_replay.specs.Lines.{verdict_line}
-use Rattle.m17_replay.specs.Summary.{Outcome, counts_text, peers_text}
+use Rattle.m17_replay.specs.Summary.{counts_text, peers_text}
 use Rattle.m17_replay.specs.declared.ending.ReplayEnding.{ReplayEnding}
 use Rattle.m17_replay.specs.declared.ending.ReplayEnding.TheVariants.{Finished, LinkLost, Refused, CrewRefused, ReadFailed, WriteFailed}
 use Rattle.m17_replay.specs.Reasons.{refusal_told}
@@ -26,11 +27,6 @@ is_lost entries = is_fault (notice_at entries (length entries - 1))
 -- how many entries were heard before the end
 abbrev pub heard_count : List Entry → ℕ
 heard_count entries = if is_lost entries then length entries else length entries - 1
-
--- what entry n came to
-abbrev pub outcome_of : Plan → List Entry → ℕ → Outcome
-outcome_of plan entries n =
-    (link_verdict (setup_of plan) entries n, packet_verdict plan entries n)
 
 -- The lines of the entries, in order.
 abbrev pub line_of : Plan → List Entry → ℕ → List ℕ

@@ -1,9 +1,11 @@
 -- Where a run of `replay` stands between its steps. No public clause cites this module.
-use Rattle.std.specs.Prelude.{◌≡◌, ℕ, ◌≤◌, Bool, true, false, List, ◌++◌, length, Contains, Option, None, Some, Result, Ok, Err, OnOk, OnErr}
-use Rattle.std.specs.List.{flat_map}
-use Rattle.m17_io.specs.Sink.{AppendsPrefix}
+use Rattle.std.specs.Prelude.{◌≡◌, ℕ, ◌+◌, ◌≤◌, Bool, true, false, List, [], ◌∷◌, ◌++◌, length, map, Contains, Option, None, Some, Result, Ok, Err, OnOk, OnErr, if◌then◌else◌}
+use Rattle.std.specs.List.{flat_map, range_with_len}
+use Rattle.m17_io.specs.Faults.{HasCause}
+use Rattle.m17_io.specs.Sink.{AppendsPrefix, SinkTold}
 use Rattle.m17_values.specs.declared.heard.Heard.{Heard}
 use Rattle.m17_values.specs.declared.heard.Heard.TheVariants as heard
+use Rattle.m17_values.specs.declared.failures.Failed.{Failed}
 use Rattle.m17_values.specs.declared.peer.Peer.{Peer}
 use Rattle.m17_ports.specs.declared.tally.Tally.{Tally}
 use Rattle.m17_floor.specs.declared.verdict.Verdict.{Verdict}
@@ -12,18 +14,22 @@ use Rattle.m17_directory.specs.Entries.{Entry, peers_named, with_peer}
 use Rattle.m17_port_memory.specs.Kept.{TalliesKept}
 use Rattle.m17_port_memory.specs.Peers as peers
 use Rattle.m17_plan.specs.declared.plan.Plan.{Plan}
+use Rattle.m17_book.specs.Book.{IsTrace}
 use Rattle.m17_house.specs.Free.{IsFreelyReplayed, IsFreeReplayOf}
-use Rattle.m17_house.specs.Replay.{verdicts_of, packet_verdicts_of, HasNoTallies}
+use Rattle.m17_house.specs.Replay.{verdicts_of, packet_verdicts_of, HasNoTallies, IsReplayOf}
 use Rattle.m17_io.specs.declared.fault.Fault.{Fault}
 use Rattle.m17_print.specs.declared.kind.Kind.{Kind}
 use Rattle.m17_print.specs.Kinds.{kind_place, kind_word}
-use Rattle.m17_replay.specs.Summary.{count_at, count_line, Outcome}
+use Rattle.m17_replay.specs.Counted.{CountsAre}
+use Rattle.m17_replay.specs.Lines.{verdict_line}
+use Rattle.m17_replay.specs.Summary.{count_at, count_line, counts_text, peers_text, Outcome}
 use Rattle.m17_replay.specs.declared.ending.ReplayEnding.{ReplayEnding}
 use Rattle.m17_replay.specs.declared.ending.ReplayEnding.TheVariants.{Finished, LinkLost, WriteFailed}
 use Rattle.m17_replay.specs.declared.judging.Page.{Page}
 use Rattle.m17_replay.specs.declared.judging.Replayed.{Replayed}
+use Rattle.m17_replay.specs.declared.printer.Printer.{Printer}
 use Rattle.m17_replay.specs.Tapes.{OutcomesKept}
-use Rattle.m17_replay.specs.Replay.{failed_device, heard_count, is_lost, tally_at}
+use Rattle.m17_replay.specs.Replay.{failed_device, heard_count, is_lost, outcome_of, tally_at, IsReplayText}
 
 -- The text was appended to what stood there; or, where the sink failed, a first part of it.
 pub record Writes {T E : Type 0} (result : Result T E) (text : List ℕ)
@@ -32,6 +38,38 @@ pub record Writes {T E : Type 0} (result : Result T E) (text : List ℕ)
       → written ≡ Some (before ++ text))
   pub part_of_it : OnErr result ((before : List ℕ) → first ≡ Some before
       → AppendsPrefix before text written)
+
+-- The same, and the sink's count of faults rose where it failed.
+pub record Prints {T E : Type 0} (result : Result T E) (text : List ℕ) (first after : SinkTold)
+    : Type 0 where
+  pub cause : HasCause first.faults after.faults result
+  pub writes : Writes result text first.written after.written
+
+-- the lines of entries that came to this, the first of which has this number
+abbrev pub lines_from : ℕ → List Outcome → List ℕ
+lines_from n [] = []
+lines_from n (o ∷ outcomes) = verdict_line n o.0 o.1 ++ lines_from (n + 1) outcomes
+
+-- what is printed before all entries were heard, and what is printed in all: by what they came to, and by the tallies of
+-- the peers that are named
+abbrev pub text_so_far : Bool → List Outcome → List ℕ
+text_so_far summary outcomes = if summary then [] else lines_from 0 outcomes
+
+abbrev pub text_of_all : Bool → List Outcome → (Peer → Tally) → List Peer → List ℕ
+text_of_all summary outcomes tally named =
+    if summary then counts_text (length outcomes) outcomes ++ peers_text tally named
+    else lines_from 0 outcomes
+
+-- what the entries that are printed came to
+abbrev pub printed_of : Plan → List Entry → List Outcome
+printed_of plan entries = map (outcome_of plan entries) (range_with_len 0 (heard_count entries))
+
+-- The printer was handed these outcomes, since the sink told this first.
+pub record HasTaken (printer : Printer) (outcomes : List Outcome) (first now : SinkTold) : Type 0
+  where
+    pub count : printer.count ≡ length outcomes
+    pub counts : printer.summary ≡ true → CountsAre printer.counts outcomes
+    pub prints : Prints printer.written (text_so_far printer.summary outcomes) first now
 
 -- the line of a kind, with how many of the entries are of it; and the lines of these kinds
 abbrev pub kind_line : List Outcome → Kind → List ℕ
@@ -124,3 +162,23 @@ pub record IsPreparedFor (summary : Bool) (heard : List Heard) (made : Page × T
       IsFreelyReplayed plan heard outcomes.verdicts outcomes.packets mouth →
       peers.named_in mouth.entries ≡ peers.named_in made.1.entries →
       CanPrint (kept_on made.0 outcomes mouth)
+
+-- What was heard was replayed in one thread: the printer was handed what its entries came to, and the mouth has said what
+-- they say; and whether the link was lost.
+pub record IsPlayed (plan : Plan) (heard : List Heard) (printer : Printer) (mouth : TalliesKept)
+    (lost : Bool) (first now : SinkTold) : Type 0 where
+  pub entries : List Entry
+  pub is_replay : IsReplayOf plan heard entries
+  pub is_lost_so : is_lost entries ≡ lost
+  pub taken : HasTaken printer (printed_of plan entries) first now
+  pub tallies : TalliesAre (tally_at plan entries) mouth
+
+-- The text of a trace was printed, and the run ends so.
+pub record IsPrinted (plan : Plan) (summary : Bool) (heard : List Heard) (ending : ReplayEnding)
+    (first now : SinkTold) : Type 0 where
+  pub lost : Bool
+  pub text : List ℕ
+  pub is_text : (bytes : List ℕ) → IsTrace bytes heard → IsReplayText plan summary lost bytes text
+  pub result : Result (Unit {0}) Failed
+  pub prints : Prints result text first now
+  pub ending_is : ending ≡ judged_ending result lost

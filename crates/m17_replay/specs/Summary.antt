@@ -9,6 +9,7 @@ use Rattle.m17_directory.specs.declared.verdict.Act.{Act}
 use Rattle.m17_directory.specs.declared.verdict.Act.TheVariants as act
 use Rattle.m17_directory.specs.declared.verdict.LinkVerdict.{LinkVerdict}
 use Rattle.m17_directory.specs.declared.verdict.LinkVerdict.TheVariants as link
+pub use Rattle.m17_house.specs.Replay.{Outcome}
 use Rattle.m17_print.specs.declared.kind.Kind.{Kind}
 use Rattle.m17_print.specs.declared.kind.Kind.TheVariants.{Join, Again, Leave, Pong, Alive, Refused, NotConnected, NotServed, Full, Stray, Quiet, Fault}
 use Rattle.m17_print.specs.Kinds.{kinds, kind_word, kind_place, verdict_kind}
@@ -35,10 +36,6 @@ kind_of link.Timed v = Some Quiet
 kind_of link.Faulted v = Some Fault
 kind_of link.Ended v = Some Fault
 kind_of link.Asks v = None
-
--- What an entry came to: the link's verdict, and the floor's on its packet.
-abbrev pub Outcome : Type 0
-Outcome = LinkVerdict × Option Verdict
 
 abbrev pub is_kind_at : ℕ → Option Kind → Bool
 is_kind_at place None = false

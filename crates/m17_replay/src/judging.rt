@@ -6,12 +6,11 @@ ghost use Rattle.m17_reflect.specs.declared.returned.HouseRefusal.TheVariants as
 ghost use Rattle.m17_reflect.specs.Views.{IsRefusedFor};
 ghost use Rattle.m17_replay.specs.Run.{is_fault_heard, kept_on, CanPrint, IsJudged, IsPreparedFor};
 
+use crate::Outcomes;
 use crate::hearing::{count_to_end, is_fault};
-use crate::outcomes::Outcomes;
-use crate::peers::{make_mouth, name_peers_for};
+use crate::peers::{make_mouth, name_heard};
 use crate::replaying::replay_over_threads;
 use m17_crew::Crew;
-use m17_house::{laws as house_laws, replay_plain};
 use m17_plan::Plan;
 use m17_port_memory::TallyMouth;
 use m17_reflect::HouseRefusal;
@@ -46,26 +45,8 @@ pub(crate) struct Page {
     pub count: usize,
 }
 
-// Judges what was heard, in one thread, once the peers of the summary are named, where one is asked for. All that
-// printing needs is made before the first entry is heard.
-pub(crate) fn judge(
-    alloc: Global,
-    plan: &Plan,
-    summary: bool,
-    heard: &[Heard],
-) -> Result<Replayed, NoMemory>
-    requires plan { IsPlan plan.now }
-    requires ends { HasEnd heard.now }
-    ensures judged { IfOk result (λ replayed. IsJudged plan.now summary heard.now replayed) }
-    ensures can_print { IfOk result CanPrint }
-{
-    house_laws::answers_are_free_of_places();
-    let (page, mut mouth) = prepare(alloc, summary, heard)?;
-    let (verdicts, packets) = replay_plain(alloc, plan, heard, &mut mouth)?;
-    Ok(keep(page, Outcomes::of_lists(verdicts, packets), mouth))
-}
-
-// The same over threads.
+// Judges what was heard, over threads, once the peers of the summary are named, where one is asked for. All that printing
+// needs is made before the crew is asked for anything.
 pub(crate) fn judge_over_threads<C: Crew, R: Threads + Wait + Copy + Send + 'static>(
     rt: &R,
     alloc: Global,
@@ -87,7 +68,7 @@ pub(crate) fn judge_over_threads<C: Crew, R: Threads + Wait + Copy + Send + 'sta
         return Err(HouseRefusal::NoMemory);
     };
     match replay_over_threads(rt, alloc, plan, heard, mouth, crew) {
-        Ok(replay) => Ok(keep(page, Outcomes::of_tapes(replay.outcomes), replay.mouth)),
+        Ok(replay) => Ok(keep(page, replay.outcomes, replay.mouth)),
         Err(refused) => Err(refused.why),
     }
 }
@@ -100,7 +81,7 @@ fn prepare(alloc: Global, summary: bool, heard: &[Heard]) -> Result<(Page, Tally
     let front = &heard[..count_to_end(heard)];
     let lost = ends_in_fault(front);
     let count = count_heard(front.len(), lost);
-    let named = name_peers_for(alloc, summary, front)?;
+    let named = name_heard(alloc, summary, heard)?;
     let mouth = make_mouth(alloc, &named)?;
     Ok((Page { named, lost, count }, mouth))
 }

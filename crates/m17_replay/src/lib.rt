@@ -5,10 +5,11 @@
 //! (`m17_house::laws::answers_are_free_of_places`). It stands on the headline of `m17_reflect::reflect` and on laws of the
 //! crates below alone. Reading a trace and printing are left to the crates above.
 //!
-//! The command `replay`: a trace of what a link heard comes in, and what a reflector would have done goes out, a line for
-//! each entry or one page of counts. It promises the exact text for the bytes that came in, that an input which is no
-//! trace is refused with its place and reason before anything is written, and that a failure is told exactly where a
-//! device failed. The last line of the run and its status are left to the program.
+//! The command `replay`: a trace of what a link heard comes in, and what a reflector would have done goes out: a line
+//! for each entry, in one thread as soon as it is heard, or one page of counts. It promises the exact text for the
+//! bytes that came in, that an input which is no trace is refused with its place and reason before anything is written,
+//! and that a failure is told exactly where a device failed. The last line of the run and its status are left to the
+//! program.
 #![tactic(auto)]
 
 mod devices;
@@ -26,8 +27,9 @@ mod judging;
 mod kind;
 pub mod laws;
 mod lines;
-mod outcomes;
 mod peers;
+mod playing;
+mod printer;
 mod reading;
 mod reason;
 mod replay_command;

@@ -1,8 +1,12 @@
-ghost use Rattle.std.specs.Prelude.{◌≡◌, true, List, [], ◌∷◌, length, IfOk, OnOk, if◌then◌else◌};
+ghost use Rattle.std.specs.Prelude.{◌≡◌, List, [], ◌++◌, length, IfOk, OnOk, if◌then◌else◌};
+ghost use Rattle.m17_values.specs.declared.heard.Heard.{Heard};
+ghost use Rattle.m17_book.specs.Answers.{HasEnd};
 ghost use Rattle.m17_directory.specs.Entries.{Entry, peers_named, SaysEach};
+ghost use Rattle.m17_directory.specs.Laws.{EndsOnce};
 ghost use Rattle.m17_house.specs.Replay.{HasNoTallies};
 ghost use Rattle.m17_replay.specs.Run.{with_heard, AreNamed};
 
+use crate::hearing::count_to_end;
 use m17_port_memory::TallyMouth;
 use m17_values::{Heard, NoMemory, Peer};
 use std::alloc::Global;
@@ -49,18 +53,23 @@ fn list_peers(alloc: Global, named: &BTreeSet<Peer>) -> Result<Vec<Peer>, NoMemo
     Ok(peers)
 }
 
-// The peers that datagrams came from, each once, in their order, where a summary is asked for, and else nobody.
-pub(crate) fn name_peers_for(
+// The peers that datagrams came from until the link ended, each once, in their order, where a summary is asked for, and else
+// nobody.
+pub(crate) fn name_heard(
     alloc: Global,
     summary: bool,
     heard: &[Heard],
 ) -> Result<Vec<Peer>, NoMemory>
-    ensures { IfOk result (λ named. (entries : List Entry) → SaysEach heard.now entries →
+    requires { HasEnd heard.now }
+    ensures { IfOk result (λ named. (entries : List Entry) (front rest : List Heard) →
+        heard.now ≡ front ++ rest → SaysEach front entries → EndsOnce entries →
         named.items ≡ (if summary then peers_named entries (length entries) else [])) }
 {
     if !summary {
         return Ok(Vec::new(alloc));
     }
-    let named = name_peers(alloc, heard)?;
-    list_peers(alloc, &named)
+    let front = &heard[..count_to_end(heard)];
+    let named = name_peers(alloc, front)?;
+    let peers = list_peers(alloc, &named)?;
+    Ok(peers)
 }

@@ -1,21 +1,20 @@
-ghost use Rattle.std.specs.Prelude.{◌≡◌, ◌≢◌, ℕ, true, List, [], Some, IfOk, OnErr, MatchResult};
-ghost use Rattle.m17_io.specs.Faults.{HasCause, HasCauses};
+ghost use Rattle.std.specs.Prelude.{◌≡◌, ◌≢◌, ℕ, List, Some, IfOk, OnErr, MatchResult};
+ghost use Rattle.m17_io.specs.Faults.{HasCauses};
 ghost use Rattle.m17_values.specs.declared.heard.Heard.{Heard};
-ghost use Rattle.m17_book.specs.Book.{IsTrace};
 ghost use Rattle.m17_print.specs.Endings.{Grows};
 ghost use Rattle.m17_plan.specs.Planned.{IsPlan};
-ghost use Rattle.m17_directory.specs.Entries.{Entry};
 ghost use Rattle.m17_plan.specs.declared.plan.Plan.{Plan};
-ghost use Rattle.m17_replay.specs.Replay.{failed_device, replay_text, streams, summary_text, ComesToReplay, EndsBeforeText, TellsCrew};
+ghost use Rattle.m17_replay.specs.Replay.{failed_device, streams, ComesToReplay, EndsBeforeText, TellsCrew};
 ghost use Rattle.m17_replay.specs.declared.ending.ReplayEnding.TheVariants.{CrewRefused};
-ghost use Rattle.m17_replay.specs.Run.{judged_ending, CanPrint, IsJudged, StandsFor, Writes};
+ghost use Rattle.m17_replay.specs.Run.{judged_ending, CanPrint, IsJudged, IsPrinted};
 
 use crate::ReplayEnding;
-use crate::judging::{Replayed, judge, judge_over_threads};
+use crate::judging::{Replayed, judge_over_threads};
 use crate::laws::replay_text_is_free_of_places;
-use crate::lines::print_lines;
+use crate::lines::print_outcomes;
+use crate::playing::play;
+use crate::printer::Printer;
 use crate::reading::read_heard;
-use crate::summary::{print_counts, print_peers};
 use m17_crew::Crew;
 use m17_house::laws as house_laws;
 use m17_io::{Input, Sink};
@@ -61,8 +60,8 @@ pub fn replay<S: Input<K>, K: Sink>(
         Ok(Err(ending)) => return Ok(ending),
         Err(no_memory) => return Err(no_memory),
     };
-    match judge(alloc, plan, summary, &heard) {
-        Ok(replayed) => Ok(print(summary, &replayed, out)),
+    match play(alloc, plan, summary, &heard, out) {
+        Ok(ending) => Ok(ending),
         Err(no_memory) => Err(no_memory),
     }
 }
@@ -121,26 +120,24 @@ pub fn replay_over_threads<
 // Prints what was judged of a trace, and answers how the run ends.
 fn print<K: Sink>(summary: bool, replayed: &Replayed, out: &mut K) -> ReplayEnding
     requires can { CanPrint replayed.now }
-    ensures causes { (a b c : ℕ) → HasCauses (a, b) (c, (K.told out.old).faults) None →
-        HasCauses (a, b) (c, (K.told out.new).faults) (failed_device result) }
-    ensures ended { (plan : Plan) (bytes : List ℕ) (heard : List Heard) → IsTrace bytes heard →
-        IsJudged plan summary heard replayed.now → ComesToReplay plan summary result
-        (streams bytes (Some []) (K.told out.old).written (K.told out.new).written) }
-    ensures appended { (plan : Plan) (heard : List Heard) →
-        IsJudged plan summary heard replayed.now →
-        Grows (K.told out.old).written (K.told out.new).written }
+    ensures printed { (plan : Plan) (heard : List Heard) → IsJudged plan summary heard replayed.now →
+        IsPrinted plan summary heard result (K.told out.old) (K.told out.new) }
     ensures late { EndsBeforeText result → ⊥ }
     ensures no_crew { result ≢ CrewRefused }
 {
     house_laws::a_replay_there_is();
     replay_text_is_free_of_places();
-    let printed = print_replayed(summary, replayed, out);
+    let mut printer = Printer::new(summary);
+    print_outcomes(&replayed.outcomes, replayed.count, &mut printer, out);
+    let printed = printer.finish(&replayed.named, &replayed.mouth, out);
     ending_of(printed, replayed.lost)
 }
 
-// How a run ends whose trace was judged.
-fn ending_of(printed: Result<(), Failed>, lost: bool) -> ReplayEnding
-    ensures { result ≡ judged_ending printed lost }
+// How a run ends whose trace was replayed.
+pub(crate) fn ending_of(printed: Result<(), Failed>, lost: bool) -> ReplayEnding
+    ensures ending { result ≡ judged_ending printed lost }
+    ensures late { EndsBeforeText result → ⊥ }
+    ensures no_crew { result ≢ CrewRefused }
 {
     match printed {
         Ok(()) => {
@@ -151,33 +148,5 @@ fn ending_of(printed: Result<(), Failed>, lost: bool) -> ReplayEnding
             }
         }
         Err(_) => ReplayEnding::WriteFailed,
-    }
-}
-
-// Writes the summary, where one is asked for, or else the lines of the entries.
-fn print_replayed<K: Sink>(summary: bool, replayed: &Replayed, out: &mut K) -> Result<(), Failed>
-    requires can { CanPrint replayed.now }
-    ensures cause { HasCause (K.told out.old).faults (K.told out.new).faults result }
-    ensures writes { (plan : Plan) → (entries : List Entry) →
-        StandsFor plan summary entries replayed.now →
-        Writes result (replay_text plan summary entries) (K.told out.old).written (K.told out.new).written }
-{
-    if summary {
-        return print_summary(replayed, out);
-    }
-    print_lines(&replayed.outcomes, replayed.count, out)
-}
-
-// Writes the summary.
-fn print_summary<K: Sink>(replayed: &Replayed, out: &mut K) -> Result<(), Failed>
-    requires can { CanPrint replayed.now }
-    ensures cause { HasCause (K.told out.old).faults (K.told out.new).faults result }
-    ensures writes { (plan : Plan) → (entries : List Entry) →
-        StandsFor plan true entries replayed.now →
-        Writes result (summary_text plan entries) (K.told out.old).written (K.told out.new).written }
-{
-    match print_counts(&replayed.outcomes, replayed.count, out) {
-        Ok(()) => print_peers(&replayed.named, &replayed.mouth, out),
-        Err(failed) => Err(failed),
     }
 }

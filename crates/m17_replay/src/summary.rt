@@ -1,38 +1,39 @@
-ghost use Rattle.std.specs.Prelude.{◌≡◌, ◌≤◌, ℕ, List, length, map, Contains};
-ghost use Rattle.std.specs.List.{flat_map, range_with_len};
+ghost use Rattle.std.specs.Prelude.{◌≡◌, true, List, length, Contains};
 ghost use Rattle.m17_io.specs.Faults.{HasCause};
 ghost use Rattle.m17_values.specs.declared.peer.Peer.{Peer};
 ghost use Rattle.m17_ports.specs.declared.tally.Tally.{Tally};
 ghost use Rattle.m17_port_memory.specs.Peers.{named_in};
-ghost use Rattle.m17_directory.specs.Entries.{Entry};
-ghost use Rattle.m17_plan.specs.declared.plan.Plan.{Plan};
 ghost use Rattle.m17_replay.specs.Counted.{CountsAre};
 ghost use Rattle.m17_replay.specs.Summary.{counts_text, peer_line, peers_text, Outcome};
-ghost use Rattle.m17_replay.specs.Replay.{outcome_of};
-ghost use Rattle.m17_replay.specs.Run.{kind_line, kinds_text, AreNamed, AreVerdicts, TalliesAre, Writes};
+ghost use Rattle.m17_replay.specs.Run.{kind_line, kinds_text, text_of_all, AreNamed, TalliesAre, Writes};
 
 use crate::counts::Counts;
 use crate::lines::write_line;
-use crate::outcomes::Outcomes;
 use crate::summary_lines::{make_entries_line, make_kind_line, make_peer_line};
 use m17_io::Sink;
 use m17_port_memory::TallyMouth;
 use m17_print::{Kind, Line};
 use m17_values::{Failed, Peer};
 
-// Counts the first `count` entries by their kinds.
-fn count_entries(outcomes: &Outcomes, count: usize) -> Counts
-    requires there { (count ≤ length outcomes.now.verdicts)
-        × (count ≤ length outcomes.now.packets) }
-    ensures { (plan : Plan) → (entries : List Entry) →
-        AreVerdicts plan entries outcomes.now.verdicts outcomes.now.packets →
-        CountsAre result (map (outcome_of plan entries) (range_with_len 0 count)) }
+// Writes the summary of this many entries: how many of each kind there are, and what was said to each of these peers.
+pub(crate) fn print_summary<K: Sink>(
+    counts: &Counts,
+    count: u64,
+    named: &[Peer],
+    mouth: &TallyMouth,
+    out: &mut K,
+) -> Result<(), Failed>
+    requires named { AreNamed named.now mouth.now }
+    ensures cause { HasCause (K.told out.old).faults (K.told out.new).faults result }
+    ensures writes { (outcomes : List Outcome) (tally : Peer → Tally) →
+        count ≡ length outcomes → CountsAre counts.now outcomes → TalliesAre tally mouth.now →
+        Writes result (text_of_all true outcomes tally named.now)
+        (K.told out.old).written (K.told out.new).written }
 {
-    let mut counts = Counts::new();
-    for n in 0..count {
-        counts.count(outcomes.verdict(n), &outcomes.packet(n));
+    match print_counts(counts, count, out) {
+        Ok(()) => print_peers(named, mouth, out),
+        Err(failed) => Err(failed),
     }
-    counts
 }
 
 // Writes the line of a kind.
@@ -71,24 +72,16 @@ fn print_kinds<K: Sink>(
 }
 
 // Writes how many entries there are, and how many of each kind.
-pub(crate) fn print_counts<K: Sink>(
-    outcomes: &Outcomes,
-    count: usize,
-    out: &mut K,
-) -> Result<(), Failed>
-    requires there { (count ≤ length outcomes.now.verdicts)
-        × (count ≤ length outcomes.now.packets) }
+fn print_counts<K: Sink>(counts: &Counts, count: u64, out: &mut K) -> Result<(), Failed>
     ensures cause { HasCause (K.told out.old).faults (K.told out.new).faults result }
-    ensures writes { (plan : Plan) → (entries : List Entry) →
-        AreVerdicts plan entries outcomes.now.verdicts outcomes.now.packets →
-        Writes result (counts_text count (map (outcome_of plan entries) (range_with_len 0 count)))
+    ensures writes { (outcomes : List Outcome) → CountsAre counts.now outcomes →
+        Writes result (counts_text count outcomes)
         (K.told out.old).written (K.told out.new).written }
 {
-    let counts = count_entries(outcomes, count);
     let mut line = Line::new();
-    make_entries_line(&mut line, count as u64);
+    make_entries_line(&mut line, count);
     match write_line(&line, out) {
-        Ok(()) => print_kinds(&mut line, &Kind::all(), &counts, out),
+        Ok(()) => print_kinds(&mut line, &Kind::all(), counts, out),
         Err(failed) => Err(failed),
     }
 }
@@ -112,11 +105,7 @@ fn print_peer<K: Sink>(
 }
 
 // Writes the lines of the peers that are named, in order.
-pub(crate) fn print_peers<K: Sink>(
-    named: &[Peer],
-    mouth: &TallyMouth,
-    out: &mut K,
-) -> Result<(), Failed>
+fn print_peers<K: Sink>(named: &[Peer], mouth: &TallyMouth, out: &mut K) -> Result<(), Failed>
     requires named { AreNamed named.now mouth.now }
     ensures cause { HasCause (K.told out.old).faults (K.told out.new).faults result }
     ensures writes { (tally : Peer → Tally) → TalliesAre tally mouth.now →

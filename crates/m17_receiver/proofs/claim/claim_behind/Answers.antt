@@ -4,8 +4,8 @@ use Rattle.m17_values.specs.declared.member.Member.{Member}
 use Rattle.m17_receiver.specs.SoFar.{refused_by}
 use Rattle.m17_receiver.proofs.claim.claim_behind.Goals as goal
 
-pub returns : goal.returns
-returns g c = λ known.
+pub returns-clause-taken : goal.returns-clause-taken
+returns-clause-taken g c = λ known.
     let one = c.claim_once.ensures known in
     let was = c.look_behind.ensures in
     record {
@@ -16,3 +16,6 @@ returns g c = λ known.
       in_roll = subst (λ (n : ℕ). IfSome c.claim_once.result (λ m. m.place < n)) was.seat.2 one.in_roll;
       seat = (one.seat.0 ∙ was.seat.0, one.seat.1 ∙ was.seat.1, one.seat.2 ∙ was.seat.2);
     }
+
+pub returns-clause-behind : goal.returns-clause-behind
+returns-clause-behind g c = (c.look_behind.new.seat, c.look_behind.ensures.freed, c.look_behind.ensures.unlooked, c.claim_once.ensures)

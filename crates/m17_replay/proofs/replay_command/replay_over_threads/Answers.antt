@@ -4,7 +4,7 @@ use Rattle.m17_io.specs.Faults.{HasCauses}
 use Rattle.m17_print.proofs.Grown.{grows_none, grows_then}
 use Rattle.m17_replay.specs.Replay.{streams, ComesToReplay}
 use Rattle.m17_replay.specs.Run.{stopped_by}
-use Rattle.m17_replay.proofs.Ends.{in_err, in_ok}
+use Rattle.m17_replay.proofs.Ends.{in_err, in_ok, printed_causes, printed_ends, printed_grows}
 use Rattle.m17_replay.proofs.replay_command.replay_over_threads.Goals as goal
 
 pub returns-in-Ok-Err-clause-ended : goal.returns-in-Ok-Err-clause-ended
@@ -20,7 +20,7 @@ returns-in-Err-clause-appended g c = grows_none _ _ c.in-Err.ensures.nothing_wri
 
 pub returns-in-Ok-clause-causes : goal.returns-in-Ok-clause-causes
 returns-in-Ok-clause-causes g c =
-    c.print.ensures.causes _ _ _
+    printed_causes _ _ _ _ _ _ (c.print.ensures.printed c.args.plan.now c.in-Ok-Ok.heard.items c.in-Ok.ensures.judged) _ _ _
     (subst (λ read. HasCauses ((g.S.Input.told c.args.input.now).faults, (g.K.Sink.told c.args.out.now).faults) ((g.S.Input.told c.read_heard.new.input).faults, (g.K.Sink.told c.read_heard.new.out).faults) (stopped_by read))
     c.in-Ok-Ok.field-0-is c.in-Ok-Ok.ensures.causes)
 
@@ -29,11 +29,11 @@ returns-in-Ok-clause-ended g c = λ bytes told.
     let read = in_ok c.in-Ok-Ok.field-0 _ _ c.in-Ok-Ok.heard c.in-Ok-Ok.field-0-is (c.in-Ok-Ok.ensures.read bytes told) in
     subst (λ left. ComesToReplay c.args.plan.now c.args.summary c.print.result (streams bytes left (g.K.Sink.told c.args.out.now).written (g.K.Sink.told c.print.new.out).written)) (sym read.1)
     (subst (λ first. ComesToReplay c.args.plan.now c.args.summary c.print.result (streams bytes (Some []) first (g.K.Sink.told c.print.new.out).written)) c.in-Ok-Ok.ensures.nothing_written
-    (c.print.ensures.ended c.args.plan.now bytes c.in-Ok-Ok.heard.items read.0 c.in-Ok.ensures.judged))
+    (printed_ends _ _ _ _ _ _ (c.print.ensures.printed c.args.plan.now c.in-Ok-Ok.heard.items c.in-Ok.ensures.judged) bytes read.0))
 
 pub returns-in-Ok-clause-appended : goal.returns-in-Ok-clause-appended
 returns-in-Ok-clause-appended g c =
-    grows_then _ _ _ (grows_none _ _ c.in-Ok-Ok.ensures.nothing_written) (c.print.ensures.appended c.args.plan.now c.in-Ok-Ok.heard.items c.in-Ok.ensures.judged)
+    grows_then _ _ _ (grows_none _ _ c.in-Ok-Ok.ensures.nothing_written) (printed_grows _ _ _ _ _ _ (c.print.ensures.printed c.args.plan.now c.in-Ok-Ok.heard.items c.in-Ok.ensures.judged))
 
 pub returns-in-Err-Crew-clause-ended : goal.returns-in-Err-Crew-clause-ended
 returns-in-Err-Crew-clause-ended g c = λ bytes told.

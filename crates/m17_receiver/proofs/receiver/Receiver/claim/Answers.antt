@@ -14,7 +14,7 @@ returns-then-not-self-clause-taken g c =
     let old = c.args.self.now in
     let impatient : old.patient ≡ false = search rules in
     subst (λ (b : Bool). HasTaken b c.args.index c.claim_behind.result old.directory.known old.seat c.claim_behind.new.seat) (sym impatient)
-    (c.claim_behind.ensures old.directory.known)
+    (c.claim_behind.ensures.taken old.directory.known)
 
 pub returns-clause-taken : goal.returns-clause-taken
 returns-clause-taken g c =
