@@ -5,18 +5,18 @@ import itertools
 import os
 import select
 import socket
-import struct
 import subprocess
 import sys
 import time
 
-sys.path.insert(0, os.path.join(os.path.dirname(os.path.abspath(__file__)), "..", "examples"))
+ROOT = os.path.join(os.path.dirname(os.path.abspath(__file__)), "..")
+sys.path[:0] = [os.path.join(ROOT, "checks"), os.path.join(ROOT, "examples")]
+from forger import UDP_HEADER, Forger  # noqa: E402, F401
 from make import END_BIT, address, stream_packet  # noqa: E402
 
 CALL, OTHER = address("AB1CD"), address("N0CALL")
 HERE = "127.0.0.1"
 FRAME = 0.04
-UDP_HEADER = 8
 
 # The port of the reflector, where the rules of a firewall name one.
 PORT = int(os.environ.get("ATTACKS_PORT", "0"))
@@ -33,9 +33,9 @@ def free_port():
 
 
 class Reflector:
-    def __init__(self, program, seconds, *words, links=1):
+    def __init__(self, program, seconds, *words, links=1, host=HERE):
         self.ports = [free_port() for _ in range(links)]
-        places = [f"{HERE}:{port}" for port in self.ports]
+        places = [f"{host}:{port}" for port in self.ports]
         said = [program, "serve", "--call", "M17-TST", "--for", str(seconds), *words, *places]
         self.process = subprocess.Popen(said, stdout=subprocess.PIPE, text=True)
         self.at = HERE, self.ports[0]
@@ -93,20 +93,6 @@ class Peer:
         return sum(data[:4] == b"M17 " for data in self.heard)
 
 
-class Forger:
-    """Says what others seem to have said."""
-
-    def __init__(self):
-        self.socket = socket.socket(socket.AF_INET, socket.SOCK_RAW, socket.IPPROTO_RAW)
-
-    def say(self, source, target, data):
-        length = UDP_HEADER + len(data)
-        udp = struct.pack("!HHHH", source[1], target[1], length, 0)
-        hosts = socket.inet_aton(source[0]) + socket.inet_aton(target[0])
-        ip = struct.pack("!BBHHHBBH", 0x45, 0, 20 + length, 0, 0, 64, socket.IPPROTO_UDP, 0) + hosts
-        self.socket.sendto(ip + udp + data, target)
-
-
 def talk(talker, listeners, count, each=None, stream=0x1234):
     """So many frames, 40 ms apart; the listeners hear meanwhile. `each` is called before each frame."""
     start = time.monotonic()
@@ -119,3 +105,18 @@ def talk(talker, listeners, count, each=None, stream=0x1234):
         talker.say(stream_packet(stream, number | END_BIT * (number == count - 1), "AB1CD"))
     for peer in (talker, *listeners):
         peer.hear(0.2)
+
+
+def in_a_network(setup, *words, **environment):
+    """The process that runs bench/attacks with these words in a network of its own, in which a shell has said `setup` first."""
+    shell = ["unshare", "-n", "sh", "-ec", f'ip link set lo up; {setup}; exec "$0" "$@"', sys.executable]
+    words = [*shell, os.path.join(ROOT, "bench", "attacks"), *map(str, words)]
+    return subprocess.Popen(words, env={**os.environ, **environment}, stdout=subprocess.PIPE, text=True)
+
+
+def told(process):
+    """What it printed, if it could."""
+    said = process.communicate()[0].strip()
+    if process.returncode:
+        raise PermissionError
+    return said

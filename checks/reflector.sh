@@ -241,7 +241,7 @@ print(*(one.getsockname()[1] for one in two))')
     port=$1 other=$2
 }
 
-# frames MOMENT: the script of three packets of one stream, 40 ms apart, the first at that moment.
+# frames MOMENT [CALL]: the script of three packets of one stream, 40 ms apart, the first at that moment, by this sender or AB1CD.
 frames() {
     python3 -B -c '
 import sys
@@ -249,8 +249,8 @@ sys.path.insert(0, sys.argv[1])
 from make import END_BIT, stream_packet
 start = int(sys.argv[2])
 for number in range(3):
-    packet = stream_packet(0x1234 + start, number | END_BIT * (number == 2), "AB1CD")
-    sys.stdout.buffer.write((start + 40 * number).to_bytes(8, "big") + packet)' "$top/examples" "$1"
+    packet = stream_packet(0x1234 + start, number | END_BIT * (number == 2), sys.argv[3])
+    sys.stdout.buffer.write((start + 40 * number).to_bytes(8, "big") + packet)' "$top/examples" "$1" "${2:-AB1CD}"
 }
 
 two_links() {
@@ -488,6 +488,15 @@ all_options() {
         --rules --board all.board "127.0.0.1:$port" "127.0.0.1:$other" </dev/null && [ -s all/link1.trace ] && [ -s all/B.book ] && [ -e all.board ]
 }
 check "serve takes all of its options at once" all_options
+
+# A book for each module, each with a thread of its own.
+many_files() {
+    mkdir many || return 1
+    lines=$(printf '%s admitted 0 missed 0\\n' A B C D E F G H I J K L M N O P Q R S T U V W X Y Z)
+    gives 0 "$lines" prog serve --call M17-TST --modules ABCDEFGHIJKLMNOPQRSTUVWXYZ --for 1 --book many 127.0.0.1:0 </dev/null &&
+        [ -s many/link0.trace ] && [ "$(find many -name '?.book' -size +0 | wc -l)" -eq 26 ]
+}
+check "serve keeps a trace and 26 books at once" many_files
 
 # The largest plan takes about 70 MB.
 little_memory() {

@@ -1,7 +1,8 @@
 #!/usr/bin/env python3
 """A client of a reflector that leaves the CRC of its stream packets out, as some hotspots do. The arguments are the port on the
-loopback, how many packets of one stream it sends, 40 ms apart, and for how many seconds it stays then. It prints how many
-voice packets it was sent. The status is 1 where it was not let in.
+loopback, how many packets of one stream it sends, 40 ms apart, and for how many seconds it stays then; two more are the callsign
+of their sender, where it isn't the client's, and the id of their stream. It prints how many voice packets it was sent. The status
+is 1 where it was not let in.
 """
 
 import os
@@ -51,13 +52,14 @@ class Client:
 
 
 def main():
-    port, count, seconds = map(int, sys.argv[1:])
+    port, count, seconds = map(int, sys.argv[1:4])
+    sender, stream = sys.argv[4:] or ("AB1CD", "0x4321")
     client = Client(port)
     client.join()
     start = time.monotonic()
     for number in range(count):
         client.hear_until(start + 0.04 * number)
-        packet = stream_packet(0x4321, number | END_BIT * (number == count - 1), "AB1CD")
+        packet = stream_packet(int(stream, 16), number | END_BIT * (number == count - 1), sender)
         client.socket.send(packet[:52] + b"\0\0")
     client.hear_until(time.monotonic() + seconds)
     client.socket.send(b"DISC" + CALL)

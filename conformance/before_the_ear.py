@@ -2,12 +2,14 @@
 that come round, and a pace. The probe has to find that all rules are kept with them, too."""
 
 from collections import deque
+from itertools import dropwhile
 
 from packets import crc
 
 SECOND = 1000
 GUARD_MS = 10000
 GUARD_FRAMES = 16384
+PACE_PLACES = 256
 
 
 def is_frame(data):
@@ -23,11 +25,11 @@ def filled(data):
 
 
 class Guard:
-    """An echo is a stream packet that the same peer sent at most ten seconds before, byte for byte, and since then one with other
-    bytes, and no DISC. The last 16,384 stream packets of the link are looked at."""
+    """An echo is a stream packet whose bytes the same peer sent before its latest one with other bytes: the last such copy came
+    at most ten seconds before, is one of the last 16,384 stream packets of the link, and the peer has sent no DISC since."""
 
     def __init__(self):
-        self.sent = {}  # by peer, the moments, numbers and bytes of its stream packets, the oldest first
+        self.sent = {}  # by peer, the moments, numbers and bytes of its stream packets since its DISC, the oldest first
         self.count = 0
 
     def is_echo(self, moment, peer, data):
@@ -36,29 +38,35 @@ class Guard:
         if not is_frame(data):
             return False
         sent = self.sent.setdefault(peer, deque())
-        while sent and (moment - sent[0][0] > GUARD_MS or self.count - sent[0][1] > GUARD_FRAMES):
+        while sent and self.count - sent[0][1] > GUARD_FRAMES:
             sent.popleft()
-        before = [place for place, (_, _, other) in enumerate(sent) if other == data]
-        is_one = bool(before) and any(other != data for _, _, other in list(sent)[before[0] :])
+        before = dropwhile(lambda one: one[2] == data, reversed(sent))  # from the latest one with other bytes back
+        copy = next((one for one in before if one[2] == data), None)
         sent.append((moment, self.count, data))
         self.count += 1
-        return is_one
+        return copy is not None and moment <= copy[0] + GUARD_MS
 
 
 class Pace:
-    """To one peer a frame passes where fewer than so many passed in the last second."""
+    """To one peer a frame passes where fewer than so many to it passed in the last second, and where none did, fewer than 256
+    other peers were sent frames then. The moment is the greatest that came so far."""
 
     def __init__(self, most):
         self.most = most
+        self.now = 0
         self.told = {}
 
     def is_over(self, moment, peer, data):
         if not is_frame(data) or self.most == 0:
             return False
+        self.now = max(self.now, moment)
+        for other, moments in list(self.told.items()):
+            while moments and self.now - moments[0] > SECOND:
+                moments.popleft()
+            if not moments:
+                del self.told[other]
         told = self.told.setdefault(peer, deque())
-        while told and moment - told[0] > SECOND:
-            told.popleft()
-        if len(told) >= self.most:
+        if len(told) >= self.most or len(self.told) > PACE_PLACES:
             return True
-        told.append(moment)
+        told.append(self.now)
         return False

@@ -1,8 +1,8 @@
-"""The floor, the parrot, a module's items and a link's peers, looked up in the whole list of what happened.
+"""The floor, the parrot, a module's items, a link's peers and what is an echo, looked up in the whole list of what happened.
 
 Nothing is kept between two questions but the answers themselves: each is a search through the list. So this is slow. It
-shares nothing with the floor, the module and the link of `reflector.py`, and the tests compare the two on short inputs.
-Positions count from 0.
+shares nothing with the floor, the module and the link of `reflector.py`, nor with the guard of `before_the_ear.py`, and the
+tests compare the two on short inputs. Positions count from 0.
 """
 
 from collections import Counter, namedtuple
@@ -442,3 +442,25 @@ class House:
             texts = ["%s %d" % (TALLIED[kind], tally[kind]) for kind in kinds]
             out.append("peer %s %s" % (peer_text(peer), " ".join(texts)))
         return out
+
+
+def is_echo(past, peer, moment, data):
+    """Whether the datagram that this peer says next is an echo, where `past` has the datagrams that were heard before it."""
+
+    def is_packet(entry):
+        return len(entry.bytes) == 54 and entry.bytes.startswith(b"M17 ")
+
+    def last_below(place, test):
+        return next((n for n in range(place - 1, -1, -1) if past[n].peer == peer and test(past[n])), -1)
+
+    def packets_to(place):
+        return sum(map(is_packet, past[: place + 1]))
+
+    turned = last_below(len(past), lambda entry: is_packet(entry) and entry.bytes != data)
+    said = last_below(turned, lambda entry: is_packet(entry) and entry.bytes == data)
+    left = last_below(len(past), lambda entry: entry.bytes.startswith(b"DISC") and len(entry.bytes) in (4, 10))
+    parted = last_below(left, is_packet)
+    if said < 0 or not is_packet(Datagram(moment, peer, data)):
+        return False
+    is_kept = packets_to(len(past)) < packets_to(said) + 16384
+    return packets_to(parted) < packets_to(said) and is_kept and moment <= past[said].moment + 10000

@@ -205,6 +205,53 @@ def talked_out(draw, senders, limit, start):
     return [(min(moment, LAST_MOMENT), sender, packet) for moment, sender, packet in said]
 
 
+# ---- what peers say where frames come again
+
+
+def comes_again(draw, said, peers=3):
+    """A peer and what it says next, where `said` has all that was said before: mostly the next frame of its stream, or a frame of
+    before, of this stream or an older one; else what another peer said, a DISC, or what only looks like a frame."""
+    peer = draw.below(peers)
+    own = [data for other, data in said if other == peer]
+    way = draw.weighted({"next": 40, "again": 35, "last": 6, "others": 8, "disc": 5, "like": 15})
+    data = stream(1 + len(own) // 12, len(own), draw.chance(8), payload=bytes([peer]) * 16)
+    if way == "again" and own:
+        data = draw.pick(own[-30:])
+    elif way == "last" and own:
+        data = own[-1]
+    elif way == "others" and said:
+        data = draw.pick(said[-30:])[1]
+    elif way == "disc":
+        data = draw.pick((b"DISC", named("DISC", encode("AB1CD"))))
+    elif way == "like":
+        data = like_a_frame(draw, data)
+    return peer, data[:52] + b"\0\0" if len(data) == 54 and draw.chance(20) else data
+
+
+def like_a_frame(draw, frame):
+    """A frame with a wrong CRC; what ends in zeros as one without a CRC, but is a byte too short or too long, or has another magic;
+    or what is no packet at all."""
+    body = frame[:52]
+    return draw.pick(
+        (
+            body + draw.pick((b"\0\1", b"\1\0", b"\xff\xff", bytes((frame[52], frame[53] ^ 1)))),
+            draw.pick((body[:51] + b"\0\0", body + b"\0\0\0", frame[:53] + b"\0\0")),
+            draw.pick((b"m17 ", b"M27 ", b"M16 ", b"M17_")) + body[4:] + b"\0\0",
+            b"M17 " + draw.bytes(draw.pick((0, 49, 51))),
+        )
+    )
+
+
+def around_the_memory(draw, most=16384):
+    """Peers and what they say: pairs of frames of one stream; so many packets of another peer that the first ones of some pairs
+    are still among the last packets, `most` of them; then the first frame of each pair again."""
+    pairs = draw.between(10, 30)
+    said = [(0, stream(1, number)) for number in range(2 * pairs)]
+    others = [(1, stream(2, number)[:52] + b"??") for number in range(2)]
+    count = most + 1 - 2 * pairs + draw.below(pairs - 1)
+    return said + (count // 2 * others + others)[:count] + said[::2]
+
+
 class Clock:
     """Moments that creep, jump, go back and meet each bound of the rules to the millisecond."""
 

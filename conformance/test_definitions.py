@@ -11,8 +11,11 @@ import breaches
 import definitions
 import generate
 import reference
+from before_the_ear import Guard
+from draws import Draw, around_the_memory, comes_again
 from files import InputRefused, read_book, read_trace
 from packets import decode, number
+from reflector import Datagram
 
 
 def output(words, data):
@@ -21,7 +24,7 @@ def output(words, data):
 
 
 class WholeLists(unittest.TestCase):
-    """`reflector.py` keeps a small state; `definitions.py` looks everything up in the whole list."""
+    """`reflector.py` and the guard keep a small state; `definitions.py` looks everything up in the whole list."""
 
     def agree(self, kind, index):
         words, data = generate.case(kind, 5, index)
@@ -46,6 +49,38 @@ class WholeLists(unittest.TestCase):
                     with self.subTest(kind=kind, index=index):
                         self.agree(kind, index)
 
+
+    def test_echoes(self):
+        """In streams whose frames come again, at ten seconds to the millisecond too."""
+        came = collections.Counter()
+        for seed in range(60):
+            draw, guard, past, moment = Draw("echoes", seed), Guard(), [], 0
+            for _ in range(120):
+                peer, data = comes_again(draw, [(entry.peer, entry.bytes) for entry in past])
+                after, next_moment = None, moment + draw.below(300)
+                if past and draw.chance(25):
+                    old, after = draw.pick(past), draw.pick((9999, 10000, 10001))
+                    peer, data, next_moment = old.peer, old.bytes, old.moment + after
+                moment = max(moment, next_moment) if seed % 2 else next_moment  # those of a trace rise
+                wanted = definitions.is_echo(past, peer, moment, data)
+                self.assertEqual(guard.is_echo(moment, peer, data), wanted, (seed, len(past)))
+                past.append(Datagram(moment, peer, data))
+                came[after, wanted] += 1
+        for kind in ((None, True), (None, False), (9999, True), (10000, True), (10001, False)):
+            self.assertGreater(came[kind], 50, kind)
+
+    def test_echoes_among_the_last_packets(self):
+        for seed in range(5):
+            draw, guard, past, last = Draw("memory", seed), Guard(), [], []
+            said = around_the_memory(draw)
+            for peer, data in said:
+                is_one = guard.is_echo(0, peer, data)
+                if peer == 0 and (peer, data) in said[: len(past)]:
+                    last.append(is_one)
+                    self.assertEqual(is_one, definitions.is_echo(past, peer, 0, data), (seed, len(past)))
+                past.append(Datagram(0, peer, data))
+            self.assertEqual(last, sorted(last))
+            self.assertEqual(set(last), {False, True})
 
     def check(self, words, data, of):
         """The reference says what the definitions say of the records, or that there are none."""
