@@ -42,8 +42,8 @@ impl<B: Book + Drop, R: Drop> Model for BoardBook<B, R> {
 impl<B: Book + Drop, R: Drop> BoardBook<B, R> {
     ghost use Rattle.m17_board.specs.Kept.{BoardKept};
 
-    /// A book over this one, in which nothing is written yet, that posts by this poster, which has not posted yet. It waits
-    /// by `rt` where a post waits.
+    /// A book over this one, in which nothing is written yet, that posts by this poster, which has not posted yet, and was in
+    /// no book that took anything (`untaken`). It waits by `rt` where a post waits.
     pub fn new(rt: R, inner: B, poster: Poster) -> BoardBook<B, R>
         requires empty { StartsEmpty (B.told inner).written }
         requires unposted { poster.posted ≡ [] }

@@ -4,24 +4,14 @@
 //! It promises that the headline holds of that run as of any other, with books that say at which poster they post, if at any;
 //! that the devices come back as they were handed in; and that the lines show what stands whole in the bytes of the books,
 //! module by module, which is the records of the modules' trails. What runs between the threads is left to `m17_reflect`, what
-//! a line says to `m17_board`, whose tests stand here, so that the proofs of its bodies are not made twice.
+//! a line says to `m17_board`.
 #![tactic(auto)]
 
-#[cfg(test)]
-mod bench;
 mod board;
-#[cfg(test)]
-mod book_tests;
-#[cfg(test)]
-mod glance_tests;
 mod keeping;
 mod kept;
 mod putting;
 mod running;
-#[cfg(test)]
-mod tests;
-#[cfg(test)]
-mod watch_tests;
 
 pub use board::{Board, make_board};
 pub use kept::{Kept, KeptLabel};

@@ -18,6 +18,3 @@ pub use call_text::{CallText, text};
 pub use encoding::encode;
 pub use m17_values::Address;
 pub use refusal::CallRefusal;
-
-#[cfg(test)]
-mod tests;

@@ -22,6 +22,3 @@ pub use packet::{Control, Packet, Refusal};
 pub use reader::decode;
 pub use speller::spell;
 pub use writer::write;
-
-#[cfg(test)]
-mod tests;

@@ -22,6 +22,3 @@ pub fn crc(bytes: &[u8]) -> u16
 {
     after_bytes(START, bytes)
 }
-
-#[cfg(test)]
-mod tests;

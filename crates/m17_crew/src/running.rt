@@ -64,14 +64,14 @@ fn done_here<W: Work, R: Wait>(rt: &R, job: W) -> W
     job
 }
 
-// Starts a thread of this kind for the job. The job comes back where there is none, or no memory for it.
-//
+/// Starts a thread of this kind for the job, by no crew: nobody counts it. The job comes back as it was, and nothing of it was
+/// done, where the system gives no such thread, and where there is no memory for it.
 // The system hands back only the closure that was to run, with the job inside it. So the closure looks at a flag: where
 // it is set, it gives the job back and does nothing. Nobody but this function sets it, and only where there is no
 // thread, so a thread always does its job and a recalled closure never does. But no proof knows what a flag holds, so
 // both answers are handled in both places: `Running` may hold a job that is done, and `join` does one that came back
 // undone. The test `a_job_for_which_there_is_no_thread_is_not_done` shows that the flag does its work.
-pub(crate) fn begin<W: Work, R: Threads + Wait + Copy + Send + 'static>(
+pub fn begin<W: Work, R: Threads + Wait + Copy + Send + 'static>(
     rt: &R,
     alloc: Global,
     kind: Builder,

@@ -10,7 +10,7 @@ use Rattle.m17_ports.specs.Untold.{follows_none, nothing_told}
 use Rattle.m17_decorators.specs.declared.filling.FillLabel.{FillLabel}
 use Rattle.m17_decorators.specs.Filled.{filled_all, filled_entry}
 
--- An ear, or ports, that may fill in CRCs: the one behind, and whether it fills in.
+-- An ear that may fill in CRCs: the one behind it, and whether it fills in.
 pub record FillingSeen (E : Type 0) : Type 0 where
   pub inner : E
   pub fills : Bool

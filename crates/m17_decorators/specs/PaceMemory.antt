@@ -144,11 +144,6 @@ abbrev pub IsPacing : ℕ → Option Pace → Type 0
 IsPacing most None = ⊤
 IsPacing most (Some p) = AreWhole p.moments × (p.most ≡ most)
 
--- a pace with a bound, whose moments are whole
-pub record CanBeAsked (p : Pace) : Type 0 where
-  pub whole : AreWhole p.moments
-  pub some : 0 < p.most
-
 -- each paces so many frames, for 256 peers, and nothing has come to it
 pub record IsNew (most : ℕ) (p : Pace) : Type 0 where
   pub whole : AreWhole p.moments

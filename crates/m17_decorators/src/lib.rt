@@ -1,5 +1,5 @@
-//! What stands before an ear or behind a mouth, as decorators at the ports: fill and guard before ears, a pace behind
-//! mouths. What is heard and said is left to the crates above.
+//! What stands before an ear or behind a mouth, as an ear or a mouth over any other one: fill and guard before ears, a pace
+//! behind mouths. What is heard and said is left to the crates above.
 //!
 //! The fill is for ears that fill in the CRC of stream packets whose sender left it at 0, as most hotspots do. It
 //! promises that a `Filling`, an ear over another one, tells what the other one tells, but that a
@@ -27,8 +27,6 @@ mod filling;
 pub use filling::{FillLabel, Filling};
 
 mod bytes;
-#[cfg(test)]
-mod fill_tests;
 mod guarded;
 mod guards;
 mod memory;
@@ -38,8 +36,6 @@ pub use guards::Guards;
 
 mod clock;
 mod frame;
-#[cfg(test)]
-mod guard_tests;
 mod link_paces;
 mod moments;
 mod pace;
@@ -51,6 +47,3 @@ mod places;
 pub use clock::{PaceClock, Stopwatch};
 pub use link_paces::LinkPaces;
 pub use paced::{PaceLabel, Paced};
-
-#[cfg(test)]
-mod pace_tests;

@@ -21,8 +21,8 @@ pub fn what_is_decided_keeps_pace()
 {}
 
 /// All that the mouth behind a pace has said keeps the pace: where it is a new one to which nothing
-/// has come, and after each `say` where it did before. So does what a run says by a mouth that it
-/// was given new.
+/// has come, and after each `say` where it did before. (So does what a run says by a mouth that it
+/// was given new, since it calls nothing else: that is by its form, and no clause.)
 pub fn what_is_said_keeps_pace<M: Mouth, C: Stopwatch>()
     ensures new { (paced : PaceSeen M C) → StartsEmpty (M.told paced.inner).said → HasCome paced []
         → IsAtPace M.told paced }

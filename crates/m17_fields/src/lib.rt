@@ -10,6 +10,3 @@ mod writing;
 
 pub use reading::{get_16, get_32, get_48, get_64};
 pub use writing::{bytes_48, put};
-
-#[cfg(test)]
-mod tests;

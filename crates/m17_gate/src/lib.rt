@@ -35,8 +35,3 @@ pub use refusal::{Reason, RulesRefusal};
 pub use rule::{Act, Kind, Pattern, Rule};
 pub use rules::{Rules, allowed};
 pub use taking::take_rules;
-
-#[cfg(test)]
-mod taking_tests;
-#[cfg(test)]
-mod tests;

@@ -1,19 +1,16 @@
 -- One lane more in a new grid.
-use Rattle.std.proofs.Common.{◌≡◌, ℕ, zero, suc, ◌+◌, ◌⊎◌, inl, inr, ⊎_elim, List, [], ◌∷◌, ◌++◌, map, length, set, get_or, All, Some, sym, subst, refl, ap, ◌∙◌, arith}
+use Rattle.std.proofs.Common.{◌≡◌, ℕ, zero, suc, ◌+◌, ◌⊎◌, inl, inr, ⊎_elim, List, [], ◌∷◌, ◌++◌, map, length, All, Some, sym, subst, refl, ap, ◌∙◌, arith}
 use Rattle.std.proofs.lemmas.Option.{same_Some, none-some, slice_get_within}
 use Rattle.std.proofs.lemmas.List.Elements.{All-push, All-from_recursion, recursion_from_All}
 use Rattle.std.specs.Prelude.{slice_get}
 use Rattle.std.specs.List.{AllByRecursion, AllZip}
 use Rattle.atomic_table.specs.Seated.{TableId}
 use Rattle.m17_lane.specs.Ends.{PushEnd, PopEnd, AreOf, new_popper, new_pusher, new_pushers}
-use Rattle.m17_lane.specs.Rows.{push_each, only, as_new, IsNewRow, IsNewPusher, IsSameRow}
-use Rattle.m17_lane.specs.RowsLaws.{RowsPush}
-use Rattle.m17_lane.specs.Columns.{each_with, row_at, lanes_of, IsGrid}
+use Rattle.m17_lane.specs.Rows.{IsNewRow, IsNewPusher}
+use Rattle.m17_lane.specs.Columns.{each_with, row_at, lanes_of}
 use Rattle.m17_lane.specs.Laid.{IsLaid}
 use Rattle.m17_lane.proofs.Returns.{all_long, longer_than}
-use Rattle.m17_lane.proofs.Stands.{each_count, last_row, other_rows, new_count, dealt, grids}
-use Rattle.std.proofs.lemmas.List.{map-set}
-use Rattle.std.proofs.Math.ListN.{get_or-map}
+use Rattle.m17_lane.proofs.Stands.{each_count, last_row, other_rows, new_count, dealt}
 
 module _ {A : Type 0} where
   at_snoc : (l : List A) (a b : A) (j : ℕ) → slice_get (l ++ a ∷ []) j ≡ Some b → (slice_get l j ≡ Some b) ⊎ ((j ≡ length l) × (a ≡ b))
@@ -108,21 +105,3 @@ module _ {V : Type 0} (size room : V → ℕ) where
   one_more old now k n z h =
       All-from_recursion (λ v. (size v ≡ k + 1) × (room v ≡ n)) now
       (grown old now k n z (recursion_from_All (λ v. (size v ≡ k) × (room v ≡ n)) old h))
-
--- one push more at an end of a column
-module _ {T : Type 0} where
-  same_zip : (cols : List (List (PushEnd T))) → AllZip IsSameRow cols cols
-  same_zip [] = tt
-  same_zip (c ∷ cols) = (refl, same_zip cols)
-
-  put_zip : (cols : List (List (PushEnd T))) (i : ℕ) (was is : List (PushEnd T)) → was ≡ get_or cols i was → IsSameRow was is → AllZip IsSameRow cols (set cols i is)
-  put_zip [] i was is at h = tt
-  put_zip (c ∷ cols) zero was is at h = (subst (λ (r : List (PushEnd T)). IsSameRow r is) at h, same_zip cols)
-  put_zip (c ∷ cols) (suc i) was is at h = (refl, put_zip cols i was is at h)
-
-  pub same_put : {V : Type 0} (items : V → List (PushEnd T)) (vs : List V) (ps : List (PopEnd T)) (i m : ℕ) (x : T) (was is : V) → was ≡ get_or vs i was → items is ≡ push_each (only m x) 0 (items was) → RowsPush T → IsGrid (map items vs) ps → IsGrid (map items (set vs i is)) ps
-  same_put items vs ps i m x was is at pushed law h =
-      let there : items was ≡ get_or (map items vs) i (items was) = ap items at ∙ sym (get_or-map items vs i was) in
-      let kept : IsSameRow (items was) (items is) = ap (map as_new) pushed ∙ law.kept (only m x) 0 (items was) in
-      subst (λ (cs : List (List (PushEnd T))). IsGrid cs ps) (sym (map-set items vs i is))
-      (grids.stays (map items vs) (set (map items vs) i (items is)) ps ps (put_zip (map items vs) i (items was) (items is) there kept) refl h)

@@ -111,8 +111,9 @@ impl Bell {
         self.announce_as(false)
     }
 
-    // `announce` for a sleep that a push which can wait does not end: see `Pusher::push_quietly`.
-    pub(crate) fn announce_doze(&self) -> Announced<'_> {
+    /// `announce` for a consumer that need not have at once what is pushed quietly: such a push ends the sleep only once enough
+    /// items are in its lane (see `Pusher::push_quietly`), and any other that rings does at once.
+    pub fn announce_doze(&self) -> Announced<'_> {
         self.announce_as(true)
     }
 
@@ -127,8 +128,8 @@ impl Bell {
         Announced { key }
     }
 
-    // Whether a doze is announced, and was not rung since.
-    pub(crate) fn is_dozed_on(&self) -> bool {
+    /// Whether a doze was announced last, and nothing has rung since.
+    pub fn is_dozed_on(&self) -> bool {
         // models/lane.pml: announcement-asked
         // models/lane.pml: doze-asked
         self.rung.announced.load(Ordering::SeqCst) && self.rung.dozes.load(Ordering::SeqCst)

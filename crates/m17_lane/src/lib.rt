@@ -27,23 +27,15 @@
 #![tactic(auto)]
 
 mod bell;
-#[cfg(test)]
-mod doze_tests;
 mod lane;
 pub mod laws;
 mod making;
-#[cfg(test)]
-mod mark_tests;
 mod marks;
 mod popper;
 mod pusher;
 mod room;
 mod rule;
-#[cfg(test)]
-mod tests;
 mod trail;
-#[cfg(test)]
-mod waking_tests;
 
 pub use bell::{Announced, Bell};
 pub use making::{make, make_marked, make_one, make_one_marked, make_one_with, make_with};
@@ -53,14 +45,10 @@ pub use trail::{Trail, finish, finish_one};
 
 mod columns;
 mod count;
-#[cfg(test)]
-mod grid_tests;
 mod laying;
 mod marked_bell;
 mod row;
 pub mod rows_laws;
-#[cfg(test)]
-mod rows_tests;
 mod start;
 mod trails;
 

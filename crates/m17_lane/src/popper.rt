@@ -113,7 +113,7 @@ impl<T> Popper<T> {
         None
     }
 
-    pub(crate) fn pop_or_rest<R: Wait>(&mut self, rt: &R, rest: Rest) -> Option<T>
+    fn pop_or_rest<R: Wait>(&mut self, rt: &R, rest: Rest) -> Option<T>
         ensures { MatchOption result (self.new ≡ self.old)
             (λ x. self.new ≡ popped_from self.old x) }
     {

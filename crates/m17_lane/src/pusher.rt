@@ -146,7 +146,7 @@ impl<T> Pusher<T> {
         put(rt, &self.lane, &mut self.pass, item, haste)
     }
 
-    pub(crate) fn offer_or_rest<R: Wait>(&mut self, rt: &R, item: T, haste: Haste) -> Result<(), T>
+    fn offer_or_rest<R: Wait>(&mut self, rt: &R, item: T, haste: Haste) -> Result<(), T>
         ensures { MatchResult result (λ _. self.new ≡ pushed_to self.old item)
             (λ back. (back ≡ item) × (self.new ≡ self.old)) }
     {

@@ -11,6 +11,3 @@ mod lsd;
 pub use bytes::{read, write};
 pub use kind_text::type_text;
 pub use lsd::Lsd;
-
-#[cfg(test)]
-mod tests;

@@ -81,8 +81,10 @@ impl<C: Timer + Drop, W: Wire + Drop> Model for UdpEar<C, W> {
 impl<C: Timer + Drop, W: Wire + Drop> UdpEar<C, W> {
     ghost use Rattle.m17_net.specs.Devices.{EarKept, new_ear};
 
-    // An ear on this socket, which waits for 20 ms, with moments that are counted from `start`.
-    pub(crate) fn new(
+    /// An ear on this socket, which is to wait for 20 ms (`sockets`), with moments that this clock tells and that are counted
+    /// from `start`, in milliseconds. It ends at `until`, and never where that is none; it waits long where nobody is there if
+    /// `rests` is true; and it is the ear of this number.
+    pub fn new(
         clock: C,
         wire: W,
         start: Instant,
@@ -107,8 +109,8 @@ impl<C: Timer + Drop, W: Wire + Drop> UdpEar<C, W> {
         }
     }
 
-    // The same ear, which this may stop.
-    pub(crate) fn stopped_by(self, stop: Stop) -> UdpEar<C, W>
+    /// The same ear, which this may stop.
+    pub fn stopped_by(self, stop: Stop) -> UdpEar<C, W>
         ensures { result ≡ record self { stop = stop } }
     {
         let mut ear = self;

@@ -32,8 +32,8 @@ impl<F: BookFile + Drop> Model for FileBook<F> {
 impl<F: BookFile + Drop> FileBook<F> {
     ghost use Rattle.m17_net.specs.Devices.{BookKept, new_book};
 
-    // A book in this file.
-    pub(crate) fn new(file: F, number: u64) -> FileBook<F>
+    /// A book in this file, which is the book of this number.
+    pub fn new(file: F, number: u64) -> FileBook<F>
         ensures { result ≡ new_book file number }
     {
         FileBook {

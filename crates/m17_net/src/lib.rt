@@ -31,15 +31,7 @@ pub use ear::UdpEar;
 pub use file_book::FileBook;
 pub use late_file::LateFile;
 pub use mouth::UdpMouth;
-pub use ports::UdpPorts;
+pub use ports::{UdpPorts, sockets};
+pub use stop::Stop;
 pub use timer::Timer;
 pub use wire::Wire;
-
-#[cfg(test)]
-mod bench;
-#[cfg(test)]
-mod ear_tests;
-#[cfg(test)]
-mod system_tests;
-#[cfg(test)]
-mod tests;

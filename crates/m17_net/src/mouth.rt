@@ -40,8 +40,8 @@ impl<W: Wire + Drop> Model for UdpMouth<W> {
 impl<W: Wire + Drop> UdpMouth<W> {
     ghost use Rattle.m17_net.specs.Devices.{MouthKept, new_mouth};
 
-    // A mouth on this socket; `six` says whether it is one of IPv6.
-    pub(crate) fn new(wire: W, six: bool, number: u64) -> UdpMouth<W>
+    /// A mouth on this socket (`sockets`); `six` says whether it is one of IPv6. It is the mouth of this number.
+    pub fn new(wire: W, six: bool, number: u64) -> UdpMouth<W>
         ensures { result ≡ new_mouth wire six number }
     {
         UdpMouth {

@@ -233,8 +233,9 @@ impl<
     }
 }
 
-// A socket that is bound there, twice: neither half waits for longer than an ear does while somebody may be there.
-pub(crate) fn sockets<R: Net>(rt: &R, address: SocketAddr) -> io::Result<(UdpSocket, UdpSocket)> {
+/// The two halves of a socket that is bound there, for an ear and for a mouth: neither waits for longer than an ear does while
+/// somebody may be there. It fails where a call of the system does.
+pub fn sockets<R: Net>(rt: &R, address: SocketAddr) -> io::Result<(UdpSocket, UdpSocket)> {
     let wait = Some(Duration::from_millis(WAIT_MS));
     let socket = rt.bind_udp(address)?;
     socket.set_read_timeout(wait)?;

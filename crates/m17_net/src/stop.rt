@@ -10,7 +10,7 @@ use std::sync::atomic::{AtomicBool, Ordering};
 /// What ends an ear before its moment, where there is such a thing: a flag that is set once, and whether this ear has seen
 /// that it is.
 #[derive(Drop)]
-pub(crate) struct Stop {
+pub struct Stop {
     flag: Option<Arc<AtomicBool, Global>>,
     seen: bool,
 }
@@ -37,8 +37,8 @@ impl Stop {
         }
     }
 
-    // The setting of this flag does.
-    pub(crate) fn at(flag: Arc<AtomicBool, Global>) -> Stop
+    /// The setting of this flag ends the ear: it sees that at its next call.
+    pub fn at(flag: Arc<AtomicBool, Global>) -> Stop
         ensures { result ≡ record { there = true; seen = false } }
     {
         Stop {

@@ -10,6 +10,3 @@ mod writing;
 
 pub use reading::read;
 pub use writing::text;
-
-#[cfg(test)]
-mod tests;

@@ -22,8 +22,6 @@ pub use script_ports::ScriptPorts;
 pub use tally_mouth::TallyMouth;
 
 mod faulty_ear;
-#[cfg(test)]
-mod tests;
 mod torn_book;
 
 pub use faulty_ear::FaultyEar;

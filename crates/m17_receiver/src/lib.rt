@@ -20,10 +20,3 @@ mod tape;
 mod trace;
 
 pub use receiver::Receiver;
-
-#[cfg(test)]
-mod bench;
-#[cfg(test)]
-mod tests;
-#[cfg(test)]
-mod waiting_tests;

@@ -91,7 +91,7 @@ fn push_event<R: Wait>(
 }
 
 // Pushes an event to an inbox, quietly where it can wait: a worker that needs it at once doesn't doze.
-pub(crate) fn push_in<R: Wait>(
+fn push_in<R: Wait>(
     rt: &R,
     patient: bool,
     inboxes: &mut Vec<Pusher<Event>>,

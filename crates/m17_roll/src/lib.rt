@@ -9,8 +9,6 @@
 pub mod laws;
 mod rule;
 mod seat;
-#[cfg(test)]
-mod tests;
 
 pub use rule::Sighting;
 pub use seat::{RollEnd, RollSeat, close, make};

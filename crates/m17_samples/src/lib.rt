@@ -83,6 +83,3 @@ pub fn frame(sid: u16, number: u16, last: bool) -> StreamPacket
         payload: [0; 16],
     }
 }
-
-#[cfg(test)]
-mod tests;

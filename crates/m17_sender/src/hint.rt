@@ -32,7 +32,7 @@ impl Hint {
     }
 
     /// Takes the marks of all that was pushed to. It comes before the lanes are tried: see `Bell`.
-    pub(crate) fn look(&mut self) {
+    pub fn look(&mut self) {
         for word in 0..self.bell.words() {
             // models/bells.pml: hint-kept
             let marks = self.bell.take_marks(word);
@@ -44,7 +44,7 @@ impl Hint {
 
     /// The first queue from this number on that may have something. Words without a bit are passed over.
     // models/bells.pml: hint-searched
-    pub(crate) fn next(&self, from: u32) -> Option<u32> {
+    pub fn next(&self, from: u32) -> Option<u32> {
         let first = from / WORD_BITS;
         let mut bit = from % WORD_BITS;
         let words = u32::try_from(self.of_queues.len()).unwrap_or(u32::MAX);
@@ -59,7 +59,7 @@ impl Hint {
     }
 
     /// The queue was found empty.
-    pub(crate) fn clear(&mut self, queue: u32) {
+    pub fn clear(&mut self, queue: u32) {
         // models/bells.pml: hint-cleared
         if let Some(bits) = self.of_queues.get_mut((queue / WORD_BITS) as usize) {
             *bits &= !(1 << (queue % WORD_BITS));

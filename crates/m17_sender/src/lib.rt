@@ -19,22 +19,14 @@
 //! are is left to the modules, and who may wait for whom to the house.
 #![tactic(auto)]
 
-#[cfg(test)]
-mod bench;
 mod cells;
 mod hint;
-#[cfg(test)]
-mod hint_tests;
 mod kept;
 pub mod laws;
 mod queue;
 mod run;
 mod saying;
 mod sender;
-#[cfg(test)]
-mod serving_tests;
-#[cfg(test)]
-mod tests;
 mod turn;
 
 pub use hint::Hint;

@@ -11,6 +11,3 @@ mod packet;
 pub use bytes::{read, write};
 pub use order::ahead;
 pub use packet::{FRAME_NUMBERS, PACKET_BYTES, StreamPacket, StreamRefusal};
-
-#[cfg(test)]
-mod tests;

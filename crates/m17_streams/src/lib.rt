@@ -21,8 +21,6 @@ pub use waiting_source::WaitingSource;
 
 mod buffered_sink;
 mod buffered_source;
-#[cfg(test)]
-mod memory_tests;
 mod send_all;
 
 pub use buffered_sink::BufferedSink;
@@ -30,6 +28,3 @@ pub use buffered_source::BufferedSource;
 
 /// How many bytes a buffer has room for.
 pub const BUFFER_BYTES: usize = 65_536;
-
-#[cfg(test)]
-mod buffers_tests;

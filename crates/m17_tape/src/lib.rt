@@ -7,7 +7,5 @@
 
 mod notes;
 mod tape;
-#[cfg(test)]
-mod tests;
 
 pub use tape::Tape;

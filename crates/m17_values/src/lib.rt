@@ -16,6 +16,3 @@ pub use gram::Gram;
 pub use heard::Heard;
 pub use member::Member;
 pub use peer::Peer;
-
-#[cfg(test)]
-mod tests;

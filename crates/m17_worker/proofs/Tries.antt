@@ -195,9 +195,6 @@ offered_none a law = record {
   };
 }
 
-pub offered_one : (item : Item) (answer : Offered) (a b : LaneOffers) → AreTried (try_of item answer ∷ []) a b → AreOffered (item ∷ []) a b
-offered_one item answer a b h = record { tries = try_of item answer ∷ []; of_all = refl; tried = h }
-
 pub offered_then : (xs ys : List Item) (a b c : LaneOffers) → RowsGrow Item → AreOffered xs a b → AreOffered ys b c → AreOffered (xs ++ ys) a c
 offered_then xs ys a b c law first second = record {
   tries = first.tries ++ second.tries;

@@ -10,23 +10,13 @@
 //! joins it to whoever starts it.
 #![tactic(auto)]
 
-#[cfg(test)]
-mod bench;
 mod book;
-#[cfg(test)]
-mod echo_tests;
-#[cfg(test)]
-mod full_tests;
 mod gifts;
 pub mod laws;
-#[cfg(test)]
-mod offer_tests;
 mod offers;
 mod records;
 mod stops;
 mod tape;
-#[cfg(test)]
-mod tests;
 mod turn;
 mod worker;
 

@@ -1,0 +1,5 @@
+use Rattle.m17_roll.specs.Seat.{IsSameSeat}
+use Rattle.m17_device_and_lane_tests.proofs.roll_tests.play.Given as goal
+
+abbrev pub invariant-loop : goal.invariant-loop
+invariant-loop g l = IsSameSeat l.initial.seat l.seat

@@ -1,5 +1,0 @@
-use Rattle.std.proofs.Common.{◌≡◌}
-use Rattle.m17_lane.proofs.tests.pop_numbers.Given as goal
-
-abbrev pub invariant-loop-popped : goal.invariant-loop-popped
-invariant-loop-popped g l = (l.end.lane ≡ l.initial.end.lane) × (l.end.producers ≡ l.initial.end.producers)

@@ -1,5 +1,0 @@
-use Rattle.m17_roll.specs.Seat.{IsSameSeat}
-use Rattle.m17_roll.proofs.tests.claim_one.Given as goal
-
-abbrev pub invariant-loop : goal.invariant-loop
-invariant-loop g l = IsSameSeat l.initial.seat l.seat

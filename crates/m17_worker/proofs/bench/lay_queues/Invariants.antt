@@ -1,9 +1,0 @@
-use Rattle.m17_lane.specs.Rows.{IsNewRow}
-use Rattle.m17_worker.specs.Offers.{AreQueues}
-use Rattle.m17_worker.proofs.bench.lay_queues.Given as goal
-
-abbrev pub invariant-loop : goal.invariant-loop
-invariant-loop g l = record {
-  queues : AreQueues l.counter l.pushers.items;
-  new : IsNewRow l.pushers.items;
-}

@@ -1,5 +1,0 @@
-use Rattle.m17_worker.specs.Offers.{AreQueues}
-use Rattle.m17_worker.proofs.offer_tests.offer_frames.Given as goal
-
-abbrev pub invariant-loop : goal.invariant-loop
-invariant-loop g l = AreQueues 1 l.offers.queues.items
