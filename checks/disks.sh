@@ -43,7 +43,7 @@ book_that_overflows() {
 check "a book that hangs for so long that its records find no room holds nobody either" book_that_overflows
 
 drained_late() {
-    hangs book 300 book && has heard 300 && has status 0 in time || return 1
+    hangs book 300 book && has heard 300 && has status 0 in time && ! grep -x 'book failed' said || return 1
     prog check <book >said
     grep -qx 'legal [0-9]* records 1 streams 300 admitted' said || {
         cat said
@@ -68,3 +68,9 @@ board_that_hangs() {
     hangs board 300 && has heard 300 && has A admitted 300 missed 0 && has book failed && has status 8 in time
 }
 check "a board that hangs holds nobody, and gives 8" board_that_hangs
+
+# Their threads are waited for together, not one after the other.
+all_that_hang() {
+    hangs all 0 && has H admitted 0 missed 0 && has book failed && has status 8 in time
+}
+check "where eight books hang serve ends as soon as where one does, and gives 8" all_that_hang

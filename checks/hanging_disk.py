@@ -1,12 +1,14 @@
 #!/usr/bin/env python3
 """A reflector of two modules with a file that is a pipe, which takes 4 KiB and then nothing, and talks beside it, for checks
 of what a disk that hangs does. The arguments are the program, what hangs, how many datagrams are sent, and, where the pipe
-is drained in the end, a file for what came out of it. What hangs is one of
+is drained in the end, a file for what came out of it. It is ended where it goes on for half a minute too long. What hangs is
+one of
 
     book     the book of module A, while the datagrams are said there as frames
     other    the same, and seven seconds later 300 frames are said in module B
     trace    the trace of the link, while the datagrams are ones that no packet is, and then somebody asks for a place
     board    the board, whose pipe takes nothing, while the datagrams are said in module A as frames
+    all      the books of eight modules, whose pipes take nothing, and no datagrams are sent
 
 It prints how many frames were heard, in module B too, or that who asked was let in; what the reflector printed, its status,
 and whether it ended in time. The status is 1 where a talk could not begin.
@@ -25,8 +27,10 @@ sys.path.insert(0, os.path.join(os.path.dirname(os.path.abspath(__file__)), ".."
 from make import address, stream_packet  # noqa: E402
 
 SET_PIPE_SIZE = 1031
-SERVES_SECONDS = {"book": 10, "other": 20, "trace": 14, "board": 5}
-PIPES = {"book": "kept/A.book", "other": "kept/A.book", "trace": "kept/link0.trace", "board": "board"}
+SERVES_SECONDS = {"book": 10, "other": 20, "trace": 14, "board": 5, "all": 2}
+MODULES = "ABCDEFGH"
+PIPES = {"book": ["kept/A.book"], "other": ["kept/A.book"], "trace": ["kept/link0.trace"], "board": ["board"]}
+PIPES["all"] = [f"kept/{module}.book" for module in MODULES]
 PATIENCE_SECONDS = 30
 BURST = 8
 
@@ -109,6 +113,21 @@ def hanging_pipe(path):
     return end
 
 
+def fill(path):
+    """Has that pipe take nothing more."""
+    full = os.open(path, os.O_WRONLY | os.O_NONBLOCK)
+    os.write(full, bytes(4096))
+
+
+def end_of(serves, patience):
+    """What it printed; and where it is not at its end after so many seconds it is ended."""
+    try:
+        return serves.communicate(timeout=patience)[0].decode()
+    except subprocess.TimeoutExpired:
+        serves.kill()
+        return serves.communicate()[0].decode()
+
+
 def drain(end, book):
     """All that comes out of the pipe, until nobody writes to it any more."""
     os.set_blocking(end, True)
@@ -122,12 +141,12 @@ def main():
     os.mkdir("kept")
     if hangs != "trace":
         os.symlink("/dev/null", "kept/link0.trace")
-    end = hanging_pipe(PIPES[hangs])
-    if hangs == "board":
-        full = os.open("board", os.O_WRONLY | os.O_NONBLOCK)
-        os.write(full, bytes(4096))
-    port, seconds = free_port(), SERVES_SECONDS[hangs]
-    words = ["serve", "--call", "M17-TST", "--modules", "AB", "--for", str(seconds), "--pace", "0", "--book", "kept"]
+    end = [hanging_pipe(path) for path in PIPES[hangs]][0]
+    if hangs in ("board", "all"):
+        for path in PIPES[hangs]:
+            fill(path)
+    port, seconds, modules = free_port(), SERVES_SECONDS[hangs], MODULES if hangs == "all" else "AB"
+    words = ["serve", "--call", "M17-TST", "--modules", modules, "--for", str(seconds), "--pace", "0", "--book", "kept"]
     words += ["--board", "board"] if hangs == "board" else []
     start = time.monotonic()
     serves = subprocess.Popen([program, *words, f"127.0.0.1:{port}"], stdout=subprocess.PIPE)
@@ -136,15 +155,14 @@ def main():
         junk(port, count)
         Member(port, "AB1CD", b"B").join()
         print("let in")
-    else:
+    elif hangs != "all":
         print("heard", talk(port, b"A", count, "N0CALL", "AB1CD"))
     if hangs == "other":
         time.sleep(7)
         print("heard in B", talk(port, b"B", 300, "N1CALL", "AB2CD"))
     if book:
         drain(end, book[0])
-    printed = serves.communicate()[0].decode()
-    print(printed, end="")
+    print(end_of(serves, start + seconds + PATIENCE_SECONDS - time.monotonic()), end="")
     in_time = time.monotonic() - start < seconds + PATIENCE_SECONDS
     print("status", serves.returncode, "in time" if in_time else "late")
 

@@ -9,13 +9,13 @@ boards() {
     has_bytes board 0
 }
 
-# has_line PATTERN: waits until a line that is so was followed.
+# has_line PATTERN [COUNT]: waits until a line that is so was followed, or so many.
 has_line() {
     tries=0
-    until grep -q "$1" followed; do
+    until [ "$(grep -c "$1" followed)" -ge "${2:-1}" ]; do
         tries=$((tries + 1))
         [ $tries -lt 1200 ] || {
-            echo "no line is $1:"
+            echo "no line is $1, or too few:"
             tail -n 3 followed
             return 1
         }
@@ -72,7 +72,7 @@ followed_by() {
     talker=$!
     talks_on N0CALL Z last_talker &
     last=$!
-    shows "$place" 'A talks AB1CD' && shows "$place" 'Z talks N0CALL'
+    shows "$place" 'A talks AB1CD' && shows "$place" 'Z talks N0CALL' && has_line '^A' 3 && has_line '^Z' 3
     shown=$?
     : >enough
     wait $talker && wait $last || return 1

@@ -141,6 +141,7 @@ refused_rules() {
     gives 1 "input refused at $1: $2\\n" prog serve --call M17-TST --rules --book kept x <rules
 }
 rules_of_serve() {
+    needs yes
     mkdir kept || return 1
     refused_rules 0 modules 'deny talk A N0CALL' &&
         refused_rules 0 kind allow &&
@@ -149,7 +150,9 @@ rules_of_serve() {
     head -c 65537 /dev/zero | tr '\0' '\n' >rules
     gives 1 'input refused at 65536: large\n' prog serve --call M17-TST --rules x <rules || return 1
     head -c 65536 rules >most
-    for text in most "$top/examples/rules.txt" /dev/null; do
+    # as many rules as a text has room for
+    yes 'deny any * *' | head -n 5041 >many
+    for text in most many "$top/examples/rules.txt" /dev/null; do
         gives 5 'port failed\n' prog serve --call M17-TST --rules x <"$text" || return 1
     done
     gives 3 'read failed\n' prog serve --call M17-TST --rules x </ || return 1
@@ -168,10 +171,10 @@ serves() {
 }
 
 # holds: makes the FIFO `stop`, for a reflector that goes on, with `--stop stop`, until `lets_go`: so a slow machine has the time
-# that it needs. Whatever starts behind it must not hold the FIFO, so a process of its own does.
+# that it needs. What is written to it ends nothing. Whatever starts behind it must not hold the FIFO, so a process of its own does.
 holds() {
     rm -f stop && mkfifo stop || return 1
-    sleep 600 >stop &
+    sh -c 'echo on && exec sleep 600' >stop &
     holder=$!
 }
 lets_go() {
@@ -479,24 +482,73 @@ full_book() {
 }
 check "a book that cannot be written does not end serve, and gives 8 at its end" full_book
 
-# 20 words, the most that serve takes with two links.
+# Of the 17 bytes of its header the file takes 10, and nothing more is written.
+part_of_a_write() {
+    needs python3
+    mkdir kept && ln -s /dev/null kept/link0.trace || return 1
+    gives 8 'A admitted 0 missed 0\nbook failed\n' timeout -k 5 60 python3 -c '
+import resource, subprocess, sys
+most = resource.getrlimit(resource.RLIMIT_FSIZE)
+resource.setrlimit(resource.RLIMIT_FSIZE, (10, most[1]))
+run = subprocess.run(sys.argv[1:], stdout=subprocess.PIPE, restore_signals=False)
+resource.setrlimit(resource.RLIMIT_FSIZE, most)
+sys.stdout.buffer.write(run.stdout)
+sys.exit(run.returncode)' "$program" serve --call M17-TST --modules A --for 1 --book kept 127.0.0.1:0 &&
+        [ "$(wc -c <kept/A.book)" -eq 10 ]
+}
+check "a book of whose last write a file takes a part is told as failed" part_of_a_write
+
+# 28 words, the most that serve takes.
 all_options() {
-    free_ports
-    mkdir all || return 1
+    mkdir all && holds || return 1
     gives 0 'A admitted 0 missed 0\nB admitted 0 missed 0\n' \
-        prog serve --call M17-TST --modules AB --parrots B --places 8 --for 1 --limit 60 --book all \
-        --rules --board all.board "127.0.0.1:$port" "127.0.0.1:$other" </dev/null && [ -s all/link1.trace ] && [ -s all/B.book ] && [ -e all.board ]
+        prog serve --call M17-TST --modules AB --parrots B --places 8 --for 1 --limit 60 --book all --rules --board all.board \
+        --fill-crc --pace 50 --no-guard --stop stop 127.0.0.1:0 127.0.0.1:0 127.0.0.1:0 127.0.0.1:0 </dev/null
+    ended=$?
+    lets_go
+    [ $ended -eq 0 ] && [ -s all/link3.trace ] && [ -s all/B.book ] && [ -e all.board ]
 }
 check "serve takes all of its options at once" all_options
 
-# A book for each module, each with a thread of its own.
+# A book for each module, each with a thread of its own, and each in the file of its name.
 many_files() {
     mkdir many || return 1
     lines=$(printf '%s admitted 0 missed 0\\n' A B C D E F G H I J K L M N O P Q R S T U V W X Y Z)
     gives 0 "$lines" prog serve --call M17-TST --modules ABCDEFGHIJKLMNOPQRSTUVWXYZ --for 1 --book many 127.0.0.1:0 </dev/null &&
-        [ -s many/link0.trace ] && [ "$(find many -name '?.book' -size +0 | wc -l)" -eq 26 ]
+        [ "$(head -c 8 many/link0.trace)" = M17TRACE ] && [ "$(find many -name '?.book' -size +0 | wc -l)" -eq 26 ] || return 1
+    for book in many/?.book; do
+        letter=${book#many/}
+        [ "$(head -c 9 "$book")" = "M17BOOK2${letter%.book}" ] || {
+            echo "$book is of another module"
+            return 1
+        }
+    done
 }
 check "serve keeps a trace and 26 books at once" many_files
+
+# threads_are COUNT WORD..: whether the system counts so many threads of a reflector with these words, two links, two modules and
+# their files: one for each of these, the first, one that sends, and one that waits for the stop.
+threads_are() {
+    wanted=$1
+    shift
+    rm -rf kept && mkdir kept && holds || return 1
+    "$program" serve --call M17-TST --modules AB --book kept --stop stop "$@" 127.0.0.1:0 127.0.0.1:0 >served </dev/null &
+    server=$!
+    # shellcheck disable=SC2012  # names of numbers
+    joined 0 && ls "/proc/$server/task" | wc -l >threads
+    lets_go
+    ends 0 'A admitted 0 missed 0\nB admitted 0 missed 0\n' && said threads "$wanted"
+}
+
+# A board has a thread for its file, and one that looks.
+threads_of_serve() {
+    [ -d /proc/self/task ] || {
+        echo "threads cannot be counted here"
+        exit 77
+    }
+    threads_are 11 && threads_are 13 --board board
+}
+check "serve has a thread for each link, module and file, and no thread that has nothing to do" threads_of_serve
 
 # The largest plan takes about 70 MB.
 little_memory() {
@@ -509,6 +561,49 @@ little_memory() {
     gives 70 '' sh -c 'ulimit -v 20000; exec "$@"' sh timeout 60 "$program" "$@"
 }
 check "serve without memory for its plan ends with 70, and says nothing" little_memory
+
+# crowd DEED PORT WORD..: whether all were answered, as crowd.py has it.
+crowd() {
+    timeout 300 python3 -B "$top/checks/crowd.py" "$@"
+}
+
+# Nobody wakes the thread that sends but who has the answer.
+asked_at_rest() {
+    free_ports
+    holds && serves --modules A --stop stop "127.0.0.1:$port" || return 1
+    crowd asks "$port"
+    all=$?
+    lets_go
+    [ $all -eq 0 ] && ends 0 'A admitted 0 missed 0\n'
+}
+check "who asks where nobody is in is answered" asked_at_rest
+
+# More than the 512 of a link that may be in or gone at the same time, where the note of who has gone was not taken yet.
+coming_and_going() {
+    free_ports
+    holds && serves --modules A --stop stop "127.0.0.1:$port" || return 1
+    crowd comes "$port" 600
+    all=$?
+    lets_go
+    [ $all -eq 0 ] && ends 0 'A admitted 0 missed 0\n' || return 1
+    gives 0 'legal 1200 records 0 streams 0 admitted\n' prog check <kept/A.book
+}
+check "600 peers come and go, each is let in and let go, and none of them comes again" coming_and_going
+
+# A join and a leave stand in the book too, and in the trace the PINGs between the frames.
+many_records() {
+    free_ports
+    holds && serves --modules A --board board --no-guard --pace 0 --stop stop "127.0.0.1:$port" || return 1
+    crowd talks "$port" 110000 kept/A.book && has_bytes kept/A.book $((17 + 37 + 31 + 110000 * 97))
+    all=$?
+    lets_go
+    [ $all -eq 0 ] && prog check <kept/A.book >legal || return 1
+    admitted=$(sed -n 's/^legal 110002 records [0-9]* streams \([0-9]*\) admitted$/\1/p' legal)
+    ends 0 "A admitted $admitted missed 0\n" || return 1
+    tail -n 1 board | grep "^A records 110002 admitted $admitted at [0-9]* talker none\$" || return 1
+    prog replay --summary --modules A <kept/link0.trace >alone && prog replay --threads --summary --modules A <kept/link0.trace | cmp - alone
+}
+check "a book, a board and a trace of 110,000 frames are whole, and replayed over threads too" many_records
 
 # Of two links the first is lost: the other goes on to its end. What is shut from outside is the socket of the process.
 lost_link() {

@@ -1,7 +1,8 @@
 -- What the words of a command say of the ports of a machine.
-use Rattle.std.specs.Prelude.{◌≡◌, ◌⊎◌, ℕ, ◌+◌, ◌++◌, Bool, true, false, List, length, Option, None, Some, codes, string_bytes, vec_len}
+use Rattle.std.specs.Prelude.{◌≡◌, ◌⊎◌, ℕ, ◌+◌, ◌++◌, Bool, true, false, List, length, Option, None, Some, is_some, codes, string_bytes, vec_len}
 use Rattle.std.specs.Option.{option_map}
 use Rattle.m17_control.specs.Modules.{letters_of}
+use Rattle.m17_net.specs.Devices.{PortsKept}
 use Rattle.m17_words.specs.declared.command.Command.{Command}
 use Rattle.m17_words.specs.declared.command.Command.TheVariants.{Judge, Show, Replay, Make, Check, Migrate, Talk, Serve, Bridge}
 use Rattle.m17_words.specs.declared.order.ServeOrder.{ServeOrder}
@@ -52,6 +53,14 @@ pub record AreOf (command : Command) (habits : Habits) : Type 0 where
 abbrev pub AreHabits : List (List ℕ) → Habits → Type 0
 AreHabits words habits = ((command : Command) × Names words command × AreOf command habits)
     ⊎ (AreRefused words × (habits.books ≡ 0))
+
+-- The ports of a machine rest, stop and lock as the habits of these words say.
+pub record AreWanted (words : List (List ℕ)) (ports : PortsKept) : Type 0 where
+  pub habits : Habits
+  pub are : AreHabits words habits
+  pub rests : ports.rests ≡ habits.rests
+  pub stops : ports.stops ≡ is_some habits.stop
+  pub locks : ports.locks ≡ is_some habits.lock
 
 -- So many traces and books are kept by the command that the words name, and none where they name none.
 abbrev pub Keep : List (List ℕ) → ℕ → Type 0

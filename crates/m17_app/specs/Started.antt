@@ -85,6 +85,10 @@ pub record AreAll {B : Type 0} (words : Option (List (List ℕ))) (first : Ports
   pub unasked : first.calls ≡ 0
   pub all : first.faults ≡ 0 → IfSome words (λ words. Keep words (length ended))
 
+-- The words of a run are those that were given to it.
+abbrev pub AreGiven : Option (List (List ℕ)) → Option (List (List ℕ)) → Type 0
+AreGiven given words = IfSome words (λ words. given ≡ Some words)
+
 -- The number that a process ends with, by what became of the threads of its books and by the number that its command ended
 -- with. It is the same, but where that is 0: then it is 0 exactly where each thread ended and no write failed, and else 8,
 -- or 4 where that could not be told.

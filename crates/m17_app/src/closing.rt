@@ -2,10 +2,12 @@
 ghost use Rattle.std.specs.Prelude.{◌≡◌, ◌⊎◌, reverse, length, All, IfOk, is_some, false};
 ghost use Rattle.std.specs.List.{AllZip};
 ghost use Rattle.m17_io.specs.Faults.{HasRisen};
+ghost use Rattle.m17_io.specs.Source.{SourceTold};
+ghost use Rattle.m17_print.specs.Endings.{book_failed_line};
 ghost use Rattle.m17_disk.specs.Writing.{EndsAs};
 ghost use Rattle.m17_net.specs.Devices.{IsBegun, file_book_told};
 ghost use Rattle.m17_app.specs.Started.{IsClosed};
-ghost use Rattle.m17_app.specs.Status.{IsStatus};
+ghost use Rattle.m17_app.specs.Status.{IsStatus, WritesLast, streams};
 
 use crate::conclude::end_with;
 use crate::habits::Habits;
@@ -181,6 +183,8 @@ fn tell_failed<K: Sink>(out: &mut K) -> Status
     ensures answer { (result ≡ Status.BookFailed) ⊎ (result ≡ Status.WriteFailed) }
     ensures cause { result ≡ Status.WriteFailed
         → HasRisen (K.told out.old).faults (K.told out.new).faults }
+    ensures line { (source : SourceTold) → WritesLast book_failed_line Status.BookFailed result
+        (streams source (K.told out.old)) (streams source (K.told out.new)) }
 {
     end_with(out, b"book failed\n", Status::BookFailed)
 }

@@ -28,9 +28,9 @@ mod std_out;
 mod streams;
 mod words;
 
-ghost use Rattle.std.specs.Prelude.{◌≡◌, [], ℕ};
+ghost use Rattle.std.specs.Prelude.{◌≡◌, [], ℕ, map, option_map, string_bytes};
 ghost use Rattle.std.specs.Process.{exit_status};
-ghost use Rattle.m17_app.specs.Started.{AreAll, AreEnded, EndsAsRun, IsClosed};
+ghost use Rattle.m17_app.specs.Started.{AreAll, AreEnded, AreGiven, EndsAsRun, IsClosed};
 ghost use Rattle.m17_app.specs.Status.{IsStatus};
 
 use closing::{Ended, close_books, ports_of, staff_books};
@@ -50,11 +50,13 @@ use std::time::Clock;
 use words::{run_words, words_of};
 
 fn main(rt: HostRuntime) -> ExitCode {
-    start(rt, &rt).0
+    let words = words_of(rt.alloc(), env::args(&rt));
+    start(rt, &rt, words).0
 }
 
-// Runs the program on the standard streams, over sockets, files and the system's threads, and closes its books, of whose
-// threads it hands back the jobs. It starts threads and waits by `waits`, which is the runtime too.
+// Runs the program by these words, where there was memory for them, on the standard streams, over sockets, files and the
+// system's threads, and closes its books, of whose threads it hands back the jobs. It starts threads and waits by `waits`,
+// which is the runtime too.
 fn start<
     W: Threads
         + Wait
@@ -66,17 +68,17 @@ fn start<
         + Drop
         + Send
         + 'static,
->(rt: HostRuntime, waits: &W) -> (ExitCode, Ended)
+>(rt: HostRuntime, waits: &W, words: Option<Vec<String>>) -> (ExitCode, Ended)
     ensures status { IsStatus (exit_status result.0) }
     // The jobs are those of threads that were started for new books, each as it ended.
     ensures books { AreEnded result.1.items }
-    // The process ends with the status of a run of the program; but 0 becomes 8, or 4, where a book was not written. There
-    // are as many jobs as the run's command keeps traces and books, unless a thread was refused.
+    // The process ends with the status of a run of the program by these words; but 0 becomes 8, or 4, where a book was not
+    // written. There are as many jobs as the run's command keeps traces and books, unless a thread was refused.
     ensures ran { (ended : ℕ) × (run : EndsAsRun (Unit {0}) (Unit {0}) (Unit {0}) ended)
         × IsClosed result.1.items ended (exit_status result.0)
-        × AreAll run.words run.first result.1.items }
+        × AreAll run.words run.first result.1.items
+        × AreGiven (option_map (λ words. map string_bytes words.items) words) run.words }
 {
-    let words = words_of(rt.alloc(), env::args(&rt));
     let Some((words, habits)) = with_habits(rt.alloc(), words) else {
         return no_memory(rt.alloc());
     };
@@ -93,7 +95,7 @@ fn start<
         waits,
         rt.alloc(),
         keys,
-        Some(words),
+        words,
         ports,
         &mut crew,
         rt.stdin(),

@@ -1,51 +1,57 @@
-ghost use Rattle.std.specs.Prelude.{◌≡◌, ◌≢◌, [], drop, map, option_map, string_bytes, IfErr, IfOk, IfSome, MatchOption, None};
+ghost use Rattle.std.specs.Prelude.{◌≡◌, ◌≢◌, [], drop, map, string_bytes, IfErr, IfOk, IfSome, MatchOption, None};
 ghost use Rattle.std.specs.Vec.Iter.{into_iter_items};
 ghost use Rattle.std.specs.IoError.{error_kind};
-ghost use Rattle.m17_app.specs.Started.{HasRunIfAny};
+ghost use Rattle.m17_net.specs.Devices.{udp_ports_told};
+ghost use Rattle.m17_app.specs.Habits.{AreWanted};
+ghost use Rattle.m17_app.specs.Started.{HasRun};
 ghost use Rattle.m17_app.specs.Status.{Tells, count_from};
 
-use crate::status::Status;
 use crate::streams::run_on;
 use m17_crew::Crew;
-use m17_ports::{Book, Ear, Ports};
+use m17_net::UdpPorts;
 use std::alloc::Global;
 use std::env::Args;
+use std::fs::File;
 use std::hash::RandomState;
 use std::io::{self, ErrorKind, Read};
+use std::net::Net;
+use std::rt::Files;
 use std::sync::Wait;
 use std::thread::Threads;
 use std::time::Clock;
 
-/// Runs the program by these words on a reader and on what prints. `NoMemory` where there was none for the words.
-/// The ports come back.
+/// Runs the program by these words over the ports of the machine, on a reader and on what prints. The ports come back.
 pub fn run_words<
-    H: Threads + Wait + Clock + Copy + Drop + Send + 'static,
-    Q: Ports + Drop,
+    W: Threads
+        + Wait
+        + Net
+        + Files<File = File>
+        + Clock
+        + AllocGlobal
+        + Copy
+        + Drop
+        + Send
+        + 'static,
     C: Crew,
     R: Read + Drop,
     P: Print,
 >(
-    rt: &H,
+    rt: &W,
     alloc: Global,
     keys: RandomState,
-    words: Option<Vec<String>>,
-    ports: Q,
+    words: Vec<String>,
+    ports: UdpPorts<W>,
     crew: &mut C,
     reader: R,
     to: &P,
-) -> (u8, Q)
-where
-    <Q::Ear as Ear>::Label: 'static,
-    <Q::Book as Book>::Label: 'static,
-    ensures { Tells result.0 (λ status. HasRunIfAny Q.Ear.Label Q.Mouth.Label Q.Book.Label
-        (option_map (λ words. map string_bytes words.items) words) status
-        (Q.told ports) (Q.told result.1)
+) -> (u8, UdpPorts<W>)
+    // The ports rest, stop and lock as the command of these words wants it.
+    requires wanted { AreWanted (map string_bytes words.items) ports }
+    ensures { Tells result.0 (λ status. HasRun (Unit {0}) (Unit {0}) (Unit {0})
+        (map string_bytes words.items) status (udp_ports_told ports) (udp_ports_told result.1)
         (count_from (C.refusals crew.old) (C.refusals crew.new))) }
 {
-    match words {
-        Some(words) => run_on(rt, alloc, keys, &words, ports, crew, reader, to),
-        None => (Status::NoMemory.code(), ports),
-    }
+    run_on(rt, alloc, keys, &words, ports, crew, reader, to)
 }
 
 /// The words after the program's name, of what the runtime gave. Words that are no text name no command, as no words do;

@@ -27,7 +27,7 @@ const UNREAD_PART: usize = 8;
 // had let through: as many frames as the peer was sent in between. That is little where 64 frames
 // go to many peers, and most of a small bound where they all go to one; so the clock is read once
 // for 64 frames, before them where one peer was sent an eighth of its bound, and before a frame is
-// refused.
+// refused. Where fewer passed in all, no peer is looked up for that.
 #[derive(Drop)]
 pub(crate) struct Pace {
     pub(crate) moments: Moments,
@@ -84,10 +84,9 @@ impl Pace {
 
     // Whether the clock is to be read before the next frame to this peer.
     fn is_due(&self, to: &Peer) -> bool {
+        let part = self.most / UNREAD_PART;
         self.unread >= MOST_UNREAD
-            || self
-                .places
-                .has_passed(to, self.most / UNREAD_PART, self.moments.last)
+            || self.unread >= part && self.places.has_passed(to, part, self.moments.last)
     }
 
     // Reads the clock.

@@ -1,7 +1,7 @@
 -- What one dispatch more makes of modules and tallies.
 use Rattle.std.proofs.Common.{◌≡◌, ◌≢◌, ℕ, zero, suc, ◌+◌, ◌<◌, ◌≤◌, Bool, true, false, cond, List, [], ◌∷◌, ◌++◌, length, map, filter, Option, None, Some, inl, inr, refl, ap, sym, subst, ◌∙◌, arith, count_by}
 use Rattle.std.specs.List.{filter_map, flat_map, range_with_len, cons_option}
-use Rattle.std.specs.Option.{option_to_list}
+use Rattle.std.specs.Option.{option_or, option_to_list}
 use Rattle.std.proofs.lemmas.List.{map-append}
 use Rattle.std.proofs.lemmas.List.Elements.{filter_map-append}
 use Rattle.std.proofs.lemmas.Bool.{cases_eq, false≢true, eq-eqb, ne_eqb}
@@ -151,13 +151,13 @@ rooms_after plan done letter event rooms new before its others l served =
     ]
 
 -- An event was carried out.
-pub carried_event : OneEventMoreGives → (plan : Plan) (done : List Dispatch) (letter : ℕ) (event : Event) (rooms new : List (Option ModuleKept)) (mouth said : TalliesKept) (items : List Item) (answer : Option Verdict) → serves plan.modules letter ≡ true → HasCarried plan done rooms mouth →
-    IsRoomStep plan letter (events_of letter done) event (new, answer) →
+pub carried_event : OneEventMoreGives → (plan : Plan) (done : List Dispatch) (letter : ℕ) (event : Event) (rooms new : List (Option ModuleKept)) (mouth said : TalliesKept) (items : List Item) (found answer : Option Verdict) → serves plan.modules letter ≡ true → HasCarried plan done rooms mouth →
+    IsRoomStep plan letter (events_of letter done) event found (new, answer) →
     items ≡ items_at (module_setup plan letter) (events_of letter done ++ event ∷ []) (length (events_of letter done)) →
     ((other : ℕ) (events : List Event) → 65 ≤ other → other ≢ letter → RoomStands plan other events rooms → RoomStands plan other events new) →
     HasSaidMore (λ x. filter_map (packet_to x plan.name) items) mouth said →
-    HasCarried plan (done ++ ToModule letter event ∷ []) new said × (answer ≡ answer_to plan done (ToModule letter event))
-carried_event law plan done letter event rooms new mouth said items answer served before step items_are others told = (
+    HasCarried plan (done ++ ToModule letter event ∷ []) new said × (answer ≡ option_or (answer_to plan done (ToModule letter event)) found)
+carried_event law plan done letter event rooms new mouth said items found answer served before step items_are others told = (
   record {
     rooms_stand = rooms_after plan done letter event rooms new before.rooms_stand step.stands others;
     tallies = same_count_tallies (λ x. said_after plan done x ++ filter_map (packet_to x plan.name) items) (said_after plan (done ++ ToModule letter event ∷ [])) said

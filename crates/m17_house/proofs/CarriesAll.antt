@@ -51,15 +51,14 @@ rest_taken (Some x) d rest new post is e none =
     e ∙ ap (λ y. y ∷ new) (ap (λ (xs : List Dispatch). get_or xs 0 d) same)
 
 pub partway_more : (posted : List Dispatch) (name : ℕ) (old : DirectoryKept) (rooms : List (Option modules.ModuleKept)) (mouth : TalliesKept)
-    (d : Dispatch) (rest post : List Dispatch) (mid new : DirectoryKept) (rooms1 rooms2 : List (Option modules.ModuleKept)) (mouth1 mouth2 : TalliesKept) (found answer next : Option Verdict) →
+    (d : Dispatch) (rest post : List Dispatch) (mid new : DirectoryKept) (rooms1 rooms2 : List (Option modules.ModuleKept)) (mouth1 mouth2 : TalliesKept) (found next : Option Verdict) →
     IsPartway posted name old rooms mouth post mid rooms1 mouth1 found →
     post ≡ d ∷ rest →
     new ≡ noting (option_to_list (left_member d)) mid →
     IsSameMouth mouth1 mouth2 →
-    ((plan : Plan) (done : List Dispatch) → name ≡ plan.name → IsServed plan d → length done < 2 ^ 64 - 1 → HasCarried plan done rooms1 mouth1 → HasCarried plan (done ++ d ∷ []) rooms2 mouth2 × (answer ≡ answer_to plan done d)) →
-    next ≡ option_or answer found →
+    ((plan : Plan) (done : List Dispatch) → name ≡ plan.name → IsServed plan d → length done < 2 ^ 64 - 1 → HasCarried plan done rooms1 mouth1 → HasCarried plan (done ++ d ∷ []) rooms2 mouth2 × (next ≡ option_or (answer_to plan done d) found)) →
     IsPartway posted name old rooms mouth rest new rooms2 mouth2 next
-partway_more posted name old rooms mouth d rest post mid new rooms1 rooms2 mouth1 mouth2 found answer next part is noted same step next_is =
+partway_more posted name old rooms mouth d rest post mid new rooms1 rooms2 mouth1 mouth2 found next part is noted same step =
     let done : List Dispatch = part.done in
     let posts : posted ≡ done ++ d ∷ rest = part.posts ∙ ap (λ xs. done ++ xs) is in
     record {
@@ -76,8 +75,7 @@ partway_more posted name old rooms mouth d rest post mid new rooms1 rooms2 mouth
             subst (λ (b : List Dispatch). HasCarried plan b rooms2 mouth2) (append_assoc before done (d ∷ [])) now.0,
             sofar.1 ∙ ap (found_from plan (before ++ done) found) is
                 ∙ ap (λ b. found_from plan b (option_or (answer_to plan (before ++ done) d) found) rest) (append_assoc before done (d ∷ []))
-                ∙ ap (λ v. found_from plan (before ++ (done ++ d ∷ [])) (option_or v found) rest) (sym now.1)
-                ∙ ap (λ v. found_from plan (before ++ (done ++ d ∷ [])) v rest) (sym next_is),
+                ∙ ap (λ v. found_from plan (before ++ (done ++ d ∷ [])) v rest) (sym now.1),
           );
     }
 

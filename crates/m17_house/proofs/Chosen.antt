@@ -32,7 +32,7 @@ count_range p q a (suc n) same =
     ∙ ap (λ m. count_by q (a ∷ []) + m) (count_range p q (a + 1) n (λ j below. same j (omega arith)))
     ∙ sym (count_of_both q (a ∷ []) (range_with_len (a + 1) n))
 
-claim_before : (entries : List Entry) (e : Entry) (i : ℕ) → i < length entries → claim_at (entries ++ e ∷ []) i ≡ claim_at entries i
+pub claim_before : (entries : List Entry) (e : Entry) (i : ℕ) → i < length entries → claim_at (entries ++ e ∷ []) i ≡ claim_at entries i
 claim_before entries e i below = ap (option_and_then (λ (entry : Entry). entry.claim)) (places_before_stay entries (e ∷ []) i below)
 
 pub notice_before : (entries : List Entry) (e : Entry) (i : ℕ) → i < length entries → notice_at (entries ++ e ∷ []) i ≡ notice_at entries i
@@ -114,7 +114,7 @@ match_in false F N F' N' f g m = g m
 match_to : (b c : Bool) (F N F' N' : Type 0) → b ≡ c → (F → F') → (N → N') → MatchBool b F N → MatchBool c F' N'
 match_to b c F N F' N' same f g m = subst (λ (t : Bool). MatchBool t F' N') same (match_in b F N F' N' f g m)
 
-chosen_before : EntriesBeforeDecide → (setup : Setup) (entries : List Entry) (e : Entry) (i : ℕ) → i < length entries → IsChosenAt setup entries i → IsChosenAt setup (entries ++ e ∷ []) i
+pub chosen_before : EntriesBeforeDecide → (setup : Setup) (entries : List Entry) (e : Entry) (i : ℕ) → i < length entries → IsChosenAt setup entries i → IsChosenAt setup (entries ++ e ∷ []) i
 chosen_before law setup entries e i below chosen =
     let longer : List Entry = entries ++ e ∷ [] in
     let front : take i entries ≡ take i longer = sym (take-append-le i entries (e ∷ []) (omega arith)) in

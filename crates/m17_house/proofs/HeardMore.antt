@@ -1,6 +1,6 @@
 -- An entry was heard, and its request settled: what the run then stands for.
-use Rattle.std.proofs.Common.{◌≡◌, ◌↔◌, ℕ, ◌+◌, ◌-◌, ◌^◌, ◌<◌, ◌≤◌, Bool, true, false, List, [], ◌∷◌, ◌++◌, length, map, Option, None, Some, IsSome, refl, ap, sym, subst, ◌∙◌, arith, append_assoc}
-use Rattle.std.specs.List.{filter_map, AllByRecursion}
+use Rattle.std.proofs.Common.{◌≡◌, ◌↔◌, ℕ, ◌+◌, ◌-◌, ◌^◌, ◌<◌, ◌≤◌, Bool, true, false, List, [], ◌∷◌, ◌++◌, length, map, nat_eq, nat_lt, Option, None, Some, IsSome, refl, ap, sym, subst, ◌∙◌, arith, append_assoc}
+use Rattle.std.specs.List.{filter_map, AllByRecursion, IsDistinct}
 use Rattle.std.proofs.lemmas.List.{append-nil, length-append, length-map}
 use Rattle.std.proofs.lemmas.Bool.{false≢true}
 use Rattle.m17_values.specs.declared.member.Member.{Member}
@@ -12,17 +12,18 @@ use Rattle.m17_directory.specs.declared.known.Known.{Known}
 use Rattle.m17_directory.specs.declared.verdict.LinkVerdict.{LinkVerdict}
 use Rattle.m17_directory.specs.declared.verdict.LinkVerdict.TheVariants as link
 use Rattle.m17_directory.specs.Entries.{Claim, Entry, Notice, Setup, claim_at}
-use Rattle.m17_directory.specs.Known.{Past}
+use Rattle.m17_directory.specs.Known.{Past, known_at}
 use Rattle.m17_directory.specs.Routed.{past_at, unclaimed_at, others_at, settled_at, asks_at, is_asks, posts_at, posted}
 use Rattle.m17_directory.specs.StandsFor.{DirectoryKept, StandsFor, IsHeard, IsSettled, unclaimed, claimed, departed_of}
-use Rattle.m17_directory.specs.Laws.{OneEntryMore, OnlyServedAreRouted, EntriesBeforeDecide, EachWhoLeavesIsPosted, EndedWhereItEnds, is_ended, left_member}
+use Rattle.m17_directory.specs.Laws.{AskersAskForServedModules, OneEntryMore, OnlyServedAreRouted, EntriesBeforeDecide, EachWhoLeavesIsPosted, EndedWhereItEnds, LaterEntriesChangeNothing, PeersComeAndGo, is_ended, left_member}
 use Rattle.m17_port_memory.specs.Kept.{TalliesKept}
 use Rattle.m17_plan.specs.declared.plan.Plan.{Plan}
 use Rattle.m17_house.specs.declared.run.Run.{Run}
 use Rattle.m17_plan.specs.Planned.{setup_of}
 use Rattle.m17_house.specs.Carried.{HasCarried, IsServed}
-use Rattle.m17_house.specs.SoFar.{change, scene, IsCarriedOut, IsChoice, IsGiven, IsSoFar, IsTakenIn, AreCounts, claim_of, noting, past_with, without_members}
+use Rattle.m17_house.specs.SoFar.{change, scene, IsCarriedOut, IsChoice, IsGiven, IsSoFar, IsTakenIn, AreCounts, AreTaken, claim_of, freeing, noting, past_with, without_members}
 use Rattle.m17_house.proofs.Few.{few_heard, few_settled}
+use Rattle.m17_house.proofs.Taken.{apart_alone, apart_given, still_taken, stay_heard, stay_settled}
 use Rattle.m17_house.proofs.Notes.{all_noted, noting_stands}
 use Rattle.m17_house.proofs.Posts.{heard_same, claim_end, asked_posts, posts_begin, served_part}
 
@@ -73,16 +74,20 @@ none_departing : (posts : List Dispatch) (mid : DirectoryKept) (left : List Know
 none_departing posts mid left members departing =
     ap (λ ms. without_members ms mid.departing) members ∙ ap (without_members (map (λ (k : Known). k.member) left)) departing ∙ all_noted left
 
+-- who is known by these entries
+known_of : (plan : Plan) (kept : DirectoryKept) (entries : List Entry) → StandsFor kept entries → kept.setup ≡ setup_of plan → kept.known ≡ known_at (past_at (setup_of plan) entries (length entries))
+known_of plan kept entries stands setup = stands.known ∙ ap (λ (s : Setup). known_at (past_at s entries (length entries))) setup
+
 -- An entry was taken in.
-pub taken_in : EachWhoLeavesIsPosted → EndedWhereItEnds → OneEntryMore → OnlyServedAreRouted → (plan : Plan) (entries : List Entry) (notice : Notice) (old run : Run) (mouth mouth' : TalliesKept) (mid : DirectoryKept) (verdict : LinkVerdict) (posts : List Dispatch) (answer : Option Verdict) →
+pub taken_in : EachWhoLeavesIsPosted → EndedWhereItEnds → EntriesBeforeDecide → LaterEntriesChangeNothing → PeersComeAndGo → OneEntryMore → OnlyServedAreRouted → (plan : Plan) (entries : List Entry) (notice : Notice) (old run : Run) (mouth mouth' : TalliesKept) (mid : DirectoryKept) (verdict : LinkVerdict) (posts : List Dispatch) (answer : Option Verdict) →
     length entries < 2 ^ 58 → IsSoFar plan entries old mouth →
     IsHeard old.directory mid entries notice (record { verdict = verdict; posts = posts }) →
-    mid.setup ≡ old.directory.setup → (mid.ended ≡ true) ↔ (verdict ≡ link.Ended) → length mid.known ≤ mid.setup.places →
+    mid.setup ≡ old.directory.setup → (mid.ended ≡ true) ↔ (verdict ≡ link.Ended) → length mid.known ≤ mid.setup.places → IsDistinct nat_eq (map (λ (k : Known). k.member.place) mid.known) →
     length mid.known + length mid.departing ≡ length old.directory.known + length old.directory.departing →
-    run.directory ≡ noting (filter_map left_member posts) mid → run.stage.name ≡ old.stage.name → run.given ≡ old.given →
+    run.directory ≡ noting (filter_map left_member posts) mid → run.stage.name ≡ old.stage.name → run.given ≡ old.given → run.taken ≡ freeing (filter_map left_member posts) old.taken →
     ((before : List Dispatch) → old.stage.name ≡ plan.name → AllByRecursion (IsServed plan) posts → length before + length posts < 2 ^ 64 - 1 → HasCarried plan before old.stage.rooms mouth → IsCarriedOut plan before posts (run.stage.rooms, mouth') answer) →
     IsTakenIn plan entries notice (scene run mouth') (verdict, answer)
-taken_in leaves ends more only plan entries notice old run mouth mouth' mid verdict posts answer few so_far heard setup ended bounded together noted name given carry =
+taken_in leaves ends law later come more only plan entries notice old run mouth mouth' mid verdict posts answer few so_far heard setup ended bounded apart together noted name given freed carry =
     let entry : Entry = unclaimed notice in
     let longer : List Entry = entries ++ entry ∷ [] in
     let past : Past = past_with plan entries entry in
@@ -98,14 +103,16 @@ taken_in leaves ends more only plan entries notice old run mouth mouth' mid verd
     let is_known : run.directory.known ≡ mid.known = ap (λ (k : DirectoryKept). k.known) noted in
     let all_setup : run.directory.setup ≡ setup_of plan = ap (λ (k : DirectoryKept). k.setup) noted ∙ setup ∙ so_far.idle.setup in
     let places : mid.setup.places ≡ plan.places = ap (λ (s : Setup). s.places) (setup ∙ so_far.idle.setup) in
+    let left : filter_map left_member posts ≡ map (λ (k : Known). k.member) (unclaimed_at past).left = ap (filter_map left_member) has.are_posts ∙ leaves.heard past in
     record {
       idle = record {
         is_plan = so_far.idle.is_plan;
         name = name ∙ so_far.idle.name;
         setup = all_setup;
         departing = ap (λ (k : DirectoryKept). k.departing) noted
-            ∙ none_departing posts mid (unclaimed_at past).left (ap (filter_map left_member) has.are_posts ∙ leaves.heard past) has.departing;
+            ∙ none_departing posts mid (unclaimed_at past).left left has.departing;
         known = omega (arith, ap length is_known, bounded, places);
+        apart = subst (λ (rows : List Known). IsDistinct nat_eq (map (λ (k : Known). k.member.place) rows)) (sym is_known) apart;
       };
       stands = subst (λ (k : DirectoryKept). StandsFor k longer) (sym noted) (noting_stands (filter_map left_member posts) mid longer has.stands);
       carried = subst (λ (ds : List Dispatch). IsCarriedOut plan (posted (setup_of plan) entries) ds (run.stage.rooms, mouth') answer) has.are_posts carried;
@@ -114,6 +121,9 @@ taken_in leaves ends more only plan entries notice old run mouth mouth' mid verd
       ends = ap (λ (k : DirectoryKept). k.ended) noted ∙ ended_by verdict mid.ended (is_ended verdict) refl ended ∙ ap is_ended has.is_verdict ∙ ends (setup_of plan) longer (length entries);
       few = omega (arith, so_far.few, count, ap length is_known, ap length has.are_posts);
       given = subst (λ (xs : List ℕ). AreCounts xs entries) (sym given) so_far.given;
+      taken = still_taken None old.directory.known (unclaimed_at past).left run.directory.known old.taken run.taken (filter_map left_member posts) so_far.taken (apart_alone old.directory.known so_far.idle.apart) freed left
+          (stay_heard law later come plan entries so_far.chosen notice old.directory.known run.directory.known
+          (known_of plan old.directory entries so_far.stands so_far.idle.setup) (is_known ∙ known_of plan mid longer has.stands (setup ∙ so_far.idle.setup)));
       chosen = so_far.chosen;
     }
 
@@ -150,16 +160,16 @@ has_settled plan entries entry old mid verdict posts setup nobody settled =
     })
 
 -- A request was settled.
-pub given_place : EachWhoLeavesIsPosted → EntriesBeforeDecide → OneEntryMore → OnlyServedAreRouted → (plan : Plan) (entries : List Entry) (notice : Notice) (old run : Run) (mouth mouth' : TalliesKept) (mid : DirectoryKept) (member : Option Member) (verdict : LinkVerdict) (posts : List Dispatch) (found answer : Option Verdict) →
+pub given_place : AskersAskForServedModules → EachWhoLeavesIsPosted → EntriesBeforeDecide → LaterEntriesChangeNothing → PeersComeAndGo → OneEntryMore → OnlyServedAreRouted → (plan : Plan) (entries : List Entry) (notice : Notice) (old run : Run) (mouth mouth' : TalliesKept) (mid : DirectoryKept) (member : Option Member) (marks : List Bool) (verdict : LinkVerdict) (posts : List Dispatch) (found answer : Option Verdict) →
     length entries < 2 ^ 58 → IsTakenIn plan entries notice (scene old mouth) (link.Asks, found) →
-    IsChoice old.directory.known plan.places old.given member run.given →
+    IsChoice old.directory.known plan.places old.given member run.given → AreTaken marks old.directory.known member →
     IsSettled old.directory mid entries (claimed notice (claim_of member)) (record { verdict = verdict; posts = posts }) →
-    mid.setup ≡ old.directory.setup → mid.ended ≡ old.directory.ended → mid.asked ≡ None → length mid.known ≤ mid.setup.places →
+    mid.setup ≡ old.directory.setup → mid.ended ≡ old.directory.ended → mid.asked ≡ None → length mid.known ≤ mid.setup.places → IsDistinct nat_eq (map (λ (k : Known). k.member.place) mid.known) →
     length mid.known + length mid.departing ≤ length old.directory.known + length old.directory.departing + 1 →
-    run.directory ≡ noting (filter_map left_member posts) mid → run.stage.name ≡ old.stage.name →
+    run.directory ≡ noting (filter_map left_member posts) mid → run.stage.name ≡ old.stage.name → run.taken ≡ freeing (filter_map left_member posts) marks →
     ((before : List Dispatch) → old.stage.name ≡ plan.name → AllByRecursion (IsServed plan) posts → length before + length posts < 2 ^ 64 - 1 → HasCarried plan before old.stage.rooms mouth → IsCarriedOut plan before posts (run.stage.rooms, mouth') answer) →
     IsGiven plan entries notice (change old run mouth') verdict
-given_place leaves law more only plan entries notice old run mouth mouth' mid member verdict posts found answer few taken choice settled setup ended asked bounded together noted name carry =
+given_place asking leaves law later come more only plan entries notice old run mouth mouth' mid member marks verdict posts found answer few taken choice are settled setup ended asked bounded apart together noted name freed carry =
     let entry : Entry = claimed notice (claim_of member) in
     let longer : List Entry = entries ++ entry ∷ [] in
     let past : Past = past_with plan entries entry in
@@ -176,6 +186,7 @@ given_place leaves law more only plan entries notice old run mouth mouth' mid me
     let carried : IsCarriedOut plan before posts (run.stage.rooms, mouth') answer = carry before taken.idle.name served fits taken.carried.carried in
     let is_known : run.directory.known ≡ mid.known = ap (λ (k : DirectoryKept). k.known) noted in
     let places : mid.setup.places ≡ plan.places = ap (λ (s : Setup). s.places) (setup ∙ taken.idle.setup) in
+    let left : filter_map left_member posts ≡ map (λ (k : Known). k.member) (settled_at past (claim_of member)).left = ap (filter_map left_member) has.are_posts ∙ leaves.settled past (claim_of member) in
     record {
       member = member;
       idle = record {
@@ -183,8 +194,9 @@ given_place leaves law more only plan entries notice old run mouth mouth' mid me
         name = name ∙ taken.idle.name;
         setup = ap (λ (k : DirectoryKept). k.setup) noted ∙ setup ∙ taken.idle.setup;
         departing = ap (λ (k : DirectoryKept). k.departing) noted
-            ∙ none_departing posts mid (settled_at past (claim_of member)).left (ap (filter_map left_member) has.are_posts ∙ leaves.settled past (claim_of member)) has.departing;
+            ∙ none_departing posts mid (settled_at past (claim_of member)).left left has.departing;
         known = omega (arith, ap length is_known, bounded, places);
+        apart = subst (λ (rows : List Known). IsDistinct nat_eq (map (λ (k : Known). k.member.place) rows)) (sym is_known) apart;
       };
       asked = ap (λ (k : DirectoryKept). k.asked) noted ∙ asked;
       stands = subst (λ (k : DirectoryKept). StandsFor k longer) (sym noted) (noting_stands (filter_map left_member posts) mid longer has.stands);
@@ -193,4 +205,8 @@ given_place leaves law more only plan entries notice old run mouth mouth' mid me
       ends = ap (λ (k : DirectoryKept). k.ended) noted ∙ ended ∙ taken.ends;
       few = omega (arith, taken.few, count, ap length is_known, ap length has.are_posts);
       choice = choice;
+      taken = still_taken member old.directory.known (settled_at past (claim_of member)).left run.directory.known marks run.taken (filter_map left_member posts) are
+          (apart_given old.directory.known plan.places old.given run.given member taken.idle.apart (nat_lt (length old.directory.known) plan.places) choice) freed left
+          (stay_settled law later come plan entries taken.chosen asking notice member old.directory.known run.directory.known (asks_still law plan entries notice (claim_of member) taken.is_verdict)
+          (known_of plan old.directory (entries ++ unclaimed notice ∷ []) taken.stands taken.idle.setup) (is_known ∙ known_of plan mid longer has.stands (setup ∙ taken.idle.setup)));
     }

@@ -13,6 +13,7 @@ pub mod Found
 pub mod Among
 pub mod Chosen
 pub mod Few
+pub mod Taken
 pub mod HeardMore
 pub mod OneMore
 pub mod Played

@@ -1,17 +1,19 @@
 -- What became of an entry is in all that the run stands for.
-use Rattle.std.proofs.Common.{◌≡◌, ℕ, ◌<◌, true, false, List, [], ◌∷◌, ◌++◌, length, slice_index, Option, None, Some, refl, ap, sym, subst, ◌∙◌, arith, append_assoc}
-use Rattle.std.specs.List.{filter_map}
+use Rattle.std.proofs.Common.{◌≡◌, ℕ, ◌<◌, true, false, List, [], ◌∷◌, ◌++◌, length, map, nat_eq, slice_index, slice_index_or, Option, None, Some, refl, ap, sym, subst, ◌∙◌, arith, append_assoc}
+use Rattle.std.specs.List.{filter_map, list_any, IsDistinct}
 use Rattle.std.proofs.lemmas.List.{length-append}
 use Rattle.m17_lists.proofs.Lengths.{one_more_is_one_longer}
 use Rattle.m17_values.specs.declared.heard.Heard.{Heard}
 use Rattle.m17_floor.specs.declared.verdict.Verdict.{Verdict}
 use Rattle.m17_floor.specs.Laws.{LaterActsChangeNoVerdict, OnlyPacketsHaveVerdicts}
 use Rattle.m17_directory.specs.declared.dispatch.Dispatch.{Dispatch}
+use Rattle.m17_directory.specs.declared.known.Known.{Known}
 use Rattle.m17_directory.specs.declared.known.Request.{Request}
 use Rattle.m17_directory.specs.declared.verdict.LinkVerdict.{LinkVerdict}
 use Rattle.m17_directory.specs.declared.verdict.LinkVerdict.TheVariants as link
 use Rattle.m17_directory.specs.Entries.{Claim, Entry, Notice, Says, Setup, notice_at}
 use Rattle.m17_directory.specs.Known.{Past, now}
+use Rattle.m17_directory.specs.Outcome.{has_place}
 use Rattle.m17_directory.specs.Routed.{unclaimed_at, others_at, settled_at, settled_by, request_at, asks_at, is_asks, link_verdict, posts_at, posted}
 use Rattle.m17_directory.specs.StandsFor.{StandsFor, unclaimed, claimed}
 use Rattle.m17_directory.specs.Laws.{OneEntryMore, EntriesBeforeDecide, EndedWhereItEnds, EventsCarryTheirIndex, PacketsAreRouted, is_ended, packet_letter, packet_routed}
@@ -49,6 +51,7 @@ more_unasked law more routes carry later only plan entries notice h run mouth ve
         carried = subst (λ (ds : List Dispatch). HasCarried plan ds run.stage.rooms mouth) (sym all) taken.carried.carried;
         few = omega (arith, taken.few, ap length all, length-append (posted (setup_of plan) entries) (unclaimed_at past).posts, one_more_is_one_longer entries entry);
         given = counts_unclaimed run.given entries entry refl taken.given;
+        taken = taken.taken;
         chosen = chosen_more law plan entries entry taken.chosen (chosen_unasked (setup_of plan) entries entry silent refl);
       };
       is_verdict = taken.is_verdict ∙ sym (unasked_verdict (setup_of plan) longer n silent);
@@ -98,6 +101,7 @@ more_asked law ends more routes carry later only plan entries notice h old run m
         carried = subst (λ (ds : List Dispatch). HasCarried plan ds run.stage.rooms mouth') (sym apart) given.carried;
         few = omega (arith, given.few, ap length apart, length-append (posted (setup_of plan) entries ++ first) second, length-append (posted (setup_of plan) entries) first, one_more_is_one_longer entries entry);
         given = counts_claimed entries entry old.directory.known plan.places old.given run.given given.member refl taken.given given.choice;
+        taken = given.taken;
         chosen = chosen_more law plan entries entry taken.chosen
             (chosen_asked (setup_of plan) entries entry old.directory.known old.given run.given given.member asks places (omega (arith, given.idle.is_plan.at_most)) refl taken.given given.choice);
       };
@@ -112,14 +116,19 @@ posted_nothing : (setup : Setup) → posted setup [] ≡ []
 unfolding posted
 posted_nothing setup = refl
 
+none_apart : IsDistinct nat_eq []
+unfolding IsDistinct
+none_apart = tt
+
 pub made_run : (plan : Plan) (run : Run) (mouth : TalliesKept) → IsPlan plan → run.directory.setup ≡ setup_of plan → StandsFor run.directory [] → run.directory.asked ≡ None → run.directory.departing ≡ [] → run.directory.known ≡ [] →
-    run.stage.name ≡ plan.name → HasCarried plan [] run.stage.rooms mouth → length run.given ≡ 256 → ((place : ℕ) → place < 256 → slice_index run.given place ≡ 0) → IsSoFar plan [] run mouth
-made_run plan run mouth is_plan setup stands asked departing known name carried cells none = record {
-  idle = record { is_plan = is_plan; name = name; setup = setup; departing = departing; known = omega (arith, ap length known) };
+    run.stage.name ≡ plan.name → HasCarried plan [] run.stage.rooms mouth → length run.given ≡ 256 → ((place : ℕ) → place < 256 → slice_index run.given place ≡ 0) → ((place : ℕ) → slice_index_or run.taken place false ≡ false) → IsSoFar plan [] run mouth
+made_run plan run mouth is_plan setup stands asked departing known name carried cells none unmarked = record {
+  idle = record { is_plan = is_plan; name = name; setup = setup; departing = departing; known = omega (arith, ap length known); apart = subst (λ (rows : List Known). IsDistinct nat_eq (map (λ (k : Known). k.member.place) rows)) (sym known) none_apart };
   asked = asked;
   stands = stands;
   carried = subst (λ (ds : List Dispatch). HasCarried plan ds run.stage.rooms mouth) (sym (posted_nothing (setup_of plan))) carried;
   few = omega (arith, ap length known, ap length (posted_nothing (setup_of plan)));
   given = record { cells = cells; each = none };
+  taken = λ place. unmarked place ∙ ap (list_any (has_place place)) (sym known);
   chosen = λ n below. absurd (omega arith);
 }

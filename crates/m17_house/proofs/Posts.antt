@@ -14,7 +14,7 @@ use Rattle.m17_directory.specs.declared.dispatch.Dispatch.TheVariants.{ToModule,
 use Rattle.m17_directory.specs.Entries.{Entry, Setup, notice_of, notice_at, claim_at}
 use Rattle.m17_directory.specs.Known.{Past}
 use Rattle.m17_directory.specs.Outcome.{Outcome}
-use Rattle.m17_directory.specs.Routed.{past_at, asks_at, unclaimed_at, others_at, settled_at, asked_before, both, comes_to, link_verdict, posts_at, posted, event_for, routed}
+use Rattle.m17_directory.specs.Routed.{past_at, asks_at, unclaimed_at, others_at, settled_at, asked_before, both, comes_to, outcome_at, link_verdict, posts_at, posted, event_for, routed}
 use Rattle.m17_directory.specs.Laws.{OnlyServedAreRouted, EntriesBeforeDecide}
 use Rattle.m17_plan.specs.declared.plan.Plan.{Plan}
 use Rattle.m17_plan.specs.Planned.{setup_of}
@@ -72,6 +72,15 @@ asked_posts setup entries n e = ap (λ o. o.posts) (outcome_is setup entries n t
 pub asked_verdict : (setup : Setup) (entries : List Entry) (n : ℕ) → asks_at (past_at setup entries n) ≡ true → link_verdict setup entries n ≡ (settled_at (past_at setup entries n) (claim_at entries n)).verdict
 unfolding link_verdict outcome_by
 asked_verdict setup entries n e = ap (λ o. o.verdict) (outcome_is setup entries n true e)
+
+-- who leaves by either
+pub unasked_left : (setup : Setup) (entries : List Entry) (n : ℕ) → asks_at (past_at setup entries n) ≡ false → (outcome_at setup entries n).left ≡ (unclaimed_at (past_at setup entries n)).left
+unfolding outcome_by
+unasked_left setup entries n e = ap (λ o. o.left) (outcome_is setup entries n false e)
+
+pub asked_left : (setup : Setup) (entries : List Entry) (n : ℕ) → asks_at (past_at setup entries n) ≡ true → (outcome_at setup entries n).left ≡ (unclaimed_at (past_at setup entries n)).left ++ (settled_at (past_at setup entries n) (claim_at entries n)).left
+unfolding outcome_by
+asked_left setup entries n e = ap (λ o. o.left) (outcome_is setup entries n true e)
 
 -- what it posts begins with what it posts before its claim
 posts_begin_by : (setup : Setup) (entries : List Entry) (n : ℕ) (b : Bool) → asks_at (past_at setup entries n) ≡ b → (tail : List Dispatch) × (posts_at setup entries n ≡ (unclaimed_at (past_at setup entries n)).posts ++ tail)

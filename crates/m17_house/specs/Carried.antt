@@ -1,6 +1,7 @@
 -- What modules and mouth stand for when some dispatches of a link were carried out.
 use Rattle.std.specs.Prelude.{◌≡◌, ℕ, ◌-◌, true, false, List, [], ◌∷◌, ◌++◌, length, map, slice_get, Option, None, Some}
 use Rattle.std.specs.List.{filter_map, flat_map}
+use Rattle.std.specs.Option.{option_or}
 use Rattle.m17_values.specs.declared.peer.Peer.{Peer}
 use Rattle.m17_control.specs.declared.event.Event.{Event}
 use Rattle.m17_control.specs.declared.packet.Packet.{Packet}
@@ -51,13 +52,14 @@ pub record RoomStands (plan : Plan) (letter : ℕ) (events : List Event) (rooms 
   pub setup : kept.setup ≡ module_setup plan letter
   pub stands : StandsFor kept events
 
--- the step of a module by one event more: where it then stands, and the verdict on it
+-- the step of a module by one event more: where it then stands, and the verdict on it, or else the one that was found
+-- before
 pub record IsRoomStep (plan : Plan) (letter : ℕ) (events : List Event) (event : Event)
-    (after : List (Option ModuleKept) × Option Verdict) : Type 0 where
+    (found : Option Verdict) (after : List (Option ModuleKept) × Option Verdict) : Type 0 where
   pub stands : RoomStands plan letter (events ++ event ∷ []) after.0
   pub verdict : after.1
-      ≡ verdict_at (floor_setup (module_setup plan letter)) (acts_of (events ++ event ∷ []))
-      (length events)
+      ≡ option_or (verdict_at (floor_setup (module_setup plan letter))
+      (acts_of (events ++ event ∷ [])) (length events)) found
 
 -- The modules stand for what these dispatches have for them, and the tallies are of what is said by then.
 pub record HasCarried (plan : Plan) (done : List Dispatch) (rooms : List (Option ModuleKept))

@@ -1,5 +1,6 @@
 -- What a run stands for in the midst of a replay.
-use Rattle.std.specs.Prelude.{◌≡◌, ℕ, ◌+◌, ◌*◌, ◌<◌, ◌≤◌, List, [], ◌∷◌, ◌++◌, length, slice_index, slice_set, nat_lt, Option, None, Some, option_map, MatchBool}
+use Rattle.std.specs.Prelude.{◌≡◌, ◌==◌, ◌||◌, nat_eq, map, ℕ, ◌+◌, ◌*◌, ◌<◌, ◌≤◌, List, [], ◌∷◌, ◌++◌, length, slice_index, slice_index_or, slice_set, nat_lt, Bool, false, Option, None, Some, option_map, MatchBool}
+use Rattle.std.specs.List.{list_any, IsDistinct}
 use Rattle.std.specs.Option.{option_or}
 use Rattle.m17_values.specs.declared.heard.Heard.{Heard}
 use Rattle.m17_values.specs.declared.member.Member.{Member}
@@ -12,7 +13,7 @@ use Rattle.m17_directory.specs.declared.verdict.LinkVerdict.{LinkVerdict}
 use Rattle.m17_directory.specs.declared.verdict.LinkVerdict.TheVariants.{Asks}
 use Rattle.m17_directory.specs.Entries.{Notice, Claim, Entry, Says, ends_at}
 use Rattle.m17_directory.specs.Known.{Past}
-use Rattle.m17_directory.specs.Outcome.{Outcome}
+use Rattle.m17_directory.specs.Outcome.{Outcome, has_place}
 use Rattle.m17_directory.specs.Routed.{past_at, unclaimed_at, others_at, settled_at, link_verdict, posted}
 use Rattle.m17_directory.specs.StandsFor.{DirectoryKept, StandsFor, unclaimed, claimed, without_member}
 use Rattle.m17_port_memory.specs.Kept.{TalliesKept}
@@ -37,6 +38,21 @@ noting members kept = record {
   faults = kept.faults;
   ended = kept.ended;
 }
+
+-- it is the place of the member, if there is one
+abbrev pub is_at : ℕ → Option Member → Bool
+is_at place None = false
+is_at place (Some m) = m.place == place
+
+-- just the places that somebody has are marked, and that of this member
+abbrev pub AreTaken : List Bool → List Known → Option Member → Type 0
+AreTaken taken known member = (place : ℕ) →
+    slice_index_or taken place false ≡ (is_at place member || list_any (has_place place) known)
+
+-- the marks when these have left, one after another
+abbrev pub freeing : List Member → List Bool → List Bool
+freeing [] taken = taken
+freeing (m ∷ members) taken = freeing members (slice_set taken m.place false)
 
 -- the verdict on the last packet among these dispatches, carried out after others; else the one that was found before
 abbrev pub found_from : Plan → List Dispatch → Option Verdict → List Dispatch → Option Verdict
@@ -89,6 +105,7 @@ pub record IsIdle (plan : Plan) (run : Run) : Type 0 where
   pub setup : run.directory.setup ≡ setup_of plan
   pub departing : run.directory.departing ≡ []
   pub known : length run.directory.known ≤ plan.places
+  pub apart : IsDistinct nat_eq (map (λ k. k.member.place) run.directory.known)
 
 -- The run has come through these entries.
 pub record IsSoFar (plan : Plan) (entries : List Entry) (run : Run) (mouth : TalliesKept)
@@ -100,6 +117,7 @@ pub record IsSoFar (plan : Plan) (entries : List Entry) (run : Run) (mouth : Tal
   pub few : length (posted (setup_of plan) entries) + length run.directory.known
       ≤ 54 * length entries
   pub given : AreCounts run.given entries
+  pub taken : AreTaken run.taken run.directory.known None
   pub chosen : AreChosen plan entries
 
 -- a run, and what its mouth has counted
@@ -127,6 +145,7 @@ pub record IsTakenIn (plan : Plan) (entries : List Entry) (notice : Notice) (s :
       + length (unclaimed_at (past_with plan entries (unclaimed notice))).posts
       + length s.run.directory.known ≤ 54 * length entries + 52
   pub given : AreCounts s.run.given entries
+  pub taken : AreTaken s.run.taken s.run.directory.known None
   pub chosen : AreChosen plan entries
 
 -- what such an entry posts before its claim
@@ -167,6 +186,7 @@ pub record IsGiven (plan : Plan) (entries : List Entry) (notice : Notice) (c : C
       + length (given_to plan entries notice member).posts
       + length c.after.run.directory.known ≤ 54 * length entries + 54
   pub choice : IsChoice c.old.directory.known plan.places c.old.given member c.after.run.given
+  pub taken : AreTaken c.after.run.taken c.after.run.directory.known None
 
 -- One entry more was heard, and what became of it is in all that the run stands for.
 pub record IsOneMore (plan : Plan) (entries : List Entry) (h : Heard) (s : Scene)

@@ -1,4 +1,5 @@
 ghost use Rattle.std.specs.Prelude.{◌≡◌, ◌≢◌, ◌-◌, ◌+◌, ◌^◌, ◌<◌, ◌≤◌, ℕ, List, [], ◌∷◌, ◌++◌, true, false, length, IfOk};
+ghost use Rattle.std.specs.Option.{option_or};
 ghost use Rattle.m17_control.specs.Modules.{serves};
 ghost use Rattle.m17_control.specs.declared.event.Event.{Event};
 ghost use Rattle.m17_module.specs.Items.{items_at};
@@ -46,6 +47,15 @@ fn make_room(alloc: Global, plan: &Plan, letter: u8) -> Result<Option<Module>, N
     Ok(Some(module))
 }
 
+// What is found is kept, and what was found before where there is nothing.
+fn keep(found: Option<Verdict>, verdict: &mut Option<Verdict>)
+    ensures { verdict.new ≡ option_or found verdict.old }
+{
+    if let Some(found) = found {
+        *verdict = Some(found);
+    }
+}
+
 impl Rooms {
     /// New modules, as the plan has them.
     pub(crate) fn make(alloc: Global, plan: &Plan) -> Result<Rooms, NoMemory>
@@ -61,17 +71,19 @@ impl Rooms {
         Ok(Rooms { cells })
     }
 
-    /// The step of the module with this letter.
+    /// The step of the module with this letter. The verdict on a packet is written where the caller keeps it, over the one
+    /// before.
     pub(crate) fn step(
         &mut self,
         letter: ModuleLetter,
         event: &Event,
         out: &mut Basket,
-    ) -> Option<Verdict>
+        verdict: &mut Option<Verdict>,
+    )
         requires { out.old ≡ [] }
         ensures by_rule { (plan : Plan) (events : List Event) →
             RoomStands plan letter events self.old → length events < 2 ^ 64 - 1 →
-            IsRoomStep plan letter events event.now (self.new, result)
+            IsRoomStep plan letter events event.now verdict.old (self.new, verdict.new)
             × (out.new ≡ items_at (module_setup plan letter)
             (events ++ event.now ∷ []) (length events)) }
         ensures others { (plan : Plan) (other : ℕ) (events : List Event) →
@@ -80,8 +92,8 @@ impl Rooms {
     {
         let place = (letter.byte() - b'A') as usize;
         match &mut self.cells[place] {
-            Some(module) => module.step(event, out),
-            None => None,
+            Some(module) => keep(module.step(event, out), verdict),
+            None => {}
         }
     }
 }

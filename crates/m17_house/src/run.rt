@@ -1,4 +1,4 @@
-ghost use Rattle.std.specs.Prelude.{◌≡◌, ◌↔◌, ◌-◌, ◌+◌, ◌^◌, ◌<◌, ℕ, List, [], Option, None, Some, false, length, slice_index, IfOk, IsSome};
+ghost use Rattle.std.specs.Prelude.{◌≡◌, ◌↔◌, ◌-◌, ◌+◌, ◌^◌, ◌<◌, ℕ, List, [], Option, None, Some, false, length, slice_index, slice_index_or, slice_set, IfOk, IsSome};
 ghost use Rattle.m17_values.specs.declared.heard.Heard.{Heard};
 ghost use Rattle.std.specs.List.{filter_map, AllByRecursion};
 ghost use Rattle.std.specs.Option.{option_to_list};
@@ -17,7 +17,7 @@ ghost use Rattle.m17_house.specs.Replay.{HasNoTallies};
 ghost use Rattle.m17_plan.specs.Planned.{IsPlan};
 ghost use Rattle.m17_house.specs.Tallied.{IsSameMouth};
 ghost use Rattle.m17_house.specs.Carried.{HasCarried, IsServed};
-ghost use Rattle.m17_house.specs.SoFar.{change, scene, IsCarriedOut, IsGiven, IsIdle, IsSoFar, IsTakenIn, noting};
+ghost use Rattle.m17_house.specs.SoFar.{change, scene, AreTaken, IsCarriedOut, IsGiven, IsIdle, IsSoFar, IsTakenIn, freeing, noting};
 
 use crate::choice::choose;
 use crate::stage::Stage;
@@ -36,13 +36,15 @@ pub(crate) const MOST_PLACES: usize = 256;
 /// in place of queues and no room that runs out. A peer that asks gets the least place that no other known peer has, as the
 /// next member of that place, and is greeted at once; where none is free it is turned away. What the modules give and what
 /// is answered past them is said on the mouth, which keeps its tallies.
-// One link's directory, what it posted last, the modules, and how often each place was given.
+// One link's directory, what it posted last, the modules, how often each place was given, and marks of the places that are
+// had.
 #[derive(Debug, Drop)]
 pub struct Run {
     pub(crate) directory: Directory,
     pub(crate) post: Post,
     pub(crate) stage: Stage,
     pub(crate) given: [u64; MOST_PLACES],
+    pub(crate) taken: [bool; MOST_PLACES],
 }
 
 // The member that a dispatch tells to have left, if it does.
@@ -58,13 +60,26 @@ fn left_member(dispatch: &Dispatch) -> Option<Member>
     }
 }
 
-// The directory is told of the member that a dispatch tells to have left.
-fn note(directory: &mut Directory, dispatch: &Dispatch)
-    ensures { directory.new
+// A place is marked no more.
+#[tactic(auto, using(std::proofs::lemmas::List::set_past))]
+fn unmark(taken: &mut [bool; MOST_PLACES], place: u32)
+    ensures { taken.new ≡ slice_set taken.old place false }
+{
+    if (place as usize) < MOST_PLACES {
+        taken[place as usize] = false;
+    }
+}
+
+// The directory is told of the member that a dispatch tells to have left, and its place is marked no more.
+fn note(directory: &mut Directory, taken: &mut [bool; MOST_PLACES], dispatch: &Dispatch)
+    ensures noted { directory.new
         ≡ noting (option_to_list (laws.left_member dispatch.now)) directory.old }
+    ensures freed { taken.new
+        ≡ freeing (option_to_list (laws.left_member dispatch.now)) taken.old }
 {
     if let Some(member) = left_member(dispatch) {
         directory.noted(member);
+        unmark(taken, member.place);
     }
 }
 
@@ -96,6 +111,13 @@ fn no_counts() -> [u64; MOST_PLACES]
     [0; MOST_PLACES]
 }
 
+// No place is marked.
+fn no_marks() -> [bool; MOST_PLACES]
+    ensures { (place : ℕ) → slice_index_or result place false ≡ false }
+{
+    [false; MOST_PLACES]
+}
+
 impl Run {
     /// A run of this plan that has heard nothing. `NoMemory` where there is none for it; nothing allocates afterwards.
     pub fn make(alloc: Global, plan: &Plan) -> Result<Run, NoMemory>
@@ -111,6 +133,7 @@ impl Run {
             post,
             stage,
             given: no_counts(),
+            taken: no_marks(),
         })
     }
 
@@ -128,6 +151,8 @@ impl Run {
         ensures out { self.new.stage.out ≡ [] }
         ensures name { self.new.stage.name ≡ self.old.stage.name }
         ensures given { self.new.given ≡ self.old.given }
+        ensures freed { self.new.taken
+            ≡ freeing (filter_map laws.left_member self.old.post) self.old.taken }
         ensures noted { self.new.directory
             ≡ noting (filter_map laws.left_member self.old.post) self.old.directory }
         ensures mouth { IsSameMouth mouth.old mouth.new }
@@ -139,8 +164,8 @@ impl Run {
     {
         let mut verdict = None;
         while let Some(dispatch) = self.post.first() {
-            verdict = self.stage.carry(dispatch, mouth).or(verdict);
-            note(&mut self.directory, dispatch);
+            self.stage.carry(dispatch, mouth, &mut verdict);
+            note(&mut self.directory, &mut self.taken, dispatch);
             let _done = self.post.take();
         }
         verdict
@@ -169,8 +194,11 @@ impl Run {
     {
         directory_laws::each_who_leaves_is_posted();
         directory_laws::ended_where_it_ends();
+        directory_laws::entries_before_decide();
+        directory_laws::later_entries_change_nothing();
         directory_laws::one_entry_more();
         directory_laws::only_served_are_routed();
+        directory_laws::peers_come_and_go();
         *verdict = self.directory.hear(index, h, &mut self.post);
         self.carry_out(mouth)
     }
@@ -181,6 +209,7 @@ impl Run {
         requires out { self.old.stage.out ≡ [] }
         requires asked { IsSome self.old.directory.asked }
         requires idle { IsIdle plan.now self.old }
+        requires taken { AreTaken self.old.taken self.old.directory.known None }
         requires room { (place : ℕ) → slice_index self.old.given place < 2 ^ 64 - 1 }
         ensures post { self.new.post ≡ [] }
         ensures out { self.new.stage.out ≡ [] }
@@ -190,11 +219,19 @@ impl Run {
             IsTakenIn plan.now entries notice (scene self.old mouth.old) (link.Asks, answer) →
             IsGiven plan.now entries notice (change self.old self.new mouth.new) result }
     {
+        directory_laws::askers_ask_for_served_modules();
         directory_laws::each_who_leaves_is_posted();
         directory_laws::entries_before_decide();
+        directory_laws::later_entries_change_nothing();
         directory_laws::one_entry_more();
         directory_laws::only_served_are_routed();
-        let member = choose(&self.directory, plan.places, &mut self.given);
+        directory_laws::peers_come_and_go();
+        let member = choose(
+            &self.directory,
+            plan.places,
+            &mut self.given,
+            &mut self.taken,
+        );
         let verdict = self.directory.settle(member, 0, &mut self.post);
         let _none = self.carry_out(mouth);
         verdict

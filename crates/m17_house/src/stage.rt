@@ -1,4 +1,5 @@
 ghost use Rattle.std.specs.Prelude.{◌≡◌, ◌-◌, ◌^◌, ◌<◌, ℕ, List, [], ◌∷◌, ◌++◌, length, IfOk};
+ghost use Rattle.std.specs.Option.{option_or};
 ghost use Rattle.m17_directory.specs.declared.dispatch.Dispatch.{Dispatch};
 ghost use Rattle.m17_port_memory.specs.Kept.{TalliesKept};
 ghost use Rattle.m17_plan.specs.declared.plan.Plan.{Plan};
@@ -44,8 +45,13 @@ impl Stage {
     }
 
     /// Carries out a dispatch: an event is stepped by its module, and what that gives is said; a reply past all modules
-    /// is said. Answers the verdict on a packet.
-    pub(crate) fn carry(&mut self, dispatch: &Dispatch, mouth: &mut TallyMouth) -> Option<Verdict>
+    /// is said. The verdict on a packet is written where the caller keeps it, over the one before.
+    pub(crate) fn carry(
+        &mut self,
+        dispatch: &Dispatch,
+        mouth: &mut TallyMouth,
+        verdict: &mut Option<Verdict>,
+    )
         requires { self.old.out ≡ [] }
         ensures out { self.new.out ≡ [] }
         ensures name { self.new.name ≡ self.old.name }
@@ -54,18 +60,16 @@ impl Stage {
             IsServed plan dispatch.now → length done < 2 ^ 64 - 1 →
             HasCarried plan done self.old.rooms mouth.old →
             HasCarried plan (done ++ dispatch.now ∷ []) self.new.rooms mouth.new
-            × (result ≡ answer_to plan done dispatch.now) }
+            × (verdict.new ≡ option_or (answer_to plan done dispatch.now) verdict.old) }
     {
         module_laws::one_event_more_gives();
         match dispatch {
             Dispatch::ToModule { module, event } => {
-                let verdict = self.rooms.step(*module, event, &mut self.out);
+                self.rooms.step(*module, event, &mut self.out, verdict);
                 say_all(&mut self.out, self.name, mouth);
-                verdict
             }
             Dispatch::ToDoor(direct) => {
                 answer(direct, mouth);
-                None
             }
         }
     }

@@ -101,7 +101,7 @@ pub(crate) fn two_books<B: Book + Drop, R: Abort>(rt: &R, alloc: Global, a: B, b
 }
 
 // A book with this room.
-fn book<R: Abort>(rt: &R, alloc: Global, room: usize) -> ListBook
+pub(crate) fn book<R: Abort>(rt: &R, alloc: Global, room: usize) -> ListBook
     ensures { StartsEmpty (Some result.written) }
 {
     must(rt, ListBook::make(alloc, room, Vec::new(alloc)))

@@ -32,6 +32,8 @@ mod mark_tests;
 #[cfg(test)]
 mod meeting;
 #[cfg(test)]
+mod most_tests;
+#[cfg(test)]
 mod part_tests;
 #[cfg(test)]
 mod queue_tests;

@@ -12,3 +12,6 @@ returns-clause-answer g c = (c.end_with.ensures (record { left = None; at_hand =
 
 pub returns-clause-cause : goal.returns-clause-cause
 returns-clause-cause g c = λ is. other ((c.end_with.ensures (record { left = None; at_hand = false; faults = 0 })).failed is)
+
+pub returns-clause-line : goal.returns-clause-line
+returns-clause-line g c = c.end_with.ensures

@@ -23,6 +23,9 @@ taken_in c =
 pub give-requires-clause-idle : goal.give-requires-clause-idle
 give-requires-clause-idle c = (taken_in (goal.at.give-requires-clause-idle c).After-take_in-answer).idle
 
+pub give-requires-clause-taken : goal.give-requires-clause-taken
+give-requires-clause-taken c = (taken_in (goal.at.give-requires-clause-taken c).After-take_in-answer).taken
+
 pub give-requires-clause-room : goal.give-requires-clause-room
 give-requires-clause-room c =
     let at = c.requires.so_far in
