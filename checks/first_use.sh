@@ -95,10 +95,10 @@ renewed() {
 }
 check "checks/renew-release stores what was built, and refuses a program of other sources" renewed
 
-# What a shell starts in the background takes neither INT nor QUIT, unless `$at_terminal` stands before it; $ending are
-# the signals that are tried.
-if env --default-signal=INT,QUIT true 2>/dev/null; then
-    at_terminal='env --default-signal=INT,QUIT' ending='1:HUP 2:INT 3:QUIT 15:TERM'
+# What a shell starts in the background takes neither INT nor QUIT, and nothing that whoever runs the checks ignores, as
+# `nohup` has it with HUP, unless `$at_terminal` stands before it; $ending are the signals that are tried.
+if env --default-signal=HUP,INT,QUIT,TERM true 2>/dev/null; then
+    at_terminal='env --default-signal=HUP,INT,QUIT,TERM' ending='1:HUP 2:INT 3:QUIT 15:TERM'
 else
     at_terminal='' ending='1:HUP 15:TERM'
 fi
