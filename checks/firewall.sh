@@ -174,6 +174,23 @@ END
 }
 check "behind sets of the firewall that are full members are heard, and nobody else" full_sets
 
+# A port that says too much uses up its own share, and not that of another port of its address.
+shares() {
+    needs_network
+    beside_rules "$top/examples/m17.nft" <<'END' && printed True True
+from net import *
+for at, hosts in SIDES:
+    server, loud, quiet = opened(at, 17000), opened(hosts[0]), opened(hosts[0])
+    heard(server, loud), heard(server, quiet)
+    for number in range(1000):
+        loud.sendto(PING, (at, 17000))
+        if number >= 500 and number % 10 == 0:
+            quiet.sendto(PING, (at, 17000))
+    print(190 <= len(hears(server)) < 500)
+END
+}
+check "the firewall counts each port of an address by itself" shares
+
 # 2,000 addresses say one CONN each, and then one address says it from 300 ports, where another one is new.
 many_newcomers() {
     needs_network
