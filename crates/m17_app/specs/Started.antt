@@ -91,7 +91,7 @@ AreGiven given words = IfSome words (λ words. given ≡ Some words)
 
 -- The number that a process ends with, by what became of the threads of its books and by the number that its command ended
 -- with. It is the same, but where that is 0: then it is 0 exactly where each thread ended and no write failed, and else 8,
--- or 4 where that could not be told.
+-- or 4.
 pub record IsClosed {B : Type 0} (books : List (Option (Writer B))) (ended code : ℕ) : Type 0 where
   pub kept : ended ≢ 0 → code ≡ ended
   pub written : ended ≡ 0 → (code ≡ 0) ↔ All IsWritten books

@@ -73,7 +73,7 @@ fn start<
     // The jobs are those of threads that were started for new books, each as it ended.
     ensures books { AreEnded result.1.items }
     // The process ends with the status of a run of the program by these words; but 0 becomes 8, or 4, where a book was not
-    // written. There are as many jobs as the run's command keeps traces and books, unless a thread was refused.
+    // written. There are as many jobs as the run's command keeps traces and books, unless the ports counted a fault before.
     ensures ran { (ended : ℕ) × (run : EndsAsRun (Unit {0}) (Unit {0}) (Unit {0}) ended)
         × IsClosed result.1.items ended (exit_status result.0)
         × AreAll run.words run.first result.1.items

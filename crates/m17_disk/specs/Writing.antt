@@ -19,7 +19,7 @@ pub record IsOfBook {B : Type 0} (book : QueueKept) (j : Writer B) : Type 0 wher
   pub two : j.slips.producers ≡ 2
   pub first : book.slips.number ≡ 0
 
--- of these the last is the mark behind the last write: it has no bytes
+-- of these the last is a mark: it has no bytes
 abbrev pub EndsMarked : List (List ℕ) → Type 0
 EndsMarked taken = (writes : List (List ℕ)) × (taken ≡ writes ++ [] ∷ [])
 
@@ -34,7 +34,7 @@ HasMarker j = MatchOption j.marker ⊥ (IsMarker j)
 
 -- What the thread did: it took writes from its lane, and nothing else of the lane changed; what it took has gone to its
 -- book, in order, each once, up to a write that failed. Where none failed, it took the mark behind the last write, and
--- so all that was handed over before that. `told` says what its book tells.
+-- so all that stood in its lane before that. `told` says what its book tells.
 pub record WriterDid {B L : Type 0} (told : B → BookTold L) (j k : Writer B) : Type 0 where
   pub slips : k.slips ≡ record j.slips { popped = k.slips.popped }
   pub text : HasText (told j.book) (joined k.slips.popped) k.failed (told k.book)
@@ -45,7 +45,7 @@ pub record WriterDid {B L : Type 0} (told : B → BookTold L) (j k : Writer B) :
 abbrev pub EndsAs : {B L : Type 0} → (B → BookTold L) → Writer B → Option (Writer B) → Type 0
 EndsAs told j end = IfSome end (λ k. WriterDid told j k × HasMarker k)
 
--- It ended, and no write of its book failed: all that was handed over before it was told to end was written.
+-- It ended, and no write of its book failed: all that stood in its lane before the mark was written.
 abbrev pub IsWritten : {B : Type 0} → Option (Writer B) → Type 0
 IsWritten None = ⊥
 IsWritten (Some k) = k.failed ≡ false

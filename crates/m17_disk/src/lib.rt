@@ -6,8 +6,8 @@
 //! It promises that what is handed over is what was to be written, in order, each once, up to the first failure, and
 //! that the thread writes just what it takes, or a first part of it and has failed; with both ends at hand it is known
 //! that this is a first part of what was handed over, or all of it (`all_written`).
-//! What is written and when, and what the book does that is written to, is left to others. That the book gives up only
-//! where its lane is full or its thread has ended, and that a wait ends, is tested. Nothing is allocated here after `open`.
+//! What is written and when, and what the book does that is written to, is left to others. That the thread has ended where
+//! the book gives up for that, and that a wait ends, is tested. Nothing is allocated here after `open`.
 #![tactic(auto)]
 
 mod both_ends;
